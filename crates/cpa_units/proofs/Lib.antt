@@ -1,0 +1,4 @@
+pub mod SearchLaws
+pub mod BoundLaws
+pub mod NumberLaws
+pub mod PlaceLaws

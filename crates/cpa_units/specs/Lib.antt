@@ -1,0 +1,5 @@
+pub mod Search
+pub mod Bounds
+pub mod Words
+pub mod Numbers
+pub mod Name

@@ -1,0 +1,17 @@
+//! Ticks, bounds, vectors, names and limits, which all other crates speak of.
+//!
+//! Time is counted in whole ticks; the user decides what a tick is.
+#![tactic(auto)]
+
+pub mod bound;
+pub mod limits;
+pub mod name;
+pub mod places;
+#[cfg(test)]
+mod tests;
+pub mod vector;
+
+pub use bound::{Bound, words_have_laws};
+pub use name::{Name, NameFault, is_name};
+pub use places::{NoMemory, PathId, ResId, SourceId, TaskId};
+pub use vector::Vector;
