@@ -1,0 +1,95 @@
+-- The rules that every system keeps.
+use Rattle.std.specs.Prelude.{◌≡◌, ◌≢◌, ℕ, ◌+◌, ◌≤◌, ◌<◌, List, ◌++◌, map, length, IsSome, slice_index_or, All}
+use Rattle.std.specs.List.{AllPairs}
+use Rattle.std.specs.Option.{ForSome}
+use Rattle.cpa_units.specs.declared.limits.TheConstants.{MAX_RESOURCES, MAX_SOURCES, MAX_TASKS, MAX_PATHS, MAX_PERIOD, MAX_JITTER, MAX_EXECUTION, MAX_GAP, MAX_BIT, MAX_LIMIT, MAX_PRIORITY, MAX_CHAIN}
+use Rattle.cpa_units.specs.declared.places.TaskId.{TaskId}
+use Rattle.cpa_model.specs.declared.entries.Resource.{Resource}
+use Rattle.cpa_model.specs.declared.entries.Source.{Source}
+use Rattle.cpa_model.specs.declared.entries.Task.{Task}
+use Rattle.cpa_model.specs.declared.entries.Path.{Path}
+use Rattle.cpa_model.specs.declared.entries.Kind.{Kind}
+use Rattle.cpa_model.specs.declared.entries.Kind.TheVariants as kind
+use Rattle.cpa_model.specs.declared.entries.Turn.{Turn}
+use Rattle.cpa_model.specs.declared.entries.Turn.TheVariants as turn
+use Rattle.cpa_model.specs.declared.entries.Activator.{Activator}
+use Rattle.cpa_model.specs.declared.entries.Activator.TheVariants as activator
+use Rattle.cpa_model.specs.Chains.{depth_within, activators}
+use Rattle.cpa_model.specs.SystemLists.{SystemLists, resource_at, task_at}
+
+-- the extra number of a kind is in its range
+abbrev pub KindFits : Kind → Type 0
+KindFits (kind.Tdma gap) = gap ≤ MAX_GAP
+KindFits (kind.Can bit) = (1 ≤ bit) × (bit ≤ MAX_BIT)
+KindFits _ = Unit {0}
+
+pub record IsResource (r : Resource) : Type 0 where
+  pub some_limit : 1 ≤ r.limit
+  pub limit : r.limit ≤ MAX_LIMIT
+  pub kind_fits : KindFits r.kind
+
+pub record IsSource (r : Source) : Type 0 where
+  pub some_period : 1 ≤ r.period
+  pub period : r.period ≤ MAX_PERIOD
+  pub jitter : r.jitter ≤ MAX_JITTER
+  pub distance : r.distance ≤ r.period
+
+-- an activator is in the lists
+abbrev pub IsActivator : SystemLists → Activator → Type 0
+IsActivator s (activator.Source k) = k.0 < length s.sources
+IsActivator s (activator.Task j) = j.0 < length s.tasks
+
+-- a turn is of the sort that the kind wants, and in its range
+abbrev pub TurnFits : Kind → Turn → Type 0
+TurnFits kind.Preemptive (turn.Priority number) = number ≤ MAX_PRIORITY
+TurnFits (kind.Can bit) (turn.Priority number) = number ≤ MAX_PRIORITY
+TurnFits kind.RoundRobin (turn.Slot ticks) = (1 ≤ ticks) × (ticks ≤ MAX_EXECUTION)
+TurnFits (kind.Tdma gap) (turn.Slot ticks) = (1 ≤ ticks) × (ticks ≤ MAX_EXECUTION)
+TurnFits _ _ = ⊥
+
+pub record IsTask (s : SystemLists) (t : Task) : Type 0 where
+  pub placed : t.res.0 < length s.resources
+  pub activated : IsActivator s t.after
+  pub some_best : 1 ≤ t.best
+  pub ordered : t.best ≤ t.worst
+  pub worst : t.worst ≤ MAX_EXECUTION
+  pub turn_fits : TurnFits (resource_at s t.res.0).kind t.turn
+
+-- each task of a path is activated by the one before it
+abbrev pub IsLinked : SystemLists → List TaskId → Type 0
+IsLinked s ts = (k : ℕ) → k + 1 < length ts
+    → (task_at s (slice_index_or ts (k + 1) (record { 0 = 0 })).0).after ≡ activator.Task (slice_index_or ts k (record { 0 = 0 }))
+
+pub record IsPath (s : SystemLists) (p : Path) : Type 0 where
+  pub some : 0 < length p.tasks
+  pub there : All (λ (t : TaskId). t.0 < length s.tasks) p.tasks
+  pub linked : IsLinked s p.tasks
+  pub deadline : ForSome p.deadline (λ d. (1 ≤ d) × (d ≤ MAX_PERIOD))
+
+-- no two names of a list are the same
+abbrev pub AllDiffer : List (List ℕ) → Type 0
+AllDiffer names = AllPairs (λ first second. first ≢ second) names
+
+-- the names of the sources and then of the tasks, which share one set of names
+abbrev pub activity_names : SystemLists → List (List ℕ)
+activity_names s = map (λ (r : Source). r.name) s.sources ++ map (λ (t : Task). t.name) s.tasks
+
+-- two tasks of one resource don't have one priority
+abbrev pub HaveOwnPriorities : Task → Task → Type 0
+HaveOwnPriorities t u = t.res ≡ u.res → (number : ℕ) → t.turn ≡ turn.Priority number → u.turn ≢ turn.Priority number
+
+-- the rules
+pub record IsSystem (s : SystemLists) : Type 0 where
+  pub few_resources : length s.resources ≤ MAX_RESOURCES
+  pub few_sources : length s.sources ≤ MAX_SOURCES
+  pub few_tasks : length s.tasks ≤ MAX_TASKS
+  pub few_paths : length s.paths ≤ MAX_PATHS
+  pub resources : All IsResource s.resources
+  pub sources : All IsSource s.sources
+  pub tasks : All (IsTask s) s.tasks
+  pub paths : All (IsPath s) s.paths
+  pub chains : (i : ℕ) → i < length s.tasks → IsSome (depth_within (activators s.tasks) MAX_CHAIN i)
+  pub resource_names : AllDiffer (map (λ (r : Resource). r.name) s.resources)
+  pub activity_names : AllDiffer (activity_names s)
+  pub path_names : AllDiffer (map (λ (p : Path). p.name) s.paths)
+  pub priorities : AllPairs HaveOwnPriorities s.tasks

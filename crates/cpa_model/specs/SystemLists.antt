@@ -1,0 +1,73 @@
+-- A system: its resources, sources, tasks and paths, as in the system graphs of SymTA/S.
+use Rattle.std.specs.Prelude.{ℕ, ◌==◌, ◌&&◌, nat_lt, Bool, List, [], filter, length, slice_index_or, None}
+use Rattle.std.specs.List.{range_with_len}
+use Rattle.cpa_model.specs.declared.entries.Resource.{Resource}
+use Rattle.cpa_model.specs.declared.entries.Source.{Source}
+use Rattle.cpa_model.specs.declared.entries.Task.{Task}
+use Rattle.cpa_model.specs.declared.entries.Path.{Path}
+use Rattle.cpa_model.specs.declared.entries.Kind.TheVariants as kind
+use Rattle.cpa_model.specs.declared.entries.Turn.{Turn}
+use Rattle.cpa_model.specs.declared.entries.Turn.TheVariants as turn
+use Rattle.cpa_model.specs.declared.entries.Activator.TheVariants as activator
+
+-- the four lists, in the order of the system file
+pub record SystemLists : Type 0 where
+  pub resources : List Resource
+  pub sources : List Source
+  pub tasks : List Task
+  pub paths : List Path
+
+-- what stands outside the lists, where no rule speaks of it
+abbrev pub no_resource : Resource
+no_resource = record { name = []; kind = kind.Preemptive; limit = 0 }
+
+abbrev pub no_source : Source
+no_source = record { name = []; period = 1; jitter = 0; distance = 0 }
+
+abbrev pub no_task : Task
+no_task = record { name = []; res = record { 0 = 0 }; after = activator.Source (record { 0 = 0 }); best = 0; worst = 0; turn = turn.Priority 0 }
+
+abbrev pub no_path : Path
+no_path = record { name = []; tasks = []; deadline = None }
+
+-- the entries by place
+abbrev pub resource_at : SystemLists → ℕ → Resource
+resource_at s k = slice_index_or s.resources k no_resource
+
+abbrev pub source_at : SystemLists → ℕ → Source
+source_at s k = slice_index_or s.sources k no_source
+
+abbrev pub task_at : SystemLists → ℕ → Task
+task_at s i = slice_index_or s.tasks i no_task
+
+abbrev pub path_at : SystemLists → ℕ → Path
+path_at s k = slice_index_or s.paths k no_path
+
+-- the places of all tasks
+abbrev pub task_places : SystemLists → List ℕ
+task_places s = range_with_len 0 (length s.tasks)
+
+-- the resource that a task is on
+abbrev pub resource_of : SystemLists → ℕ → Resource
+resource_of s i = resource_at s (task_at s i).res.0
+
+-- the priority number of a turn, 0 where it has a slot
+abbrev pub priority_of : Turn → ℕ
+priority_of (turn.Priority number) = number
+priority_of (turn.Slot ticks) = 0
+
+-- the slot of a turn, 0 where it has a priority
+abbrev pub slot_of : Turn → ℕ
+slot_of (turn.Priority number) = 0
+slot_of (turn.Slot ticks) = ticks
+
+-- whether two tasks are on one resource
+abbrev pub shares_resource : SystemLists → ℕ → ℕ → Bool
+shares_resource s i j = (task_at s i).res.0 == (task_at s j).res.0
+
+-- whether j is on the resource of i and of higher priority: its number is smaller
+abbrev pub is_higher : SystemLists → ℕ → ℕ → Bool
+is_higher s i j = shares_resource s i j && nat_lt (priority_of (task_at s j).turn) (priority_of (task_at s i).turn)
+
+abbrev pub higher_tasks : SystemLists → ℕ → List ℕ
+higher_tasks s i = filter (is_higher s i) (task_places s)

@@ -1,0 +1,88 @@
+//! A system that keeps its rules.
+
+ghost use Rattle.std.specs.Prelude.{◌≡◌, ◌<◌, length};
+
+use crate::entries::{Path, Resource, Source, Task};
+use cpa_units::{ResId, SourceId, TaskId};
+use std::marker::Model;
+
+/// A system, which keeps its rules.
+#[derive(Debug, Drop)]
+pub struct System {
+    pub(crate) resources: Vec<Resource>,
+    pub(crate) sources: Vec<Source>,
+    pub(crate) tasks: Vec<Task>,
+    pub(crate) paths: Vec<Path>,
+}
+
+impl Model for System {
+    ghost use Rattle.cpa_model.specs.SystemLists.{SystemLists};
+    ghost use Rattle.cpa_model.specs.Rules.{IsSystem};
+
+    ghost Value = { SystemLists };
+
+    ghost view = { λ s. record { resources = s.resources.items; sources = s.sources.items; tasks = s.tasks.items; paths = s.paths.items } };
+
+    ghost invariant = { λ s. IsSystem (record { resources = s.resources.items; sources = s.sources.items; tasks = s.tasks.items; paths = s.paths.items }) };
+}
+
+impl System {
+    ghost use Rattle.cpa_model.specs.SystemLists.{resource_at, source_at, task_at};
+    ghost use Rattle.cpa_model.specs.Rules.{IsSystem, IsResource, IsSource, IsTask};
+
+    /// The number of resources.
+    pub fn resources(&self) -> u32
+        ensures count { result ≡ length self.now.resources }
+        ensures rules { IsSystem self.now }
+    {
+        self.resources.len() as u32
+    }
+
+    /// The number of sources.
+    pub fn sources(&self) -> u32
+        ensures count { result ≡ length self.now.sources }
+        ensures rules { IsSystem self.now }
+    {
+        self.sources.len() as u32
+    }
+
+    /// The number of tasks.
+    pub fn tasks(&self) -> u32
+        ensures count { result ≡ length self.now.tasks }
+        ensures rules { IsSystem self.now }
+    {
+        self.tasks.len() as u32
+    }
+
+    /// The number of paths.
+    pub fn paths(&self) -> u32
+        ensures count { result ≡ length self.now.paths }
+        ensures rules { IsSystem self.now }
+    {
+        self.paths.len() as u32
+    }
+
+    pub fn resource(&self, res: ResId) -> &Resource
+        requires { res.0 < length self.now.resources }
+        ensures value { result.now ≡ resource_at self.now res.0 }
+        ensures rules { IsResource result.now }
+    {
+        &self.resources[res.0 as usize]
+    }
+
+    pub fn source(&self, source: SourceId) -> &Source
+        requires { source.0 < length self.now.sources }
+        ensures value { result.now ≡ source_at self.now source.0 }
+        ensures rules { IsSource result.now }
+    {
+        &self.sources[source.0 as usize]
+    }
+
+    pub fn task(&self, task: TaskId) -> &Task
+        requires { task.0 < length self.now.tasks }
+        ensures value { result.now ≡ task_at self.now task.0 }
+        ensures rules { IsTask self.now result.now }
+    {
+        &self.tasks[task.0 as usize]
+    }
+}
