@@ -1,12 +1,12 @@
 -- The work of rivals: it grows with them, and it is a number where their inputs are bounded.
-use Rattle.std.proofs.Common.{◌≡◌, ℕ, zero, suc, ◌≤◌, true, false, List, [], ◌∷◌, Option, Some, None, refl, inl, inr, is_none, arith}
+use Rattle.std.proofs.Common.{◌≡◌, ℕ, zero, suc, ◌≤◌, true, false, List, [], ◌∷◌, Option, Some, None, map, refl, sym, ◌∙◌, ap, inl, inr, is_none, arith}
 use Rattle.std.specs.List.{sum_by}
 use Rattle.std.proofs.lemmas.Bool.{or_parts, or_cases}
 use Rattle.std.proofs.lemmas.List.Sums.{sum_by-cons, sum_by-le-sum_by}
 use Rattle.std.proofs.Math.Nat.{mul-le-mul_right}
 use Rattle.cpa_units.specs.declared.bound.Bound.{Bound}
 use Rattle.cpa_units.specs.declared.bound.Bound.TheVariants.{Within, Overload}
-use Rattle.cpa_units.specs.Bounds.{IsAtMost, bound_times, sum_bounds}
+use Rattle.cpa_units.specs.Bounds.{IsAtMost, bound_plus, bound_times, sum_bounds}
 use Rattle.cpa_units.proofs.BoundLaws.{IsAtMost_refl, zero_at_most, bound_plus-mono, bound_times-mono, bound_plus-overload}
 use Rattle.cpa_events.specs.declared.Model.{Model}
 use Rattle.cpa_events.proofs.EventLaws.{eta_plus-zero, eta_plus-mono, eta_plus-denser}
@@ -67,3 +67,22 @@ bounded_events-mono None v w h = omega arith
 pub bounded_work-mono : (rivals : List Rival) (v w : ℕ) → v ≤ w → bounded_work rivals v ≤ bounded_work rivals w
 bounded_work-mono rivals v w h =
     sum_by-le-sum_by (rival_work v) (rival_work w) rivals (λ r. mul-le-mul_right r.worst (bounded_events-mono r.model v w h))
+
+-- ---- other rivals with the same work
+
+-- what a rival's work depends on: its input and its execution, and neither its slot nor its bound
+abbrev pub load_of : Rival → Option Model × ℕ
+load_of r = (r.model, r.worst)
+
+-- the work of one load in a window
+load_work : ℕ → Option Model × ℕ → Bound
+load_work w load = bound_times (events_in load.0 w) load.1
+
+work_in-loads : (rivals : List Rival) (w : ℕ) → work_in rivals w ≡ sum_bounds (load_work w) (map load_of rivals)
+unfolding load_work
+work_in-loads [] w = refl
+work_in-loads (r ∷ rs) w = ap (bound_plus (bound_times (events_in r.model w) r.worst)) (work_in-loads rs w)
+
+-- rivals with the same loads bring the same work
+pub work_in-same : (rs ss : List Rival) (w : ℕ) → map load_of rs ≡ map load_of ss → work_in rs w ≡ work_in ss w
+work_in-same rs ss w same = work_in-loads rs w ∙ ap (sum_bounds (load_work w)) same ∙ sym (work_in-loads ss w)
