@@ -1,4 +1,5 @@
--- Standard event models: how close events may come, and how many a window may have.
+-- Standard event models: how close events may come, and how many a window may have. Models and curves are those of
+-- Richter's thesis ("Compositional Scheduling Analysis Using Standard Event Models", 2005), in pyCPA's form.
 use Rattle.std.specs.Prelude.{ℕ, zero, suc, ◌+◌, ◌-◌, ◌*◌, ◌<◌, ◌≤◌, max, min, nat_lt}
 use Rattle.std.specs.Int.{div_ceil}
 use Rattle.cpa_units.specs.declared.limits.TheConstants.{MAX_PERIOD}
@@ -6,22 +7,25 @@ use Rattle.cpa_units.specs.Search.{greatest_to}
 use Rattle.cpa_events.specs.declared.Model.{Model}
 use Rattle.cpa_events.specs.declared.TheConstants.{MAX_MODEL_JITTER}
 
--- the least time in which n events can come
+-- the least time from the first to the last of n events (Richter and pyCPA)
 unfoldable pub delta_minus : Model → ℕ → ℕ
 delta_minus m zero = 0
 delta_minus m (suc gaps) = max (gaps * m.distance) (gaps * m.period - m.jitter)
 
--- the greatest time in which n events can come
+-- the greatest time from the first to the last of n events (Richter and pyCPA)
 unfoldable pub delta_plus : Model → ℕ → ℕ
 delta_plus m zero = 0
 delta_plus m (suc zero) = 0
 delta_plus m (suc gaps) = gaps * m.period + m.jitter
 
--- the most events in a window of this length: the greatest n with delta_minus n below it
+-- the most events in a window of this length, whose end does not count (Richter and pyCPA): the greatest n with
+-- `delta_minus m n` below it
 unfoldable pub eta_plus : Model → ℕ → ℕ
 eta_plus m window = greatest_to (λ n. nat_lt (delta_minus m n) window) (window + m.jitter)
 
--- the model of a task's completions: it answers within its bound, and no sooner than its least execution
+-- the model of a task's completions, of which none comes sooner than its least execution and none later than its bound:
+-- the jitter grows by the difference (Richter); that the distance shrinks by it, and not below the least execution, is
+-- this project's own
 abbrev pub after_response : Model → ℕ → ℕ → Model
 after_response m best bound =
     record {
@@ -41,7 +45,7 @@ pub record IsModelInRange (m : Model) : Type 0 where
   pub jitter : m.jitter ≤ MAX_MODEL_JITTER
   pub distance : m.distance ≤ MAX_PERIOD
 
--- the events of a model are early or late by no more than this
+-- the jitter of a model is at most so much
 abbrev pub HasJitterUpTo : Model → ℕ → Type 0
 HasJitterUpTo m most = m.jitter ≤ most
 
@@ -51,7 +55,7 @@ pub record IsNoDenser (m n : Model) : Type 0 where
   pub jitter : m.jitter ≤ n.jitter
   pub distance : n.distance ≤ m.distance
 
--- the most events by two quotients
+-- the most events by two quotients rounded up, as pyCPA has it
 abbrev pub eta_by_quotients : Model → ℕ → ℕ
 eta_by_quotients m zero = 0
 eta_by_quotients m (suc w) =
