@@ -1,0 +1,21 @@
+-- The laws of the bound.
+use Rattle.std.specs.Prelude.{ℕ, ◌≤◌, List}
+use Rattle.cpa_units.specs.declared.bound.Bound.TheVariants.{Within}
+use Rattle.cpa_units.specs.Bounds.{IsAtMost, RespectsLimit}
+use Rattle.cpa_events.specs.declared.Model.{Model}
+use Rattle.cpa_events.specs.Events.{IsNoDenser}
+use Rattle.cpa_window.specs.declared.rivals.Rival.{Rival}
+use Rattle.cpa_window.specs.Rivals.{AreNoHeavier}
+use Rattle.cpa_spp.specs.Preemptive.{preemptive_bound}
+
+-- a denser input, a longer execution and heavier rivals leave no smaller a bound
+abbrev pub PreemptiveBoundsGrow : Type 0
+PreemptiveBoundsGrow =
+    (own own' : Model) (worst worst' : ℕ) (rivals rivals' : List Rival) (limit : ℕ) → IsNoDenser own own' → worst ≤ worst' → AreNoHeavier rivals rivals' →
+    IsAtMost (preemptive_bound own worst rivals limit) (preemptive_bound own' worst' rivals' limit)
+
+-- a bound is at least the execution, and a number among bounds is within the limit
+abbrev pub PreemptiveBoundsAreInRange : Type 0
+PreemptiveBoundsAreInRange =
+    (own : Model) (worst : ℕ) (rivals : List Rival) (limit : ℕ) →
+    IsAtMost (Within worst) (preemptive_bound own worst rivals limit) × RespectsLimit limit (preemptive_bound own worst rivals limit)

@@ -1,0 +1,18 @@
+-- The bound of a task under preemptive priority, whose rivals are the tasks of higher priority.
+use Rattle.std.specs.Prelude.{ℕ, ◌*◌, List}
+use Rattle.cpa_units.specs.declared.bound.Bound.{Bound}
+use Rattle.cpa_units.specs.declared.bound.Bound.TheVariants.{Within}
+use Rattle.cpa_units.specs.Bounds.{bound_plus}
+use Rattle.cpa_events.specs.declared.Model.{Model}
+use Rattle.cpa_events.specs.Events.{delta_minus}
+use Rattle.cpa_window.specs.declared.rivals.Rival.{Rival}
+use Rattle.cpa_window.specs.Rivals.{work_in}
+use Rattle.cpa_window.specs.BusyWindow.{busy_window_bound, windows_of}
+
+-- the work of q jobs, and of all that may come before them
+abbrev pub preemptive_demand : ℕ → List Rival → ℕ → ℕ → Bound
+preemptive_demand worst rivals q w = bound_plus (Within (q * worst)) (work_in rivals w)
+
+-- the greatest response of the jobs of a busy window
+abbrev pub preemptive_bound : Model → ℕ → List Rival → ℕ → Bound
+preemptive_bound own worst rivals limit = busy_window_bound (windows_of (preemptive_demand worst rivals) limit) (delta_minus own) limit

@@ -1,0 +1,60 @@
+// The response-time bound of a task under preemptive priority.
+#![tactic(auto)]
+
+ghost use Rattle.std.specs.Prelude.{◌≡◌, ℕ, ◌+◌, ◌*◌, ◌≤◌};
+ghost use Rattle.cpa_units.specs.Numbers.{IsExecution};
+ghost use Rattle.cpa_events.specs.Events.{IsModelInRange};
+ghost use Rattle.cpa_window.specs.Rivals.{AreRivals, bounded_work};
+ghost use Rattle.cpa_spp.specs.Preemptive.{preemptive_bound};
+ghost use Rattle.cpa_spp.specs.PreemptiveWork.{jobs_and_rivals-mono, jobs_and_rivals-ge};
+ghost use Rattle.cpa_spp.specs.Laws.{PreemptiveBoundsGrow, PreemptiveBoundsAreInRange};
+
+use cpa_events::Model;
+use cpa_units::Bound;
+use cpa_units::limits::MAX_LIMIT;
+use cpa_window::{BusyWindow, Rival, busy_window_bound, some_unbounded, work_in};
+
+/// The jobs of a task and the work of higher priority, all of it bounded.
+#[derive(Clone, Copy)]
+struct PreemptiveJobs<'a> {
+    worst: u64,
+    rivals: &'a [Rival],
+    ghost execution: { IsExecution worst },
+    ghost rivals_in_range: { AreRivals rivals.now },
+}
+
+impl<'a> BusyWindow for PreemptiveJobs<'a> {
+    ghost demand = { λ b q w. q * b.worst + bounded_work b.rivals.now w };
+
+    ghost monotone = { λ b p q v w fewer shorter. jobs_and_rivals-mono b.worst b.rivals.now p q v w fewer shorter };
+
+    ghost some = { λ b q w. jobs_and_rivals-ge b.worst b.rivals.now q w b.execution };
+
+    fn at(&self, jobs: u64, window: u64) -> u128 {
+        u128::from(jobs * self.worst + work_in(self.rivals, window))
+    }
+}
+
+/// The bound of a task; the rivals are the tasks of higher priority.
+pub fn respond(own: &Model, worst: u64, rivals: &[Rival], limit: u64) -> Bound
+    requires own { IsModelInRange own.now }
+    requires worst { IsExecution worst }
+    requires rivals { AreRivals rivals.now }
+    requires limit { limit ≤ MAX_LIMIT }
+    ensures { result ≡ preemptive_bound own.now worst rivals.now limit }
+{
+    if some_unbounded(rivals) {
+        return Bound::Overload;
+    }
+    let jobs = PreemptiveJobs { worst, rivals };
+    busy_window_bound(&jobs, own, limit)
+}
+
+/// The bound grows with what it is computed from, and lies from the execution to the limit.
+pub fn bounds_have_laws()
+    ensures grow { PreemptiveBoundsGrow }
+    ensures in_range { PreemptiveBoundsAreInRange }
+{}
+
+#[cfg(test)]
+mod tests;

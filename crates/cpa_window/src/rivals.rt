@@ -1,0 +1,66 @@
+// The other tasks of a resource, and the work that they bring.
+
+ghost use Rattle.std.specs.Prelude.{◌≡◌, ◌+◌, ◌*◌, ◌^◌, ◌≤◌};
+ghost use Rattle.cpa_events.specs.Events.{eta_plus, IsModelInRange};
+ghost use Rattle.cpa_window.specs.Rivals.{IsRival, AreRivals, rival_work, bounded_work, some_unbounded};
+
+use cpa_events::Model;
+use cpa_units::Bound;
+use cpa_units::limits::{MAX_BIT, MAX_EXECUTION, MAX_LIMIT};
+
+/// Another task of the resource, as an analysis sees it.
+#[derive(Clone, Copy, Debug)]
+pub struct Rival {
+    /// The model of its input; none where that is unbounded.
+    pub model: Option<Model>,
+    pub worst: u64,
+    /// Its slot, 0 where slots don't count.
+    pub slot: u64,
+    /// Its bound so far.
+    pub bound: Bound,
+}
+
+/// The work of a window's events, each of which takes so long.
+pub fn events_work(model: &Model, window: u64, each: u64) -> u64
+    requires model { IsModelInRange model.now }
+    requires window { window ≤ 2 * MAX_LIMIT }
+    requires each { each ≤ MAX_EXECUTION }
+    ensures value { result ≡ eta_plus model.now window * each }
+    ensures small { result ≤ 2 ^ 51 }
+{
+    model.eta_plus(window) * each
+}
+
+/// Some rival's input is unbounded.
+pub fn some_unbounded(rivals: &[Rival]) -> bool
+    ensures { result ≡ some_unbounded rivals.now }
+{
+    rivals.iter().any(|rival| rival.model.is_none())
+}
+
+/// The work of rivals whose inputs are bounded, in a window. Others count as nothing.
+pub fn work_in(rivals: &[Rival], window: u64) -> u64
+    requires rivals { AreRivals rivals.now }
+    requires window { window ≤ MAX_LIMIT + MAX_BIT }
+    ensures value { result ≡ bounded_work rivals.now window }
+    ensures small { result ≤ 2 ^ 60 }
+{
+    let mut total = 0;
+    for rival in rivals {
+        total += rival_work(rival, window);
+    }
+    total
+}
+
+/// The work of one rival in a window.
+fn rival_work(rival: &Rival, window: u64) -> u64
+    requires rival { IsRival rival.now }
+    requires window { window ≤ MAX_LIMIT + MAX_BIT }
+    ensures value { result ≡ rival_work window rival.now }
+    ensures small { result ≤ 2 ^ 51 }
+{
+    match &rival.model {
+        Some(model) => events_work(model, window, rival.worst),
+        None => 0,
+    }
+}
