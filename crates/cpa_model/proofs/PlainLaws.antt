@@ -1,5 +1,5 @@
 -- A plain draft stands for a system that keeps its rules.
-use Rattle.std.proofs.Common.{◌≡◌, ◌≢◌, ℕ, ℤ, pos, negsuc, zero, suc, ◌<◌, ◌≤◌, Bool, true, false, not, ◌&&◌, ◌==◌, nat_lt, List, [], ◌∷◌, map, length, slice_index_or, get_or, All, Option, Some, None, IsSome, is_some, is_none, unwrap_or, refl, sym, ap, arith, inl, inr, ◌∙◌, eq-eqb}
+use Rattle.std.proofs.Common.{◌≡◌, ◌≢◌, ℕ, ℤ, pos, negsuc, zero, suc, ◌<◌, ◌≤◌, Bool, true, false, not, ◌&&◌, ◌==◌, nat_lt, List, [], ◌∷◌, map, length, slice_index_or, get_or, All, Option, Some, None, IsSome, is_some, is_none, unwrap_or, refl, sym, ap, arith, inl, inr, ◌∙◌, eq-eqb, lit≤}
 use Rattle.std.specs.Prelude.{position}
 use Rattle.std.specs.List.{list_all, position_or_len, AllPairs}
 use Rattle.std.specs.Str.{bytes_eq}
@@ -59,7 +59,7 @@ resource-kept r h =
     let a = and_parts _ _ h in
     let b = and_parts _ _ a.0 in
     let c = and_parts _ _ b.0 in
-    let limit = may-range 1 10000000 1000000 r.limit (omega arith, omega arith) c.1 in
+    let limit = may-range 1 10000000 1000000 r.limit (lit≤ tt, lit≤ tt) c.1 in
     record { some_limit = limit.0; limit = limit.1; kind_fits = tt }
 
 source-kept : (r : DraftSource) → is_plain_source r ≡ true → IsSource (source_from r)
@@ -68,9 +68,9 @@ source-kept r h =
     let b = and_parts _ _ a.0 in
     let c = and_parts _ _ b.0 in
     let period = range 1 1000000000 r.period c.1 in
-    let jitter = absent r.jitter b.1 in
-    let distance = absent r.distance a.1 in
-    record { some_period = period.0; period = period.1; jitter = omega arith; distance = omega arith }
+    let jitter : nat_or 0 r.jitter ≡ 0 = absent r.jitter b.1 in
+    let distance : nat_or 0 r.distance ≡ 0 = absent r.distance a.1 in
+    record { some_period = period.0; period = period.1; jitter = rw jitter (lit≤ tt); distance = rw distance (omega arith) }
 
 preemptive-at : (rs : List DraftResource) (k : ℕ) → (slice_index_or (map resource_from rs) k no_resource).kind ≡ Preemptive
 preemptive-at [] k = refl

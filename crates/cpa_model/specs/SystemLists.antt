@@ -1,10 +1,11 @@
 -- A system: its resources, sources, tasks and paths, as in the system graphs of SymTA/S.
-use Rattle.std.specs.Prelude.{ℕ, ◌==◌, ◌&&◌, nat_lt, Bool, List, [], filter, length, slice_index_or, None}
+use Rattle.std.specs.Prelude.{ℕ, ◌+◌, ◌==◌, ◌&&◌, nat_lt, not, max, Bool, List, [], filter, sum_by, fold, length, slice_index_or, None}
 use Rattle.std.specs.List.{range_with_len}
 use Rattle.cpa_model.specs.declared.entries.Resource.{Resource}
 use Rattle.cpa_model.specs.declared.entries.Source.{Source}
 use Rattle.cpa_model.specs.declared.entries.Task.{Task}
 use Rattle.cpa_model.specs.declared.entries.Path.{Path}
+use Rattle.cpa_model.specs.declared.entries.Kind.{Kind}
 use Rattle.cpa_model.specs.declared.entries.Kind.TheVariants as kind
 use Rattle.cpa_model.specs.declared.entries.Turn.{Turn}
 use Rattle.cpa_model.specs.declared.entries.Turn.TheVariants as turn
@@ -71,3 +72,23 @@ is_higher s i j = shares_resource s i j && nat_lt (priority_of (task_at s j).tur
 
 abbrev pub higher_tasks : SystemLists → ℕ → List ℕ
 higher_tasks s i = filter (is_higher s i) (task_places s)
+
+-- whether j is another task of the resource of i
+abbrev pub is_other : SystemLists → ℕ → ℕ → Bool
+is_other s i j = shares_resource s i j && not (j == i)
+
+abbrev pub other_tasks : SystemLists → ℕ → List ℕ
+other_tasks s i = filter (is_other s i) (task_places s)
+
+-- the greatest execution among the tasks of lower priority, 0 if there are none
+abbrev pub blocking_of : SystemLists → ℕ → ℕ
+blocking_of s i = fold (λ most j. max most (task_at s j).worst) 0 (filter (λ j. is_higher s j i) (task_places s))
+
+-- the gap of a kind, 0 where it has none
+abbrev pub gap_of : Kind → ℕ
+gap_of (kind.Tdma gap) = gap
+gap_of _ = 0
+
+-- the cycle of a TDMA resource: the slots of its tasks, and its gap
+abbrev pub cycle_of : SystemLists → ℕ → ℕ
+cycle_of s r = sum_by (λ i. slot_of (task_at s i).turn) (filter (λ i. (task_at s i).res.0 == r) (task_places s)) + gap_of (resource_at s r).kind
