@@ -1,0 +1,8 @@
+pub mod Inputs
+pub mod Lines
+pub mod Local
+pub mod Output
+pub mod Reading
+pub mod Report
+pub mod Solution
+pub mod Words

@@ -1,0 +1,103 @@
+-- The text of a report, and its verdict.
+use Rattle.std.specs.Prelude.{ℕ, zero, suc, ◌++◌, nat_le, Bool, true, false, Option, Some, None, List, length, sum_by, count_by, codes, if◌then◌else◌}
+use Rattle.std.specs.List.{list_any, flat_map}
+use Rattle.std.specs.Fmt.{decimal}
+use Rattle.cpa_units.specs.declared.bound.Bound.{Bound}
+use Rattle.cpa_units.specs.declared.bound.Bound.TheVariants.{Within, Overload}
+use Rattle.cpa_units.specs.declared.limits.TheConstants.{MAX_CHAIN}
+use Rattle.cpa_units.specs.declared.places.TaskId.{TaskId}
+use Rattle.cpa_units.specs.Bounds.{bound_of, sum_bounds}
+use Rattle.cpa_events.specs.declared.Model.{Model}
+use Rattle.cpa_model.specs.declared.entries.Activator.{Activator}
+use Rattle.cpa_model.specs.declared.entries.Activator.TheVariants.{Source as FromSource, Task as FromTask}
+use Rattle.cpa_model.specs.declared.entries.Path.{Path}
+use Rattle.cpa_model.specs.SystemLists.{SystemLists, task_at, source_at, resource_of, task_places}
+use Rattle.cpa_cli.specs.Inputs.{input}
+
+-- the verdict on a path's deadline
+pub data Outcome : Type 0 where
+  Met : Outcome
+  Missed : Outcome
+  Unknown : Outcome
+  NoDeadline : Outcome
+
+-- the least time from end to end
+abbrev pub path_best : SystemLists → Path → ℕ
+path_best s p = sum_by (λ (i : TaskId). (task_at s i.0).best) p.tasks
+
+-- the greatest, by the bounds of its tasks
+abbrev pub path_worst : List Bound → Path → Bound
+path_worst x p = sum_bounds (λ (i : TaskId). bound_of x i.0) p.tasks
+
+abbrev pub outcome_of : Option ℕ → Bound → Outcome
+outcome_of None worst = NoDeadline
+outcome_of (Some deadline) Overload = Unknown
+outcome_of (Some deadline) (Within worst) = if nat_le worst deadline then Met else Missed
+
+abbrev pub is_missed_by : Outcome → Bool
+is_missed_by Missed = true
+is_missed_by _ = false
+
+abbrev pub is_missed : List Bound → Path → Bool
+is_missed x p = is_missed_by (outcome_of p.deadline (path_worst x p))
+
+abbrev pub is_overload : Bound → Bool
+is_overload (Within ticks) = false
+is_overload Overload = true
+
+-- 2 where a bound is missing; else 1 where a deadline is missed; else 0
+unfoldable pub verdict : SystemLists → List Bound → ℕ
+verdict s x = if list_any is_overload x then 2 else if list_any (is_missed x) s.paths then 1 else 0
+
+abbrev pub bound_text : Bound → List ℕ
+bound_text (Within ticks) = decimal ticks
+bound_text Overload = codes "overload"
+
+abbrev pub outcome_text : Outcome → List ℕ
+outcome_text Met = codes "met"
+outcome_text Missed = codes "missed"
+outcome_text Unknown = codes "unknown"
+outcome_text NoDeadline = codes "none"
+
+abbrev pub deadline_text : Option ℕ → List ℕ
+deadline_text (Some deadline) = decimal deadline
+deadline_text None = codes "-"
+
+-- the period of the source that begins a chain of at most so many tasks
+abbrev pub root_period_along : SystemLists → ℕ → Activator → ℕ
+root_period_along s more (FromSource k) = (source_at s k.0).period
+root_period_along s zero (FromTask j) = 0
+root_period_along s (suc more) (FromTask j) = root_period_along s more (task_at s j.0).after
+
+-- a task's name and its resource's
+unfoldable pub names_text : SystemLists → ℕ → List ℕ
+names_text s i = codes "task " ++ (task_at s i).name ++ codes " " ++ (resource_of s i).name
+
+-- a task's input model; where it is unbounded, only its period is known
+unfoldable pub input_text : SystemLists → ℕ → Option Model → List ℕ
+input_text s i (Some m) =
+    codes " period " ++ decimal m.period ++ codes " jitter " ++ decimal m.jitter ++ codes " distance " ++ decimal m.distance
+input_text s i None =
+    codes " period " ++ decimal (root_period_along s MAX_CHAIN (task_at s i).after) ++ codes " jitter overload distance overload"
+
+-- the least execution and the bound
+unfoldable pub bounds_text : ℕ → Bound → List ℕ
+bounds_text best worst = codes " best " ++ decimal best ++ codes " worst " ++ bound_text worst
+
+unfoldable pub task_line : SystemLists → List Bound → ℕ → List ℕ
+task_line s x i = names_text s i ++ input_text s i (input s x i) ++ bounds_text (task_at s i).best (bound_of x i) ++ codes "\n"
+
+unfoldable pub path_line : SystemLists → List Bound → Path → List ℕ
+path_line s x p =
+    codes "path " ++ p.name ++ bounds_text (path_best s p) (path_worst x p)
+    ++ codes " deadline " ++ deadline_text p.deadline ++ codes " " ++ outcome_text (outcome_of p.deadline (path_worst x p)) ++ codes "\n"
+
+unfoldable pub summary_line : ℕ → ℕ → ℕ → List ℕ
+summary_line tasks overload missed =
+    codes "summary tasks " ++ decimal tasks ++ codes " overload " ++ decimal overload ++ codes " missed " ++ decimal missed ++ codes "\n"
+
+-- a line per task, a line per path, and the counts
+unfoldable pub report_text : SystemLists → List Bound → List ℕ
+report_text s x =
+    flat_map (task_line s x) (task_places s) ++ flat_map (path_line s x) s.paths
+    ++ summary_line (length s.tasks) (count_by is_overload x) (count_by (is_missed x) s.paths)

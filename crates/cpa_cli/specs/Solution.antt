@@ -1,0 +1,30 @@
+-- Closed vectors, and the least of them.
+use Rattle.std.specs.Prelude.{ℕ, ◌≡◌, ◌<◌, Bool, true, false, List, [], map, length}
+use Rattle.std.specs.List.{list_all}
+use Rattle.cpa_units.specs.declared.bound.Bound.{Bound}
+use Rattle.cpa_units.specs.declared.bound.Bound.TheVariants.{Within}
+use Rattle.cpa_units.specs.declared.limits.TheConstants.{MAX_LIMIT}
+use Rattle.cpa_units.specs.Bounds.{IsAtMost, RespectsLimit, IsNowhereAbove, bound_of}
+use Rattle.cpa_model.specs.SystemLists.{SystemLists, task_at, task_places}
+use Rattle.cpa_cli.specs.Local.{responses}
+
+-- a vector of the system: a bound per task, none below the task's least execution, no number past the greatest
+pub record IsVector (s : SystemLists) (x : List Bound) : Type 0 where
+  pub long : length x ≡ length s.tasks
+  pub low : (i : ℕ) → i < length s.tasks → IsAtMost (Within (task_at s i).best) (bound_of x i)
+  pub high : (i : ℕ) → i < length s.tasks → RespectsLimit MAX_LIMIT (bound_of x i)
+
+-- each task's least execution
+abbrev pub floor_of : SystemLists → List Bound
+floor_of s = map (λ i. Within (task_at s i).best) (task_places s)
+
+-- no task answers later than the vector says, if no other does
+abbrev pub IsClosed : SystemLists → List Bound → Type 0
+IsClosed s x = IsNowhereAbove (responses s x) x
+
+-- The least solution: the closed vector that is nowhere above any closed vector. By Knaster and Tarski there is exactly
+-- one, since no bound falls where a vector rises.
+pub record IsLeast (s : SystemLists) (x : List Bound) : Type 0 where
+  pub vector : IsVector s x
+  pub closed : IsClosed s x
+  pub least : (y : List Bound) → IsVector s y → IsClosed s y → IsNowhereAbove x y
