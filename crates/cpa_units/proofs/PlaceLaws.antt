@@ -1,42 +1,44 @@
--- An element by its place, and the parts of a list before and after it.
-use Rattle.std.proofs.Common.{◌≡◌, ℕ, ◌+◌, Bool, true, false, cond, ◌||◌, List, [], ◌∷◌, ◌++◌, take, drop, map, Option, Some, None, refl, sym, ap, ◌∙◌}
-use Rattle.std.specs.Prelude.{slice_get, count_by}
-use Rattle.std.specs.List.{filter_map, list_any}
-use Rattle.std.proofs.lemmas.Bool.{or_left, or_right}
-use Rattle.std.proofs.lemmas.List.{take_more, drop_more, map-append, take-append-drop}
-use Rattle.std.proofs.lemmas.List.Elements.{filter_map-append}
-use Rattle.std.proofs.lemmas.List.Sums.{sum_by_push}
-use Rattle.std.proofs.lemmas.List.Folds.{list_any-append}
-use Rattle.std.proofs.lemmas.Option.{slice_get_within, get_or_from_slice_get}
+-- Lists by place: what loops over the places 0, 1, 2 and so on have made so far, and one place more.
+use Rattle.std.proofs.Common.{◌≡◌, ℕ, ◌+◌, ◌<◌, Bool, true, false, List, [], ◌∷◌, ◌++◌, length, take, map, set, refl, sym, ap, ◌∙◌, arith}
+use Rattle.std.specs.Prelude.{filter}
+use Rattle.std.specs.List.{range_with_len, flat_map}
+use Rattle.std.proofs.lemmas.List.{take_all, take_more_set, map-append, map-id, append-nil}
+use Rattle.std.proofs.lemmas.List.Elements.{filter-append}
+use Rattle.std.proofs.lemmas.List.FromFn.{map-range_with_len_more}
+use Rattle.std.proofs.lemmas.Grind.{flat_map-append}
 
-pub take-get : {X : Type 0} (xs : List X) (k : ℕ) (x : X) → slice_get xs k ≡ Some x → take (k + 1) xs ≡ take k xs ++ x ∷ []
-take-get xs k x at = take_more xs k x (slice_get_within xs k x at) ∙ ap (λ y. take k xs ++ y ∷ []) (get_or_from_slice_get xs k x x at)
+-- the places below k
+abbrev pub places : ℕ → List ℕ
+places k = range_with_len 0 k
 
-pub drop-get : {X : Type 0} (xs : List X) (k : ℕ) (x : X) → slice_get xs k ≡ Some x → drop k xs ≡ x ∷ drop (k + 1) xs
-drop-get xs k x at = drop_more xs k x (slice_get_within xs k x at) ∙ ap (λ y. y ∷ drop (k + 1) xs) (get_or_from_slice_get xs k x x at)
+pub places-more : (k : ℕ) → places (k + 1) ≡ places k ++ k ∷ []
+places-more k =
+    sym (map-id (places (k + 1))) ∙ map-range_with_len_more (λ i. i) 0 k k (omega arith) ∙ ap (λ xs. xs ++ k ∷ []) (map-id (places k))
 
-append_empty : {X : Type 0} (xs : List X) → xs ++ [] ≡ xs
-append_empty [] = refl
-append_empty (x ∷ xs) = ap (λ ys. x ∷ ys) (append_empty xs)
+pub map-places_more : {X : Type 0} (f : ℕ → X) (k : ℕ) → map f (places (k + 1)) ≡ map f (places k) ++ f k ∷ []
+map-places_more f k = map-range_with_len_more f 0 k k (omega arith)
 
-pub filter_map-none : {X Y : Type 0} (f : X → Option Y) (xs : List X) (k : ℕ) (x : X) → slice_get xs k ≡ Some x → f x ≡ None → filter_map f (take (k + 1) xs) ≡ filter_map f (take k xs)
-filter_map-none f xs k x at none = ap (filter_map f) (take-get xs k x at) ∙ filter_map-append f (take k xs) (x ∷ []) ∙ (rw none (append_empty (filter_map f (take k xs))))
+pub flat_map-places_more : {X : Type 0} (f : ℕ → List X) (k : ℕ) → flat_map f (places (k + 1)) ≡ flat_map f (places k) ++ f k
+flat_map-places_more f k = ap (flat_map f) (places-more k) ∙ flat_map-append f (places k) (k ∷ []) ∙ ap (λ xs. flat_map f (places k) ++ xs) (append-nil (f k))
 
-pub filter_map-some : {X Y : Type 0} (f : X → Option Y) (xs : List X) (k : ℕ) (x : X) (y : Y) → slice_get xs k ≡ Some x → f x ≡ Some y → filter_map f (take (k + 1) xs) ≡ filter_map f (take k xs) ++ y ∷ []
-filter_map-some f xs k x y at some = ap (filter_map f) (take-get xs k x at) ∙ filter_map-append f (take k xs) (x ∷ []) ∙ (rw some refl)
+-- a place that passes a test, and one that doesn't
+pub passing-places_more : {X : Type 0} (f : ℕ → X) (p : ℕ → Bool) (k : ℕ) → p k ≡ true → map f (filter p (places (k + 1))) ≡ map f (filter p (places k)) ++ f k ∷ []
+passing-places_more f p k passes =
+    let one : filter p (k ∷ []) ≡ k ∷ [] = rw passes refl in
+    ap (λ js. map f (filter p js)) (places-more k) ∙ ap (map f) (filter-append p (places k) (k ∷ [])) ∙ map-append f (filter p (places k)) (filter p (k ∷ []))
+    ∙ ap (λ js. map f (filter p (places k)) ++ map f js) one
 
-pub map-get : {X Y : Type 0} (f : X → Y) (xs : List X) (k : ℕ) (x : X) → slice_get xs k ≡ Some x → map f (take (k + 1) xs) ≡ map f (take k xs) ++ f x ∷ []
-map-get f xs k x at = ap (map f) (take-get xs k x at) ∙ map-append f (take k xs) (x ∷ [])
+pub failing-places_more : {X : Type 0} (f : ℕ → X) (p : ℕ → Bool) (k : ℕ) → p k ≡ false → map f (filter p (places (k + 1))) ≡ map f (filter p (places k))
+failing-places_more f p k fails =
+    let none : filter p (k ∷ []) ≡ [] = rw fails refl in
+    ap (λ js. map f (filter p js)) (places-more k) ∙ ap (map f) (filter-append p (places k) (k ∷ [])) ∙ map-append f (filter p (places k)) (filter p (k ∷ []))
+    ∙ ap (λ js. map f (filter p (places k)) ++ map f js) none ∙ append-nil (map f (filter p (places k)))
 
-pub count-get : {X : Type 0} (p : X → Bool) (xs : List X) (k : ℕ) (x : X) → slice_get xs k ≡ Some x → count_by p (take (k + 1) xs) ≡ count_by p (take k xs) + cond (p x) 1 0
-count-get p xs k x at = ap (count_by p) (take-get xs k x at) ∙ sum_by_push (λ y. cond (p y) 1 0) (take k xs) x
+-- a list that is written place by place
+pub set-places : {X : Type 0} (f : ℕ → X) (xs : List X) (k : ℕ) (x : X) → k < length xs → x ≡ f k → take k xs ≡ map f (places k) → take (k + 1) (set xs k x) ≡ map f (places (k + 1))
+set-places f xs k x less e done =
+    take_more_set xs k x less ∙ ap (λ ys. ys ++ x ∷ []) done ∙ ap (λ y. map f (places k) ++ y ∷ []) e ∙ sym (map-places_more f k)
 
-pub any-get : {X : Type 0} (p : X → Bool) (xs : List X) (k : ℕ) (x : X) → slice_get xs k ≡ Some x → list_any p (take (k + 1) xs) ≡ (list_any p (take k xs) || p x)
-any-get p xs k x at = ap (list_any p) (take-get xs k x at) ∙ list_any-append p (take k xs) (x ∷ []) ∙ ap (λ b. list_any p (take k xs) || b) (or_false (p x))
-  where
-    or_false : (b : Bool) → (b || false) ≡ b
-    or_false true = refl
-    or_false false = refl
-
-pub any-found : {X : Type 0} (p : X → Bool) (xs : List X) (k : ℕ) (x : X) → slice_get xs k ≡ Some x → p x ≡ true → list_any p xs ≡ true
-any-found p xs k x at t = ap (list_any p) (sym (take-append-drop (k + 1) xs)) ∙ list_any-append p (take (k + 1) xs) (drop (k + 1) xs) ∙ or_left _ _ (any-get p xs k x at ∙ or_right _ _ t)
+-- and is written to its end
+pub all-places : {X : Type 0} (f : ℕ → X) (xs : List X) (k n : ℕ) → length xs ≡ n → k ≡ n → take k xs ≡ map f (places k) → xs ≡ map f (places n)
+all-places f xs k n long end done = sym (take_all k xs (omega arith)) ∙ done ∙ ap (λ j. map f (places j)) end

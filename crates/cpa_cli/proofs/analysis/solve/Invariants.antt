@@ -1,0 +1,10 @@
+use Rattle.std.proofs.Common.{◌≡◌, length, map, take}
+use Rattle.std.specs.List.{range_with_len}
+use Rattle.cpa_cli.specs.Local.{response}
+use Rattle.cpa_cli.proofs.analysis.solve.Given as goal
+
+abbrev pub invariant-loop-k : goal.invariant-loop-k
+invariant-loop-k l = record {
+  long : length l.bounds ≡ length l.system.tasks;
+  done : take l.k l.bounds ≡ map (response l.system l.start) (range_with_len 0 l.k);
+}

@@ -1,0 +1,6 @@
+//! Analyses a system of tasks, and prints a bound for each.
+#![tactic(auto)]
+
+mod analysis;
+
+fn main() {}
