@@ -1,3 +1,4 @@
 pub mod InputLaws
+pub mod ReadingLaws
 pub mod RivalLaws
 pub mod SolutionLaws

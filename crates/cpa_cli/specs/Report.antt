@@ -73,12 +73,16 @@ root_period_along s (suc more) (FromTask j) = root_period_along s more (task_at 
 unfoldable pub names_text : SystemLists → ℕ → List ℕ
 names_text s i = codes "task " ++ (task_at s i).name ++ codes " " ++ (resource_of s i).name
 
--- a task's input model; where it is unbounded, only its period is known
-unfoldable pub input_text : SystemLists → ℕ → Option Model → List ℕ
-input_text s i (Some m) =
-    codes " period " ++ decimal m.period ++ codes " jitter " ++ decimal m.jitter ++ codes " distance " ++ decimal m.distance
-input_text s i None =
-    codes " period " ++ decimal (root_period_along s MAX_CHAIN (task_at s i).after) ++ codes " jitter overload distance overload"
+unfoldable pub model_text : Model → List ℕ
+model_text m = codes " period " ++ decimal m.period ++ codes " jitter " ++ decimal m.jitter ++ codes " distance " ++ decimal m.distance
+
+unfoldable pub unbounded_text : ℕ → List ℕ
+unbounded_text period = codes " period " ++ decimal period ++ codes " jitter overload distance overload"
+
+-- a task's input model; of one that is unbounded the period alone is known
+abbrev pub input_text : SystemLists → ℕ → Option Model → List ℕ
+input_text s i (Some m) = model_text m
+input_text s i None = unbounded_text (root_period_along s MAX_CHAIN (task_at s i).after)
 
 -- the least execution and the bound
 unfoldable pub bounds_text : ℕ → Bound → List ℕ

@@ -2,5 +2,10 @@
 #![tactic(auto)]
 
 mod analysis;
+mod reading;
+mod refusal;
+mod report;
+mod shapes;
+mod text;
 
 fn main() {}
