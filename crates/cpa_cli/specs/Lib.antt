@@ -2,6 +2,7 @@ pub mod Analysable
 pub mod Inputs
 pub mod Lines
 pub mod Local
+pub mod Output
 pub mod Reading
 pub mod Report
 pub mod Solution

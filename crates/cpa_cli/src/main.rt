@@ -2,10 +2,36 @@
 #![tactic(auto)]
 
 mod analysis;
+mod command;
+mod lines;
 mod reading;
 mod refusal;
 mod report;
 mod shapes;
 mod text;
+mod words;
 
-fn main() {}
+use cpa_io::{RealFiles, RealSink};
+use std::alloc::Global;
+use std::process::ExitCode;
+use std::rt::Env;
+use std::{env, io};
+
+/// The words after the program's name.
+fn read_words<R: Env + AllocGlobal>(rt: &R, alloc: Global) -> io::Result<Vec<String>> {
+    let mut words = Vec::new(alloc);
+    for word in env::args(rt)?.skip(1) {
+        words.push(word)?;
+    }
+    Ok(words)
+}
+
+fn main(rt: HostRuntime) -> ExitCode {
+    let alloc = rt.alloc();
+    let Ok(words) = read_words(&rt, alloc) else {
+        return ExitCode::from(30);
+    };
+    let mut sink = RealSink::new(io::writer(&rt));
+    let mut files = RealFiles::new(&rt, alloc);
+    ExitCode::from(command::run(&rt, alloc, words.as_slice(), &mut files, &mut sink))
+}

@@ -1,6 +1,6 @@
 //! The report of a system and its bounds.
 
-ghost use Rattle.std.specs.Prelude.{◌≡◌, ◌<◌, ◌++◌, length, count_by, OnOk, IfOk};
+ghost use Rattle.std.specs.Prelude.{◌≡◌, ◌<◌, ◌≤◌, ◌++◌, length, count_by, OnOk, IfOk};
 ghost use Rattle.std.specs.List.{range_with_len, flat_map};
 ghost use Rattle.std.specs.Fmt.{decimal};
 ghost use Rattle.cpa_units.specs.Bounds.{bound_of};
@@ -129,7 +129,8 @@ pub fn report_text(alloc: Global, system: &System, x: &Vector) -> Result<Vec<u8>
 #[tactic(auto, unfolding(crate::specs::Report::verdict))]
 pub fn verdict(system: &System, x: &Vector) -> u8
     requires { IsAnalysable system.now }
-    ensures { result ≡ verdict system.now x.now }
+    ensures value { result ≡ verdict system.now x.now }
+    ensures small { result ≤ 2 }
 {
     for k in 0..x.len() {
         if is_overload(x.get(TaskId(k))) {

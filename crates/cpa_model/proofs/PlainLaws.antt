@@ -211,3 +211,9 @@ plain-is_system d h =
       path_names = λ i j p before less. absurd (omega arith);
       priorities = priorities d m.1 a.1;
     }
+
+-- each task is activated by a source
+pub plain-fed : (d : DraftLists) → is_plain d ≡ true → (i : ℕ) (t : DraftTask) → i < length d.tasks → unwrap_or (source_place d (get_or d.tasks i t).after) 0 < length (map source_from d.sources)
+plain-fed d h i t less =
+    let a = and_parts _ _ h in
+    (task-kept d (get_or d.tasks i t) (passes-at (is_plain_task d) d.tasks i t a.1 less)).activated
