@@ -37,8 +37,8 @@ pub trait Files {
 
         ensures within { IfOk result (λ v. vec_len v ≤ most) }
 
-        // Where the content is told, `TooLong` comes and Ok doesn't exactly where it is longer than
-        // `most`. Where nothing is held, neither comes.
+        // Where the content is told, of Ok and `TooLong` the latter comes exactly where it is longer
+        // than `most`. Where nothing is held, neither comes.
         ensures content { IfOk result (λ v. told self.old ≡ true → held self.old name.now ≡ Some v.items) }
         ensures too_long { result ≡ Err LoadFault.TooLong → told self.old ≡ true →
             IsSomeAnd (held self.old name.now) (λ bytes. most < length bytes) }
