@@ -17,7 +17,7 @@ pub enum LoadFault {
     Memory,
 }
 
-/// Files that are loaded by name, each as a whole.
+/// Files that are loaded by name, each as a whole. What is held under a name never changes.
 pub trait Files {
     /// Whether the files tell what they hold.
     ghost told: { Self → Bool };
@@ -37,11 +37,13 @@ pub trait Files {
 
         ensures within { IfOk result (λ v. vec_len v ≤ most) }
 
-        // Where the content is told, the first two say that of Ok and `TooLong` the latter comes
-        // exactly where it is longer than `most`; the third follows from them too.
+        // Where the content is told, of Ok and `TooLong` the latter comes exactly where it is longer
+        // than `most`. Where nothing is held, neither comes.
         ensures content { IfOk result (λ v. told self.old ≡ true → held self.old name.now ≡ Some v.items) }
-        ensures too_long { result ≡ Err LoadFault.TooLong → told self.old ≡ true → IsSomeAnd (held self.old name.now) (λ bytes. most < length bytes) }
-        ensures missing { told self.old ≡ true → held self.old name.now ≡ None → (result ≡ Err LoadFault.Failed) ⊎ (result ≡ Err LoadFault.Memory) }
+        ensures too_long { result ≡ Err LoadFault.TooLong → told self.old ≡ true →
+            IsSomeAnd (held self.old name.now) (λ bytes. most < length bytes) }
+        ensures missing { told self.old ≡ true → held self.old name.now ≡ None →
+            (result ≡ Err LoadFault.Failed) ⊎ (result ≡ Err LoadFault.Memory) }
 
         ensures rises { faults self.old ≤ faults self.new }
         ensures failed { result ≡ Err LoadFault.Failed → Rose (faults self.old) (faults self.new) }

@@ -68,15 +68,20 @@ impl Files for MemoryFiles {
         // As all files promise.
         ensures within { IfOk result (λ v. vec_len v ≤ most) }
         ensures content { IfOk result (λ v. held_under name.now self.old.entries ≡ Some v.items) }
-        ensures too_long { result ≡ Err LoadFault.TooLong → IsSomeAnd (held_under name.now self.old.entries) (λ bytes. most < length bytes) }
-        ensures missing { held_under name.now self.old.entries ≡ None → (result ≡ Err LoadFault.Failed) ⊎ (result ≡ Err LoadFault.Memory) }
+        ensures too_long { result ≡ Err LoadFault.TooLong →
+            IsSomeAnd (held_under name.now self.old.entries) (λ bytes. most < length bytes) }
+        ensures missing { held_under name.now self.old.entries ≡ None →
+            (result ≡ Err LoadFault.Failed) ⊎ (result ≡ Err LoadFault.Memory) }
         ensures rises { self.old.faults ≤ self.new.faults }
         ensures named { result ≡ Err LoadFault.Failed → self.new.last_failed ≡ name.now }
         ensures entries { self.new.entries ≡ self.old.entries }
 
-        // Unless it finds no memory, a load fails exactly where its number is listed or nothing is held.
-        ensures fails { result ≢ Err LoadFault.Memory → (result ≡ Err LoadFault.Failed) ↔ IsTrue (load_fails self.old name.now) }
-        ensures counted { self.new.faults ≡ (if load_fails self.old name.now then risen self.old.faults else self.old.faults) }
+        // Want of memory aside, a load fails exactly where its number is listed or nothing is held
+        // under the name.
+        ensures fails { result ≢ Err LoadFault.Memory →
+            (result ≡ Err LoadFault.Failed) ↔ IsTrue (load_fails self.old name.now) }
+        ensures counted { self.new.faults ≡
+            (if load_fails self.old name.now then risen self.old.faults else self.old.faults) }
         ensures unnamed { result ≢ Err LoadFault.Failed → self.new.last_failed ≡ self.old.last_failed }
 
         ensures calls { self.new.calls ≡ risen self.old.calls }
@@ -191,11 +196,11 @@ impl Sink for MemorySink {
         ensures empty { length piece.now ≡ 0 → result ≡ Ok 0 }
         ensures idle { length piece.now ≡ 0 → self.new ≡ self.old }
 
-        // What is handed to it is taken up to the size of a piece, if no call is to fail and it
-        // finds memory.
+        // Where the call isn't to fail and memory is found, one piece is taken, or all of it.
         ensures takes { IfOk result (λ n. n ≡ min self.old.piece (length piece.now)) }
         ensures fails { (result ≡ Err SinkFault.Failed) ↔ IsTrue (put_fails self.old piece.now) }
-        ensures counted { self.new.faults ≡ (if put_fails self.old piece.now then risen self.old.faults else self.old.faults) }
+        ensures counted { self.new.faults ≡
+            (if put_fails self.old piece.now then risen self.old.faults else self.old.faults) }
 
         ensures calls { 1 ≤ length piece.now → self.new.calls ≡ risen self.old.calls }
         ensures piece { self.new.piece ≡ self.old.piece }
