@@ -1,8 +1,8 @@
 -- What code that walks through the frames of a busy window knows.
-use Rattle.std.proofs.Common.{◌≡◌, ℕ, zero, suc, ◌+◌, ◌-◌, ◌*◌, ◌<◌, ◌≤◌, true, false, max, List, refl, ◌∙◌, ap, arith}
-use Rattle.std.proofs.Math.Nat.{mul-le-mul_right}
+use Rattle.std.proofs.Common.{◌≡◌, ℕ, zero, suc, ◌+◌, ◌-◌, ◌<◌, ◌≤◌, true, false, max, List, refl, ap, arith}
 use Rattle.cpa_units.specs.declared.bound.Bound.{Bound}
 use Rattle.cpa_units.specs.declared.bound.Bound.TheVariants.{Within, Overload}
+use Rattle.cpa_units.specs.Numbers.{IsExecution}
 use Rattle.cpa_units.specs.Bounds.{IsAtMost, greatest_of}
 use Rattle.cpa_units.proofs.BoundLaws.{greatest_of-overload, greatest_of-next, capped-within, capped-past}
 use Rattle.cpa_events.specs.declared.Model.{Model}
@@ -10,10 +10,12 @@ use Rattle.cpa_events.specs.Events.{delta_minus, eta_plus}
 use Rattle.cpa_window.specs.declared.rivals.Rival.{Rival}
 use Rattle.cpa_window.specs.Rivals.{some_unbounded}
 use Rattle.cpa_window.specs.Windows.{window, IsWindow}
-use Rattle.cpa_window.proofs.WindowLaws.{window-from, window-overload, IsCrowdedBelow, window-goes_on, IsCrowdedBelow-next}
+use Rattle.cpa_window.specs.Walk.{IsSteady, IsReady}
+use Rattle.cpa_window.proofs.WindowLaws.{window-from, window-overload}
+use Rattle.cpa_window.proofs.WalkLaws.{IsReady-next}
 use Rattle.cpa_window.proofs.RivalLaws.{work_in-bounded, work_in-unbounded}
 use Rattle.cpa_can.specs.Can.{can_busy_demand, can_demand, can_start, can_response, greatest_in_busy_window, can_bound}
-use Rattle.cpa_can.specs.CanWork.{busy_work, start_work}
+use Rattle.cpa_can.specs.CanWork.{busy_work, start_work, start_work-mono, start_work-more}
 
 no_room : (own : Model) (worst blocking : ℕ) (rivals : List Rival) (v : ℕ) → 1 ≤ v → some_unbounded rivals ≡ true → ¬ IsAtMost (can_busy_demand own worst blocking rivals v) (Within v)
 no_room own worst blocking rivals zero one h k = absurd (omega arith)
@@ -29,9 +31,9 @@ module _ (own : Model) (worst blocking : ℕ) (rivals : List Rival) (bit limit :
   unbounded-overload h =
       idle-overload (window-overload (can_busy_demand own worst blocking rivals) 1 limit (λ v first le. no_room own worst blocking rivals v first h))
 
-  -- the walk stands after so many frames: the search for the next start may go on from `start`
-  pub record IsUnderWay (earlier start greatest : ℕ) : Type 0 where
-    pub crowded : IsCrowdedBelow (start_work (blocking + earlier * worst) bit rivals) start
+  -- the walk has looked at so many frames
+  pub record IsUnderWay (earlier from steady greatest : ℕ) : Type 0 where
+    pub ready : IsReady (start_work worst blocking bit rivals) worst earlier from steady
     pub so_far : greatest_of (can_response own worst blocking rivals bit limit) earlier ≡ Within greatest
 
   -- a frame that ends past the limit has no response
@@ -48,42 +50,35 @@ module _ (own : Model) (worst blocking : ℕ) (rivals : List Rival) (bit limit :
         window-from (λ v. Within (busy_work own worst blocking rivals v)) (can_busy_demand own worst blocking rivals) 1 limit found
         (λ v. rw (work_in-bounded rivals v bounded) refl) h
 
-    start-bounded : (earlier v : ℕ) → Within (start_work (blocking + earlier * worst) bit rivals v) ≡ can_demand worst blocking rivals bit (earlier + 1) v
+    start-bounded : (earlier v : ℕ) → Within (start_work worst blocking bit rivals earlier v) ≡ can_demand worst blocking rivals bit (earlier + 1) v
     start-bounded earlier v =
         let e : earlier + 1 - 1 ≡ earlier = omega arith in
         rw (e, work_in-bounded rivals (v + bit) bounded) refl
 
-    module _ (earlier start greatest : ℕ) (now : IsUnderWay earlier start greatest) where
-      -- what is found from `start` on is the start of the frame
-      pub found : (begin : Bound) → IsWindow (λ v. Within (start_work (blocking + earlier * worst) bit rivals v)) start limit begin → can_start worst blocking rivals bit limit (earlier + 1) ≡ begin
-      found begin h =
-          window-from (λ v. Within (start_work (blocking + earlier * worst) bit rivals v)) (can_demand worst blocking rivals bit (earlier + 1)) 0 limit begin (start-bounded earlier)
-          (window-goes_on (start_work (blocking + earlier * worst) bit rivals) start limit begin now.crowded h)
+    -- and the start of a frame
+    pub frame_start : (earlier : ℕ) (begin : Bound) → IsWindow (λ v. Within (start_work worst blocking bit rivals earlier v)) 0 limit begin → can_start worst blocking rivals bit limit (earlier + 1) ≡ begin
+    frame_start earlier begin h =
+        window-from (λ v. Within (start_work worst blocking bit rivals earlier v)) (can_demand worst blocking rivals bit (earlier + 1)) 0 limit begin (start-bounded earlier) h
 
-      -- and the walk goes on
-      pub next : (begin : ℕ) → IsWindow (λ v. Within (start_work (blocking + earlier * worst) bit rivals v)) start limit (Within begin) → begin + worst ≤ limit → IsUnderWay (earlier + 1) begin (max greatest (begin + worst - delta_minus own (earlier + 1)))
-      next begin h within =
-          let more : earlier * worst ≤ (earlier + 1) * worst = mul-le-mul_right worst (omega arith) in
-          let same : earlier + 1 - 1 ≡ earlier = omega arith in
-          record {
-            crowded = IsCrowdedBelow-next (start_work (blocking + earlier * worst) bit rivals) (start_work (blocking + (earlier + 1) * worst) bit rivals) start limit begin now.crowded h (λ v. omega arith);
-            so_far =
-                greatest_of-next (can_response own worst blocking rivals bit limit) (earlier + 1) greatest (begin + worst - delta_minus own (earlier + 1)) (omega arith) (rw same now.so_far)
-                (response-within begin (earlier + 1) (found (Within begin) h) within);
-          }
+    -- the walk goes on
+    pub next : (earlier from steady greatest begin steady' : ℕ) → IsExecution worst → IsUnderWay earlier from steady greatest → IsWindow (λ v. Within (start_work worst blocking bit rivals earlier v)) 0 limit (Within begin) → IsSteady (start_work worst blocking bit rivals) worst earlier begin steady' → begin + worst ≤ limit → IsUnderWay (earlier + 1) (begin + worst) steady' (max greatest (begin + worst - delta_minus own (earlier + 1)))
+    next earlier from steady greatest begin steady' execution now h s within =
+        let same : earlier + 1 - 1 ≡ earlier = omega arith in
+        record {
+          ready = IsReady-next (start_work worst blocking bit rivals) worst earlier limit begin steady' (start_work-mono worst blocking bit rivals) (start_work-more worst blocking bit rivals) execution.some h s;
+          so_far =
+              greatest_of-next (can_response own worst blocking rivals bit limit) (earlier + 1) greatest (begin + worst - delta_minus own (earlier + 1)) (omega arith) (rw same now.so_far)
+              (response-within begin (earlier + 1) (frame_start earlier (Within begin) h) within);
+        }
 
-  module _ (busy : ℕ) (is : window (can_busy_demand own worst blocking rivals) 1 limit ≡ Within busy) where
-    bound-busy : can_bound own worst blocking rivals bit limit ≡ greatest_of (can_response own worst blocking rivals bit limit) (eta_plus own busy)
-    bound-busy = ap (greatest_in_busy_window (can_response own worst blocking rivals bit limit) (eta_plus own)) is
+  -- a frame without a start has no response
+  pub response-none : (q : ℕ) → can_start worst blocking rivals bit limit q ≡ Overload → can_response own worst blocking rivals bit limit q ≡ Overload
+  response-none q e = rw e refl
 
-    -- a frame of the busy window without a response leaves no bound
-    pub frame-overload : (q : ℕ) → 0 < q → q ≤ eta_plus own busy → can_response own worst blocking rivals bit limit q ≡ Overload → can_bound own worst blocking rivals bit limit ≡ Overload
-    frame-overload q one in_range e = bound-busy ∙ greatest_of-overload (can_response own worst blocking rivals bit limit) (eta_plus own busy) q one in_range e
+  -- and leaves no greatest
+  pub greatest-overload : (q frames : ℕ) → 0 < q → q ≤ frames → can_response own worst blocking rivals bit limit q ≡ Overload → greatest_of (can_response own worst blocking rivals bit limit) frames ≡ Overload
+  greatest-overload q frames one in_range e = greatest_of-overload (can_response own worst blocking rivals bit limit) frames q one in_range e
 
-    -- as does one without a start
-    pub start-overload : (q : ℕ) → 0 < q → q ≤ eta_plus own busy → can_start worst blocking rivals bit limit q ≡ Overload → can_bound own worst blocking rivals bit limit ≡ Overload
-    start-overload q one in_range e = frame-overload q one in_range (rw e refl)
-
-    -- after the last frame the greatest response is the bound
-    pub all : (start greatest : ℕ) → IsUnderWay (eta_plus own busy) start greatest → can_bound own worst blocking rivals bit limit ≡ Within greatest
-    all start greatest now = bound-busy ∙ now.so_far
+  -- the bound by the frames of the busy window
+  pub bound-busy : (busy : ℕ) → window (can_busy_demand own worst blocking rivals) 1 limit ≡ Within busy → can_bound own worst blocking rivals bit limit ≡ greatest_of (can_response own worst blocking rivals bit limit) (eta_plus own busy)
+  bound-busy busy is = ap (greatest_in_busy_window (can_response own worst blocking rivals bit limit) (eta_plus own)) is

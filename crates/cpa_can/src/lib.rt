@@ -1,19 +1,31 @@
-// The response-time bound of a frame on a CAN bus.
+//! The response-time bound of a frame on a CAN bus.
+//!
+//! A started frame goes on to its end, so one frame of lower priority may come before, and a later
+//! frame of a busy period may take longest: each is looked at (Davis, Burns, Bril and Lukkien,
+//! "Controller Area Network (CAN) schedulability analysis: Refuted, revisited and revised", 2007).
+//! All times are in ticks.
 #![tactic(auto)]
 
-ghost use Rattle.std.specs.Prelude.{◌≡◌, ℕ, ◌+◌, ◌*◌, ◌^◌, ◌≤◌};
+ghost use Rattle.std.specs.Prelude.{◌≡◌, ℕ, ◌+◌, ◌*◌, ◌≤◌, false};
 ghost use Rattle.cpa_units.specs.declared.limits.TheConstants.{MAX_BIT, MAX_EXECUTION};
+ghost use Rattle.cpa_units.specs.Bounds.{greatest_of};
 ghost use Rattle.cpa_units.specs.Numbers.{IsExecution};
 ghost use Rattle.cpa_events.specs.Events.{IsModelInRange};
-ghost use Rattle.cpa_window.specs.Rivals.{AreRivals, bounded_work};
-ghost use Rattle.cpa_can.specs.Can.{can_bound};
-ghost use Rattle.cpa_can.specs.CanWork.{busy_work, busy_work-mono, start_work, start_work-mono};
-ghost use Rattle.cpa_can.specs.Laws.{CanBoundsGrow, CanBoundsAreInRange};
+ghost use Rattle.cpa_window.specs.Rivals.{AreRivals, some_unbounded};
+ghost use Rattle.cpa_can.specs.Can.{can_bound, can_response};
+ghost use Rattle.cpa_can.specs.CanWork.{busy_work, busy_work-mono, start_work, start_work-mono, start_work-more};
+ghost use Rattle.cpa_can.specs.Laws.{CanBoundsGrow, CanBoundsAreInRange, CanBoundsGoByWork};
 
 use cpa_events::Model;
 use cpa_units::Bound;
 use cpa_units::limits::{MAX_BIT, MAX_EXECUTION, MAX_LIMIT};
-use cpa_window::{Demand, Rival, events_work, least_window, some_unbounded, work_in};
+use cpa_window::{
+    BusyWindow, Demand, Rival, events_work, least_window, next_window, some_unbounded, work_in,
+    work_until,
+};
+
+#[cfg(test)]
+mod tests;
 
 /// What keeps the bus busy: one frame of lower priority, and all of the task's own and of higher priority.
 #[derive(Clone, Copy)]
@@ -39,29 +51,47 @@ impl<'a> Demand for BusyBus<'a> {
     }
 }
 
-/// What comes before the start of a frame.
+/// What comes before the start of a frame: a frame of lower priority, the task's own earlier frames, and all of higher
+/// priority up to a bit time after the start.
 #[derive(Clone, Copy)]
-struct FrameStart<'a> {
-    /// The frame of lower priority, and the task's own frames before this one.
-    before: u64,
+struct FrameStarts<'a> {
+    worst: u64,
+    blocking: u64,
     bit: u64,
     rivals: &'a [Rival],
-    ghost before_in_range: { before ≤ 2 ^ 52 },
+    ghost execution: { IsExecution worst },
+    ghost blocking_in_range: { blocking ≤ MAX_EXECUTION },
     ghost bit_in_range: { bit ≤ MAX_BIT },
     ghost rivals_in_range: { AreRivals rivals.now },
 }
 
-impl<'a> Demand for FrameStart<'a> {
-    ghost demand = { λ f. start_work f.before f.bit f.rivals.now };
+impl<'a> BusyWindow for FrameStarts<'a> {
+    ghost demand = { λ f. start_work f.worst f.blocking f.bit f.rivals.now };
 
-    ghost monotone = { λ f v w shorter in_range. start_work-mono f.before f.bit f.rivals.now v w shorter };
+    ghost each = { λ f. f.worst };
 
-    fn at(&self, window: u64) -> u128 {
-        u128::from(self.before + work_in(self.rivals, window + self.bit))
+    ghost monotone = { λ f q v w shorter. start_work-mono f.worst f.blocking f.bit f.rivals.now q v w shorter };
+
+    ghost more = { λ f q w. start_work-more f.worst f.blocking f.bit f.rivals.now q w };
+
+    ghost some = { λ f. f.execution.some };
+
+    fn at(&self, jobs: u64, window: u64) -> u128 {
+        u128::from(self.blocking + jobs * self.worst + work_in(self.rivals, window + self.bit))
+    }
+
+    fn each_job(&self) -> u64 {
+        self.worst
+    }
+
+    fn steady_until(&self, _jobs: u64, window: u64) -> u64 {
+        work_until(self.rivals, window + self.bit).saturating_sub(self.bit)
     }
 }
 
-/// The bound of a task; the rivals are the tasks of higher priority, `blocking` is the longest frame of lower priority.
+/// The bound of a task whose frames take `worst` ticks and come by `own`, where a busy window and the end of each frame
+/// in it are at most `limit`. The rivals are the tasks of higher priority, `blocking` is the longest frame of lower
+/// priority, and `bit` the time of a bit.
 pub fn respond(
     own: &Model,
     worst: u64,
@@ -90,32 +120,45 @@ pub fn respond(
     let Some(busy) = least_window(&bus, 1, limit) else {
         return Bound::Overload;
     };
-    let mut start = 0;
+    let starts = FrameStarts {
+        worst,
+        blocking,
+        bit,
+        rivals,
+    };
+    greatest_response(own, &starts, own.eta_plus(busy), limit)
+}
+
+/// The greatest response of so many frames from the start of a busy window on.
+fn greatest_response(own: &Model, starts: &FrameStarts, frames: u64, limit: u64) -> Bound
+    requires own { IsModelInRange own.now }
+    requires bounded { some_unbounded starts.now.rivals.now ≡ false }
+    requires frames { frames ≤ MAX_LIMIT }
+    requires limit { limit ≤ MAX_LIMIT }
+    ensures { result ≡ greatest_of (can_response own.now starts.now.worst starts.now.blocking starts.now.rivals.now starts.now.bit limit) frames }
+{
+    let mut from = 0;
+    let mut steady = 0;
     let mut greatest: u64 = 0;
-    for earlier in 0..own.eta_plus(busy) {
-        let frame = FrameStart {
-            before: blocking + earlier * worst,
-            bit,
-            rivals,
-        };
-        let Some(begin) = least_window(&frame, start, limit) else {
+    for earlier in 0..frames {
+        let Some(start) = next_window(starts, earlier, from, steady, limit) else {
             return Bound::Overload;
         };
-        let end = begin + worst;
+        let end = start.end + starts.worst;
         if end > limit {
             return Bound::Overload;
         }
         greatest = greatest.max(end.saturating_sub(own.delta_minus(earlier + 1)));
-        start = begin;
+        from = end;
+        steady = start.steady;
     }
     Bound::Within(greatest)
 }
 
-/// The bound grows with what it is computed from, and lies from the execution to the limit.
+/// The bound grows with what it is computed from, lies from the execution to the limit, and depends
+/// on the rivals by their work alone.
 pub fn bounds_have_laws()
     ensures grow { CanBoundsGrow }
     ensures in_range { CanBoundsAreInRange }
+    ensures by_work { CanBoundsGoByWork }
 {}
-
-#[cfg(test)]
-mod tests;

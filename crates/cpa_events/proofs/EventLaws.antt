@@ -122,12 +122,14 @@ eta_plus-steady m v w h k =
       | inr same ↦ omega (arith, eta_plus-mono m v w h)
     ]
 
--- the work of a window's events at the greatest numbers: the room that sums of it need
+-- the events of a window at the greatest numbers, and their work: the room that sums of them need
+pub eta_plus-few : (m : Model) (window : ℕ) → IsModelInRange m → window ≤ 100000000 → eta_plus m window ≤ 2 ^ 31
+eta_plus-few m window r short = omega (arith, eta_plus-le m window, r.jitter)
+
 pub eta_plus-work : (m : Model) (window worst : ℕ) → IsModelInRange m → window ≤ 100000000 → worst ≤ MAX_EXECUTION → eta_plus m window * worst ≤ 2 ^ 51
 eta_plus-work m window worst r short small =
-    let few : eta_plus m window ≤ 2 ^ 31 = omega (arith, eta_plus-le m window, r.jitter) in
     let little : worst ≤ 2 ^ 20 = omega arith in
-    mul-le-mul few little
+    mul-le-mul (eta_plus-few m window r short) little
 
 -- ---- denser models, and what tasks send on
 

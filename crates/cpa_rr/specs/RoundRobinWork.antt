@@ -1,12 +1,11 @@
 -- What jobs and rivals ask for in numbers.
 use Rattle.std.specs.Prelude.{min, sum_by}
 use Rattle.std.proofs.Common.{ℕ, ◌+◌, ◌*◌, ◌≤◌, List, Option, Some, None, arith}
-use Rattle.std.proofs.Math.Nat.{mul-le-mul_left, mul-le-mul_right}
+use Rattle.std.proofs.Math.Nat.{mul-le-mul_right}
 use Rattle.std.proofs.lemmas.List.Sums.{sum_by-le-sum_by}
 use Rattle.std.specs.Int.{div_ceil}
 use Rattle.cpa_units.specs.declared.bound.Bound.{Bound}
 use Rattle.cpa_units.specs.declared.bound.Bound.TheVariants.{Within, Overload}
-use Rattle.cpa_units.specs.Numbers.{IsExecution}
 use Rattle.cpa_units.proofs.NumberLaws.{div_ceil-mono}
 use Rattle.cpa_events.specs.declared.Model.{Model}
 use Rattle.cpa_events.specs.Events.{eta_plus}
@@ -34,17 +33,18 @@ slots_or_work-mono slots slots' worst (Some m) (Within bound) v w h k =
 slots_or_work-mono slots slots' worst (Some m) Overload v w h k = h
 slots_or_work-mono slots slots' worst None bound v w h k = h
 
--- more jobs and a longer window ask for no less
-pub round_robin_work-mono : (worst slot : ℕ) (rivals : List Rival) (p q v w : ℕ) → p ≤ q → v ≤ w → round_robin_work worst slot rivals p v ≤ round_robin_work worst slot rivals q w
-round_robin_work-mono worst slot rivals p q v w fewer shorter =
-    let own : p * worst ≤ q * worst = mul-le-mul_right worst fewer in
-    let rounds : div_ceil (p * worst) slot ≤ div_ceil (q * worst) slot = div_ceil-mono (p * worst) (q * worst) slot own in
-    let others = sum_by-le-sum_by (share_of (div_ceil (p * worst) slot) v) (share_of (div_ceil (q * worst) slot) w) rivals
-    (λ r. slots_or_work-mono _ _ r.worst r.model r.bound v w (mul-le-mul_right r.slot rounds) shorter) in
-    omega arith
+-- more rounds and a longer window ask for no less
+shares-mono : (rivals : List Rival) (rounds rounds' v w : ℕ) → rounds ≤ rounds' → v ≤ w → sum_by (share_of rounds v) rivals ≤ sum_by (share_of rounds' w) rivals
+shares-mono rivals rounds rounds' v w fewer shorter =
+    sum_by-le-sum_by (share_of rounds v) (share_of rounds' w) rivals (λ r. slots_or_work-mono _ _ r.worst r.model r.bound v w (mul-le-mul_right r.slot fewer) shorter)
 
--- each job asks for a tick
-pub round_robin_work-ge : (worst slot : ℕ) (rivals : List Rival) (q w : ℕ) → IsExecution worst → q ≤ round_robin_work worst slot rivals q w
-round_robin_work-ge worst slot rivals q w execution =
-    let own : q * 1 ≤ q * worst = mul-le-mul_left q execution.some in
-    omega arith
+pub round_robin_work-mono : (worst slot : ℕ) (rivals : List Rival) (q v w : ℕ) → v ≤ w → round_robin_work worst slot rivals q v ≤ round_robin_work worst slot rivals q w
+round_robin_work-mono worst slot rivals q v w shorter =
+    omega (arith, shares-mono rivals (div_ceil (q * worst) slot) (div_ceil (q * worst) slot) v w (omega arith) shorter)
+
+-- and a job more asks for its execution
+pub round_robin_work-more : (worst slot : ℕ) (rivals : List Rival) (q w : ℕ) → round_robin_work worst slot rivals q w + worst ≤ round_robin_work worst slot rivals (q + 1) w
+round_robin_work-more worst slot rivals q w =
+    let own : q * worst ≤ (q + 1) * worst = omega arith in
+    let rounds : div_ceil (q * worst) slot ≤ div_ceil ((q + 1) * worst) slot = div_ceil-mono (q * worst) ((q + 1) * worst) slot own in
+    omega (arith, shares-mono rivals (div_ceil (q * worst) slot) (div_ceil ((q + 1) * worst) slot) w w rounds (omega arith))

@@ -6,7 +6,7 @@ ghost use Rattle.cpa_units.specs.Numbers.{IsExecution};
 ghost use Rattle.cpa_events.specs.Events.{IsModelInRange};
 ghost use Rattle.cpa_window.specs.Rivals.{IsRival, AreRivals};
 ghost use Rattle.cpa_rr.specs.RoundRobin.{round_robin_bound};
-ghost use Rattle.cpa_rr.specs.RoundRobinWork.{share_of, round_robin_work, round_robin_work-mono, round_robin_work-ge};
+ghost use Rattle.cpa_rr.specs.RoundRobinWork.{share_of, round_robin_work, round_robin_work-mono, round_robin_work-more};
 ghost use Rattle.cpa_rr.specs.Laws.{RoundRobinBoundsGrow, RoundRobinBoundsAreInRange};
 
 use cpa_events::Model;
@@ -28,9 +28,13 @@ struct RoundRobinJobs<'a> {
 impl<'a> BusyWindow for RoundRobinJobs<'a> {
     ghost demand = { λ b q w. round_robin_work b.worst b.slot b.rivals.now q w };
 
-    ghost monotone = { λ b p q v w fewer shorter. round_robin_work-mono b.worst b.slot b.rivals.now p q v w fewer shorter };
+    ghost each = { λ b. b.worst };
 
-    ghost some = { λ b q w. round_robin_work-ge b.worst b.slot b.rivals.now q w b.execution };
+    ghost monotone = { λ b q v w shorter. round_robin_work-mono b.worst b.slot b.rivals.now q v w shorter };
+
+    ghost more = { λ b q w. round_robin_work-more b.worst b.slot b.rivals.now q w };
+
+    ghost some = { λ b. b.execution.some };
 
     fn at(&self, jobs: u64, window: u64) -> u128 {
         let own = jobs * self.worst;
@@ -40,6 +44,14 @@ impl<'a> BusyWindow for RoundRobinJobs<'a> {
             total += u128::from(share(rival, rounds, window));
         }
         total
+    }
+
+    fn each_job(&self) -> u64 {
+        self.worst
+    }
+
+    fn steady_until(&self, _jobs: u64, window: u64) -> u64 {
+        window
     }
 }
 

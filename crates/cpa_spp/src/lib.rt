@@ -1,4 +1,9 @@
-// The response-time bound of a task under preemptive priority.
+//! The response-time bound of a task under preemptive priority.
+//!
+//! The jobs of a busy window are looked at one after another: the window of q jobs has room for
+//! them and for all work of higher priority in it, and the greatest response is the bound
+//! (Richter's thesis, 2005; Henia et al., "System Level Performance Analysis: the SymTA/S
+//! Approach", 2005). All times are in ticks.
 #![tactic(auto)]
 
 ghost use Rattle.std.specs.Prelude.{◌≡◌, ℕ, ◌+◌, ◌*◌, ◌≤◌};
@@ -6,13 +11,16 @@ ghost use Rattle.cpa_units.specs.Numbers.{IsExecution};
 ghost use Rattle.cpa_events.specs.Events.{IsModelInRange};
 ghost use Rattle.cpa_window.specs.Rivals.{AreRivals, bounded_work};
 ghost use Rattle.cpa_spp.specs.Preemptive.{preemptive_bound};
-ghost use Rattle.cpa_spp.specs.PreemptiveWork.{jobs_and_rivals-mono, jobs_and_rivals-ge};
-ghost use Rattle.cpa_spp.specs.Laws.{PreemptiveBoundsGrow, PreemptiveBoundsAreInRange};
+ghost use Rattle.cpa_spp.specs.PreemptiveWork.{jobs_and_rivals-mono, jobs_and_rivals-more};
+ghost use Rattle.cpa_spp.specs.Laws.{PreemptiveBoundsGrow, PreemptiveBoundsAreInRange, PreemptiveBoundsGoByWork};
 
 use cpa_events::Model;
 use cpa_units::Bound;
 use cpa_units::limits::MAX_LIMIT;
-use cpa_window::{BusyWindow, Rival, busy_window_bound, some_unbounded, work_in};
+use cpa_window::{BusyWindow, Rival, busy_window_bound, some_unbounded, work_in, work_until};
+
+#[cfg(test)]
+mod tests;
 
 /// The jobs of a task and the work of higher priority, all of it bounded.
 #[derive(Clone, Copy)]
@@ -26,16 +34,29 @@ struct PreemptiveJobs<'a> {
 impl<'a> BusyWindow for PreemptiveJobs<'a> {
     ghost demand = { λ b q w. q * b.worst + bounded_work b.rivals.now w };
 
-    ghost monotone = { λ b p q v w fewer shorter. jobs_and_rivals-mono b.worst b.rivals.now p q v w fewer shorter };
+    ghost each = { λ b. b.worst };
 
-    ghost some = { λ b q w. jobs_and_rivals-ge b.worst b.rivals.now q w b.execution };
+    ghost monotone = { λ b q v w shorter. jobs_and_rivals-mono b.worst b.rivals.now q v w shorter };
+
+    ghost more = { λ b q w. jobs_and_rivals-more b.worst b.rivals.now q w };
+
+    ghost some = { λ b. b.execution.some };
 
     fn at(&self, jobs: u64, window: u64) -> u128 {
         u128::from(jobs * self.worst + work_in(self.rivals, window))
     }
+
+    fn each_job(&self) -> u64 {
+        self.worst
+    }
+
+    fn steady_until(&self, _jobs: u64, window: u64) -> u64 {
+        work_until(self.rivals, window)
+    }
 }
 
-/// The bound of a task; the rivals are the tasks of higher priority.
+/// The bound of a task that takes `worst` ticks for a job and comes by `own`, where a window is at
+/// most `limit`. The rivals are the tasks of higher priority.
 pub fn respond(own: &Model, worst: u64, rivals: &[Rival], limit: u64) -> Bound
     requires own { IsModelInRange own.now }
     requires worst { IsExecution worst }
@@ -50,11 +71,10 @@ pub fn respond(own: &Model, worst: u64, rivals: &[Rival], limit: u64) -> Bound
     busy_window_bound(&jobs, own, limit)
 }
 
-/// The bound grows with what it is computed from, and lies from the execution to the limit.
+/// The bound grows with what it is computed from, lies from the execution to the limit, and depends
+/// on the rivals by their work alone.
 pub fn bounds_have_laws()
     ensures grow { PreemptiveBoundsGrow }
     ensures in_range { PreemptiveBoundsAreInRange }
+    ensures by_work { PreemptiveBoundsGoByWork }
 {}
-
-#[cfg(test)]
-mod tests;

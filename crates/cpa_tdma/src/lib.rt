@@ -1,4 +1,8 @@
-// The response-time bound of a task that has a slot of its own in a fixed cycle.
+//! The response-time bound of a task that has a slot of its own in a fixed cycle (TDMA).
+//!
+//! In each cycle that the jobs need, all but the task's own slot passes by besides their own
+//! execution (Richter's thesis, 2005; Henia et al., "System Level Performance Analysis: the
+//! SymTA/S Approach", 2005). All times are in ticks.
 #![tactic(auto)]
 
 ghost use Rattle.std.specs.Prelude.{◌≡◌, ◌≤◌};
@@ -6,13 +10,17 @@ ghost use Rattle.cpa_units.specs.declared.limits.TheConstants.{MAX_CYCLE};
 ghost use Rattle.cpa_units.specs.Numbers.{IsExecution};
 ghost use Rattle.cpa_events.specs.Events.{IsModelInRange};
 ghost use Rattle.cpa_tdma.specs.Tdma.{tdma_work, tdma_bound};
-ghost use Rattle.cpa_tdma.specs.TdmaWork.{tdma_work-mono, tdma_work-ge};
+ghost use Rattle.cpa_tdma.specs.TdmaWork.{tdma_work-more};
 ghost use Rattle.cpa_tdma.specs.Laws.{TdmaBoundsGrow, TdmaBoundsAreInRange};
+ghost use Rattle.std.proofs.Math.Nat.{le_refl};
 
 use cpa_events::Model;
 use cpa_units::Bound;
 use cpa_units::limits::{MAX_CYCLE, MAX_LIMIT};
 use cpa_window::{BusyWindow, busy_window_bound};
+
+#[cfg(test)]
+mod tests;
 
 /// The jobs of a task, and the part of each cycle that isn't its own.
 #[derive(Clone, Copy)]
@@ -29,18 +37,31 @@ struct TdmaJobs {
 impl BusyWindow for TdmaJobs {
     ghost demand = { λ b q w. tdma_work b.worst b.slot b.cycle q };
 
-    ghost monotone = { λ b p q v w fewer shorter. tdma_work-mono b.worst b.slot b.cycle p q fewer };
+    ghost each = { λ b. b.worst };
 
-    ghost some = { λ b q w. tdma_work-ge b.worst b.slot b.cycle q b.execution };
+    ghost monotone = { λ b q v w shorter. le_refl (tdma_work b.worst b.slot b.cycle q) };
+
+    ghost more = { λ b q w. tdma_work-more b.worst b.slot b.cycle q };
+
+    ghost some = { λ b. b.execution.some };
 
     fn at(&self, jobs: u64, _window: u64) -> u128 {
         let own = jobs * self.worst;
-        let rounds = own.div_ceil(self.slot);
-        u128::from(own) + u128::from(rounds) * u128::from(self.cycle - self.slot)
+        let cycles = own.div_ceil(self.slot);
+        u128::from(own) + u128::from(cycles) * u128::from(self.cycle - self.slot)
+    }
+
+    fn each_job(&self) -> u64 {
+        self.worst
+    }
+
+    fn steady_until(&self, _jobs: u64, window: u64) -> u64 {
+        window
     }
 }
 
-/// The bound of a task; the cycle has the slots of all tasks, and the gap.
+/// The bound of a task that takes `worst` ticks for a job and comes by `own`, where a window is at
+/// most `limit`. The cycle has the slots of all tasks, and the gap.
 pub fn respond(own: &Model, worst: u64, slot: u64, cycle: u64, limit: u64) -> Bound
     requires own { IsModelInRange own.now }
     requires worst { IsExecution worst }
@@ -59,31 +80,3 @@ pub fn bounds_have_laws()
     ensures grow { TdmaBoundsGrow }
     ensures in_range { TdmaBoundsAreInRange }
 {}
-
-#[cfg(test)]
-mod tests {
-    use super::*;
-
-    #[test]
-    fn tdma_gap(rt: HostRuntime) {
-        let own = Model {
-            period: 40,
-            jitter: 0,
-            distance: 0,
-        };
-        assert_eq!(rt; respond(&own, 3, 2, 10, 1_000_000), Bound::Within(19));
-    }
-
-    #[test]
-    fn largest_gap(rt: HostRuntime) {
-        let own = Model {
-            period: 1_000_000_000,
-            jitter: 0,
-            distance: 0,
-        };
-        assert_eq!(rt;
-            respond(&own, 1_000_000, 1, 1_000_001, MAX_LIMIT),
-            Bound::Overload
-        );
-    }
-}

@@ -1,50 +1,117 @@
 -- What code that walks through the jobs of a busy window knows.
-use Rattle.std.proofs.Common.{◌≡◌, ℕ, ◌+◌, ◌-◌, ◌<◌, ◌≤◌, true, false, max, refl, ◌∙◌, ap, inl, inr, arith}
+use Rattle.std.proofs.Common.{◌≡◌, ℕ, zero, suc, ◌+◌, ◌-◌, ◌<◌, ◌≤◌, true, false, max, refl, ◌∙◌, ap, inl, inr, arith}
 use Rattle.std.proofs.lemmas.Bool.{cases_lt, le-leb, lt-leb}
+use Rattle.std.proofs.Math.Nat.{le_refl}
 use Rattle.cpa_units.specs.declared.bound.Bound.{Bound}
 use Rattle.cpa_units.specs.declared.bound.Bound.TheVariants.{Within, Overload}
 use Rattle.cpa_units.specs.Bounds.{bound_minus, greatest_of}
 use Rattle.cpa_units.proofs.BoundLaws.{greatest_of-overload, greatest_of-next}
 use Rattle.cpa_window.specs.Windows.{IsWindow}
 use Rattle.cpa_window.specs.BusyWindow.{is_last, busy_window_bound, windows_of}
-use Rattle.cpa_window.proofs.WindowLaws.{window-from, IsCrowdedBelow, window-goes_on, IsCrowdedBelow-next}
+use Rattle.cpa_window.specs.Walk.{IsSteady, IsReady}
+use Rattle.cpa_window.proofs.WindowLaws.{window-from}
 use Rattle.cpa_window.proofs.BusyWindowLaws.{busy_window_bound-at, window-past}
+
+-- ---- a search that goes on from an earlier window
+
+-- what is found from a length below which none has room is the window
+pub window-goes_on : (demand : ℕ → ℕ) (from limit : ℕ) (found : Bound) → ((v : ℕ) → v < from → v < demand v) → IsWindow (λ v. Within (demand v)) from limit found → IsWindow (λ v. Within (demand v)) 0 limit found
+window-goes_on demand from limit (Within end) crowded h = (
+  omega arith,
+  h.1,
+  h.2,
+  λ v first below room. elim (cases_lt v from) [
+    | inl early ↦ absurd (let full = crowded v early in omega arith)
+    | inr late ↦ h.3 v late below room
+  ],
+)
+window-goes_on demand from limit Overload crowded h =
+    λ v first le room. elim (cases_lt v from) [
+      | inl early ↦ absurd (let full = crowded v early in omega arith)
+      | inr late ↦ h v late le room
+    ]
+
+-- and so is such a length that has room
+pub window-here : (demand : ℕ → ℕ) (from limit : ℕ) → ((v : ℕ) → v < from → v < demand v) → from ≤ limit → demand from ≤ from → IsWindow (λ v. Within (demand v)) 0 limit (Within from)
+window-here demand from limit crowded within room =
+    (omega arith, within, room, λ v first below fits. absurd (let full = crowded v below in omega arith))
+
+-- a window has no room left
+window-full : (demand : ℕ → ℕ) (limit end : ℕ) → ((v w : ℕ) → v ≤ w → demand v ≤ demand w) → IsWindow (λ v. Within (demand v)) 0 limit (Within end) → end ≤ demand end
+window-full demand limit end mono h =
+    elim (cases_lt (demand end) end) [
+      | inl less ↦ absurd (h.3 (demand end) (omega arith) less (mono (demand end) end h.2))
+      | inr full ↦ full
+    ]
+
+window-crowded : (demand : ℕ → ℕ) (limit end v : ℕ) → IsWindow (λ v. Within (demand v)) 0 limit (Within end) → v < end → v < demand v
+window-crowded demand limit end v h below =
+    elim (cases_lt v (demand v)) [ inl full ↦ full | inr room ↦ absurd (h.3 v (omega arith) below room) ]
+
+module _ (demand : ℕ → ℕ → ℕ) (each : ℕ) where
+  IsSteady-none : (jobs from until : ℕ) → until ≤ from → IsSteady demand each jobs from until
+  IsSteady-none jobs from until h = record { adds = λ q v w j f lt le. absurd (omega arith) }
+
+  -- before the first search
+  pub IsReady-start : (jobs from : ℕ) → ((v : ℕ) → v < from → v < demand jobs v) → IsReady demand each jobs from 0
+  IsReady-start jobs from crowded =
+      record { crowded = crowded; room = λ h. absurd (omega arith); onward = IsSteady-none jobs from 0 (omega arith) }
+
+  -- and before the next
+  pub IsReady-next : (jobs limit end steady : ℕ) → ((q v w : ℕ) → v ≤ w → demand q v ≤ demand q w) → ((q w : ℕ) → demand q w + each ≤ demand (q + 1) w) → 0 < each → IsWindow (λ w. Within (demand jobs w)) 0 limit (Within end) → IsSteady demand each jobs end steady → IsReady demand each (jobs + 1) (end + each) steady
+  IsReady-next jobs limit end steady mono more some h s =
+      record {
+        crowded = λ v below. elim (cases_lt v end) [
+          | inl early ↦ let full = window-crowded (demand jobs) limit end v h early in omega (arith, more jobs v)
+          | inr late ↦ let full = window-full (demand jobs) limit end (mono jobs) h in omega (arith, more jobs v, mono jobs end v late)
+        ];
+        room = λ below. let added = s.adds jobs end (end + each) (le_refl jobs) (le_refl end) (omega arith) (omega arith) in let room : demand jobs end ≤ end = h.2 in omega arith;
+        onward = record { adds = λ q v w j f lt le. s.adds q v w (omega arith) (omega arith) lt le };
+      }
+
+  -- each job asks for a tick
+  pub demand-ge_jobs : ((q w : ℕ) → demand q w + each ≤ demand (q + 1) w) → 0 < each → (q w : ℕ) → q ≤ demand q w
+  demand-ge_jobs more some zero w = omega arith
+  demand-ge_jobs more some (suc q) w =
+      let fewer : q ≤ demand q w = demand-ge_jobs more some q w in
+      let e : q + 1 ≡ suc q = omega arith in
+      let step = rw e at (more q w) in
+      omega arith
+
+-- ---- the walk
 
 -- a demand in numbers, as a demand in bounds
 abbrev pub numbers : (ℕ → ℕ → ℕ) → ℕ → ℕ → Bound
 numbers demand q w = Within (demand q w)
 
--- the walk stands before this job: the search for its window may go on from `window`, it arrives at `arrival` at the
--- earliest, and the jobs before it have been looked at
-pub record IsUnderWay (demand : ℕ → ℕ → ℕ) (earliest : ℕ → ℕ) (limit job window arrival greatest : ℕ) : Type 0 where
-  pub crowded : IsCrowdedBelow (demand job) window
+-- the walk stands before this job, which comes at `arrival` at the earliest, and has looked at the jobs before it
+pub record IsUnderWay (demand : ℕ → ℕ → ℕ) (each : ℕ) (earliest : ℕ → ℕ) (limit job from steady arrival greatest : ℕ) : Type 0 where
+  pub ready : IsReady demand each job from steady
   pub earliest_arrival : arrival ≡ earliest job
-  pub pending : arrival ≤ window
+  pub pending : arrival ≤ from
   pub none_last : (q : ℕ) → 0 < q → q < job → is_last (windows_of (numbers demand) limit q) (earliest (q + 1)) ≡ false
   pub so_far : greatest_of (λ q. bound_minus (windows_of (numbers demand) limit q) (earliest q)) (job - 1) ≡ Within greatest
 
-module _ (demand : ℕ → ℕ → ℕ) (earliest : ℕ → ℕ) (limit : ℕ) where
+module _ (demand : ℕ → ℕ → ℕ) (each : ℕ) (earliest : ℕ → ℕ) (limit : ℕ) where
   windows : ℕ → Bound
   windows q = windows_of (numbers demand) limit q
 
   response : ℕ → Bound
   response q = bound_minus (windows q) (earliest q)
 
-  pub start : earliest 1 ≡ 0 → IsUnderWay demand earliest limit 1 0 0 0
-  start e =
+  pub start : earliest 1 ≡ 0 → ((q w : ℕ) → demand q w + each ≤ demand (q + 1) w) → IsUnderWay demand each earliest limit 1 each 0 0 0
+  start e more =
       record {
-        crowded = λ v h. absurd (omega arith);
+        ready = IsReady-start demand each 1 each (λ v h. omega (arith, more 0 v));
         earliest_arrival = omega arith;
         pending = omega arith;
         none_last = λ q one below. absurd (omega arith);
         so_far = refl;
       }
 
-  module _ (job window arrival greatest : ℕ) (some : 0 < job) (now : IsUnderWay demand earliest limit job window arrival greatest) where
-    -- the window that is found from `window` on is the job's
-    pub found : (w : Bound) → IsWindow (numbers demand job) window limit w → windows_of (numbers demand) limit job ≡ w
-    found w h =
-        window-from (numbers demand job) (numbers demand job) 0 limit w (λ v. refl) (window-goes_on (demand job) window limit w now.crowded h)
+  module _ (job from steady arrival greatest : ℕ) (some : 0 < job) (now : IsUnderWay demand each earliest limit job from steady arrival greatest) where
+    is_window : (w : Bound) → IsWindow (numbers demand job) 0 limit w → windows_of (numbers demand) limit job ≡ w
+    is_window w h = window-from (numbers demand job) (numbers demand job) 0 limit w (λ v. refl) h
 
     at_last : job ≤ limit + 1 → is_last (windows job) (earliest (job + 1)) ≡ true → busy_window_bound (windows_of (numbers demand) limit) earliest limit ≡ greatest_of response job
     unfolding windows response
@@ -56,32 +123,32 @@ module _ (demand : ℕ → ℕ → ℕ) (earliest : ℕ → ℕ) (limit : ℕ) w
         at_last in_range (rw e refl) ∙ greatest_of-overload response job job some (omega arith) (rw e refl)
 
     -- no window: no bound
-    pub past : job ≤ limit + 1 → IsWindow (numbers demand job) window limit Overload → busy_window_bound (windows_of (numbers demand) limit) earliest limit ≡ Overload
-    past in_range h = past_limit in_range (found Overload h)
+    pub past : job ≤ limit + 1 → IsWindow (numbers demand job) 0 limit Overload → busy_window_bound (windows_of (numbers demand) limit) earliest limit ≡ Overload
+    past in_range h = past_limit in_range (is_window Overload h)
 
-    module _ (end : ℕ) (here : IsWindow (numbers demand job) window limit (Within end)) where
+    module _ (end : ℕ) (here : IsWindow (numbers demand job) 0 limit (Within end)) where
       greater : greatest_of response job ≡ Within (max greatest (end - arrival))
       unfolding windows response
-      greater = greatest_of-next response job greatest (end - arrival) some now.so_far (rw (found (Within end) here) (ap Within (omega (arith, now.earliest_arrival))))
+      greater = greatest_of-next response job greatest (end - arrival) some now.so_far (rw (is_window (Within end) here) (ap Within (omega (arith, now.earliest_arrival))))
 
       -- the window ends before the next job can come
       pub last : job ≤ limit + 1 → end ≤ earliest (job + 1) → busy_window_bound (windows_of (numbers demand) limit) earliest limit ≡ Within (max greatest (end - arrival))
       unfolding windows
-      last in_range over = at_last in_range (rw (found (Within end) here) (le-leb _ _ over)) ∙ greater
+      last in_range over = at_last in_range (rw (is_window (Within end) here) (le-leb _ _ over)) ∙ greater
 
       -- or the walk goes on
-      pub next : earliest (job + 1) < end → ((v : ℕ) → demand job v ≤ demand (job + 1) v) → IsUnderWay demand earliest limit (job + 1) end (earliest (job + 1)) (max greatest (end - arrival))
+      pub next : (steady' : ℕ) → earliest (job + 1) < end → IsReady demand each (job + 1) (end + each) steady' → IsUnderWay demand each earliest limit (job + 1) (end + each) steady' (earliest (job + 1)) (max greatest (end - arrival))
       unfolding windows response
-      next goes_on grows =
+      next steady' goes_on ready =
           record {
-            crowded = IsCrowdedBelow-next (demand job) (demand (job + 1)) window limit end now.crowded here grows;
+            ready = ready;
             earliest_arrival = refl;
             pending = omega arith;
             none_last = λ q one below. elim (cases_lt q job) [
               | inl before ↦ now.none_last q one before
               | inr now ↦
                   let same : q ≡ job = omega arith in
-                  rw (same, found (Within end) here) (lt-leb _ _ goes_on)
+                  rw (same, is_window (Within end) here) (lt-leb _ _ goes_on)
             ];
             so_far = let e : job + 1 - 1 ≡ job = omega arith in rw e greater;
           }

@@ -71,41 +71,6 @@ window-from demand demand' first limit w same h =
 pub window-overload : (demand : ℕ → Bound) (first limit : ℕ) → ((v : ℕ) → first ≤ v → v ≤ limit → ¬ IsAtMost (demand v) (Within v)) → window demand first limit ≡ Overload
 window-overload demand first limit h = window-from demand demand first limit Overload (λ v. refl) h
 
--- ---- a search that goes on from an earlier window
-
--- no length below this one has room
-abbrev pub IsCrowdedBelow : (ℕ → ℕ) → ℕ → Type 0
-IsCrowdedBelow demand from = (v : ℕ) → v < from → v < demand v
-
--- what is found from there on is the window from the start
-pub window-goes_on : (demand : ℕ → ℕ) (from limit : ℕ) (found : Bound) → IsCrowdedBelow demand from → IsWindow (λ v. Within (demand v)) from limit found → IsWindow (λ v. Within (demand v)) 0 limit found
-window-goes_on demand from limit (Within end) crowded h = (
-  omega arith,
-  h.1,
-  h.2,
-  λ v first below room. elim (cases_lt v from) [
-    | inl early ↦ absurd (let full = crowded v early in omega arith)
-    | inr late ↦ h.3 v late below room
-  ],
-)
-window-goes_on demand from limit Overload crowded h =
-    λ v first le room. elim (cases_lt v from) [
-      | inl early ↦ absurd (let full = crowded v early in omega arith)
-      | inr late ↦ h v late le room
-    ]
-
--- and no length below it has room for a demand that is nowhere less
-pub IsCrowdedBelow-next : (demand demand' : ℕ → ℕ) (from limit end : ℕ) → IsCrowdedBelow demand from → IsWindow (λ v. Within (demand v)) from limit (Within end) → ((v : ℕ) → demand v ≤ demand' v) → IsCrowdedBelow demand' end
-IsCrowdedBelow-next demand demand' from limit end crowded h grows v below =
-    elim (cases_lt v from) [
-      | inl early ↦ let full = crowded v early in omega (arith, grows v)
-      | inr late ↦
-          elim (cases_lt v (demand v)) [
-            | inl full ↦ omega (arith, grows v)
-            | inr room ↦ absurd (h.3 v late below room)
-          ]
-    ]
-
 -- ---- within the limit, and no less than is asked for
 
 window-limit_at : (demand : ℕ → Bound) (first limit : ℕ) (w : Bound) → IsWindow demand first limit w → RespectsLimit limit w

@@ -49,6 +49,10 @@ rival_work window r = bounded_events r.model window * r.worst
 abbrev pub bounded_work : List Rival → ℕ → ℕ
 bounded_work rivals window = sum_by (rival_work window) rivals
 
+-- windows from one length to another have the same work
+pub record IsConstant (work : ℕ → ℕ) (from until : ℕ) : Type 0 where
+  pub same : (w : ℕ) → from ≤ w → w ≤ until → work w ≡ work from
+
 -- what each input keeps
 abbrev pub IsInput : Option Model → Type 0
 IsInput (Some m) = IsModel m

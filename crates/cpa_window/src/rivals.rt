@@ -1,8 +1,8 @@
 // The other tasks of a resource, and the work that they bring.
 
 ghost use Rattle.std.specs.Prelude.{◌≡◌, ◌+◌, ◌*◌, ◌^◌, ◌≤◌};
-ghost use Rattle.cpa_events.specs.Events.{eta_plus, IsModelInRange};
-ghost use Rattle.cpa_window.specs.Rivals.{IsRival, AreRivals, rival_work, bounded_work, some_unbounded};
+ghost use Rattle.cpa_events.specs.Events.{delta_minus, eta_plus, IsModelInRange};
+ghost use Rattle.cpa_window.specs.Rivals.{IsRival, AreRivals, rival_work, bounded_work, some_unbounded, IsConstant};
 
 use cpa_events::Model;
 use cpa_units::Bound;
@@ -31,6 +31,16 @@ pub fn events_work(model: &Model, window: u64, each: u64) -> u64
     model.eta_plus(window) * each
 }
 
+/// Up to which length windows have no more events than this one: until the next event can come.
+pub fn events_until(model: &Model, window: u64) -> u64
+    requires model { IsModelInRange model.now }
+    requires window { window ≤ 2 * MAX_LIMIT }
+    ensures value { result ≡ delta_minus model.now (eta_plus model.now window + 1) }
+    ensures constant { IsConstant (eta_plus model.now) window result }
+{
+    model.delta_minus(model.eta_plus(window) + 1)
+}
+
 /// Some rival's input is unbounded.
 pub fn some_unbounded(rivals: &[Rival]) -> bool
     ensures { result ≡ some_unbounded rivals.now }
@@ -52,6 +62,19 @@ pub fn work_in(rivals: &[Rival], window: u64) -> u64
     total
 }
 
+/// Up to which length windows have no more work of such rivals than this window has.
+pub fn work_until(rivals: &[Rival], window: u64) -> u64
+    requires rivals { AreRivals rivals.now }
+    requires window { window ≤ MAX_LIMIT + MAX_BIT }
+    ensures { IsConstant (bounded_work rivals.now) window result }
+{
+    let mut until = u64::MAX;
+    for rival in rivals {
+        until = until.min(rival_until(rival, window));
+    }
+    until
+}
+
 /// The work of one rival in a window.
 fn rival_work(rival: &Rival, window: u64) -> u64
     requires rival { IsRival rival.now }
@@ -62,5 +85,17 @@ fn rival_work(rival: &Rival, window: u64) -> u64
     match &rival.model {
         Some(model) => events_work(model, window, rival.worst),
         None => 0,
+    }
+}
+
+/// Up to which length windows have no more work of one rival.
+fn rival_until(rival: &Rival, window: u64) -> u64
+    requires rival { IsRival rival.now }
+    requires window { window ≤ MAX_LIMIT + MAX_BIT }
+    ensures { IsConstant (λ w. rival_work w rival.now) window result }
+{
+    match &rival.model {
+        Some(model) => events_until(model, window),
+        None => u64::MAX,
     }
 }
