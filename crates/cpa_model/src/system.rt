@@ -3,7 +3,7 @@
 ghost use Rattle.std.specs.Prelude.{◌≡◌, ◌<◌, length};
 
 use crate::entries::{Path, Resource, Source, Task};
-use cpa_units::{ResId, SourceId, TaskId};
+use cpa_units::{PathId, ResId, SourceId, TaskId};
 use std::marker::Model;
 
 /// A system, which keeps its rules.
@@ -27,8 +27,8 @@ impl Model for System {
 }
 
 impl System {
-    ghost use Rattle.cpa_model.specs.SystemLists.{resource_at, source_at, task_at};
-    ghost use Rattle.cpa_model.specs.Rules.{IsSystem, IsResource, IsSource, IsTask};
+    ghost use Rattle.cpa_model.specs.SystemLists.{resource_at, source_at, task_at, path_at};
+    ghost use Rattle.cpa_model.specs.Rules.{IsSystem, IsResource, IsSource, IsTask, IsPath};
 
     /// The number of resources.
     pub fn resources(&self) -> u32
@@ -84,5 +84,13 @@ impl System {
         ensures rules { IsTask self.now result.now }
     {
         &self.tasks[task.0 as usize]
+    }
+
+    pub fn path(&self, path: PathId) -> &Path
+        requires { path.0 < length self.now.paths }
+        ensures value { result.now ≡ path_at self.now path.0 }
+        ensures rules { IsPath self.now result.now }
+    {
+        &self.paths[path.0 as usize]
     }
 }

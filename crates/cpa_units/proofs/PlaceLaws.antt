@@ -1,10 +1,10 @@
 -- Lists by place: what loops over the places 0, 1, 2 and so on have made so far, and one place more.
-use Rattle.std.proofs.Common.{◌≡◌, ℕ, ◌+◌, ◌<◌, Bool, true, false, List, [], ◌∷◌, ◌++◌, length, take, map, set, refl, sym, ap, ◌∙◌, arith}
+use Rattle.std.proofs.Common.{◌≡◌, ℕ, ◌+◌, ◌<◌, Bool, true, false, List, [], ◌∷◌, ◌++◌, length, take, map, set, slice_index_or, refl, sym, ap, ◌∙◌, arith}
 use Rattle.std.specs.Prelude.{filter}
 use Rattle.std.specs.List.{range_with_len, flat_map}
-use Rattle.std.proofs.lemmas.List.{take_all, take_more_set, map-append, map-id, append-nil}
+use Rattle.std.proofs.lemmas.List.{take_all, take_more_set, map-append, map-id, append-nil, ext_get_or, get_or-map, length-map}
 use Rattle.std.proofs.lemmas.List.Elements.{filter-append}
-use Rattle.std.proofs.lemmas.List.FromFn.{map-range_with_len_more}
+use Rattle.std.proofs.lemmas.List.FromFn.{map-range_with_len_more, length-map-range_with_len, get_or-map-range_with_len}
 use Rattle.std.proofs.lemmas.Grind.{flat_map-append}
 
 -- the places below k
@@ -42,3 +42,12 @@ set-places f xs k x less e done =
 -- and is written to its end
 pub all-places : {X : Type 0} (f : ℕ → X) (xs : List X) (k n : ℕ) → length xs ≡ n → k ≡ n → take k xs ≡ map f (places k) → xs ≡ map f (places n)
 all-places f xs k n long end done = sym (take_all k xs (omega arith)) ∙ done ∙ ap (λ j. map f (places j)) end
+
+-- what is made of the entries at all places is what is made of all entries
+pub map-all_places : {X Y : Type 0} (f : X → Y) (xs : List X) (d : X) → map (λ i. f (slice_index_or xs i d)) (places (length xs)) ≡ map f xs
+map-all_places f xs d =
+    ext_get_or (f d) (map (λ i. f (slice_index_or xs i d)) (places (length xs))) (map f xs)
+    (length-map-range_with_len (λ i. f (slice_index_or xs i d)) 0 (length xs) ∙ sym (length-map xs f))
+    (λ i less.
+    let there : i < length xs = rw length-map-range_with_len at less in
+    get_or-map-range_with_len (λ i. f (slice_index_or xs i d)) 0 (length xs) i i (f d) there (omega arith) ∙ sym (get_or-map f xs i d (f d) there))

@@ -1,0 +1,88 @@
+-- What is printed is read as the draft that says the same.
+use Rattle.std.proofs.Common.{◌≡◌, ℕ, ◌+◌, pos, max, ◌≤◌, List, [], ◌∷◌, ◌++◌, map, Option, Some, None, Result, Ok, Err, String, Global, Ordering, Less, Equal, Greater, string_bytes, nat_cmp, refl, ap, sym, subst, ◌∙◌, arith}
+use Rattle.std.proofs.lemmas.Bool.Decides.{nat_tests}
+use Rattle.std.specs.Ordering.{match_ordering}
+use Rattle.std.specs.Cmp.Lexicographic.{slice_cmp}
+use Rattle.std.specs.String.{string_cmp}
+use Rattle.std.specs.BTreeMap.{insert_entry}
+use Rattle.toml.specs.Data.{Data, Members, Items, no_members, member, items_depth, members_depth, depth, table, string, as_str}
+use Rattle.toml.specs.View.{view, members_view, items_of}
+use Rattle.toml.specs.declared.value.Value.{Value}
+use Rattle.cpa_units.specs.declared.places.TaskId.{TaskId}
+use Rattle.cpa_model.specs.declared.entries.Resource.{Resource}
+use Rattle.cpa_model.specs.declared.entries.Source.{Source}
+use Rattle.cpa_model.specs.declared.entries.Task.{Task}
+use Rattle.cpa_model.specs.declared.entries.Path.{Path}
+use Rattle.cpa_model.specs.declared.entries.Kind.{Kind}
+use Rattle.cpa_model.specs.declared.entries.Kind.TheVariants.{Preemptive, RoundRobin, Tdma, Can}
+use Rattle.cpa_model.specs.declared.entries.Turn.{Turn}
+use Rattle.cpa_model.specs.declared.entries.Turn.TheVariants.{Priority, Slot}
+use Rattle.cpa_model.specs.SystemLists.{SystemLists, task_at}
+use Rattle.cpa_model.specs.DraftLists.{DraftLists}
+use Rattle.cpa_file.specs.Fields.{required, optional, has_only}
+use Rattle.cpa_file.specs.Lists.{read_all, with_front, with_entry}
+use Rattle.cpa_file.specs.Entries.{resource_entry, source_entry, task_entry, task_fields, path_entry, has_executions}
+use Rattle.cpa_file.specs.Document.{draft_of, lists_of, has_form, entries_at, items_at}
+use Rattle.cpa_file.specs.Redraft.{redraft_resource, redraft_source, redraft_task, redraft_path, redraft}
+use Rattle.cpa_file.specs.Printed.{put, resource_data, source_data, task_names_data, task_data, name_data, path_data, system_data}
+
+put_by : (o : Ordering) (a b c : List (String Global × Value)) → members_view (match_ordering o a b c) ≡ match_ordering o (members_view a) (members_view b) (members_view c)
+put_by Less a b c = refl
+put_by Equal a b c = refl
+put_by Greater a b c = refl
+
+-- an insert into the map of a table
+pub members_view-insert_entry : (es : List (String Global × Value)) (k : String Global) (v : Value) → members_view (insert_entry string_cmp es k v) ≡ put (string_bytes k) (view v) (members_view es)
+members_view-insert_entry [] k v = refl
+members_view-insert_entry (e ∷ es) k v = put_by (string_cmp k e.0) _ _ _ ∙ rw (members_view-insert_entry es k v)
+
+-- each list of entries is read as the drafts of its entries
+pub read_all-printed : {X Y : Type 0} (read : Data → Option Y) (data_of : X → Data) (redraft : X → Y) → ((x : X) → read (data_of x) ≡ Some (redraft x))
+    → (k : ℕ) (xs : List X) → read_all read k (items_of (map data_of xs)) ≡ Ok (map redraft xs)
+read_all-printed read data_of redraft each k [] = refl
+read_all-printed read data_of redraft each k (x ∷ xs) = rw (each x, read_all-printed read data_of redraft each (k + 1) xs) refl
+
+resource_by : (n : List ℕ) (k : Kind) (l : ℕ) → let r : Resource = record { name = n; kind = k; limit = l } in resource_entry (resource_data r) ≡ Some (redraft_resource r)
+unfolding resource_entry resource_data required optional has_only
+resource_by n Preemptive l = refl
+resource_by n RoundRobin l = refl
+resource_by n (Tdma gap) l = refl
+resource_by n (Can bit) l = refl
+
+resource-printed : (r : Resource) → resource_entry (resource_data r) ≡ Some (redraft_resource r)
+resource-printed r = resource_by r.name r.kind r.limit
+
+source-printed : (r : Source) → source_entry (source_data r) ≡ Some (redraft_source r)
+unfolding source_entry source_data required optional has_only
+source-printed r = refl
+
+task_by : (s : SystemLists) (t : Task) (turn : Turn) → let u : Task = record t { turn = turn } in task_entry (task_data s u) ≡ Some (redraft_task s u)
+unfolding task_entry task_fields has_executions task_data task_names_data required optional has_only
+task_by s t (Priority number) = refl
+task_by s t (Slot ticks) = refl
+
+task-printed : (s : SystemLists) (t : Task) → task_entry (task_data s t) ≡ Some (redraft_task s t)
+task-printed s t = task_by s t t.turn
+
+names-printed : (s : SystemLists) (ts : List TaskId) → read_all as_str 1 (items_of (map (name_data s) ts)) ≡ Ok (map (λ (i : TaskId). (task_at s i.0).name) ts)
+names-printed s ts = read_all-printed as_str (name_data s) (λ (i : TaskId). (task_at s i.0).name) (λ i. refl) 1 ts
+
+path_by : (s : SystemLists) (p : Path) (deadline : Option ℕ) → let q : Path = record p { deadline = deadline } in path_entry (path_data s q) ≡ Some (redraft_path s q)
+unfolding path_entry path_data required optional has_only
+path_by s p None = rw (names-printed s p.tasks) refl
+path_by s p (Some deadline) = rw (names-printed s p.tasks) refl
+
+path-printed : (s : SystemLists) (p : Path) → path_entry (path_data s p) ≡ Some (redraft_path s p)
+path-printed s p = path_by s p p.deadline
+
+-- the document of a system is read as its draft
+pub draft_of-printed : (s : SystemLists) → draft_of (system_data s) ≡ Ok (redraft s)
+unfolding draft_of lists_of has_form entries_at items_at system_data has_only redraft
+draft_of-printed s =
+    rw (
+      read_all-printed resource_entry resource_data redraft_resource resource-printed 1 s.resources,
+      read_all-printed source_entry source_data redraft_source source-printed 1 s.sources,
+      read_all-printed task_entry (task_data s) (redraft_task s) (task-printed s) 1 s.tasks,
+      read_all-printed path_entry (path_data s) (redraft_path s) (path-printed s) 1 s.paths,
+    )
+    refl

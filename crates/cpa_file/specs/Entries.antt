@@ -1,0 +1,97 @@
+-- The entries of a system file, as they are read.
+use Rattle.std.specs.Prelude.{◌≡◌, ℕ, ℤ, Bool, true, false, not, ◌&&◌, ◌||◌, is_some, is_none, List, [], ◌∷◌, Option, Some, None, option_map, Result, Ok, Err, codes, if◌then◌else◌}
+use Rattle.std.specs.Str.{bytes_eq}
+use Rattle.toml.specs.Data.{Data, Items, no_items, item, as_str, as_integer, as_bool, as_array}
+use Rattle.cpa_model.specs.declared.draft.KindWord.{KindWord}
+use Rattle.cpa_model.specs.declared.draft.KindWord.TheVariants.{Preemptive, RoundRobin, Tdma, Can}
+use Rattle.cpa_model.specs.declared.draft.DraftResource.{DraftResource}
+use Rattle.cpa_model.specs.declared.draft.DraftSource.{DraftSource}
+use Rattle.cpa_model.specs.declared.draft.DraftTask.{DraftTask}
+use Rattle.cpa_model.specs.declared.draft.DraftPath.{DraftPath}
+use Rattle.cpa_file.specs.Lists.{read_all}
+use Rattle.cpa_file.specs.Fields.{◌>>=◌, optional, required, has_only}
+
+-- the word for a kind
+abbrev pub kind_of_word : List ℕ → Option KindWord
+kind_of_word w =
+    if bytes_eq w (codes "preemptive") then Some Preemptive
+    else if bytes_eq w (codes "round-robin") then Some RoundRobin
+    else if bytes_eq w (codes "tdma") then Some Tdma
+    else if bytes_eq w (codes "can") then Some Can
+    else None
+
+abbrev pub as_kind : Data → Option KindWord
+as_kind d = as_str d >>= kind_of_word
+
+-- texts
+abbrev pub list_or_none : {X : Type 0} → Result (List X) ℕ → Option (List X)
+list_or_none (Ok xs) = Some xs
+list_or_none (Err k) = None
+
+abbrev pub texts_of : Option Items → Option (List (List ℕ))
+texts_of None = None
+texts_of (Some ds) = list_or_none (read_all as_str 1 ds)
+
+abbrev pub as_texts : Data → Option (List (List ℕ))
+as_texts d = texts_of (as_array d)
+
+-- the entry, if it has the form of a resource
+unfoldable pub resource_entry : Data → Option DraftResource
+resource_entry d = do
+  name ← required as_str (codes "name") d
+  kind ← required as_kind (codes "kind") d
+  limit ← optional as_integer (codes "limit") d
+  gap ← optional as_integer (codes "gap") d
+  bit ← optional as_integer (codes "bit") d
+  if has_only (codes "name" ∷ codes "kind" ∷ codes "limit" ∷ codes "gap" ∷ codes "bit" ∷ []) d
+      then Some (record { name = name; kind = kind; limit = limit; gap = gap; bit = bit }) else None
+
+-- A task has both executions, or a payload and neither; `extended` stands beside a payload alone.
+unfoldable pub has_executions : Option ℤ → Option ℤ → Option ℤ → Option Bool → Bool
+has_executions best worst (Some payload) extended = is_none best && is_none worst
+has_executions best worst None extended = is_some best && is_some worst && is_none extended
+
+-- the keys of a task, each of its type
+unfoldable pub task_fields : Data → Option DraftTask
+task_fields d = do
+  name ← required as_str (codes "name") d
+  on ← required as_str (codes "on") d
+  after ← required as_str (codes "after") d
+  best ← optional as_integer (codes "best") d
+  worst ← optional as_integer (codes "worst") d
+  payload ← optional as_integer (codes "payload") d
+  extended ← optional as_bool (codes "extended") d
+  priority ← optional as_integer (codes "priority") d
+  slot ← optional as_integer (codes "slot") d
+  if has_only (codes "name" ∷ codes "on" ∷ codes "after" ∷ codes "best" ∷ codes "worst" ∷ codes "payload" ∷ codes "extended" ∷ codes "priority" ∷ codes "slot" ∷ []) d
+      then Some (record { name = name; on = on; after = after; best = best; worst = worst; payload = payload; extended = extended; priority = priority; slot = slot })
+      else None
+
+-- the task, if its executions stand in one of the two ways
+abbrev pub with_executions : DraftTask → Option DraftTask
+with_executions t = if has_executions t.best t.worst t.payload t.extended then Some t else None
+
+-- the entry, if it has the form of a task
+unfoldable pub task_entry : Data → Option DraftTask
+task_entry d = task_fields d >>= with_executions
+
+-- the entry, if it has the form of a source
+unfoldable pub source_entry : Data → Option DraftSource
+source_entry d = do
+  name ← required as_str (codes "name") d
+  period ← required as_integer (codes "period") d
+  jitter ← optional as_integer (codes "jitter") d
+  distance ← optional as_integer (codes "distance") d
+  if has_only (codes "name" ∷ codes "period" ∷ codes "jitter" ∷ codes "distance" ∷ []) d
+      then Some (record { name = name; period = period; jitter = jitter; distance = distance })
+      else None
+
+-- the entry, if it has the form of a path
+unfoldable pub path_entry : Data → Option DraftPath
+path_entry d = do
+  name ← required as_str (codes "name") d
+  tasks ← required as_texts (codes "tasks") d
+  deadline ← optional as_integer (codes "deadline") d
+  if has_only (codes "name" ∷ codes "tasks" ∷ codes "deadline" ∷ []) d
+      then Some (record { name = name; tasks = tasks; deadline = deadline })
+      else None

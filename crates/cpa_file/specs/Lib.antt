@@ -1,0 +1,7 @@
+pub mod Entries
+pub mod Fields
+pub mod Lists
+pub mod Document
+pub mod Given
+pub mod Redraft
+pub mod Printed

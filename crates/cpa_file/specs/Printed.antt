@@ -1,0 +1,73 @@
+-- A system as a document.
+use Rattle.std.specs.Prelude.{ℕ, pos, List, map, Option, Some, None, codes}
+use Rattle.std.specs.Ordering.{nat_cmp, match_ordering}
+use Rattle.std.specs.Cmp.Lexicographic.{slice_cmp}
+use Rattle.toml.specs.Data.{Data, Members, no_members, member, string, integer, array, table}
+use Rattle.toml.specs.View.{items_of}
+use Rattle.cpa_units.specs.declared.places.TaskId.{TaskId}
+use Rattle.cpa_model.specs.declared.entries.Resource.{Resource}
+use Rattle.cpa_model.specs.declared.entries.Source.{Source}
+use Rattle.cpa_model.specs.declared.entries.Task.{Task}
+use Rattle.cpa_model.specs.declared.entries.Path.{Path}
+use Rattle.cpa_model.specs.declared.entries.Kind.{Kind}
+use Rattle.cpa_model.specs.declared.entries.Kind.TheVariants.{Preemptive, RoundRobin, Tdma, Can}
+use Rattle.cpa_model.specs.declared.entries.Turn.{Turn}
+use Rattle.cpa_model.specs.declared.entries.Turn.TheVariants.{Priority, Slot}
+use Rattle.cpa_model.specs.SystemLists.{SystemLists, resource_at, task_at}
+use Rattle.cpa_file.specs.Redraft.{activator_name}
+
+-- a key with its value in its place among members that ascend
+abbrev pub put : List ℕ → Data → Members → Members
+put k d no_members = member k d no_members
+put k d (member l e ms) = match_ordering (slice_cmp nat_cmp k l) (member k d (member l e ms)) (member l d ms) (member l e (put k d ms))
+
+abbrev pub kind_text : Kind → List ℕ
+kind_text Preemptive = codes "preemptive"
+kind_text RoundRobin = codes "round-robin"
+kind_text (Tdma gap) = codes "tdma"
+kind_text (Can bit) = codes "can"
+
+-- the number that goes with a kind
+abbrev pub with_kind_number : Kind → Members → Members
+with_kind_number (Tdma gap) ms = put (codes "gap") (integer (pos gap)) ms
+with_kind_number (Can bit) ms = put (codes "bit") (integer (pos bit)) ms
+with_kind_number _ ms = ms
+
+-- the entries
+unfoldable pub resource_data : Resource → Data
+resource_data r = table (with_kind_number r.kind (put (codes "limit") (integer (pos r.limit)) (put (codes "kind") (string (kind_text r.kind)) (put (codes "name") (string r.name) no_members))))
+
+unfoldable pub source_data : Source → Data
+source_data r =
+    table (put (codes "distance") (integer (pos r.distance)) (put (codes "jitter") (integer (pos r.jitter)) (put (codes "period") (integer (pos r.period)) (put (codes "name") (string r.name) no_members))))
+
+abbrev pub with_turn : Turn → Members → Members
+with_turn (Priority number) ms = put (codes "priority") (integer (pos number)) ms
+with_turn (Slot ticks) ms = put (codes "slot") (integer (pos ticks)) ms
+
+-- a task's names
+unfoldable pub task_names_data : SystemLists → Task → Members
+task_names_data s t =
+    put (codes "after") (string (activator_name s t.after)) (put (codes "on") (string (resource_at s t.res.0).name) (put (codes "name") (string t.name) no_members))
+
+unfoldable pub task_data : SystemLists → Task → Data
+task_data s t = table (with_turn t.turn (put (codes "worst") (integer (pos t.worst)) (put (codes "best") (integer (pos t.best)) (task_names_data s t))))
+
+abbrev pub with_deadline : Option ℕ → Members → Members
+with_deadline None ms = ms
+with_deadline (Some deadline) ms = put (codes "deadline") (integer (pos deadline)) ms
+
+abbrev pub name_data : SystemLists → TaskId → Data
+name_data s i = string (task_at s i.0).name
+
+unfoldable pub path_data : SystemLists → Path → Data
+path_data s p = table (with_deadline p.deadline (put (codes "tasks") (array (items_of (map (name_data s) p.tasks))) (put (codes "name") (string p.name) no_members)))
+
+abbrev pub list_data : List Data → Data
+list_data ds = array (items_of ds)
+
+-- the document
+unfoldable pub system_data : SystemLists → Data
+system_data s =
+    table (put (codes "path") (list_data (map (path_data s) s.paths)) (put (codes "task") (list_data (map (task_data s) s.tasks))
+    (put (codes "source") (list_data (map source_data s.sources)) (put (codes "resource") (list_data (map resource_data s.resources)) (put (codes "format") (integer (pos 1)) no_members)))))

@@ -1,0 +1,77 @@
+-- The draft that says the same as a system.
+use Rattle.std.specs.Prelude.{ℕ, ℤ, pos, List, map, Option, Some, None, option_map}
+use Rattle.cpa_units.specs.declared.places.TaskId.{TaskId}
+use Rattle.cpa_model.specs.declared.entries.Resource.{Resource}
+use Rattle.cpa_model.specs.declared.entries.Source.{Source}
+use Rattle.cpa_model.specs.declared.entries.Task.{Task}
+use Rattle.cpa_model.specs.declared.entries.Path.{Path}
+use Rattle.cpa_model.specs.declared.entries.Kind.{Kind}
+use Rattle.cpa_model.specs.declared.entries.Kind.TheVariants.{Preemptive, RoundRobin, Tdma, Can}
+use Rattle.cpa_model.specs.declared.entries.Turn.{Turn}
+use Rattle.cpa_model.specs.declared.entries.Turn.TheVariants.{Priority, Slot}
+use Rattle.cpa_model.specs.declared.entries.Activator.{Activator}
+use Rattle.cpa_model.specs.declared.entries.Activator.TheVariants as activator
+use Rattle.cpa_model.specs.declared.draft.DraftResource.{DraftResource}
+use Rattle.cpa_model.specs.declared.draft.DraftSource.{DraftSource}
+use Rattle.cpa_model.specs.declared.draft.DraftTask.{DraftTask}
+use Rattle.cpa_model.specs.declared.draft.DraftPath.{DraftPath}
+use Rattle.cpa_model.specs.declared.draft.KindWord.{KindWord}
+use Rattle.cpa_model.specs.declared.draft.KindWord.TheVariants as word
+use Rattle.cpa_model.specs.DraftLists.{DraftLists}
+use Rattle.cpa_model.specs.SystemLists.{SystemLists, resource_at, source_at, task_at}
+
+abbrev pub word_of : Kind → KindWord
+word_of Preemptive = word.Preemptive
+word_of RoundRobin = word.RoundRobin
+word_of (Tdma gap) = word.Tdma
+word_of (Can bit) = word.Can
+
+abbrev pub gap_at : Kind → Option ℤ
+gap_at (Tdma gap) = Some (pos gap)
+gap_at _ = None
+
+abbrev pub bit_at : Kind → Option ℤ
+bit_at (Can bit) = Some (pos bit)
+bit_at _ = None
+
+abbrev pub redraft_resource : Resource → DraftResource
+redraft_resource r = record { name = r.name; kind = word_of r.kind; limit = Some (pos r.limit); gap = gap_at r.kind; bit = bit_at r.kind }
+
+abbrev pub redraft_source : Source → DraftSource
+redraft_source r = record { name = r.name; period = pos r.period; jitter = Some (pos r.jitter); distance = Some (pos r.distance) }
+
+abbrev pub activator_name : SystemLists → Activator → List ℕ
+activator_name s (activator.Source k) = (source_at s k.0).name
+activator_name s (activator.Task j) = (task_at s j.0).name
+
+abbrev pub priority_at : Turn → Option ℤ
+priority_at (Priority number) = Some (pos number)
+priority_at (Slot ticks) = None
+
+abbrev pub slot_at : Turn → Option ℤ
+slot_at (Priority number) = None
+slot_at (Slot ticks) = Some (pos ticks)
+
+abbrev pub redraft_task : SystemLists → Task → DraftTask
+redraft_task s t = record {
+  name = t.name;
+  on = (resource_at s t.res.0).name;
+  after = activator_name s t.after;
+  best = Some (pos t.best);
+  worst = Some (pos t.worst);
+  payload = None;
+  extended = None;
+  priority = priority_at t.turn;
+  slot = slot_at t.turn;
+}
+
+abbrev pub redraft_path : SystemLists → Path → DraftPath
+redraft_path s p = record { name = p.name; tasks = map (λ (i : TaskId). (task_at s i.0).name) p.tasks; deadline = option_map pos p.deadline }
+
+unfoldable pub redraft : SystemLists → DraftLists
+redraft s = record {
+  resources = map redraft_resource s.resources;
+  sources = map redraft_source s.sources;
+  tasks = map (redraft_task s) s.tasks;
+  paths = map (redraft_path s) s.paths;
+}

@@ -1,0 +1,252 @@
+//! The entries of a system file.
+
+ghost use Rattle.std.specs.Prelude.{◌≡◌};
+ghost use Rattle.toml.specs.View.{view, items_view};
+ghost use Rattle.cpa_file.specs.Lists.{GivesList, read_all};
+ghost use Rattle.toml.specs.Data.{as_str};
+ghost use Rattle.cpa_file.specs.Fields.{Gives, required, optional};
+ghost use Rattle.cpa_file.specs.Entries.{kind_of_word, as_kind, as_texts, task_fields, has_executions};
+
+use crate::fault::ReadFault;
+use crate::fields::{only_has, optional_integer, optional_truth, required_integer, required_text};
+use cpa_model::{DraftPath, DraftResource, DraftSource, DraftTask, KindWord, Raw, RawList};
+use std::alloc::Global;
+use toml::Value;
+
+fn kind_named(word: &str) -> Option<KindWord>
+    ensures { result ≡ kind_of_word word.now }
+{
+    match word {
+        "preemptive" => Some(KindWord::Preemptive),
+        "round-robin" => Some(KindWord::RoundRobin),
+        "tdma" => Some(KindWord::Tdma),
+        "can" => Some(KindWord::Can),
+        _ => None,
+    }
+}
+
+#[tactic(auto, unfolding(crate::specs::Fields::required))]
+fn required_kind(entry: &Value, key: &str) -> Result<KindWord, ReadFault>
+    ensures { Gives result (required as_kind key.now (view entry.now)) }
+{
+    match entry.get(key) {
+        None => Err(ReadFault::Malformed),
+        Some(value) => match value.as_str() {
+            None => Err(ReadFault::Malformed),
+            Some(word) => match kind_named(word) {
+                None => Err(ReadFault::Malformed),
+                Some(kind) => Ok(kind),
+            },
+        },
+    }
+}
+
+/// What stands in the file as an entry of its own.
+pub trait Entry: Drop {
+    ghost use Rattle.std.specs.Prelude.{Option};
+    ghost use Rattle.toml.specs.Data.{Data};
+    ghost use Rattle.toml.specs.View.{view};
+    ghost use Rattle.cpa_file.specs.Fields.{Gives};
+
+    ghost entry: { Data → Option Self };
+
+    fn read(alloc: Global, value: &Value) -> Result<Self, ReadFault>
+        ensures { Gives result (entry (view value.now)) };
+}
+
+impl Entry for DraftResource {
+    ghost use Rattle.cpa_file.specs.Entries.{resource_entry};
+
+    ghost entry = { resource_entry };
+
+    #[tactic(auto, unfolding(crate::specs::Entries::resource_entry))]
+    fn read(alloc: Global, value: &Value) -> Result<DraftResource, ReadFault> {
+        let name = required_text(alloc, value, "name")?;
+        let kind = required_kind(value, "kind")?;
+        let limit = optional_integer(value, "limit")?;
+        let gap = optional_integer(value, "gap")?;
+        let bit = optional_integer(value, "bit")?;
+        if only_has(value, &["name", "kind", "limit", "gap", "bit"]) {
+            Ok(DraftResource {
+                name,
+                kind,
+                limit,
+                gap,
+                bit,
+            })
+        } else {
+            Err(ReadFault::Malformed)
+        }
+    }
+}
+
+#[tactic(auto, unfolding(crate::specs::Entries::has_executions))]
+fn executions(
+    best: Option<i64>,
+    worst: Option<i64>,
+    payload: Option<i64>,
+    extended: Option<bool>,
+) -> bool
+    ensures { result ≡ has_executions best worst payload extended }
+{
+    match payload {
+        Some(_) => best.is_none() && worst.is_none(),
+        None => best.is_some() && worst.is_some() && extended.is_none(),
+    }
+}
+
+#[tactic(auto, unfolding(crate::specs::Entries::task_fields))]
+fn read_task_fields(alloc: Global, value: &Value) -> Result<DraftTask, ReadFault>
+    ensures { Gives result (task_fields (view value.now)) }
+{
+    let name = required_text(alloc, value, "name")?;
+    let on = required_text(alloc, value, "on")?;
+    let after = required_text(alloc, value, "after")?;
+    let best = optional_integer(value, "best")?;
+    let worst = optional_integer(value, "worst")?;
+    let payload = optional_integer(value, "payload")?;
+    let extended = optional_truth(value, "extended")?;
+    let priority = optional_integer(value, "priority")?;
+    let slot = optional_integer(value, "slot")?;
+    let known = [
+        "name", "on", "after", "best", "worst", "payload", "extended", "priority", "slot",
+    ];
+    if only_has(value, &known) {
+        Ok(DraftTask {
+            name,
+            on,
+            after,
+            best,
+            worst,
+            payload,
+            extended,
+            priority,
+            slot,
+        })
+    } else {
+        Err(ReadFault::Malformed)
+    }
+}
+
+impl Entry for DraftTask {
+    ghost use Rattle.cpa_file.specs.Entries.{task_entry};
+
+    ghost entry = { task_entry };
+
+    #[tactic(auto, unfolding(crate::specs::Entries::task_entry))]
+    fn read(alloc: Global, value: &Value) -> Result<DraftTask, ReadFault> {
+        let task = read_task_fields(alloc, value)?;
+        if executions(task.best, task.worst, task.payload, task.extended) {
+            Ok(task)
+        } else {
+            Err(ReadFault::Malformed)
+        }
+    }
+}
+
+impl Entry for DraftSource {
+    ghost use Rattle.cpa_file.specs.Entries.{source_entry};
+
+    ghost entry = { source_entry };
+
+    #[tactic(auto, unfolding(crate::specs::Entries::source_entry))]
+    fn read(alloc: Global, value: &Value) -> Result<DraftSource, ReadFault> {
+        let name = required_text(alloc, value, "name")?;
+        let period = required_integer(value, "period")?;
+        let jitter = optional_integer(value, "jitter")?;
+        let distance = optional_integer(value, "distance")?;
+        if only_has(value, &["name", "period", "jitter", "distance"]) {
+            Ok(DraftSource {
+                name,
+                period,
+                jitter,
+                distance,
+            })
+        } else {
+            Err(ReadFault::Malformed)
+        }
+    }
+}
+
+impl Entry for DraftPath {
+    ghost use Rattle.cpa_file.specs.Entries.{path_entry};
+
+    ghost entry = { path_entry };
+
+    #[tactic(auto, unfolding(crate::specs::Entries::path_entry))]
+    fn read(alloc: Global, value: &Value) -> Result<DraftPath, ReadFault> {
+        let name = required_text(alloc, value, "name")?;
+        let tasks = required_texts(alloc, value, "tasks")?;
+        let deadline = optional_integer(value, "deadline")?;
+        if only_has(value, &["name", "tasks", "deadline"]) {
+            Ok(DraftPath {
+                name,
+                tasks,
+                deadline,
+            })
+        } else {
+            Err(ReadFault::Malformed)
+        }
+    }
+}
+
+fn texts(alloc: Global, value: &Value) -> Result<RawList, ReadFault>
+    ensures { Gives result (as_texts (view value.now)) }
+{
+    match value.as_array() {
+        None => Err(ReadFault::Malformed),
+        Some(items) => match read_entries::<Raw>(alloc, items.as_slice()) {
+            Ok(names) => Ok(RawList::new(names)),
+            Err(ListFault::At(_)) => Err(ReadFault::Malformed),
+            Err(ListFault::Memory) => Err(ReadFault::Memory),
+        },
+    }
+}
+
+#[tactic(auto, unfolding(crate::specs::Fields::required))]
+fn required_texts(alloc: Global, entry: &Value, key: &str) -> Result<RawList, ReadFault>
+    ensures { Gives result (required as_texts key.now (view entry.now)) }
+{
+    match entry.get(key) {
+        None => Err(ReadFault::Malformed),
+        Some(value) => texts(alloc, value),
+    }
+}
+
+impl Entry for Raw {
+    ghost use Rattle.toml.specs.Data.{as_str};
+
+    ghost entry = { as_str };
+
+    fn read(alloc: Global, value: &Value) -> Result<Raw, ReadFault> {
+        match value.as_str() {
+            None => Err(ReadFault::Malformed),
+            Some(text) => Ok(Raw::new(Vec::from_slice(alloc, text.as_bytes())?)),
+        }
+    }
+}
+
+/// Why a list of entries was not read.
+#[derive(Clone, Copy, Debug, PartialEq, Eq)]
+pub enum ListFault {
+    At(u64),
+    Memory,
+}
+
+/// The entries of an array, or the place of the first that is malformed, from 1.
+pub fn read_entries<E: Entry>(alloc: Global, items: &[Value]) -> Result<Vec<E>, ListFault>
+    ensures { GivesList result (read_all E.entry 1 (items_view items.now)) }
+{
+    let mut entries = Vec::new(alloc);
+    for (k, item) in items.iter().enumerate() {
+        match E::read(alloc, item) {
+            Ok(entry) => match entries.push(entry) {
+                Ok(()) => {}
+                Err(_) => return Err(ListFault::Memory),
+            },
+            Err(ReadFault::Malformed) => return Err(ListFault::At(k as u64 + 1)),
+            Err(ReadFault::Memory) => return Err(ListFault::Memory),
+        }
+    }
+    Ok(entries)
+}

@@ -1,0 +1,9 @@
+//! System files: TOML both ways.
+#![tactic(auto)]
+
+mod entries;
+mod fault;
+mod fields;
+mod read;
+
+pub use read::{FileRefusal, read_document, read_draft};

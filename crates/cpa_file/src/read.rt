@@ -1,0 +1,145 @@
+//! From the bytes of a system file to its draft.
+
+ghost use Rattle.std.specs.Prelude.{◌≡◌, is_some, true, codes};
+ghost use Rattle.toml.specs.View.{view, items_view, table_view};
+ghost use Rattle.toml.specs.Data.{Data, table};
+ghost use Rattle.cpa_file.specs.Given.{GivesDraft, GivesPart, GivesDocument};
+ghost use Rattle.cpa_file.specs.Document.{is_other_format, integer_at, items_at, entries_at, has_form, lists_of, draft_of, document_of};
+
+use crate::entries::{Entry, ListFault, read_entries};
+use crate::fields::only_has;
+use cpa_model::{Draft, DraftPath, DraftResource, DraftSource, DraftTask, Part, Refusal};
+use std::alloc::Global;
+use toml::Value;
+
+/// Why a system file was refused.
+#[derive(Clone, Copy, Debug, PartialEq, Eq)]
+pub enum FileRefusal {
+    NotToml,
+    Refused(Refusal),
+    Memory,
+}
+
+fn format_of(document: &Value) -> Option<i64>
+    ensures { result ≡ integer_at (codes "format") (view document.now) }
+{
+    match document.get("format") {
+        None => None,
+        Some(value) => value.as_integer(),
+    }
+}
+
+fn has_other_format(format: Option<i64>) -> bool
+    ensures { result ≡ is_other_format format }
+{
+    match format {
+        None => false,
+        Some(number) => number != 1,
+    }
+}
+
+#[tactic(auto, unfolding(crate::specs::Document::items_at))]
+fn has_array(document: &Value, key: &str) -> bool
+    ensures { result ≡ is_some (items_at key.now (view document.now)) }
+{
+    match document.get(key) {
+        None => true,
+        Some(value) => value.is_array(),
+    }
+}
+
+#[tactic(auto, unfolding(crate::specs::Document::has_form))]
+fn is_formed(document: &Value) -> bool
+    ensures { result ≡ has_form (view document.now) }
+{
+    only_has(document, &["format", "resource", "source", "task", "path"])
+        && format_of(document).is_some()
+        && has_array(document, "resource")
+        && has_array(document, "source")
+        && has_array(document, "task")
+        && has_array(document, "path")
+}
+
+#[tactic(auto, unfolding(crate::specs::Document::entries_at, crate::specs::Document::items_at))]
+fn read_part<E: Entry>(
+    alloc: Global,
+    part: Part,
+    document: &Value,
+    key: &str,
+) -> Result<Vec<E>, FileRefusal>
+    ensures { GivesPart result (entries_at part E.entry key.now (view document.now)) }
+{
+    match document.get(key) {
+        None => Ok(Vec::new(alloc)),
+        Some(value) => match value.as_array() {
+            None => Err(FileRefusal::Refused(Refusal {
+                reason: 1,
+                part: Part::File,
+                place: 0,
+            })),
+            Some(items) => match read_entries::<E>(alloc, items.as_slice()) {
+                Ok(entries) => Ok(entries),
+                Err(ListFault::At(place)) => Err(FileRefusal::Refused(Refusal {
+                    reason: 1,
+                    part,
+                    place,
+                })),
+                Err(ListFault::Memory) => Err(FileRefusal::Memory),
+            },
+        },
+    }
+}
+
+#[tactic(auto, unfolding(crate::specs::Document::lists_of))]
+fn read_lists(alloc: Global, document: &Value) -> Result<Draft, FileRefusal>
+    ensures { GivesDraft result (lists_of (view document.now)) }
+{
+    let resources = read_part::<DraftResource>(alloc, Part::Resource, document, "resource")?;
+    let sources = read_part::<DraftSource>(alloc, Part::Source, document, "source")?;
+    let tasks = read_part::<DraftTask>(alloc, Part::Task, document, "task")?;
+    let paths = read_part::<DraftPath>(alloc, Part::Path, document, "path")?;
+    Ok(Draft {
+        resources,
+        sources,
+        tasks,
+        paths,
+    })
+}
+
+#[tactic(auto, unfolding(crate::specs::Document::draft_of))]
+pub fn read_draft(alloc: Global, document: &Value) -> Result<Draft, FileRefusal>
+    ensures { GivesDraft result (draft_of (view document.now)) }
+{
+    if has_other_format(format_of(document)) {
+        return Err(FileRefusal::Refused(Refusal {
+            reason: 13,
+            part: Part::File,
+            place: 0,
+        }));
+    }
+    if !is_formed(document) {
+        return Err(FileRefusal::Refused(Refusal {
+            reason: 1,
+            part: Part::File,
+            place: 0,
+        }));
+    }
+    read_lists(alloc, document)
+}
+
+/// The document that the bytes are.
+#[tactic(auto, unfolding(crate::specs::Document::document_of))]
+pub fn read_document(alloc: Global, bytes: &[u8]) -> Result<Value, FileRefusal>
+    ensures { GivesDocument result (document_of bytes.now) }
+{
+    match toml::table_from_slice(alloc, bytes) {
+        Ok(table) => Ok(Value::Table(table)),
+        Err(error) => {
+            if error.is_memory() {
+                Err(FileRefusal::Memory)
+            } else {
+                Err(FileRefusal::NotToml)
+            }
+        }
+    }
+}
