@@ -1,12 +1,12 @@
 -- What an entry that was read keeps.
-use Rattle.std.proofs.Common.{◌≡◌, ℕ, ◌+◌, Bool, true, false, ◌&&◌, List, [], ◌∷◌, ◌++◌, Option, Some, None, Result, Ok, Err, cond, refl, sym, ap, ◌∙◌}
+use Rattle.std.proofs.Common.{◌≡◌, ℕ, ◌+◌, Bool, true, false, List, [], Option, Some, None, Result, Ok, Err, cond, refl}
 use Rattle.std.specs.List.{list_all}
-use Rattle.std.proofs.lemmas.Bool.{and_parts, and_from, false≢true, cases_Bool}
+use Rattle.std.proofs.lemmas.Bool.{and_from}
 use Rattle.std.proofs.lemmas.Option.{none-some, same_Some}
 use Rattle.toml.specs.Data.{Data, Items, no_items, item}
 use Rattle.cpa_model.specs.declared.draft.DraftTask.{DraftTask}
 use Rattle.cpa_file.specs.Fields.{◌>>=◌}
-use Rattle.cpa_file.specs.Lists.{read_all, with_front, with_entry}
+use Rattle.cpa_file.specs.Lists.{read_all, with_entry}
 use Rattle.cpa_file.specs.Entries.{task_entry, task_fields, with_executions, has_executions}
 
 -- the executions of a task

@@ -1,11 +1,10 @@
 -- What is printed is read as the draft that says the same.
-use Rattle.std.proofs.Common.{◌≡◌, ℕ, ◌+◌, pos, max, ◌≤◌, List, [], ◌∷◌, ◌++◌, map, Option, Some, None, Result, Ok, Err, String, Global, Ordering, Less, Equal, Greater, string_bytes, nat_cmp, refl, ap, sym, subst, ◌∙◌, arith}
+use Rattle.std.proofs.Common.{◌≡◌, ℕ, ◌+◌, ◌≤◌, List, [], ◌∷◌, map, Option, Some, None, Ok, String, Global, Ordering, Less, Equal, Greater, string_bytes, refl, sym, subst, ◌∙◌, arith}
 use Rattle.std.proofs.lemmas.Bool.Decides.{nat_tests}
 use Rattle.std.specs.Ordering.{match_ordering}
-use Rattle.std.specs.Cmp.Lexicographic.{slice_cmp}
 use Rattle.std.specs.String.{string_cmp}
 use Rattle.std.specs.BTreeMap.{insert_entry}
-use Rattle.toml.specs.Data.{Data, Members, Items, no_members, member, items_depth, members_depth, depth, table, string, as_str}
+use Rattle.toml.specs.Data.{Data, Members, items_depth, members_depth, depth, table, as_str}
 use Rattle.toml.specs.View.{view, members_view, items_of}
 use Rattle.toml.specs.declared.value.Value.{Value}
 use Rattle.cpa_units.specs.declared.places.TaskId.{TaskId}
@@ -18,9 +17,8 @@ use Rattle.cpa_model.specs.declared.entries.Kind.TheVariants.{Preemptive, RoundR
 use Rattle.cpa_model.specs.declared.entries.Turn.{Turn}
 use Rattle.cpa_model.specs.declared.entries.Turn.TheVariants.{Priority, Slot}
 use Rattle.cpa_model.specs.SystemLists.{SystemLists, task_at}
-use Rattle.cpa_model.specs.DraftLists.{DraftLists}
 use Rattle.cpa_file.specs.Fields.{required, optional, has_only}
-use Rattle.cpa_file.specs.Lists.{read_all, with_front, with_entry}
+use Rattle.cpa_file.specs.Lists.{read_all}
 use Rattle.cpa_file.specs.Entries.{resource_entry, source_entry, task_entry, task_fields, path_entry, has_executions}
 use Rattle.cpa_file.specs.Document.{draft_of, lists_of, has_form, entries_at, items_at}
 use Rattle.cpa_file.specs.Redraft.{redraft_resource, redraft_source, redraft_task, redraft_path, redraft}
@@ -86,3 +84,54 @@ draft_of-printed s =
       read_all-printed path_entry (path_data s) (redraft_path s) (path-printed s) 1 s.paths,
     )
     refl
+
+-- no printed document is deep
+
+module _ {X : Type 0} (data_of : X → Data) (most : ℕ) (each : (x : X) → depth (data_of x) ≤ most) where
+  pub items-depth : (xs : List X) → items_depth (items_of (map data_of xs)) ≤ most
+  items-depth [] = omega arith
+  items-depth (x ∷ xs) = grind (arith, nat_tests, each x, items-depth xs)
+
+resource-depth_by : (n : List ℕ) (k : Kind) (l : ℕ) → let r : Resource = record { name = n; kind = k; limit = l } in depth (resource_data r) ≤ 2
+unfolding resource_data
+resource-depth_by n Preemptive l = omega arith
+resource-depth_by n RoundRobin l = omega arith
+resource-depth_by n (Tdma gap) l = omega arith
+resource-depth_by n (Can bit) l = omega arith
+
+resource-depth : (r : Resource) → depth (resource_data r) ≤ 2
+resource-depth r = resource-depth_by r.name r.kind r.limit
+
+source-depth : (r : Source) → depth (source_data r) ≤ 2
+unfolding source_data
+source-depth r = omega arith
+
+task-depth_by : (s : SystemLists) (t : Task) (turn : Turn) → let u : Task = record t { turn = turn } in depth (task_data s u) ≤ 2
+unfolding task_data task_names_data
+task-depth_by s t (Priority number) = omega arith
+task-depth_by s t (Slot ticks) = omega arith
+
+task-depth : (s : SystemLists) (t : Task) → depth (task_data s t) ≤ 2
+task-depth s t = task-depth_by s t t.turn
+
+path-depth_by : (s : SystemLists) (p : Path) (deadline : Option ℕ) → let q : Path = record p { deadline = deadline } in depth (path_data s q) ≤ 2
+unfolding path_data
+path-depth_by s p None = omega (arith, items-depth (name_data s) 0 (λ i. omega arith) p.tasks)
+path-depth_by s p (Some deadline) = omega (arith, items-depth (name_data s) 0 (λ i. omega arith) p.tasks)
+
+path-depth : (s : SystemLists) (p : Path) → depth (path_data s p) ≤ 2
+path-depth s p = path-depth_by s p p.deadline
+
+system-depth : (s : SystemLists) → depth (system_data s) ≤ 4
+unfolding system_data
+system-depth s =
+    omega (
+      arith,
+      items-depth resource_data 2 resource-depth s.resources,
+      items-depth source_data 2 source-depth s.sources,
+      items-depth (task_data s) 2 (task-depth s) s.tasks,
+      items-depth (path_data s) 2 (path-depth s) s.paths,
+    )
+
+pub shallow : (s : SystemLists) (ms : Members) → table ms ≡ system_data s → members_depth ms ≤ 80
+shallow s ms e = let h : depth (table ms) ≤ 4 = subst (λ (d : Data). depth d ≤ 4) (sym e) (system-depth s) in omega arith

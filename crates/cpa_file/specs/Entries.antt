@@ -1,7 +1,7 @@
 -- The entries of a system file, as they are read.
-use Rattle.std.specs.Prelude.{◌≡◌, ℕ, ℤ, Bool, true, false, not, ◌&&◌, ◌||◌, is_some, is_none, List, [], ◌∷◌, Option, Some, None, option_map, Result, Ok, Err, codes, if◌then◌else◌}
+use Rattle.std.specs.Prelude.{ℕ, ℤ, Bool, ◌&&◌, is_some, is_none, List, [], ◌∷◌, Option, Some, None, Result, Ok, Err, codes, if◌then◌else◌}
 use Rattle.std.specs.Str.{bytes_eq}
-use Rattle.toml.specs.Data.{Data, Items, no_items, item, as_str, as_integer, as_bool, as_array}
+use Rattle.toml.specs.Data.{Data, Items, as_str, as_integer, as_bool, as_array}
 use Rattle.cpa_model.specs.declared.draft.KindWord.{KindWord}
 use Rattle.cpa_model.specs.declared.draft.KindWord.TheVariants.{Preemptive, RoundRobin, Tdma, Can}
 use Rattle.cpa_model.specs.declared.draft.DraftResource.{DraftResource}

@@ -4,6 +4,7 @@
 mod entries;
 mod fault;
 mod fields;
+mod print;
 mod read;
 
 pub use read::{FileRefusal, read_document, read_draft};

@@ -1,0 +1,262 @@
+//! From a system to the bytes of a file.
+
+ghost use Rattle.std.specs.Prelude.{◌≡◌, ◌<◌, ◌^◌, pos, map, length, All, IfOk, OnOk};
+ghost use Rattle.std.specs.Option.{ForSome};
+ghost use Rattle.toml.specs.Data.{string, integer, table};
+ghost use Rattle.toml.specs.View.{view, table_view};
+ghost use Rattle.cpa_model.specs.Rules.{IsResource, IsSource, IsTask, IsPath, KindFits};
+ghost use Rattle.cpa_model.specs.SystemLists.{resource_at, source_at, task_at, path_at, task_places, slot_of};
+ghost use Rattle.cpa_file.specs.Redraft.{activator_name};
+ghost use Rattle.cpa_file.specs.Printed.{put, kind_text, with_kind_number, resource_data, source_data, with_turn, task_names_data, task_data, with_deadline, name_data, path_data, system_data};
+
+use cpa_model::{Activator, Kind, Path, Resource, Source, System, Task, TaskList, Turn};
+use cpa_units::{NoMemory, PathId, ResId, SourceId, TaskId};
+use std::alloc::Global;
+use toml::{Table, Value};
+
+/// Puts a value at a key.
+fn put(alloc: Global, entry: &mut Table, key: &str, value: Value) -> Result<(), NoMemory>
+    ensures { OnOk result (table_view entry.new ≡ put key.now (view value) (table_view entry.old)) }
+{
+    let key = String::from_str(alloc, key)?;
+    match entry.insert(key, value) {
+        Ok(_) => Ok(()),
+        Err(_) => Err(NoMemory),
+    }
+}
+
+fn put_number(alloc: Global, entry: &mut Table, key: &str, number: u64) -> Result<(), NoMemory>
+    requires { number < 2 ^ 63 }
+    ensures { OnOk result (table_view entry.new ≡ put key.now (integer (pos number)) (table_view entry.old)) }
+{
+    put(alloc, entry, key, Value::Integer(number as i64))
+}
+
+/// A name as a value; its bytes are text.
+fn text_value(alloc: Global, text: &[u8]) -> Result<Value, NoMemory>
+    ensures { IfOk result (λ v. view v ≡ string text.now) }
+{
+    match std::str::from_utf8(text) {
+        Ok(text) => Ok(Value::string(alloc, text)?),
+        Err(_) => Err(NoMemory),
+    }
+}
+
+fn put_text(alloc: Global, entry: &mut Table, key: &str, text: &[u8]) -> Result<(), NoMemory>
+    ensures { OnOk result (table_view entry.new ≡ put key.now (string text.now) (table_view entry.old)) }
+{
+    put(alloc, entry, key, text_value(alloc, text)?)
+}
+
+fn kind_word(kind: Kind) -> &'static str
+    ensures { result.now ≡ kind_text kind }
+{
+    match kind {
+        Kind::Preemptive => "preemptive",
+        Kind::RoundRobin => "round-robin",
+        Kind::Tdma { .. } => "tdma",
+        Kind::Can { .. } => "can",
+    }
+}
+
+fn put_kind_number(alloc: Global, entry: &mut Table, kind: Kind) -> Result<(), NoMemory>
+    requires { KindFits kind }
+    ensures { OnOk result (table_view entry.new ≡ with_kind_number kind (table_view entry.old)) }
+{
+    match kind {
+        Kind::Preemptive => Ok(()),
+        Kind::RoundRobin => Ok(()),
+        Kind::Tdma { gap } => put_number(alloc, entry, "gap", gap),
+        Kind::Can { bit } => put_number(alloc, entry, "bit", bit),
+    }
+}
+
+#[tactic(auto, unfolding(crate::specs::Printed::resource_data))]
+fn resource_value(alloc: Global, resource: &Resource) -> Result<Value, NoMemory>
+    requires { IsResource resource.now }
+    ensures { IfOk result (λ v. view v ≡ resource_data resource.now) }
+{
+    let mut entry = Table::new(alloc);
+    put_text(alloc, &mut entry, "name", resource.name.bytes())?;
+    put_text(
+        alloc,
+        &mut entry,
+        "kind",
+        kind_word(resource.kind).as_bytes(),
+    )?;
+    put_number(alloc, &mut entry, "limit", resource.limit)?;
+    put_kind_number(alloc, &mut entry, resource.kind)?;
+    Ok(Value::Table(entry))
+}
+
+#[tactic(auto, unfolding(crate::specs::Printed::source_data))]
+fn source_value(alloc: Global, source: &Source) -> Result<Value, NoMemory>
+    requires { IsSource source.now }
+    ensures { IfOk result (λ v. view v ≡ source_data source.now) }
+{
+    let mut entry = Table::new(alloc);
+    put_text(alloc, &mut entry, "name", source.name.bytes())?;
+    put_number(alloc, &mut entry, "period", source.period)?;
+    put_number(alloc, &mut entry, "jitter", source.jitter)?;
+    put_number(alloc, &mut entry, "distance", source.distance)?;
+    Ok(Value::Table(entry))
+}
+
+/// The name of what activates a task.
+fn activator_bytes<'a>(system: &'a System, task: &Task) -> &'a [u8]
+    requires { IsTask system.now task.now }
+    ensures { result.now ≡ activator_name system.now task.now.after }
+{
+    match task.after {
+        Activator::Source(source) => system.source(source).name.bytes(),
+        Activator::Task(earlier) => system.task(earlier).name.bytes(),
+    }
+}
+
+#[tactic(auto, unfolding(crate::specs::Printed::task_names_data))]
+fn task_table(alloc: Global, system: &System, task: &Task) -> Result<Table, NoMemory>
+    requires { IsTask system.now task.now }
+    ensures { IfOk result (λ t. table_view t ≡ task_names_data system.now task.now) }
+{
+    let mut entry = Table::new(alloc);
+    put_text(alloc, &mut entry, "name", task.name.bytes())?;
+    put_text(
+        alloc,
+        &mut entry,
+        "on",
+        system.resource(task.res).name.bytes(),
+    )?;
+    put_text(alloc, &mut entry, "after", activator_bytes(system, task))?;
+    Ok(entry)
+}
+
+fn put_turn(alloc: Global, entry: &mut Table, turn: Turn) -> Result<(), NoMemory>
+    requires { slot_of turn < 2 ^ 63 }
+    ensures { OnOk result (table_view entry.new ≡ with_turn turn (table_view entry.old)) }
+{
+    match turn {
+        Turn::Priority(number) => put_number(alloc, entry, "priority", u64::from(number)),
+        Turn::Slot(ticks) => put_number(alloc, entry, "slot", ticks),
+    }
+}
+
+#[tactic(auto, unfolding(crate::specs::Printed::task_data))]
+fn task_value(alloc: Global, system: &System, task: &Task) -> Result<Value, NoMemory>
+    requires { IsTask system.now task.now }
+    ensures { IfOk result (λ v. view v ≡ task_data system.now task.now) }
+{
+    let mut entry = task_table(alloc, system, task)?;
+    put_number(alloc, &mut entry, "best", task.best)?;
+    put_number(alloc, &mut entry, "worst", task.worst)?;
+    put_turn(alloc, &mut entry, task.turn)?;
+    Ok(Value::Table(entry))
+}
+
+fn put_deadline(alloc: Global, entry: &mut Table, deadline: Option<u64>) -> Result<(), NoMemory>
+    requires { ForSome deadline (λ d. d < 2 ^ 63) }
+    ensures { OnOk result (table_view entry.new ≡ with_deadline deadline (table_view entry.old)) }
+{
+    match deadline {
+        None => Ok(()),
+        Some(deadline) => put_number(alloc, entry, "deadline", deadline),
+    }
+}
+
+/// The names of tasks.
+fn name_values(alloc: Global, system: &System, tasks: &TaskList) -> Result<Vec<Value>, NoMemory>
+    requires { All (λ i. i.0 < length system.now.tasks) tasks.now }
+    ensures { IfOk result (λ v. map view v.items ≡ map (name_data system.now) tasks.now) }
+{
+    let mut values = Vec::new(alloc);
+    for k in 0..tasks.len() {
+        values.push(text_value(alloc, system.task(tasks.get(k)).name.bytes())?)?;
+    }
+    Ok(values)
+}
+
+#[tactic(auto, unfolding(crate::specs::Printed::path_data))]
+fn path_value(alloc: Global, system: &System, path: &Path) -> Result<Value, NoMemory>
+    requires { IsPath system.now path.now }
+    ensures { IfOk result (λ v. view v ≡ path_data system.now path.now) }
+{
+    let mut entry = Table::new(alloc);
+    put_text(alloc, &mut entry, "name", path.name.bytes())?;
+    let names = name_values(alloc, system, &path.tasks)?;
+    put(alloc, &mut entry, "tasks", Value::Array(names))?;
+    put_deadline(alloc, &mut entry, path.deadline)?;
+    Ok(Value::Table(entry))
+}
+
+fn resource_values(alloc: Global, system: &System) -> Result<Vec<Value>, NoMemory>
+    ensures { IfOk result (λ v. map view v.items ≡ map resource_data system.now.resources) }
+{
+    let mut values = Vec::new(alloc);
+    for k in 0..system.resources() {
+        values.push(resource_value(alloc, system.resource(ResId(k)))?)?;
+    }
+    Ok(values)
+}
+
+fn source_values(alloc: Global, system: &System) -> Result<Vec<Value>, NoMemory>
+    ensures { IfOk result (λ v. map view v.items ≡ map source_data system.now.sources) }
+{
+    let mut values = Vec::new(alloc);
+    for k in 0..system.sources() {
+        values.push(source_value(alloc, system.source(SourceId(k)))?)?;
+    }
+    Ok(values)
+}
+
+fn task_values(alloc: Global, system: &System) -> Result<Vec<Value>, NoMemory>
+    ensures { IfOk result (λ v. map view v.items ≡ map (task_data system.now) system.now.tasks) }
+{
+    let mut values = Vec::new(alloc);
+    for k in 0..system.tasks() {
+        values.push(task_value(alloc, system, system.task(TaskId(k)))?)?;
+    }
+    Ok(values)
+}
+
+fn path_values(alloc: Global, system: &System) -> Result<Vec<Value>, NoMemory>
+    ensures { IfOk result (λ v. map view v.items ≡ map (path_data system.now) system.now.paths) }
+{
+    let mut values = Vec::new(alloc);
+    for k in 0..system.paths() {
+        values.push(path_value(alloc, system, system.path(PathId(k)))?)?;
+    }
+    Ok(values)
+}
+
+/// The document of a system.
+#[tactic(auto, unfolding(crate::specs::Printed::system_data))]
+fn system_table(alloc: Global, system: &System) -> Result<Table, NoMemory>
+    ensures { IfOk result (λ t. table (table_view t) ≡ system_data system.now) }
+{
+    let mut document = Table::new(alloc);
+    put_number(alloc, &mut document, "format", 1)?;
+    put(
+        alloc,
+        &mut document,
+        "resource",
+        Value::Array(resource_values(alloc, system)?),
+    )?;
+    put(
+        alloc,
+        &mut document,
+        "source",
+        Value::Array(source_values(alloc, system)?),
+    )?;
+    put(
+        alloc,
+        &mut document,
+        "task",
+        Value::Array(task_values(alloc, system)?),
+    )?;
+    put(
+        alloc,
+        &mut document,
+        "path",
+        Value::Array(path_values(alloc, system)?),
+    )?;
+    Ok(document)
+}
