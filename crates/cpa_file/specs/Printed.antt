@@ -1,5 +1,5 @@
 -- A system as a document.
-use Rattle.std.specs.Prelude.{ℕ, pos, List, map, Option, Some, None, codes}
+use Rattle.std.specs.Prelude.{◌≡◌, ℕ, pos, List, map, Option, Some, None, codes}
 use Rattle.std.specs.Ordering.{nat_cmp, match_ordering}
 use Rattle.std.specs.Cmp.Lexicographic.{slice_cmp}
 use Rattle.toml.specs.Data.{Data, Members, no_members, member, string, integer, array, table}
@@ -14,6 +14,7 @@ use Rattle.cpa_model.specs.declared.entries.Kind.TheVariants.{Preemptive, RoundR
 use Rattle.cpa_model.specs.declared.entries.Turn.{Turn}
 use Rattle.cpa_model.specs.declared.entries.Turn.TheVariants.{Priority, Slot}
 use Rattle.cpa_model.specs.SystemLists.{SystemLists, resource_at, task_at}
+use Rattle.cpa_file.specs.Document.{document_of}
 use Rattle.cpa_file.specs.Redraft.{activator_name}
 
 -- a key with its value in its place among members that ascend
@@ -71,3 +72,9 @@ unfoldable pub system_data : SystemLists → Data
 system_data s =
     table (put (codes "path") (list_data (map (path_data s) s.paths)) (put (codes "task") (list_data (map (task_data s) s.tasks))
     (put (codes "source") (list_data (map source_data s.sources)) (put (codes "resource") (list_data (map resource_data s.resources)) (put (codes "format") (integer (pos 1)) no_members)))))
+
+-- the bytes are a document, and it is the system's
+pub record IsPrinted (s : SystemLists) (bytes : List ℕ) : Type 0 where
+  pub members : Members
+  pub document : document_of bytes ≡ Some members
+  pub same : table members ≡ system_data s

@@ -7,7 +7,7 @@ ghost use Rattle.toml.specs.View.{view, table_view};
 ghost use Rattle.cpa_model.specs.Rules.{IsResource, IsSource, IsTask, IsPath, KindFits};
 ghost use Rattle.cpa_model.specs.SystemLists.{resource_at, source_at, task_at, path_at, task_places, slot_of};
 ghost use Rattle.cpa_file.specs.Redraft.{activator_name};
-ghost use Rattle.cpa_file.specs.Printed.{put, kind_text, with_kind_number, resource_data, source_data, with_turn, task_names_data, task_data, with_deadline, name_data, path_data, system_data};
+ghost use Rattle.cpa_file.specs.Printed.{put, kind_text, with_kind_number, resource_data, source_data, with_turn, task_names_data, task_data, with_deadline, name_data, path_data, system_data, IsPrinted};
 
 use cpa_model::{Activator, Kind, Path, Resource, Source, System, Task, TaskList, Turn};
 use cpa_units::{NoMemory, PathId, ResId, SourceId, TaskId};
@@ -259,4 +259,15 @@ fn system_table(alloc: Global, system: &System) -> Result<Table, NoMemory>
         Value::Array(path_values(alloc, system)?),
     )?;
     Ok(document)
+}
+
+/// The bytes of a system's document.
+fn print_document(alloc: Global, system: &System) -> Result<Vec<u8>, NoMemory>
+    ensures { IfOk result (λ v. IsPrinted system.now v.items) }
+{
+    let document = system_table(alloc, system)?;
+    match toml::table_to_string(alloc, &document) {
+        Ok(text) => Ok(Vec::from_slice(alloc, text.as_str().as_bytes())?),
+        Err(_) => Err(NoMemory),
+    }
 }
