@@ -1,0 +1,4 @@
+pub mod ChainLaws
+pub mod FirstLemmas
+pub mod Maps
+pub mod RankLaws
