@@ -4,6 +4,7 @@
 #![tactic(auto)]
 
 pub mod bound;
+pub mod frames;
 pub mod limits;
 pub mod name;
 pub mod places;
@@ -12,6 +13,7 @@ mod tests;
 pub mod vector;
 
 pub use bound::{Bound, words_have_laws};
+pub use frames::frame_bits;
 pub use name::{Name, NameFault, is_name};
 pub use places::{NoMemory, PathId, ResId, SourceId, TaskId};
 pub use vector::Vector;

@@ -1,4 +1,5 @@
 use crate::bound::Bound;
+use crate::frames::frame_bits;
 use crate::name::{Name, NameFault};
 use crate::places::TaskId;
 use crate::vector::Vector;
@@ -38,4 +39,17 @@ fn vectors_are_copied_and_changed(rt: HostRuntime) -> Result<(), Fail> {
     assert_eq!(rt; second.get(TaskId(0)), Bound::Overload);
     assert_eq!(rt; second.get(TaskId(1)), Bound::Within(7));
     Ok(())
+}
+
+#[test]
+fn frames_have_lengths(rt: HostRuntime) {
+    let table = [
+        (0, false, (47, 55)),
+        (8, false, (111, 135)),
+        (0, true, (67, 80)),
+        (8, true, (131, 160)),
+    ];
+    for (payload, extended, want) in table {
+        assert_eq!(rt; frame_bits(payload, extended), want, "{payload} {extended}");
+    }
 }

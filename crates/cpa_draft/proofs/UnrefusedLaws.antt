@@ -1,0 +1,191 @@
+-- What a draft has to which no reason applies, and that it is all.
+use Rattle.std.proofs.Common.{◌≡◌, ℕ, zero, suc, ◌+◌, ◌<◌, ◌≤◌, Bool, true, false, not, ◌||◌, nat_le, nat_lt, List, [], ◌∷◌, length, take, get_or, All, Option, Some, None, is_none, refl, sym, ap, ◌∙◌, arith, inl, inr}
+use Rattle.std.specs.List.{list_all, filter_map}
+use Rattle.std.proofs.lemmas.Bool.{false≢true, true≢false, le-leb, lt-ltb, leb-true, ltb-true, ltb-false, cases_Bool, false_from_ne_true}
+use Rattle.std.proofs.lemmas.Option.{none-some}
+use Rattle.cpa_units.specs.Name.{is_name}
+use Rattle.cpa_draft.specs.First.{first_place, first_known}
+use Rattle.cpa_draft.specs.Names.{source_names, resource_names, place_of, kind_of, link_of, links_of, is_nothing, is_task}
+use Rattle.cpa_draft.specs.Chains.{first_longer}
+use Rattle.cpa_draft.specs.DraftLists.{DraftLists}
+use Rattle.cpa_draft.specs.declared.draft.DraftResource.{DraftResource}
+use Rattle.cpa_draft.specs.declared.draft.DraftSource.{DraftSource}
+use Rattle.cpa_draft.specs.declared.draft.DraftTask.{DraftTask}
+use Rattle.cpa_draft.specs.declared.draft.DraftPath.{DraftPath}
+use Rattle.cpa_draft.specs.declared.refusal.Part.{Part}
+use Rattle.cpa_draft.specs.declared.refusal.Refusal.{Refusal}
+use Rattle.cpa_draft.specs.Refusals.{◌or_else◌, refusal_at, first_with, out_of_range, no_name, known_name, unknown_name, no_source, long_chain, known_priority, misfit, crossed, unlinked, too_many, by_names, by_chains, by_kinds, first_refusal, resource_fits, source_fits, task_fits, path_fits, rank_of, is_taken, resource_misfits, task_misfits, is_crossed, is_linked}
+use Rattle.cpa_draft.proofs.FirstLemmas.{none_marked, all_unmarked}
+use Rattle.cpa_draft.proofs.ListLaws.{not-false}
+
+-- what no reason gives, entry by entry
+pub record IsUnrefused (d : DraftLists) : Type 0 where
+  pub resources_fit : All (λ r. resource_fits r ≡ true) d.resources
+  pub sources_fit : All (λ r. source_fits r ≡ true) d.sources
+  pub tasks_fit : All (λ t. task_fits t ≡ true) d.tasks
+  pub paths_fit : All (λ p. path_fits p ≡ true) d.paths
+  pub resources_named : All (λ (r : DraftResource). is_name r.name ≡ true) d.resources
+  pub sources_named : All (λ (r : DraftSource). is_name r.name ≡ true) d.sources
+  pub tasks_named : All (λ (t : DraftTask). is_name t.name ≡ true) d.tasks
+  pub paths_named : All (λ (p : DraftPath). is_name p.name ≡ true) d.paths
+  pub new_resources : first_known (λ (r : DraftResource). r.name) [] d.resources ≡ None
+  pub new_sources : first_known (λ (r : DraftSource). r.name) [] d.sources ≡ None
+  pub new_tasks : first_known (λ (t : DraftTask). t.name) (source_names d) d.tasks ≡ None
+  pub new_paths : first_known (λ (p : DraftPath). p.name) [] d.paths ≡ None
+  pub tasks_know : All (λ (t : DraftTask). (is_none (place_of (resource_names d) t.on) || is_nothing (link_of d t.after)) ≡ false) d.tasks
+  pub paths_know : All (λ (p : DraftPath). list_all (λ name. is_task (link_of d name)) p.tasks ≡ true) d.paths
+  pub sourced : first_longer (links_of d) (length d.tasks) ≡ None
+  pub short : first_longer (links_of d) 32 ≡ None
+  pub ranks : first_place (λ k t. is_taken (rank_of d t) (filter_map (rank_of d) (take k d.tasks))) d.tasks ≡ None
+  pub resources_suit : All (λ r. resource_misfits r ≡ false) d.resources
+  pub tasks_suit : All (λ (t : DraftTask). task_misfits (kind_of d t.on) t ≡ false) d.tasks
+  pub ordered : All (λ t. is_crossed t ≡ false) d.tasks
+  pub linked : All (λ (p : DraftPath). (nat_le (length p.tasks) 0 || not (is_linked d p.tasks)) ≡ false) d.paths
+  pub few_resources : length d.resources ≤ 64
+  pub few_sources : length d.sources ≤ 128
+  pub few_tasks : length d.tasks ≤ 512
+  pub few_paths : length d.paths ≤ 128
+
+or_none : {X : Type 0} (a b : Option X) → (a or_else b) ≡ None → (a ≡ None) × (b ≡ None)
+or_none None b e = (refl, e)
+or_none (Some x) b e = absurd (none-some x (sym e))
+
+none_or : {X : Type 0} (a b : Option X) → a ≡ None → b ≡ None → (a or_else b) ≡ None
+none_or a b e f = rw (e, f)
+
+at_none : (reason : ℕ) (part : Part) (o : Option ℕ) → refusal_at reason part o ≡ None → o ≡ None
+at_none reason part None e = refl
+at_none reason part (Some k) e = absurd (none-some _ (sym e))
+
+none_at : (reason : ℕ) (part : Part) (o : Option ℕ) → o ≡ None → refusal_at reason part o ≡ None
+none_at reason part o e = rw e
+
+-- four parts
+record Four (a b c e : Option Refusal) : Type 0 where
+  pub first : a ≡ None
+  pub second : b ≡ None
+  pub third : c ≡ None
+  pub fourth : e ≡ None
+
+four : (a b c e : Option Refusal) → (a or_else b or_else c or_else e) ≡ None → Four a b c e
+four a b c e h =
+    let x = or_none _ e h in
+    let y = or_none _ c x.0 in
+    let z = or_none a b y.0 in
+    record { first = z.0; second = z.1; third = y.1; fourth = x.1 }
+
+from_four : (a b c e : Option Refusal) → Four a b c e → (a or_else b or_else c or_else e) ≡ None
+from_four a b c e f = none_or _ e (none_or _ c (none_or a b f.first f.second) f.third) f.fourth
+
+-- a test of the entries alone
+fails : {X : Type 0} (reason : ℕ) (part : Part) (marks : X → Bool) (xs : List X) → first_with reason part marks xs ≡ None → All (λ x. marks x ≡ false) xs
+fails reason part marks xs e = λ k x less. none_marked (λ k x. marks x) xs k x (at_none reason part _ e) less
+
+passes : {X : Type 0} (reason : ℕ) (part : Part) (marks : X → Bool) (xs : List X) → first_with reason part (λ x. not (marks x)) xs ≡ None → All (λ x. marks x ≡ true) xs
+passes reason part marks xs e = λ k x less. not-false _ (fails reason part (λ x. not (marks x)) xs e k x less)
+
+from_fails : {X : Type 0} (reason : ℕ) (part : Part) (marks : X → Bool) (xs : List X) → All (λ x. marks x ≡ false) xs → first_with reason part marks xs ≡ None
+from_fails reason part marks xs each = none_at reason part _ (all_unmarked (λ k x. marks x) xs each)
+
+from_passes : {X : Type 0} (reason : ℕ) (part : Part) (marks : X → Bool) (xs : List X) → All (λ x. marks x ≡ true) xs → first_with reason part (λ x. not (marks x)) xs ≡ None
+from_passes reason part marks xs each = from_fails reason part (λ x. not (marks x)) xs (λ k x less. ap not (each k x less))
+
+-- at most n entries, where none at place n or later stands
+few : {X : Type 0} (n : ℕ) (xs : List X) → first_place (λ k x. nat_le n k) xs ≡ None → length xs ≤ n
+few n [] e = omega arith
+few n (x ∷ xs) e = elim (cases_Bool (nat_lt n (length (x ∷ xs)))) [
+  | inl more ↦ absurd (true≢false (sym (le-leb n n (omega arith)) ∙ none_marked (λ k y. nat_le n k) (x ∷ xs) n x e (ltb-true _ _ more)))
+  | inr less ↦ omega (arith, ltb-false _ _ less)
+]
+
+from_few : {X : Type 0} (n : ℕ) (xs : List X) → length xs ≤ n → first_place (λ k x. nat_le n k) xs ≡ None
+from_few n xs less = all_unmarked (λ k x. nat_le n k) xs (λ k d below. false_from_ne_true _ (λ past. absurd (omega (arith, leb-true _ _ past))))
+
+pub unrefused : (d : DraftLists) → first_refusal d ≡ None → IsUnrefused d
+unfolding first_refusal out_of_range no_name known_name unknown_name no_source long_chain known_priority misfit crossed unlinked too_many
+unrefused d h =
+    let a = or_none _ (too_many d) h in
+    let b = or_none _ (by_kinds d) a.0 in
+    let c = or_none _ (by_chains d) b.0 in
+    let e = or_none (out_of_range d) (by_names d) c.0 in
+    let range = four _ _ _ _ e.0 in
+    let f = or_none _ (unknown_name d) e.1 in
+    let g = or_none (no_name d) (known_name d) f.0 in
+    let form = four _ _ _ _ g.0 in
+    let known = four _ _ _ _ g.1 in
+    let unknown = or_none _ _ f.1 in
+    let chain = or_none (no_source d) (long_chain d) c.1 in
+    let kind = four (known_priority d) (misfit d) (crossed d) (unlinked d) b.1 in
+    let suit = or_none _ _ kind.second in
+    let many = four _ _ _ _ a.1 in
+    record {
+      resources_fit = passes 2 _ resource_fits d.resources range.first;
+      sources_fit = passes 2 _ source_fits d.sources range.second;
+      tasks_fit = passes 2 _ task_fits d.tasks range.third;
+      paths_fit = passes 2 _ path_fits d.paths range.fourth;
+      resources_named = passes 3 _ (λ (r : DraftResource). is_name r.name) d.resources form.first;
+      sources_named = passes 3 _ (λ (r : DraftSource). is_name r.name) d.sources form.second;
+      tasks_named = passes 3 _ (λ (t : DraftTask). is_name t.name) d.tasks form.third;
+      paths_named = passes 3 _ (λ (p : DraftPath). is_name p.name) d.paths form.fourth;
+      new_resources = at_none 4 _ _ known.first;
+      new_sources = at_none 4 _ _ known.second;
+      new_tasks = at_none 4 _ _ known.third;
+      new_paths = at_none 4 _ _ known.fourth;
+      tasks_know = fails 5 _ (λ (t : DraftTask). is_none (place_of (resource_names d) t.on) || is_nothing (link_of d t.after)) d.tasks unknown.0;
+      paths_know = passes 5 _ (λ (p : DraftPath). list_all (λ name. is_task (link_of d name)) p.tasks) d.paths unknown.1;
+      sourced = at_none 6 _ _ chain.0;
+      short = at_none 7 _ _ chain.1;
+      ranks = at_none 8 _ _ kind.first;
+      resources_suit = fails 9 _ resource_misfits d.resources suit.0;
+      tasks_suit = fails 9 _ (λ (t : DraftTask). task_misfits (kind_of d t.on) t) d.tasks suit.1;
+      ordered = fails 10 _ is_crossed d.tasks kind.third;
+      linked = fails 11 _ (λ (p : DraftPath). nat_le (length p.tasks) 0 || not (is_linked d p.tasks)) d.paths kind.fourth;
+      few_resources = few 64 d.resources (at_none 12 _ _ many.first);
+      few_sources = few 128 d.sources (at_none 12 _ _ many.second);
+      few_tasks = few 512 d.tasks (at_none 12 _ _ many.third);
+      few_paths = few 128 d.paths (at_none 12 _ _ many.fourth);
+    }
+
+pub not_refused : (d : DraftLists) → IsUnrefused d → first_refusal d ≡ None
+unfolding first_refusal out_of_range no_name known_name unknown_name no_source long_chain known_priority misfit crossed unlinked too_many
+not_refused d u =
+    none_or _ (too_many d)
+    (none_or _ (by_kinds d)
+    (none_or _ (by_chains d)
+    (none_or (out_of_range d) (by_names d)
+    (from_four _ _ _ _ (record {
+      first = from_passes 2 _ resource_fits d.resources u.resources_fit;
+      second = from_passes 2 _ source_fits d.sources u.sources_fit;
+      third = from_passes 2 _ task_fits d.tasks u.tasks_fit;
+      fourth = from_passes 2 _ path_fits d.paths u.paths_fit;
+    }))
+    (none_or _ (unknown_name d)
+    (none_or (no_name d) (known_name d)
+    (from_four _ _ _ _ (record {
+      first = from_passes 3 _ (λ (r : DraftResource). is_name r.name) d.resources u.resources_named;
+      second = from_passes 3 _ (λ (r : DraftSource). is_name r.name) d.sources u.sources_named;
+      third = from_passes 3 _ (λ (t : DraftTask). is_name t.name) d.tasks u.tasks_named;
+      fourth = from_passes 3 _ (λ (p : DraftPath). is_name p.name) d.paths u.paths_named;
+    }))
+    (from_four _ _ _ _ (record {
+      first = none_at 4 _ _ u.new_resources;
+      second = none_at 4 _ _ u.new_sources;
+      third = none_at 4 _ _ u.new_tasks;
+      fourth = none_at 4 _ _ u.new_paths;
+    })))
+    (none_or _ _
+    (from_fails 5 _ (λ (t : DraftTask). is_none (place_of (resource_names d) t.on) || is_nothing (link_of d t.after)) d.tasks u.tasks_know)
+    (from_passes 5 _ (λ (p : DraftPath). list_all (λ name. is_task (link_of d name)) p.tasks) d.paths u.paths_know))))
+    (none_or (no_source d) (long_chain d) (none_at 6 _ _ u.sourced) (none_at 7 _ _ u.short)))
+    (from_four (known_priority d) (misfit d) (crossed d) (unlinked d) (record {
+      first = none_at 8 _ _ u.ranks;
+      second = none_or _ _ (from_fails 9 _ resource_misfits d.resources u.resources_suit) (from_fails 9 _ (λ (t : DraftTask). task_misfits (kind_of d t.on) t) d.tasks u.tasks_suit);
+      third = from_fails 10 _ is_crossed d.tasks u.ordered;
+      fourth = from_fails 11 _ (λ (p : DraftPath). nat_le (length p.tasks) 0 || not (is_linked d p.tasks)) d.paths u.linked;
+    })))
+    (from_four _ _ _ _ (record {
+      first = none_at 12 _ _ (from_few 64 d.resources u.few_resources);
+      second = none_at 12 _ _ (from_few 128 d.sources u.few_sources);
+      third = none_at 12 _ _ (from_few 512 d.tasks u.few_tasks);
+      fourth = none_at 12 _ _ (from_few 128 d.paths u.few_paths);
+    }))

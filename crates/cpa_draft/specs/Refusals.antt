@@ -1,0 +1,186 @@
+-- Why a draft is refused: the reasons in their order, and the first place of the first that applies.
+use Rattle.std.specs.Prelude.{ℕ, ◌+◌, ◌-◌, ◌&&◌, ◌||◌, ◌==◌, nat_le, nat_lt, if◌then◌else◌, not, Bool, true, false, List, [], ◌∷◌, Option, Some, None, is_some, is_none, unwrap_or, option_map, map, length, take, slice_index_or}
+use Rattle.std.specs.List.{list_all, list_any, filter_map, range_with_len}
+use Rattle.cpa_units.specs.Name.{is_name}
+use Rattle.cpa_units.specs.declared.limits.TheConstants.{MAX_RESOURCES, MAX_TASKS, MAX_SOURCES, MAX_PATHS, MAX_CHAIN, MAX_PERIOD, MAX_JITTER, MAX_EXECUTION, MAX_GAP, MAX_BIT, MAX_LIMIT, MAX_PRIORITY, MAX_PAYLOAD}
+use Rattle.cpa_draft.specs.Numbers.{nat_of, nat_or, is_within, may_be_within}
+use Rattle.cpa_draft.specs.First.{first_place, first_known}
+use Rattle.cpa_draft.specs.DraftLists.{DraftLists}
+use Rattle.cpa_draft.specs.Names.{resource_names, source_names, place_of, kind_of, link_of, links_of, is_nothing, is_task, is_after}
+use Rattle.cpa_draft.specs.Chains.{first_longer}
+use Rattle.cpa_draft.specs.declared.draft.DraftResource.{DraftResource}
+use Rattle.cpa_draft.specs.declared.draft.DraftSource.{DraftSource}
+use Rattle.cpa_draft.specs.declared.draft.DraftTask.{DraftTask}
+use Rattle.cpa_draft.specs.declared.draft.DraftPath.{DraftPath}
+use Rattle.cpa_draft.specs.declared.draft.KindWord.{KindWord}
+use Rattle.cpa_draft.specs.declared.draft.KindWord.TheVariants as word
+use Rattle.cpa_draft.specs.declared.refusal.Part.{Part}
+use Rattle.cpa_draft.specs.declared.refusal.Part.TheVariants.{Resource, Source, Task, Path}
+use Rattle.cpa_draft.specs.declared.refusal.Refusal.{Refusal}
+
+-- the first of two answers
+infixl 10 ◌or_else◌
+abbrev pub ◌or_else◌ : {X : Type 0} → Option X → Option X → Option X
+None or_else b = b
+(Some x) or_else b = Some x
+
+-- the refusal of a reason at a place, which counts from 0 in the list and from 1 in the refusal
+abbrev pub refusal_at : ℕ → Part → Option ℕ → Option Refusal
+refusal_at reason part None = None
+refusal_at reason part (Some k) = Some (record { reason = reason; part = part; place = k + 1 })
+
+-- the refusal for the first entry of a part that a reason applies to, by its place from 0 and the entry
+abbrev pub first_marked : {X : Type 0} → ℕ → Part → (ℕ → X → Bool) → List X → Option Refusal
+first_marked reason part marks xs = refusal_at reason part (first_place marks xs)
+
+-- the same by the entry alone
+abbrev pub first_with : {X : Type 0} → ℕ → Part → (X → Bool) → List X → Option Refusal
+first_with reason part marks xs = first_marked reason part (λ k x. marks x) xs
+
+-- the numbers of an entry are in their ranges, and its distance is at most its period
+abbrev pub resource_fits : DraftResource → Bool
+resource_fits r = may_be_within 1 MAX_LIMIT r.limit && may_be_within 0 MAX_GAP r.gap && may_be_within 1 MAX_BIT r.bit
+
+abbrev pub source_fits : DraftSource → Bool
+source_fits r = is_within 1 MAX_PERIOD r.period && may_be_within 0 MAX_JITTER r.jitter && may_be_within 0 (nat_of r.period) r.distance
+
+abbrev pub task_fits : DraftTask → Bool
+task_fits t =
+    (may_be_within 1 MAX_EXECUTION t.best && may_be_within 1 MAX_EXECUTION t.worst)
+    && may_be_within 0 MAX_PAYLOAD t.payload && may_be_within 0 MAX_PRIORITY t.priority && may_be_within 1 MAX_EXECUTION t.slot
+
+abbrev pub path_fits : DraftPath → Bool
+path_fits p = may_be_within 1 MAX_PERIOD p.deadline
+
+-- 2: a number is out of its range
+unfoldable pub out_of_range : DraftLists → Option Refusal
+out_of_range d =
+    first_with 2 Resource (λ r. not (resource_fits r)) d.resources
+    or_else first_with 2 Source (λ r. not (source_fits r)) d.sources
+    or_else first_with 2 Task (λ t. not (task_fits t)) d.tasks
+    or_else first_with 2 Path (λ p. not (path_fits p)) d.paths
+
+-- 3: an entry's own name hasn't the form of one
+unfoldable pub no_name : DraftLists → Option Refusal
+no_name d =
+    first_with 3 Resource (λ (r : DraftResource). not (is_name r.name)) d.resources
+    or_else first_with 3 Source (λ (r : DraftSource). not (is_name r.name)) d.sources
+    or_else first_with 3 Task (λ (t : DraftTask). not (is_name t.name)) d.tasks
+    or_else first_with 3 Path (λ (p : DraftPath). not (is_name p.name)) d.paths
+
+-- 4: an earlier entry has the name; all sources are earlier than all tasks
+unfoldable pub known_name : DraftLists → Option Refusal
+known_name d =
+    refusal_at 4 Resource (first_known (λ (r : DraftResource). r.name) [] d.resources)
+    or_else refusal_at 4 Source (first_known (λ (r : DraftSource). r.name) [] d.sources)
+    or_else refusal_at 4 Task (first_known (λ (t : DraftTask). t.name) (source_names d) d.tasks)
+    or_else refusal_at 4 Path (first_known (λ (p : DraftPath). p.name) [] d.paths)
+
+-- 5: `on`, `after` or `tasks` names nothing
+unfoldable pub unknown_name : DraftLists → Option Refusal
+unknown_name d =
+    first_with 5 Task (λ t. is_none (place_of (resource_names d) t.on) || is_nothing (link_of d t.after)) d.tasks
+    or_else first_with 5 Path (λ p. not (list_all (λ name. is_task (link_of d name)) p.tasks)) d.paths
+
+-- 6: following activators from the task reaches no source, however long the chain
+unfoldable pub no_source : DraftLists → Option Refusal
+no_source d = refusal_at 6 Task (first_longer (links_of d) (length d.tasks))
+
+-- 7: the chain has too many tasks
+unfoldable pub long_chain : DraftLists → Option Refusal
+long_chain d = refusal_at 7 Task (first_longer (links_of d) MAX_CHAIN)
+
+-- whether tasks have priorities on a resource of this kind
+abbrev pub by_priority : Option KindWord → Bool
+by_priority (Some word.Preemptive) = true
+by_priority (Some word.Can) = true
+by_priority _ = false
+
+-- the resource and the priority of a task that has a priority on a resource of such a kind
+abbrev pub rank_of : DraftLists → DraftTask → Option (ℕ × ℕ)
+rank_of d t =
+    if by_priority (kind_of d t.on)
+    then option_map (λ number. (unwrap_or (place_of (resource_names d) t.on) 0, nat_of number)) t.priority
+    else None
+
+abbrev pub same_rank : ℕ × ℕ → ℕ × ℕ → Bool
+same_rank a b = (a.0 == b.0) && (a.1 == b.1)
+
+-- a rank, if there is one, as a list
+abbrev pub ranks_of : Option (ℕ × ℕ) → List (ℕ × ℕ)
+ranks_of None = []
+ranks_of (Some rank) = rank ∷ []
+
+-- whether a rank is one of some
+abbrev pub is_taken : Option (ℕ × ℕ) → List (ℕ × ℕ) → Bool
+is_taken None ranks = false
+is_taken (Some rank) ranks = list_any (same_rank rank) ranks
+
+-- 8: an earlier task of the same resource has the priority
+unfoldable pub known_priority : DraftLists → Option Refusal
+known_priority d = first_marked 8 Task (λ k t. is_taken (rank_of d t) (filter_map (rank_of d) (take k d.tasks))) d.tasks
+
+abbrev pub is_tdma : KindWord → Bool
+is_tdma word.Tdma = true
+is_tdma _ = false
+
+abbrev pub is_can : KindWord → Bool
+is_can word.Can = true
+is_can _ = false
+
+-- a gap where the kind isn't tdma, or a bit time where it isn't can
+abbrev pub resource_misfits : DraftResource → Bool
+resource_misfits r = (is_some r.gap && not (is_tdma r.kind)) || (is_some r.bit && not (is_can r.kind))
+
+-- the priority or the slot is missing, or it isn't what the kind wants
+abbrev pub turn_misfits : Bool → DraftTask → Bool
+turn_misfits true t = is_none t.priority || is_some t.slot
+turn_misfits false t = is_some t.priority || is_none t.slot
+
+-- that, or a payload where the kind isn't can
+abbrev pub task_misfits : Option KindWord → DraftTask → Bool
+task_misfits kind t = turn_misfits (by_priority kind) t || (is_some t.payload && not (is_can (unwrap_or kind word.Preemptive)))
+
+-- 9: what an entry has doesn't fit the kind
+unfoldable pub misfit : DraftLists → Option Refusal
+misfit d =
+    first_with 9 Resource resource_misfits d.resources
+    or_else first_with 9 Task (λ (t : DraftTask). task_misfits (kind_of d t.on) t) d.tasks
+
+-- 10: `best` is above `worst`
+abbrev pub is_crossed : DraftTask → Bool
+is_crossed t = (is_some t.best && is_some t.worst) && nat_lt (nat_or 0 t.worst) (nat_or 0 t.best)
+
+unfoldable pub crossed : DraftLists → Option Refusal
+crossed d = first_with 10 Task is_crossed d.tasks
+
+-- each task of a path but its first is activated by the one before it
+abbrev pub is_linked : DraftLists → List (List ℕ) → Bool
+is_linked d names =
+    list_all (λ k. is_after d (slice_index_or names (k - 1) []) (link_of d (slice_index_or names k []))) (range_with_len 1 (length names - 1))
+
+-- 11: a path has no task, or a task in it isn't activated by the one before it
+unfoldable pub unlinked : DraftLists → Option Refusal
+unlinked d = first_with 11 Path (λ (p : DraftPath). nat_le (length p.tasks) 0 || not (is_linked d p.tasks)) d.paths
+
+-- 12: more entries than the limit
+unfoldable pub too_many : DraftLists → Option Refusal
+too_many d =
+    first_marked 12 Resource (λ k r. nat_le MAX_RESOURCES k) d.resources
+    or_else first_marked 12 Source (λ k r. nat_le MAX_SOURCES k) d.sources
+    or_else first_marked 12 Task (λ k t. nat_le MAX_TASKS k) d.tasks
+    or_else first_marked 12 Path (λ k p. nat_le MAX_PATHS k) d.paths
+
+-- the reasons in their order
+abbrev pub by_names : DraftLists → Option Refusal
+by_names d = no_name d or_else known_name d or_else unknown_name d
+
+abbrev pub by_chains : DraftLists → Option Refusal
+by_chains d = no_source d or_else long_chain d
+
+abbrev pub by_kinds : DraftLists → Option Refusal
+by_kinds d = known_priority d or_else misfit d or_else crossed d or_else unlinked d
+
+-- the first reason that applies, with its first place
+unfoldable pub first_refusal : DraftLists → Option Refusal
+first_refusal d = out_of_range d or_else by_names d or_else by_chains d or_else by_kinds d or_else too_many d

@@ -1,0 +1,177 @@
+//! A system as it was read, before its rules are looked at.
+
+ghost use Rattle.std.specs.Prelude.{◌≡◌};
+
+use std::marker::Model;
+
+/// Bytes that may be a name.
+#[derive(Debug, Drop)]
+pub struct Raw {
+    bytes: Vec<u8>,
+}
+
+impl Model for Raw {
+    ghost use Rattle.std.specs.Prelude.{List, ℕ};
+
+    ghost Value = { List ℕ };
+
+    ghost view = { λ r. r.bytes.items };
+}
+
+impl Raw {
+    pub fn new(bytes: Vec<u8>) -> Raw
+        ensures { result ≡ bytes.items }
+    {
+        Raw { bytes }
+    }
+
+    pub fn bytes(&self) -> &[u8]
+        ensures { result.now ≡ self.now }
+    {
+        self.bytes.as_slice()
+    }
+}
+
+/// Several texts that may be names.
+#[derive(Debug, Drop)]
+pub struct RawList {
+    names: Vec<Raw>,
+}
+
+impl Model for RawList {
+    ghost use Rattle.std.specs.Prelude.{List, ℕ};
+
+    ghost Value = { List (List ℕ) };
+
+    ghost view = { λ r. r.names.items };
+}
+
+impl RawList {
+    pub fn new(names: Vec<Raw>) -> RawList
+        ensures { result ≡ names.items }
+    {
+        RawList { names }
+    }
+
+    pub fn names(&self) -> &[Raw]
+        ensures { result.now ≡ self.now }
+    {
+        self.names.as_slice()
+    }
+}
+
+/// The word for a resource's kind.
+#[derive(Clone, Copy, Debug, PartialEq, Eq)]
+pub enum KindWord {
+    Preemptive,
+    RoundRobin,
+    Tdma,
+    Can,
+}
+
+/// A resource as it was read: a field is `None` where the file lacks the key.
+#[derive(Debug, Drop)]
+pub struct DraftResource {
+    pub name: Raw,
+    pub kind: KindWord,
+    pub limit: Option<i64>,
+    pub gap: Option<i64>,
+    pub bit: Option<i64>,
+}
+
+/// A source as it was read.
+#[derive(Debug, Drop)]
+pub struct DraftSource {
+    pub name: Raw,
+    pub period: i64,
+    pub jitter: Option<i64>,
+    pub distance: Option<i64>,
+}
+
+/// A task as it was read.
+#[derive(Debug, Drop)]
+pub struct DraftTask {
+    pub name: Raw,
+    pub on: Raw,
+    pub after: Raw,
+    pub best: Option<i64>,
+    pub worst: Option<i64>,
+    pub payload: Option<i64>,
+    pub extended: Option<bool>,
+    pub priority: Option<i64>,
+    pub slot: Option<i64>,
+}
+
+/// A path as it was read.
+#[derive(Debug, Drop)]
+pub struct DraftPath {
+    pub name: Raw,
+    pub tasks: RawList,
+    pub deadline: Option<i64>,
+}
+
+/// The entries of a system file, in their order.
+#[derive(Debug, Drop)]
+pub struct Draft {
+    pub resources: Vec<DraftResource>,
+    pub sources: Vec<DraftSource>,
+    pub tasks: Vec<DraftTask>,
+    pub paths: Vec<DraftPath>,
+}
+
+impl Model for Draft {
+    ghost use Rattle.cpa_draft.specs.DraftLists.{DraftLists};
+
+    ghost Value = { DraftLists };
+
+    ghost view = { λ d. record { resources = d.resources.items; sources = d.sources.items; tasks = d.tasks.items; paths = d.paths.items } };
+}
+
+impl Draft {
+    ghost use Rattle.std.specs.Str.{bytes_eq};
+    ghost use Rattle.cpa_draft.specs.DraftLists.{resource_at, task_at};
+
+    pub fn resource_entries(&self) -> &[DraftResource]
+        ensures { result.now ≡ self.now.resources }
+    {
+        self.resources.as_slice()
+    }
+
+    pub fn source_entries(&self) -> &[DraftSource]
+        ensures { result.now ≡ self.now.sources }
+    {
+        self.sources.as_slice()
+    }
+
+    pub fn task_entries(&self) -> &[DraftTask]
+        ensures { result.now ≡ self.now.tasks }
+    {
+        self.tasks.as_slice()
+    }
+
+    pub fn path_entries(&self) -> &[DraftPath]
+        ensures { result.now ≡ self.now.paths }
+    {
+        self.paths.as_slice()
+    }
+
+    /// The kind of the resource at a place, preemptive where there is none.
+    pub(crate) fn kind_at(&self, place: usize) -> KindWord
+        ensures { result ≡ (resource_at self.now place).kind }
+    {
+        match self.resources.get(place) {
+            Some(resource) => resource.kind,
+            None => KindWord::Preemptive,
+        }
+    }
+
+    /// Whether a name activates the task at a place.
+    pub(crate) fn is_task_after(&self, name: &[u8], place: usize) -> bool
+        ensures { result ≡ bytes_eq name.now (task_at self.now place).after }
+    {
+        match self.tasks.get(place) {
+            Some(task) => name == task.after.bytes(),
+            None => name.is_empty(),
+        }
+    }
+}

@@ -1,0 +1,126 @@
+//! What each entry of a draft has: a name, and numbers in their ranges.
+
+ghost use Rattle.std.specs.Prelude.{◌≡◌, ◌<◌, ◌-◌, ◌^◌, nat_le, not, IfSome};
+ghost use Rattle.cpa_units.specs.Name.{is_name};
+ghost use Rattle.cpa_draft.specs.First.{first_place};
+ghost use Rattle.cpa_draft.specs.Refusals.{resource_fits, source_fits, task_fits, path_fits};
+
+use crate::draft::{DraftPath, DraftResource, DraftSource, DraftTask};
+use crate::numbers::{is_within, may_be_within, natural};
+use cpa_units::is_name;
+use cpa_units::limits::{
+    MAX_BIT, MAX_EXECUTION, MAX_GAP, MAX_JITTER, MAX_LIMIT, MAX_PAYLOAD, MAX_PERIOD, MAX_PRIORITY,
+};
+
+/// An entry of one of the four lists.
+pub trait Entry {
+    ghost use Rattle.std.specs.Prelude.{◌≡◌, List, ℕ, Bool};
+
+    ghost named: { Self → List ℕ };
+
+    /// Whether all numbers are in their ranges.
+    ghost fits: { Self → Bool };
+
+    fn name(&self) -> &[u8]
+        ensures { result.now ≡ named self.now };
+
+    fn fits(&self) -> bool
+        ensures { result ≡ fits self.now };
+}
+
+impl Entry for DraftResource {
+    ghost named = { λ e. e.name };
+
+    ghost fits = { resource_fits };
+
+    fn name(&self) -> &[u8] {
+        self.name.bytes()
+    }
+
+    fn fits(&self) -> bool {
+        may_be_within(1, MAX_LIMIT, self.limit)
+            && may_be_within(0, MAX_GAP, self.gap)
+            && may_be_within(1, MAX_BIT, self.bit)
+    }
+}
+
+impl Entry for DraftSource {
+    ghost named = { λ e. e.name };
+
+    ghost fits = { source_fits };
+
+    fn name(&self) -> &[u8] {
+        self.name.bytes()
+    }
+
+    fn fits(&self) -> bool {
+        is_within(1, MAX_PERIOD, self.period)
+            && may_be_within(0, MAX_JITTER, self.jitter)
+            && may_be_within(0, natural(self.period), self.distance)
+    }
+}
+
+impl Entry for DraftTask {
+    ghost named = { λ e. e.name };
+
+    ghost fits = { task_fits };
+
+    fn name(&self) -> &[u8] {
+        self.name.bytes()
+    }
+
+    fn fits(&self) -> bool {
+        may_be_within(1, MAX_EXECUTION, self.best)
+            && may_be_within(1, MAX_EXECUTION, self.worst)
+            && may_be_within(0, MAX_PAYLOAD, self.payload)
+            && may_be_within(0, MAX_PRIORITY, self.priority)
+            && may_be_within(1, MAX_EXECUTION, self.slot)
+    }
+}
+
+impl Entry for DraftPath {
+    ghost named = { λ e. e.name };
+
+    ghost fits = { path_fits };
+
+    fn name(&self) -> &[u8] {
+        self.name.bytes()
+    }
+
+    fn fits(&self) -> bool {
+        may_be_within(1, MAX_PERIOD, self.deadline)
+    }
+}
+
+/// The first entry with a number out of its range.
+pub(crate) fn first_unfit<E: Entry>(entries: &[E]) -> Option<usize>
+    ensures place { result ≡ first_place (λ k e. not (E.fits e)) entries.now }
+    ensures within { IfSome result (λ k. k < 2 ^ 64 - 1) }
+{
+    entries
+        .iter()
+        .enumerate()
+        .position(|(_, entry)| !entry.fits())
+}
+
+/// The first entry whose name hasn't the form of one.
+pub(crate) fn first_unnamed<E: Entry>(entries: &[E]) -> Option<usize>
+    ensures place { result ≡ first_place (λ k e. not (is_name (E.named e))) entries.now }
+    ensures within { IfSome result (λ k. k < 2 ^ 64 - 1) }
+{
+    entries
+        .iter()
+        .enumerate()
+        .position(|(_, entry)| !is_name(entry.name()))
+}
+
+/// The first entry past a limit.
+pub(crate) fn first_past<E: Entry>(most: u64, entries: &[E]) -> Option<usize>
+    ensures place { result ≡ first_place (λ k e. nat_le most k) entries.now }
+    ensures within { IfSome result (λ k. k < 2 ^ 64 - 1) }
+{
+    entries
+        .iter()
+        .enumerate()
+        .position(|(k, _)| most <= k as u64)
+}

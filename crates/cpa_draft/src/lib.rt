@@ -1,0 +1,23 @@
+//! A system as it was read, and why it is refused.
+//!
+//! A draft has the entries of a system file, with what the file says of each. It is refused by the first of reasons 2
+//! to 12 that applies, at its first place; reasons 1 and 13 are the file reader's.
+#![tactic(auto)]
+
+pub mod draft;
+mod entry;
+mod fits;
+pub mod judging;
+pub mod links;
+pub mod names;
+pub mod numbers;
+mod ranks;
+pub mod refusal;
+mod refusals;
+pub mod tables;
+
+pub use draft::{Draft, DraftPath, DraftResource, DraftSource, DraftTask, KindWord, Raw, RawList};
+pub use judging::judge;
+pub use names::Names;
+pub use refusal::{BuildFault, Part, Refusal};
+pub use tables::Tables;
