@@ -1,6 +1,5 @@
 pub mod AcceptedLaws
 pub mod InputLaws
 pub mod OutputLaws
-pub mod ReadingLaws
 pub mod RivalLaws
 pub mod SolutionLaws

@@ -7,7 +7,8 @@ use Rattle.cpa_io.specs.Causes.{SentPart}
 use Rattle.cpa_model.specs.SystemLists.{SystemLists}
 use Rattle.cpa_cli.specs.Words.{Command, Analyse, accepted, system_file}
 use Rattle.cpa_cli.specs.Lines.{words_refused, too_long, not_toml, system_refused}
-use Rattle.cpa_cli.specs.Reading.{Reading, NotToml, Refused, Accepted, reading_of}
+use Rattle.cpa_file.specs.Reading.{Reading, NotToml, Refused, Accepted}
+use Rattle.cpa_cli.specs.Reading.{reading_here}
 use Rattle.cpa_cli.specs.Report.{report_text, verdict}
 use Rattle.cpa_cli.specs.Local.{responses}
 use Rattle.cpa_cli.specs.Solution.{floor_of}
@@ -29,7 +30,7 @@ pub output-at : (words : Words) (held : Held) (command : Command) (answer : Answ
 unfolding IsOutput
 output-at words held command answer some at = rw some at
 
-pub answer-held : (command : Command) (content : Option (List ℕ)) (bytes : List ℕ) (answer : Answer) → content ≡ Some bytes → length bytes ≤ MAX_SYSTEM_FILE → IsAnswerTo command (reading_of bytes) answer → IsAnswerAt command content answer
+pub answer-held : (command : Command) (content : Option (List ℕ)) (bytes : List ℕ) (answer : Answer) → content ≡ Some bytes → length bytes ≤ MAX_SYSTEM_FILE → IsAnswerTo command (reading_here bytes) answer → IsAnswerAt command content answer
 answer-held command content bytes answer is short to = rw (is, le-ltb MAX_SYSTEM_FILE (length bytes) short) to
 
 pub answer-long : (command : Command) (content : Option (List ℕ)) (text : List ℕ) → IsSomeAnd content (λ bytes. MAX_SYSTEM_FILE < length bytes) → text ≡ too_long (system_file command) → IsAnswerAt command content (reply 12 text)
@@ -56,7 +57,7 @@ some-content command None = (record { status = None; text = [] }, refl)
 some-content command (Some bytes) =
     elim (cases_Bool (nat_lt MAX_SYSTEM_FILE (length bytes))) [
       | inl long ↦ (reply 12 (too_long (system_file command)), rw long refl)
-      | inr short ↦ let some = some-reading command (reading_of bytes) (accepted-by_bytes bytes) in (some.0, rw short some.1)
+      | inr short ↦ let some = some-reading command (reading_here bytes) (accepted-by_bytes bytes) in (some.0, rw short some.1)
     ]
 
 some-words : (held : Held) (words : Option Command) → (answer : Answer) × IsAnswerBy held words answer
@@ -91,8 +92,8 @@ one-choice false P Q p q a b h k = q a b h k
 one-content : (command : Command) (content : Option (List ℕ)) (a b : Answer) → IsAnswerAt command content a → IsAnswerAt command content b → a ≡ b
 one-content command None a b h k = h ∙ sym k
 one-content command (Some bytes) a b h k =
-    one-choice (nat_lt MAX_SYSTEM_FILE (length bytes)) (λ a. a ≡ reply 12 (too_long (system_file command))) (IsAnswerTo command (reading_of bytes))
-    (λ a b h k. h ∙ sym k) (one-reading command (reading_of bytes)) a b h k
+    one-choice (nat_lt MAX_SYSTEM_FILE (length bytes)) (λ a. a ≡ reply 12 (too_long (system_file command))) (IsAnswerTo command (reading_here bytes))
+    (λ a b h k. h ∙ sym k) (one-reading command (reading_here bytes)) a b h k
 
 one-words : (held : Held) (words : Option Command) (a b : Answer) → IsAnswerBy held words a → IsAnswerBy held words b → a ≡ b
 one-words held None a b h k = h ∙ sym k

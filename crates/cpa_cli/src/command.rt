@@ -5,17 +5,18 @@ ghost use Rattle.cpa_io.specs.Causes.{grown, Rose, SentPart};
 ghost use Rattle.cpa_cli.specs.Analysable.{IsAnalysable};
 ghost use Rattle.cpa_cli.specs.Words.{Analyse};
 ghost use Rattle.cpa_cli.specs.Lines.{cannot_read};
-ghost use Rattle.cpa_cli.specs.Reading.{reading_of};
+ghost use Rattle.cpa_file.specs.Reading.{Accepted};
+ghost use Rattle.cpa_cli.specs.Reading.{limited, reading_here};
 ghost use Rattle.cpa_cli.specs.Output.{reply, IsReport, IsAnswerTo, IsOutput, IsOfOutput, Sends, SendsPart, IsUnread, OutputsExist, OutputsAreOne};
 
 use crate::analysis::solve;
 use crate::lines::{file_line, refusal_line, words_line};
-use crate::reading::read_system;
-use crate::refusal::FileRefusal;
+use crate::reading::is_analysable;
 use crate::report::{report_text, verdict};
 use crate::words::accept;
+use cpa_file::{FileRefusal, read_system};
 use cpa_io::{Files, LoadFault, Sink, SinkFault, put_all};
-use cpa_model::System;
+use cpa_model::{Part, Refusal, System};
 use cpa_units::NoMemory;
 use cpa_units::limits::MAX_SYSTEM_FILE;
 use std::alloc::Global;
@@ -41,13 +42,34 @@ fn analyse(alloc: Global, system: &System) -> Result<Outcome, NoMemory>
     })
 }
 
+const NOT_YET: Refusal = Refusal {
+    reason: 1,
+    part: Part::File,
+    place: 0,
+};
+
+/// The answer to an accepted system, which may be one that can't be analysed yet.
+fn answer_system(alloc: Global, file: &str, system: &System) -> Result<Outcome, NoMemory>
+    ensures answered { IfOk result (λ o. IsAnswerTo (Analyse file.now) (limited (Accepted system.now)) (reply o.status o.text.items)) }
+    ensures status { IfOk result (λ o. IsOfOutput o.status) }
+{
+    if !is_analysable(system) {
+        return Ok(Outcome {
+            status: 14,
+            text: refusal_line(alloc, NOT_YET)?,
+        });
+    }
+    analyse(alloc, system)
+}
+
 /// The answer to the bytes of a system file.
+#[tactic(auto, unfolding(crate::specs::Reading::reading_here))]
 fn answer_bytes(alloc: Global, file: &str, bytes: &[u8]) -> Result<Outcome, NoMemory>
-    ensures answered { IfOk result (λ o. IsAnswerTo (Analyse file.now) (reading_of bytes.now) (reply o.status o.text.items)) }
+    ensures answered { IfOk result (λ o. IsAnswerTo (Analyse file.now) (reading_here bytes.now) (reply o.status o.text.items)) }
     ensures status { IfOk result (λ o. IsOfOutput o.status) }
 {
     match read_system(alloc, bytes) {
-        Ok(system) => analyse(alloc, &system),
+        Ok(system) => answer_system(alloc, file, &system),
         Err(FileRefusal::NotToml) => Ok(Outcome {
             status: 13,
             text: file_line(alloc, b"not TOML ", file)?,

@@ -5,9 +5,7 @@ mod analysis;
 mod command;
 mod lines;
 mod reading;
-mod refusal;
 mod report;
-mod shapes;
 #[cfg(test)]
 mod tests;
 mod text;

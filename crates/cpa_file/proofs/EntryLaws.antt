@@ -4,7 +4,7 @@ use Rattle.std.specs.List.{list_all}
 use Rattle.std.proofs.lemmas.Bool.{and_from}
 use Rattle.std.proofs.lemmas.Option.{none-some, same_Some}
 use Rattle.toml.specs.Data.{Data, Items, no_items, item}
-use Rattle.cpa_model.specs.declared.draft.DraftTask.{DraftTask}
+use Rattle.cpa_draft.specs.declared.draft.DraftTask.{DraftTask}
 use Rattle.cpa_file.specs.Fields.{◌>>=◌}
 use Rattle.cpa_file.specs.Lists.{read_all, with_entry}
 use Rattle.cpa_file.specs.Entries.{task_entry, task_fields, with_executions, has_executions}

@@ -2,12 +2,12 @@
 use Rattle.std.specs.Prelude.{ℕ, ℤ, Bool, ◌&&◌, is_some, is_none, List, [], ◌∷◌, Option, Some, None, Result, Ok, Err, codes, if◌then◌else◌}
 use Rattle.std.specs.Str.{bytes_eq}
 use Rattle.toml.specs.Data.{Data, Items, as_str, as_integer, as_bool, as_array}
-use Rattle.cpa_model.specs.declared.draft.KindWord.{KindWord}
-use Rattle.cpa_model.specs.declared.draft.KindWord.TheVariants.{Preemptive, RoundRobin, Tdma, Can}
-use Rattle.cpa_model.specs.declared.draft.DraftResource.{DraftResource}
-use Rattle.cpa_model.specs.declared.draft.DraftSource.{DraftSource}
-use Rattle.cpa_model.specs.declared.draft.DraftTask.{DraftTask}
-use Rattle.cpa_model.specs.declared.draft.DraftPath.{DraftPath}
+use Rattle.cpa_draft.specs.declared.draft.KindWord.{KindWord}
+use Rattle.cpa_draft.specs.declared.draft.KindWord.TheVariants.{Preemptive, RoundRobin, Tdma, Can}
+use Rattle.cpa_draft.specs.declared.draft.DraftResource.{DraftResource}
+use Rattle.cpa_draft.specs.declared.draft.DraftSource.{DraftSource}
+use Rattle.cpa_draft.specs.declared.draft.DraftTask.{DraftTask}
+use Rattle.cpa_draft.specs.declared.draft.DraftPath.{DraftPath}
 use Rattle.cpa_file.specs.Lists.{read_all}
 use Rattle.cpa_file.specs.Fields.{◌>>=◌, optional, required, has_only}
 

@@ -3,5 +3,5 @@ pub mod Fields
 pub mod Lists
 pub mod Document
 pub mod Given
-pub mod Redraft
 pub mod Printed
+pub mod Reading

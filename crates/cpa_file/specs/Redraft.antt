@@ -11,13 +11,13 @@ use Rattle.cpa_model.specs.declared.entries.Turn.{Turn}
 use Rattle.cpa_model.specs.declared.entries.Turn.TheVariants.{Priority, Slot}
 use Rattle.cpa_model.specs.declared.entries.Activator.{Activator}
 use Rattle.cpa_model.specs.declared.entries.Activator.TheVariants as activator
-use Rattle.cpa_model.specs.declared.draft.DraftResource.{DraftResource}
-use Rattle.cpa_model.specs.declared.draft.DraftSource.{DraftSource}
-use Rattle.cpa_model.specs.declared.draft.DraftTask.{DraftTask}
-use Rattle.cpa_model.specs.declared.draft.DraftPath.{DraftPath}
-use Rattle.cpa_model.specs.declared.draft.KindWord.{KindWord}
-use Rattle.cpa_model.specs.declared.draft.KindWord.TheVariants as word
-use Rattle.cpa_model.specs.DraftLists.{DraftLists}
+use Rattle.cpa_draft.specs.declared.draft.DraftResource.{DraftResource}
+use Rattle.cpa_draft.specs.declared.draft.DraftSource.{DraftSource}
+use Rattle.cpa_draft.specs.declared.draft.DraftTask.{DraftTask}
+use Rattle.cpa_draft.specs.declared.draft.DraftPath.{DraftPath}
+use Rattle.cpa_draft.specs.declared.draft.KindWord.{KindWord}
+use Rattle.cpa_draft.specs.declared.draft.KindWord.TheVariants as word
+use Rattle.cpa_draft.specs.DraftLists.{DraftLists}
 use Rattle.cpa_model.specs.SystemLists.{SystemLists, resource_at, source_at, task_at}
 
 abbrev pub word_of : Kind → KindWord

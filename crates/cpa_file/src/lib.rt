@@ -6,5 +6,8 @@ mod fault;
 mod fields;
 mod print;
 mod read;
+#[cfg(test)]
+mod tests;
 
-pub use read::{FileRefusal, read_document, read_draft};
+pub use print::print_system;
+pub use read::{FileRefusal, read_system};

@@ -4,9 +4,10 @@ ghost use Rattle.std.specs.Prelude.{◌≡◌, ◌<◌, ◌^◌, pos, map, lengt
 ghost use Rattle.std.specs.Option.{ForSome};
 ghost use Rattle.toml.specs.Data.{string, integer, table};
 ghost use Rattle.toml.specs.View.{view, table_view};
-ghost use Rattle.cpa_model.specs.Rules.{IsResource, IsSource, IsTask, IsPath, KindFits};
+ghost use Rattle.cpa_model.specs.Rules.{IsSystem, IsResource, IsSource, IsTask, IsPath, KindFits};
 ghost use Rattle.cpa_model.specs.SystemLists.{resource_at, source_at, task_at, path_at, task_places, slot_of};
-ghost use Rattle.cpa_file.specs.Redraft.{activator_name};
+ghost use Rattle.cpa_file.specs.Reading.{reading_of, Accepted};
+ghost use Rattle.cpa_model.specs.Redraft.{activator_name};
 ghost use Rattle.cpa_file.specs.Printed.{put, kind_text, with_kind_number, resource_data, source_data, with_turn, task_names_data, task_data, with_deadline, name_data, path_data, system_data, IsPrinted};
 
 use cpa_model::{Activator, Kind, Path, Resource, Source, System, Task, TaskList, Turn};
@@ -188,7 +189,8 @@ fn path_value(alloc: Global, system: &System, path: &Path) -> Result<Value, NoMe
 }
 
 fn resource_values(alloc: Global, system: &System) -> Result<Vec<Value>, NoMemory>
-    ensures { IfOk result (λ v. map view v.items ≡ map resource_data system.now.resources) }
+    ensures value { IfOk result (λ v. map view v.items ≡ map resource_data system.now.resources) }
+    ensures rules { IsSystem system.now }
 {
     let mut values = Vec::new(alloc);
     for k in 0..system.resources() {
@@ -230,7 +232,8 @@ fn path_values(alloc: Global, system: &System) -> Result<Vec<Value>, NoMemory>
 /// The document of a system.
 #[tactic(auto, unfolding(crate::specs::Printed::system_data))]
 fn system_table(alloc: Global, system: &System) -> Result<Table, NoMemory>
-    ensures { IfOk result (λ t. table (table_view t) ≡ system_data system.now) }
+    ensures value { IfOk result (λ t. table (table_view t) ≡ system_data system.now) }
+    ensures rules { OnOk result (IsSystem system.now) }
 {
     let mut document = Table::new(alloc);
     put_number(alloc, &mut document, "format", 1)?;
@@ -263,11 +266,20 @@ fn system_table(alloc: Global, system: &System) -> Result<Table, NoMemory>
 
 /// The bytes of a system's document.
 fn print_document(alloc: Global, system: &System) -> Result<Vec<u8>, NoMemory>
-    ensures { IfOk result (λ v. IsPrinted system.now v.items) }
+    ensures printed { IfOk result (λ v. IsPrinted system.now v.items) }
+    ensures rules { OnOk result (IsSystem system.now) }
 {
     let document = system_table(alloc, system)?;
     match toml::table_to_string(alloc, &document) {
         Ok(text) => Ok(Vec::from_slice(alloc, text.as_str().as_bytes())?),
         Err(_) => Err(NoMemory),
     }
+}
+
+/// The bytes of a file that stands for the system. Executions are printed as `best` and `worst`; the layout is that of
+/// `toml`'s printer.
+pub fn print_system(alloc: Global, system: &System) -> Result<Vec<u8>, NoMemory>
+    ensures { IfOk result (λ v. reading_of v.items ≡ Accepted system.now) }
+{
+    Ok(print_document(alloc, system)?)
 }

@@ -1,22 +1,28 @@
 //! From the bytes of a system file to its draft.
 
-ghost use Rattle.std.specs.Prelude.{◌≡◌, is_some, true, codes};
+ghost use Rattle.std.specs.Prelude.{◌≡◌, is_some, true, codes, IfOk, IfErr};
 ghost use Rattle.toml.specs.View.{view, items_view, table_view};
 ghost use Rattle.toml.specs.Data.{Data, table};
+ghost use Rattle.cpa_file.specs.Reading.{reading_of, Accepted, IsReadFault};
 ghost use Rattle.cpa_file.specs.Given.{GivesDraft, GivesPart, GivesDocument};
 ghost use Rattle.cpa_file.specs.Document.{is_other_format, integer_at, items_at, entries_at, has_form, lists_of, draft_of, document_of};
 
 use crate::entries::{Entry, ListFault, read_entries};
 use crate::fields::only_has;
-use cpa_model::{Draft, DraftPath, DraftResource, DraftSource, DraftTask, Part, Refusal};
+use cpa_model::{
+    BuildFault, Draft, DraftPath, DraftResource, DraftSource, DraftTask, Part, Refusal, System,
+};
 use std::alloc::Global;
 use toml::Value;
 
-/// Why a system file was refused.
+/// Why a file stands for no system.
 #[derive(Clone, Copy, Debug, PartialEq, Eq)]
 pub enum FileRefusal {
+    /// Its bytes are no TOML document.
     NotToml,
+    /// A reason applies to the document: the first, with its first place.
     Refused(Refusal),
+    /// A growth of memory was refused.
     Memory,
 }
 
@@ -107,7 +113,7 @@ fn read_lists(alloc: Global, document: &Value) -> Result<Draft, FileRefusal>
 }
 
 #[tactic(auto, unfolding(crate::specs::Document::draft_of))]
-pub fn read_draft(alloc: Global, document: &Value) -> Result<Draft, FileRefusal>
+fn read_draft(alloc: Global, document: &Value) -> Result<Draft, FileRefusal>
     ensures { GivesDraft result (draft_of (view document.now)) }
 {
     if has_other_format(format_of(document)) {
@@ -129,7 +135,7 @@ pub fn read_draft(alloc: Global, document: &Value) -> Result<Draft, FileRefusal>
 
 /// The document that the bytes are.
 #[tactic(auto, unfolding(crate::specs::Document::document_of))]
-pub fn read_document(alloc: Global, bytes: &[u8]) -> Result<Value, FileRefusal>
+fn read_document(alloc: Global, bytes: &[u8]) -> Result<Value, FileRefusal>
     ensures { GivesDocument result (document_of bytes.now) }
 {
     match toml::table_from_slice(alloc, bytes) {
@@ -141,5 +147,20 @@ pub fn read_document(alloc: Global, bytes: &[u8]) -> Result<Value, FileRefusal>
                 Err(FileRefusal::NotToml)
             }
         }
+    }
+}
+
+/// The system that the bytes of a file stand for.
+#[tactic(auto, unfolding(crate::specs::Reading::reading_of))]
+pub fn read_system(alloc: Global, bytes: &[u8]) -> Result<System, FileRefusal>
+    ensures ok { IfOk result (λ s. reading_of bytes.now ≡ Accepted s) }
+    ensures refused { IfErr result (λ e. IsReadFault e (reading_of bytes.now)) }
+{
+    let document = read_document(alloc, bytes)?;
+    let draft = read_draft(alloc, &document)?;
+    match System::build(alloc, draft) {
+        Ok(system) => Ok(system),
+        Err(BuildFault::Refused(refusal)) => Err(FileRefusal::Refused(refusal)),
+        Err(BuildFault::Memory) => Err(FileRefusal::Memory),
     }
 }

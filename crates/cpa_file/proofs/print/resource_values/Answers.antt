@@ -12,7 +12,7 @@ loop-k-preserved c =
     push-placed view (λ i. resource_data (resource_at c.args.system.now i)) c.loop-k.values.items c.push.new.self.items c.in_ok-resource_value.field-0 c.loop-k.k
     c.in_ok-push.ensures.items (c.in_ok-resource_value.ensures ∙ ap resource_data c.resource.ensures.value) c.loop-k.invariant
 
-pub returns : goal.returns
-returns c =
+pub returns-clause-value : goal.returns-clause-value
+returns-clause-value c =
     let end : c.loop-k.k ≡ length c.args.system.now.resources = omega arith in
     c.loop-k.invariant ∙ ap (λ n. map (λ i. resource_data (resource_at c.args.system.now i)) (range_with_len 0 n)) end ∙ map-all_places resource_data c.args.system.now.resources no_resource
