@@ -2,6 +2,7 @@
 
 ghost use Rattle.std.specs.Prelude.{◌≡◌};
 
+use crate::numbers::natural_or;
 use std::marker::Model;
 
 /// Bytes that may be a name.
@@ -129,6 +130,7 @@ impl Model for Draft {
 
 impl Draft {
     ghost use Rattle.std.specs.Str.{bytes_eq};
+    ghost use Rattle.cpa_draft.specs.Numbers.{nat_or};
     ghost use Rattle.cpa_draft.specs.DraftLists.{resource_at, task_at};
 
     pub fn resource_entries(&self) -> &[DraftResource]
@@ -172,6 +174,16 @@ impl Draft {
         match self.tasks.get(place) {
             Some(task) => name == task.after.bytes(),
             None => name.is_empty(),
+        }
+    }
+
+    /// The bit time of the resource at a place, 1 where none is given.
+    pub fn bit_at(&self, place: usize) -> u64
+        ensures { result ≡ nat_or 1 (resource_at self.now place).bit }
+    {
+        match self.resources.get(place) {
+            Some(resource) => natural_or(1, resource.bit),
+            None => 1,
         }
     }
 }

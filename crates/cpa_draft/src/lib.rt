@@ -19,5 +19,7 @@ pub mod tables;
 pub use draft::{Draft, DraftPath, DraftResource, DraftSource, DraftTask, KindWord, Raw, RawList};
 pub use judging::judge;
 pub use names::Names;
+pub use numbers::{natural, natural_or};
+pub use ranks::is_by_priority;
 pub use refusal::{BuildFault, Part, Refusal};
 pub use tables::Tables;

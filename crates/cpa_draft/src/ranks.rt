@@ -62,7 +62,8 @@ impl Ranks {
     }
 }
 
-pub(crate) fn is_by_priority(kind: Option<KindWord>) -> bool
+/// Whether tasks have priorities on a resource of this kind.
+pub fn is_by_priority(kind: Option<KindWord>) -> bool
     ensures { result ≡ by_priority kind }
 {
     match kind {

@@ -17,7 +17,7 @@ pub struct Tables {
 
 impl Tables {
     ghost use Rattle.std.specs.Prelude.{◌≡◌};
-    ghost use Rattle.cpa_draft.specs.Names.{AreTables, resource_names, place_of, kind_of, link_of};
+    ghost use Rattle.cpa_draft.specs.Names.{AreTables, resource_names, activity_names, place_of, kind_of, link_of};
 
     /// The place of the resource with a name.
     pub fn resource(&self, draft: &Draft, name: &[u8]) -> Option<usize>
@@ -25,6 +25,14 @@ impl Tables {
         ensures { result ≡ place_of (resource_names draft.now) name.now }
     {
         self.resources.place(name)
+    }
+
+    /// The place of a name among the sources and then the tasks.
+    pub fn activity(&self, draft: &Draft, name: &[u8]) -> Option<usize>
+        requires { AreTables draft.now self.now.resources self.now.activities }
+        ensures { result ≡ place_of (activity_names draft.now) name.now }
+    {
+        self.activities.place(name)
     }
 
     /// The kind of the resource with a name.
@@ -44,7 +52,7 @@ impl Tables {
         ensures { result ≡ link_of draft.now name.now }
     {
         let sources = draft.source_entries().len();
-        match self.activities.place(name) {
+        match self.activity(draft, name) {
             None => Link::Nothing,
             Some(place) => {
                 if place < sources {

@@ -1,2 +1,3 @@
-pub mod ListLaws
-pub mod PlainLaws
+pub mod BuiltLaws
+pub mod EntryLaws
+pub mod SystemLaws

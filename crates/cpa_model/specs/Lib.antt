@@ -1,6 +1,4 @@
+pub mod Built
 pub mod Chains
-pub mod DraftLists
-pub mod Numbers
-pub mod Plain
 pub mod Rules
 pub mod SystemLists

@@ -1,6 +1,9 @@
 -- A system: its resources, sources, tasks and paths, as in the system graphs of SymTA/S.
-use Rattle.std.specs.Prelude.{ℕ, ◌+◌, ◌==◌, ◌&&◌, nat_lt, not, max, Bool, List, [], filter, sum_by, fold, length, slice_index_or, None}
+use Rattle.std.specs.Prelude.{ℕ, ◌+◌, ◌==◌, ◌&&◌, nat_lt, not, max, Bool, List, [], filter, sum_by, fold, length, slice_index_or, None, unwrap_or}
 use Rattle.std.specs.List.{range_with_len}
+use Rattle.cpa_units.specs.declared.limits.TheConstants.{MAX_CHAIN}
+use Rattle.cpa_units.specs.declared.places.SourceId.{SourceId}
+use Rattle.cpa_model.specs.Chains.{activators, depth_within, root_within}
 use Rattle.cpa_model.specs.declared.entries.Resource.{Resource}
 use Rattle.cpa_model.specs.declared.entries.Source.{Source}
 use Rattle.cpa_model.specs.declared.entries.Task.{Task}
@@ -92,3 +95,11 @@ gap_of _ = 0
 -- the cycle of a TDMA resource: the slots of its tasks, and its gap
 abbrev pub cycle_of : SystemLists → ℕ → ℕ
 cycle_of s r = sum_by (λ i. slot_of (task_at s i).turn) (filter (λ i. (task_at s i).res.0 == r) (task_places s)) + gap_of (resource_at s r).kind
+
+-- the number of tasks in a task's chain up to and with itself
+abbrev pub depth_of : SystemLists → ℕ → ℕ
+depth_of s i = unwrap_or (depth_within (activators s.tasks) MAX_CHAIN i) 0
+
+-- the source that begins a task's chain
+abbrev pub root_of : SystemLists → ℕ → SourceId
+root_of s i = root_within (activators s.tasks) MAX_CHAIN i

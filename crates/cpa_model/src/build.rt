@@ -1,50 +1,27 @@
 //! From a draft to the system that it stands for.
 
-ghost use Rattle.std.specs.Prelude.{◌≡◌, map, true, false, IfOk, IfErr, IsOk};
-ghost use Rattle.cpa_model.specs.Plain.{is_plain, not_plain, system_of, resource_from, source_from, task_from};
+ghost use Rattle.std.specs.Prelude.{◌≡◌, ◌<◌, ◌≤◌, ◌^◌, All, map, length, option_map, unwrap_or, Some, None, true, false, not, IfOk, IfErr};
+ghost use Rattle.cpa_units.specs.declared.limits.TheConstants.{MAX_PAYLOAD, MAX_BIT};
+ghost use Rattle.cpa_draft.specs.Numbers.{nat_of, nat_or};
+ghost use Rattle.cpa_draft.specs.Names.{AreTables, kind_of};
+ghost use Rattle.cpa_draft.specs.Judged.{Judges};
+ghost use Rattle.cpa_draft.specs.Refusals.{by_priority, first_refusal};
+ghost use Rattle.cpa_draft.specs.declared.refusal.BuildFault.TheVariants.{Memory};
+ghost use Rattle.cpa_model.specs.Built.{built_kind, built_resource, built_source, built_task, built_path, built_turn, built_activator, resource_place, activity_place, bit_time, task_named, least_execution, greatest_execution, has_executions, TaskFitsTypes, PathFitsTypes, system_of};
 
-use crate::draft::{Draft, DraftResource, DraftSource, DraftTask, Raw};
-use crate::entries::{Activator, Kind, Resource, Source, Task, Turn};
-use crate::plain::{find_resource, find_source, is_plain, natural, natural_or};
-use crate::refusal::{Part, Refusal};
+use crate::entries::{Activator, Kind, Path, Resource, Source, Task, TaskList, Turn};
 use crate::system::System;
+use cpa_draft::{
+    BuildFault, Draft, DraftPath, DraftResource, DraftSource, DraftTask, KindWord, Raw, Tables,
+    is_by_priority, judge, natural, natural_or,
+};
 use cpa_units::limits::DEFAULT_LIMIT;
-use cpa_units::{Name, ResId, SourceId};
-use std::alloc::{AllocError, AllocFailed, Global};
-
-/// Why no system was built.
-#[derive(Clone, Copy, Debug, PartialEq, Eq)]
-pub enum BuildFault {
-    Refused(Refusal),
-    /// A growth of memory was refused.
-    Memory,
-}
-
-impl From<AllocError> for BuildFault {
-    ghost use Rattle.std.specs.Prelude.{◌≡◌};
-    ghost use Rattle.cpa_model.specs.declared.build.BuildFault.TheVariants.{Memory};
-
-    ghost from_gives = { λ _ e. e ≡ Memory };
-
-    fn from(_: AllocError) -> BuildFault {
-        BuildFault::Memory
-    }
-}
-
-impl<T: Drop> From<AllocFailed<T>> for BuildFault {
-    ghost use Rattle.std.specs.Prelude.{◌≡◌};
-    ghost use Rattle.cpa_model.specs.declared.build.BuildFault.TheVariants.{Memory};
-
-    ghost from_gives = { λ _ e. e ≡ Memory };
-
-    fn from(_: AllocFailed<T>) -> BuildFault {
-        BuildFault::Memory
-    }
-}
+use cpa_units::{Name, ResId, SourceId, TaskId, frame_bits};
+use std::alloc::Global;
 
 fn build_name(alloc: Global, raw: &Raw) -> Result<Name, BuildFault>
     ensures ok { IfOk result (λ name. name ≡ raw.now) }
-    ensures err { IfErr result (λ e. e ≡ BuildFault.Memory) }
+    ensures err { IfErr result (λ e. e ≡ Memory) }
 {
     match Name::read(alloc, raw.bytes()) {
         Ok(name) => Ok(name),
@@ -52,20 +29,35 @@ fn build_name(alloc: Global, raw: &Raw) -> Result<Name, BuildFault>
     }
 }
 
+fn build_kind(kind: KindWord, gap: Option<i64>, bit: Option<i64>) -> Kind
+    ensures { result ≡ built_kind kind gap bit }
+{
+    match kind {
+        KindWord::Preemptive => Kind::Preemptive,
+        KindWord::RoundRobin => Kind::RoundRobin,
+        KindWord::Tdma => Kind::Tdma {
+            gap: natural_or(0, gap),
+        },
+        KindWord::Can => Kind::Can {
+            bit: natural_or(1, bit),
+        },
+    }
+}
+
 fn build_resource(alloc: Global, draft: &DraftResource) -> Result<Resource, BuildFault>
-    ensures ok { IfOk result (λ r. r ≡ resource_from draft.now) }
-    ensures err { IfErr result (λ e. e ≡ BuildFault.Memory) }
+    ensures ok { IfOk result (λ r. r ≡ built_resource draft.now) }
+    ensures err { IfErr result (λ e. e ≡ Memory) }
 {
     Ok(Resource {
         name: build_name(alloc, &draft.name)?,
-        kind: Kind::Preemptive,
+        kind: build_kind(draft.kind, draft.gap, draft.bit),
         limit: natural_or(DEFAULT_LIMIT, draft.limit),
     })
 }
 
 fn build_source(alloc: Global, draft: &DraftSource) -> Result<Source, BuildFault>
-    ensures ok { IfOk result (λ r. r ≡ source_from draft.now) }
-    ensures err { IfErr result (λ e. e ≡ BuildFault.Memory) }
+    ensures ok { IfOk result (λ r. r ≡ built_source draft.now) }
+    ensures err { IfErr result (λ e. e ≡ Memory) }
 {
     Ok(Source {
         name: build_name(alloc, &draft.name)?,
@@ -75,38 +67,152 @@ fn build_source(alloc: Global, draft: &DraftSource) -> Result<Source, BuildFault
     })
 }
 
-/// A place or a priority as a smaller number, which each of a plain draft fits.
-fn narrow(number: u64) -> Result<u32, BuildFault>
-    ensures ok { IfOk result (λ n. n ≡ number) }
-    ensures err { IfErr result (λ e. e ≡ BuildFault.Memory) }
+fn resource_place(draft: &Draft, tables: &Tables, name: &[u8]) -> usize
+    requires { AreTables draft.now tables.now.resources tables.now.activities }
+    ensures { result ≡ resource_place draft.now name.now }
 {
-    match u32::try_from(number) {
-        Ok(number) => Ok(number),
-        Err(_) => Err(BuildFault::Memory),
+    tables.resource(draft, name).unwrap_or(0)
+}
+
+fn activity_place(draft: &Draft, tables: &Tables, name: &[u8]) -> usize
+    requires { AreTables draft.now tables.now.resources tables.now.activities }
+    ensures { result ≡ activity_place draft.now name.now }
+{
+    tables.activity(draft, name).unwrap_or(0)
+}
+
+fn build_activator(draft: &Draft, tables: &Tables, name: &[u8]) -> Activator
+    requires tables { AreTables draft.now tables.now.resources tables.now.activities }
+    requires place { activity_place draft.now name.now < 2 ^ 32 }
+    ensures { result ≡ built_activator draft.now name.now }
+{
+    let sources = draft.source_entries().len();
+    let place = activity_place(draft, tables, name);
+    if place < sources {
+        Activator::Source(SourceId(place as u32))
+    } else {
+        Activator::Task(TaskId((place - sources) as u32))
     }
 }
 
-fn build_task(alloc: Global, draft: &Draft, task: &DraftTask) -> Result<Task, BuildFault>
-    ensures ok { IfOk result (λ t. t ≡ task_from draft.now task.now) }
-    ensures err { IfErr result (λ e. e ≡ BuildFault.Memory) }
+/// The bit time of the resource with a name.
+fn bit_time(draft: &Draft, tables: &Tables, name: &[u8]) -> u64
+    requires { AreTables draft.now tables.now.resources tables.now.activities }
+    ensures { result ≡ bit_time draft.now name.now }
+{
+    draft.bit_at(resource_place(draft, tables, name))
+}
+
+/// The least and the greatest execution: that of a frame where there is a payload, else as given.
+fn build_executions(task: &DraftTask, bit: u64) -> (u64, u64)
+    requires payload { nat_or 0 task.now.payload ≤ MAX_PAYLOAD }
+    requires bit { bit ≤ MAX_BIT }
+    ensures least { result.0 ≡ least_execution task.now.payload (unwrap_or task.now.extended false) bit (nat_or 0 task.now.best) }
+    ensures greatest { result.1 ≡ greatest_execution task.now.payload (unwrap_or task.now.extended false) bit (nat_or 0 task.now.worst) }
+{
+    match task.payload {
+        None => (natural_or(0, task.best), natural_or(0, task.worst)),
+        Some(payload) => {
+            let (least, greatest) = frame_bits(natural(payload), task.extended.unwrap_or(false));
+            (least * bit, greatest * bit)
+        }
+    }
+}
+
+fn build_turn(by_priority: bool, task: &DraftTask) -> Turn
+    requires { nat_or 0 task.now.priority < 2 ^ 32 }
+    ensures { result ≡ built_turn by_priority task.now }
+{
+    if by_priority {
+        Turn::Priority(natural_or(0, task.priority) as u32)
+    } else {
+        Turn::Slot(natural_or(0, task.slot))
+    }
+}
+
+fn build_task(
+    alloc: Global,
+    draft: &Draft,
+    tables: &Tables,
+    task: &DraftTask,
+) -> Result<Task, BuildFault>
+    requires tables { AreTables draft.now tables.now.resources tables.now.activities }
+    requires fits { TaskFitsTypes draft.now task.now }
+    ensures ok { IfOk result (λ t. t ≡ built_task draft.now task.now) }
+    ensures err { IfErr result (λ e. e ≡ Memory) }
 {
     let name = build_name(alloc, &task.name)?;
-    let res = find_resource(draft, task.on.bytes()).unwrap_or(0);
-    let after = find_source(draft, task.after.bytes()).unwrap_or(0);
-    let priority = natural_or(0, task.priority);
+    let (best, worst) = build_executions(task, bit_time(draft, tables, task.on.bytes()));
     Ok(Task {
         name,
-        res: ResId(narrow(res as u64)?),
-        after: Activator::Source(SourceId(narrow(after as u64)?)),
-        best: natural_or(0, task.best),
-        worst: natural_or(0, task.worst),
-        turn: Turn::Priority(narrow(priority)?),
+        res: ResId(resource_place(draft, tables, task.on.bytes()) as u32),
+        after: build_activator(draft, tables, task.after.bytes()),
+        best,
+        worst,
+        turn: build_turn(is_by_priority(tables.kind(draft, task.on.bytes())), task),
+    })
+}
+
+/// The place of the task with a name.
+fn task_named(draft: &Draft, tables: &Tables, name: &[u8]) -> TaskId
+    requires tables { AreTables draft.now tables.now.resources tables.now.activities }
+    requires place { activity_place draft.now name.now < 2 ^ 32 }
+    ensures { result ≡ task_named draft.now name.now }
+{
+    let place = activity_place(draft, tables, name);
+    TaskId(place.saturating_sub(draft.source_entries().len()) as u32)
+}
+
+fn build_path_tasks(
+    alloc: Global,
+    draft: &Draft,
+    tables: &Tables,
+    names: &[Raw],
+) -> Result<Vec<TaskId>, BuildFault>
+    requires tables { AreTables draft.now tables.now.resources tables.now.activities }
+    requires places { All (λ name. activity_place draft.now name < 2 ^ 32) names.now }
+    ensures ok { IfOk result (λ v. v.items ≡ map (task_named draft.now) names.now) }
+    ensures err { IfErr result (λ e. e ≡ Memory) }
+{
+    let mut built = Vec::new(alloc);
+    for name in names {
+        built.push(task_named(draft, tables, name.bytes()))?;
+    }
+    Ok(built)
+}
+
+fn build_deadline(deadline: Option<i64>) -> Option<u64>
+    ensures { result ≡ option_map nat_of deadline }
+{
+    match deadline {
+        None => None,
+        Some(ticks) => Some(natural(ticks)),
+    }
+}
+
+fn build_path(
+    alloc: Global,
+    draft: &Draft,
+    tables: &Tables,
+    path: &DraftPath,
+) -> Result<Path, BuildFault>
+    requires tables { AreTables draft.now tables.now.resources tables.now.activities }
+    requires fits { PathFitsTypes draft.now path.now }
+    ensures ok { IfOk result (λ p. p ≡ built_path draft.now path.now) }
+    ensures err { IfErr result (λ e. e ≡ Memory) }
+{
+    let name = build_name(alloc, &path.name)?;
+    let tasks = build_path_tasks(alloc, draft, tables, path.tasks.names())?;
+    Ok(Path {
+        name,
+        tasks: TaskList::new(tasks),
+        deadline: build_deadline(path.deadline),
     })
 }
 
 fn build_resources(alloc: Global, drafts: &[DraftResource]) -> Result<Vec<Resource>, BuildFault>
-    ensures ok { IfOk result (λ v. v.items ≡ map resource_from drafts.now) }
-    ensures err { IfErr result (λ e. e ≡ BuildFault.Memory) }
+    ensures ok { IfOk result (λ v. v.items ≡ map built_resource drafts.now) }
+    ensures err { IfErr result (λ e. e ≡ Memory) }
 {
     let mut built = Vec::new(alloc);
     for draft in drafts {
@@ -116,8 +222,8 @@ fn build_resources(alloc: Global, drafts: &[DraftResource]) -> Result<Vec<Resour
 }
 
 fn build_sources(alloc: Global, drafts: &[DraftSource]) -> Result<Vec<Source>, BuildFault>
-    ensures ok { IfOk result (λ v. v.items ≡ map source_from drafts.now) }
-    ensures err { IfErr result (λ e. e ≡ BuildFault.Memory) }
+    ensures ok { IfOk result (λ v. v.items ≡ map built_source drafts.now) }
+    ensures err { IfErr result (λ e. e ≡ Memory) }
 {
     let mut built = Vec::new(alloc);
     for draft in drafts {
@@ -126,42 +232,60 @@ fn build_sources(alloc: Global, drafts: &[DraftSource]) -> Result<Vec<Source>, B
     Ok(built)
 }
 
-fn build_tasks(alloc: Global, draft: &Draft, tasks: &[DraftTask]) -> Result<Vec<Task>, BuildFault>
-    ensures ok { IfOk result (λ v. v.items ≡ map (task_from draft.now) tasks.now) }
-    ensures err { IfErr result (λ e. e ≡ BuildFault.Memory) }
+fn build_tasks(
+    alloc: Global,
+    draft: &Draft,
+    tables: &Tables,
+    tasks: &[DraftTask],
+) -> Result<Vec<Task>, BuildFault>
+    requires tables { AreTables draft.now tables.now.resources tables.now.activities }
+    requires fits { All (TaskFitsTypes draft.now) tasks.now }
+    ensures ok { IfOk result (λ v. v.items ≡ map (built_task draft.now) tasks.now) }
+    ensures err { IfErr result (λ e. e ≡ Memory) }
 {
     let mut built = Vec::new(alloc);
     for task in tasks {
-        built.push(build_task(alloc, draft, task)?)?;
+        built.push(build_task(alloc, draft, tables, task)?)?;
     }
     Ok(built)
 }
 
-const NOT_PLAIN: Refusal = Refusal {
-    reason: 1,
-    part: Part::File,
-    place: 0,
-};
+fn build_paths(
+    alloc: Global,
+    draft: &Draft,
+    tables: &Tables,
+    paths: &[DraftPath],
+) -> Result<Vec<Path>, BuildFault>
+    requires tables { AreTables draft.now tables.now.resources tables.now.activities }
+    requires fits { All (PathFitsTypes draft.now) paths.now }
+    ensures ok { IfOk result (λ v. v.items ≡ map (built_path draft.now) paths.now) }
+    ensures err { IfErr result (λ e. e ≡ Memory) }
+{
+    let mut built = Vec::new(alloc);
+    for path in paths {
+        built.push(build_path(alloc, draft, tables, path)?)?;
+    }
+    Ok(built)
+}
 
 impl System {
-    /// The system that a plain draft stands for; any other is refused.
+    /// The system that a draft stands for. It is refused exactly where one of reasons 2 to 12 applies, with the first of
+    /// them and its first place.
     pub fn build(alloc: Global, draft: Draft) -> Result<System, BuildFault>
-        ensures plain { IsOk result → is_plain draft ≡ true }
+        requires executions { All (λ t. has_executions t ≡ true) draft.tasks }
+        ensures refused { Judges result (first_refusal draft) }
         ensures ok { IfOk result (λ s. s ≡ system_of draft) }
-        ensures refused { (r : Refusal) → result ≡ Err (BuildFault.Refused r) → is_plain draft ≡ false }
-        ensures reason { (r : Refusal) → result ≡ Err (BuildFault.Refused r) → r ≡ not_plain }
     {
-        if !is_plain(&draft) {
-            return Err(BuildFault::Refused(NOT_PLAIN));
-        }
+        let tables = judge(alloc, &draft)?;
         let resources = build_resources(alloc, draft.resource_entries())?;
         let sources = build_sources(alloc, draft.source_entries())?;
-        let tasks = build_tasks(alloc, &draft, draft.task_entries())?;
+        let tasks = build_tasks(alloc, &draft, &tables, draft.task_entries())?;
+        let paths = build_paths(alloc, &draft, &tables, draft.path_entries())?;
         Ok(System {
             resources,
             sources,
             tasks,
-            paths: Vec::new(alloc),
+            paths,
         })
     }
 }

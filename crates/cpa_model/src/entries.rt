@@ -1,6 +1,6 @@
 //! The entries of a system. Times are in ticks.
 
-ghost use Rattle.std.specs.Prelude.{◌≡◌, ◌<◌, length, slice_get, Some};
+ghost use Rattle.std.specs.Prelude.{◌≡◌, ◌<◌, ◌^◌, length, slice_get, Some};
 
 use cpa_units::{Name, ResId, SourceId, TaskId};
 use std::marker::Model;
@@ -86,6 +86,13 @@ impl Model for TaskList {
 }
 
 impl TaskList {
+    pub fn new(tasks: Vec<TaskId>) -> TaskList
+        requires { length tasks.items < 2 ^ 32 }
+        ensures { result ≡ tasks.items }
+    {
+        TaskList { tasks }
+    }
+
     pub fn len(&self) -> u32
         ensures { result ≡ length self.now }
     {

@@ -4,16 +4,12 @@
 #![tactic(auto)]
 
 pub mod build;
-pub mod draft;
 pub mod entries;
-mod plain;
-pub mod refusal;
 pub mod system;
-#[cfg(test)]
-mod tests;
 
-pub use build::BuildFault;
-pub use draft::{Draft, DraftPath, DraftResource, DraftSource, DraftTask, KindWord, Raw, RawList};
+pub use cpa_draft::{
+    BuildFault, Draft, DraftPath, DraftResource, DraftSource, DraftTask, KindWord, Part, Raw,
+    RawList, Refusal,
+};
 pub use entries::{Activator, Kind, Path, Resource, Source, Task, TaskList, Turn};
-pub use refusal::{Part, Refusal};
 pub use system::System;

@@ -1,6 +1,6 @@
 use Rattle.std.proofs.Common.{◌≡◌, map, take}
-use Rattle.cpa_model.specs.Plain.{source_from}
+use Rattle.cpa_model.specs.Built.{built_source}
 use Rattle.cpa_model.proofs.build.build_sources.Given as goal
 
 abbrev pub invariant-loop-draft : goal.invariant-loop-draft
-invariant-loop-draft l = l.built.items ≡ map source_from (take l.draft-index l.drafts)
+invariant-loop-draft l = l.built.items ≡ map built_source (take l.draft-index l.drafts)

@@ -1,18 +1,42 @@
-use Rattle.std.proofs.Common.{◌≡◌, true, sym, ◌∙◌}
-use Rattle.cpa_model.specs.Plain.{is_plain}
-use Rattle.cpa_model.proofs.PlainLaws.{plain-is_system}
+use Rattle.std.proofs.Common.{◌≡◌, refl}
+use Rattle.cpa_draft.proofs.UnrefusedLaws.{unrefused}
+use Rattle.cpa_model.specs.Built.{system_of}
+use Rattle.cpa_model.proofs.BuiltLaws.{system-kept, tasks-fit-types, paths-fit-types}
 use Rattle.cpa_model.proofs.system.System.build.Goals as goal
 
+pub build_tasks-requires-clause-fits : goal.build_tasks-requires-clause-fits
+build_tasks-requires-clause-fits c = rw (c.task_entries.ensures) (tasks-fit-types c.args.draft (unrefused c.args.draft c.in_ok-tables.ensures.refusal))
+
+pub build_paths-requires-clause-fits : goal.build_paths-requires-clause-fits
+build_paths-requires-clause-fits c =
+    rw (c.path_entries.ensures) (paths-fit-types c.args.draft (unrefused c.args.draft c.in_ok-tables.ensures.refusal) c.requires.executions)
+
 pub invariant_of-result : goal.invariant_of-result
+unfolding system_of
 invariant_of-result c =
-    let plain : is_plain c.args.draft ≡ true = sym c.is_plain.ensures ∙ c.if-not-is_plain.false in
     rw (
       c.in_ok-resources.ensures.ok,
       c.in_ok-sources.ensures.ok,
       c.in_ok-tasks.ensures.ok,
-      c.new.ensures.items,
+      c.in_ok-paths.ensures.ok,
       c.resource_entries.ensures,
       c.source_entries.ensures,
       c.task_entries.ensures,
+      c.path_entries.ensures,
     )
-    (plain-is_system c.args.draft plain)
+    (system-kept c.args.draft (unrefused c.args.draft c.in_ok-tables.ensures.refusal) c.requires.executions)
+
+pub returns-clause-ok : goal.returns-clause-ok
+unfolding system_of
+returns-clause-ok c =
+    rw (
+      c.in_ok-resources.ensures.ok,
+      c.in_ok-sources.ensures.ok,
+      c.in_ok-tasks.ensures.ok,
+      c.in_ok-paths.ensures.ok,
+      c.resource_entries.ensures,
+      c.source_entries.ensures,
+      c.task_entries.ensures,
+      c.path_entries.ensures,
+    )
+    refl

@@ -1,0 +1,140 @@
+-- The rules of an entry, from what a draft has to which no reason applies.
+use Rattle.std.proofs.Common.{◌≡◌, ◌≢◌, ℕ, ℤ, pos, negsuc, zero, suc, ◌+◌, ◌-◌, ◌*◌, ◌<◌, ◌≤◌, Bool, true, false, not, ◌&&◌, ◌||◌, nat_le, nat_lt, List, [], ◌∷◌, ◌++◌, map, length, get_or, All, Option, Some, None, is_some, is_none, option_map, unwrap_or, refl, sym, ap, ◌∙◌, arith, inl, inr, lit≤, length-append}
+use Rattle.std.specs.Prelude.{position}
+use Rattle.std.specs.Option.{ForSome}
+use Rattle.std.proofs.Math.Nat.{mul-le-mul_right, mul-le-mul_left}
+use Rattle.std.proofs.lemmas.Bool.{and_parts, or_parts, false≢true, true≢false, leb-true, ltb-true, ltb-false, cases_Bool, lt-ltb, le-ltb}
+use Rattle.std.proofs.lemmas.List.{length-map, get_or-map}
+use Rattle.cpa_units.specs.Frames.{least_frame_bits, greatest_frame_bits}
+use Rattle.cpa_draft.specs.Numbers.{nat_of, nat_or, is_within, may_be_within}
+use Rattle.cpa_draft.specs.Names.{place_of, link_at, is_nothing, is_task}
+use Rattle.cpa_draft.specs.Refusals.{resource_fits, source_fits, by_priority, turn_misfits}
+use Rattle.cpa_draft.specs.declared.draft.DraftResource.{DraftResource}
+use Rattle.cpa_draft.specs.declared.draft.DraftSource.{DraftSource}
+use Rattle.cpa_draft.specs.declared.draft.DraftTask.{DraftTask}
+use Rattle.cpa_draft.specs.declared.draft.KindWord.{KindWord}
+use Rattle.cpa_draft.specs.declared.draft.KindWord.TheVariants as word
+use Rattle.cpa_draft.specs.declared.links.Link.TheVariants as link
+use Rattle.cpa_draft.proofs.NameLaws.{place_below}
+use Rattle.cpa_model.specs.Rules.{IsResource, IsSource, KindFits, TurnFits}
+use Rattle.cpa_model.specs.Built.{built_kind, built_resource, built_source, built_turn, least_execution, greatest_execution}
+
+-- numbers in their ranges
+
+pub may-range : (least most default : ℕ) (o : Option ℤ) → (least ≤ default) × (default ≤ most) → may_be_within least most o ≡ true → (least ≤ nat_or default o) × (nat_or default o ≤ most)
+may-range least most default None d h = d
+may-range least most default (Some (pos n)) d h = let a = and_parts _ _ h in (leb-true _ _ a.0, leb-true _ _ a.1)
+may-range least most default (Some (negsuc n)) d h = absurd (false≢true h)
+
+pub there-range : (least most : ℕ) (o : Option ℤ) → is_none o ≡ false → may_be_within least most o ≡ true → (least ≤ nat_or 0 o) × (nat_or 0 o ≤ most)
+there-range least most None some h = absurd (true≢false some)
+there-range least most (Some (pos n)) some h = let a = and_parts _ _ h in (leb-true _ _ a.0, leb-true _ _ a.1)
+there-range least most (Some (negsuc n)) some h = absurd (false≢true h)
+
+pub range : (least most : ℕ) (z : ℤ) → is_within least most z ≡ true → (least ≤ nat_of z) × (nat_of z ≤ most)
+range least most (pos n) h = let a = and_parts _ _ h in (leb-true _ _ a.0, leb-true _ _ a.1)
+range least most (negsuc n) h = absurd (false≢true h)
+
+-- resources and sources
+
+kind-kept : (w : KindWord) (gap bit : Option ℤ) → may_be_within 0 1000000 gap ≡ true → may_be_within 1 1000 bit ≡ true → KindFits (built_kind w gap bit)
+kind-kept word.Preemptive gap bit g b = tt
+kind-kept word.RoundRobin gap bit g b = tt
+kind-kept word.Tdma gap bit g b = (may-range 0 1000000 0 gap (lit≤ tt, lit≤ tt) g).1
+kind-kept word.Can gap bit g b = may-range 1 1000 1 bit (lit≤ tt, lit≤ tt) b
+
+pub resource-kept : (r : DraftResource) → resource_fits r ≡ true → IsResource (built_resource r)
+resource-kept r h =
+    let a = and_parts _ _ h in
+    let b = and_parts _ _ a.0 in
+    let limit = may-range 1 10000000 1000000 r.limit (lit≤ tt, lit≤ tt) b.0 in
+    record { some_limit = limit.0; limit = limit.1; kind_fits = kind-kept r.kind r.gap r.bit b.1 a.1 }
+
+pub source-kept : (r : DraftSource) → source_fits r ≡ true → IsSource (built_source r)
+source-kept r h =
+    let a = and_parts _ _ h in
+    let b = and_parts _ _ a.0 in
+    let period = range 1 1000000000 r.period b.0 in
+    let jitter = may-range 0 1000000000 0 r.jitter (lit≤ tt, lit≤ tt) b.1 in
+    let distance = may-range 0 (nat_of r.period) 0 r.distance (omega arith, omega arith) a.1 in
+    record { some_period = period.0; period = period.1; jitter = jitter.1; distance = distance.1 }
+
+-- names that name something
+
+pub place-kept : (names : List (List ℕ)) (name : List ℕ) → is_none (place_of names name) ≡ false → unwrap_or (place_of names name) 0 < length names
+place-kept names name h = by (place_of names name) refl h
+  where
+    by : (o : Option ℕ) → place_of names name ≡ o → is_none o ≡ false → unwrap_or o 0 < length names
+    by None e some = absurd (true≢false some)
+    by (Some k) e some = place_below names name k e
+
+nothing-none : (sources : ℕ) (o : Option ℕ) → is_nothing (link_at sources o) ≡ false → is_none o ≡ false
+nothing-none sources None h = absurd (true≢false h)
+nothing-none sources (Some k) h = refl
+
+pub link-kept : (sources : ℕ) (names : List (List ℕ)) (name : List ℕ) → is_nothing (link_at sources (place_of names name)) ≡ false → unwrap_or (place_of names name) 0 < length names
+link-kept sources names name h = place-kept names name (nothing-none sources (place_of names name) h)
+
+-- a name that names a task
+pub record IsTaskPlace (sources k : ℕ) (o : Option ℕ) : Type 0 where
+  pub past : sources ≤ k
+  pub link : link_at sources o ≡ link.Task (k - sources)
+  pub there : is_none o ≡ false
+
+task-place : (sources : ℕ) (o : Option ℕ) → is_task (link_at sources o) ≡ true → IsTaskPlace sources (unwrap_or o 0) o
+task-place sources None h = absurd (false≢true h)
+task-place sources (Some k) h = elim (cases_Bool (nat_lt k sources)) [
+  | inl less ↦ absurd (false≢true (rw less at h))
+  | inr past ↦ record { past = ltb-false _ _ past; link = rw past refl; there = refl }
+]
+
+pub task-kept : (sources : ℕ) (names : List (List ℕ)) (name : List ℕ) → is_task (link_at sources (place_of names name)) ≡ true → IsTaskPlace sources (unwrap_or (place_of names name) 0) (place_of names name)
+task-kept sources names name h = task-place sources (place_of names name) h
+
+-- turns
+
+pub turn-kept : (w : KindWord) (gap bit : Option ℤ) (t : DraftTask) → turn_misfits (by_priority (Some w)) t ≡ false
+    → may_be_within 0 536870911 t.priority ≡ true → may_be_within 1 1000000 t.slot ≡ true → TurnFits (built_kind w gap bit) (built_turn (by_priority (Some w)) t)
+turn-kept word.Preemptive gap bit t h p s = (may-range 0 536870911 0 t.priority (lit≤ tt, lit≤ tt) p).1
+turn-kept word.Can gap bit t h p s = (may-range 0 536870911 0 t.priority (lit≤ tt, lit≤ tt) p).1
+turn-kept word.RoundRobin gap bit t h p s = there-range 1 1000000 t.slot (or_parts _ _ h).1 s
+turn-kept word.Tdma gap bit t h p s = there-range 1 1000000 t.slot (or_parts _ _ h).1 s
+
+-- executions
+
+pub record AreExecutions (best worst : ℕ) : Type 0 where
+  pub some : 1 ≤ best
+  pub ordered : best ≤ worst
+  pub small : worst ≤ 1000000
+
+least-greatest : (s : ℕ) (extended : Bool) → least_frame_bits s extended ≤ greatest_frame_bits s extended
+least-greatest s true = omega arith
+least-greatest s false = omega arith
+
+greatest-most : (s : ℕ) (extended : Bool) → s ≤ 8 → greatest_frame_bits s extended ≤ 160
+greatest-most s true h = omega arith
+greatest-most s false h = omega arith
+
+least-some : (s : ℕ) (extended : Bool) → 1 ≤ least_frame_bits s extended
+least-some s true = omega arith
+least-some s false = omega arith
+
+frames-kept : (s bit : ℕ) (extended : Bool) → s ≤ 8 → (1 ≤ bit) × (bit ≤ 1000) → AreExecutions (least_frame_bits s extended * bit) (greatest_frame_bits s extended * bit)
+frames-kept s bit extended h b =
+    let least : 1 * bit ≤ least_frame_bits s extended * bit = mul-le-mul_right bit (least-some s extended) in
+    let ordered : least_frame_bits s extended * bit ≤ greatest_frame_bits s extended * bit = mul-le-mul_right bit (least-greatest s extended) in
+    let most : greatest_frame_bits s extended * bit ≤ 160 * bit = mul-le-mul_right bit (greatest-most s extended h) in
+    record { some = omega arith; ordered = ordered; small = omega arith }
+
+pub executions-kept : (best worst payload : Option ℤ) (extended : Option Bool) (bit : ℕ)
+    → ((is_some best && is_some worst && is_none payload && is_none extended) || (is_some payload && is_none best && is_none worst)) ≡ true
+    → may_be_within 1 1000000 best ≡ true → may_be_within 1 1000000 worst ≡ true → may_be_within 0 8 payload ≡ true
+    → ((is_some best && is_some worst) && nat_lt (nat_or 0 worst) (nat_or 0 best)) ≡ false → (1 ≤ bit) × (bit ≤ 1000)
+    → AreExecutions (least_execution payload (unwrap_or extended false) bit (nat_or 0 best)) (greatest_execution payload (unwrap_or extended false) bit (nat_or 0 worst))
+executions-kept None worst None extended bit h b w p c i = absurd (false≢true h)
+executions-kept (Some x) None None extended bit h b w p c i = absurd (false≢true h)
+executions-kept (Some x) (Some y) None extended bit h b w p c i =
+    let best = range 1 1000000 x b in
+    let worst = range 1 1000000 y w in
+    record { some = best.0; ordered = ltb-false _ _ c; small = worst.1 }
+executions-kept best worst (Some s) extended bit h b w p c i = frames-kept (nat_of s) bit (unwrap_or extended false) (range 0 8 s p).1 i
