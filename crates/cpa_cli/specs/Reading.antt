@@ -10,7 +10,7 @@ use Rattle.cpa_model.specs.declared.entries.Kind.TheVariants.{Preemptive}
 use Rattle.cpa_model.specs.declared.entries.Activator.{Activator}
 use Rattle.cpa_model.specs.declared.entries.Activator.TheVariants.{Source as FromSource}
 use Rattle.cpa_model.specs.SystemLists.{SystemLists}
-use Rattle.cpa_file.specs.Reading.{Reading, NotToml, Refused, Accepted, reading_of}
+use Rattle.cpa_file.specs.Reading.{Reading, Refused, Accepted, reading_of}
 
 abbrev pub is_preemptive : Kind → Bool
 is_preemptive Preemptive = true

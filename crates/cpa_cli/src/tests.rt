@@ -75,7 +75,25 @@ task = [
 ]
 ";
 
-const NOT_PLAIN: &str = "system refused reason 1 file 0\n";
+/// *two_tasks* with a greatest execution of 0.
+const WORST_ZERO: &str = "format = 1
+resource = [{ name = \"cpu\", kind = \"preemptive\" }]
+source = [{ name = \"sa\", period = 10 }, { name = \"sb\", period = 20 }]
+task = [
+  { name = \"a\", on = \"cpu\", after = \"sa\", best = 1, worst = 3, priority = 1 },
+  { name = \"b\", on = \"cpu\", after = \"sb\", best = 2, worst = 0, priority = 2 },
+]
+";
+
+const EMPTY_REPORT: &str = "summary tasks 0 overload 0 missed 0\n";
+
+const NOT_YET: &str = "system refused reason 1 file 0\n";
+
+const CPU: &str = "format = 1
+resource = [{ name = \"cpu\", kind = \"preemptive\" }]
+source = [{ name = \"s\", period = 10 }]
+task = [
+";
 
 /// How the files and the sink of a call behave: which calls fail, and how many bytes the sink takes at once.
 #[derive(Clone, Copy)]
@@ -120,32 +138,87 @@ fn analyses(rt: HostRuntime) -> Result<(), Fail> {
     for (system, status, report) in [
         (TWO_TASKS, 0, TWO_TASKS_REPORT),
         (LONG_WINDOW, 0, LONG_WINDOW_REPORT),
-        ("format = 1", 0, "summary tasks 0 overload 0 missed 0\n"),
+        ("format = 1", 0, EMPTY_REPORT),
         (LIMIT_REACHED, 0, TWO_TASKS_REPORT),
         (LIMIT_BELOW, 2, LIMIT_BELOW_REPORT),
+        (WORST_ZERO, 14, "system refused reason 2 task 2\n"),
         ("resource = [{ name = \"cp", 13, "not TOML sys\n"),
-        ("", 14, NOT_PLAIN),
-        ("format = 2", 14, NOT_PLAIN),
-        ("format = 1\npath = []", 14, NOT_PLAIN),
+        ("format = 2", 14, "system refused reason 13 file 0\n"),
+        ("format = 1\npath = []", 0, EMPTY_REPORT),
+        (
+            "format = 1\nsource = [{ name = \"s\", period = 5, jitter = 9 }]",
+            0,
+            EMPTY_REPORT,
+        ),
         (
             "format = 1\nresource = [{ name = \"bus\", kind = \"can\" }]",
             14,
-            NOT_PLAIN,
+            NOT_YET,
         ),
         (
             "format = 1\nsource = [{ name = \"s\", period = 0 }]",
             14,
-            NOT_PLAIN,
-        ),
-        (
-            "format = 1\nsource = [{ name = \"s\", period = 5, jitter = 1 }]",
-            14,
-            NOT_PLAIN,
+            "system refused reason 2 source 1\n",
         ),
     ] {
         let answer = call(&rt, &["analyse", "sys"], system.as_bytes(), &NO_FAULTS)?;
         assert_eq!(rt; answer.0, status, "{system}");
         assert!(rt; answer.1.as_slice() == report.as_bytes(), "{system}");
+    }
+    Ok(())
+}
+
+/// One processor with tasks of one tick: the first reason is told, with its first place.
+#[test]
+fn refuses_in_order(rt: HostRuntime) -> Result<(), Fail> {
+    let alloc = rt.alloc();
+    for (a, c, refusal) in [
+        ("b", "zz", "system refused reason 5 task 3\n"),
+        ("b", "s", "system refused reason 6 task 1\n"),
+        ("s", "s", "system refused reason 8 task 2\n"),
+    ] {
+        let mut text = String::from_str(alloc, CPU)?;
+        for (name, after, priority) in [("a", a, 1), ("b", "a", 1), ("c", c, 2)] {
+            let task = format!(in alloc;
+                "{{ name = \"{name}\", on = \"cpu\", after = \"{after}\", best = 1, worst = 1, priority = {priority} }},\n"
+            )?;
+            text.push_str(task.as_str())?;
+        }
+        text.push_str("]\n")?;
+        let answer = call(&rt, &["analyse", "sys"], text.as_bytes(), &NO_FAULTS)?;
+        assert_eq!(rt; answer.0, 14, "{a} {c}");
+        assert!(rt; answer.1.as_slice() == refusal.as_bytes(), "{a} {c}");
+    }
+    Ok(())
+}
+
+/// What a cut of *two_tasks* after so many bytes answers: by the line at whose end it stands, 0 where it stands at none.
+fn cut_answer(line: usize, cut: usize) -> (u8, &'static str) {
+    match line {
+        _ if cut == 0 => (14, NOT_YET),
+        1..=3 => (0, EMPTY_REPORT),
+        7 => (0, TWO_TASKS_REPORT),
+        _ => (13, "not TOML sys\n"),
+    }
+}
+
+#[test]
+fn reads_cut_files(rt: HostRuntime) -> Result<(), Fail> {
+    let file = TWO_TASKS.as_bytes();
+    let mut lines = 0usize;
+    for (cut, next) in file.iter().enumerate() {
+        let ended = if cut > 0 && file.get(cut - 1) == Some(&b'\n') {
+            lines = lines.saturating_add(1);
+            lines
+        } else if *next == b'\n' {
+            lines.saturating_add(1)
+        } else {
+            0
+        };
+        let answer = call(&rt, &["analyse", "sys"], &file[..cut], &NO_FAULTS)?;
+        let (status, text) = cut_answer(ended, cut);
+        assert_eq!(rt; answer.0, status, "{cut}");
+        assert!(rt; answer.1.as_slice() == text.as_bytes(), "{cut}");
     }
     Ok(())
 }
@@ -188,6 +261,10 @@ fn tells_faults(rt: HostRuntime) -> Result<(), Fail> {
     let refused = call(&rt, analyse, long.as_slice(), &NO_FAULTS)?;
     assert_eq!(rt; refused.0, 12);
     assert!(rt; refused.1.as_slice() == "too long sys\n".as_bytes());
+    let mut brackets = Vec::from_slice(alloc, "format = ".as_bytes())?;
+    brackets.extend_from_slice(vec![in alloc; b'['; 10_000]?.as_slice())?;
+    let deep = call(&rt, analyse, brackets.as_slice(), &NO_FAULTS)?;
+    assert_eq!(rt; deep.0, 13);
     let sixth_put = Faults {
         loads: &[],
         piece: 8,

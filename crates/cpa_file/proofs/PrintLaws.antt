@@ -19,7 +19,7 @@ use Rattle.cpa_model.specs.declared.entries.Turn.TheVariants.{Priority, Slot}
 use Rattle.cpa_model.specs.SystemLists.{SystemLists, task_at}
 use Rattle.cpa_file.specs.Fields.{required, optional, has_only}
 use Rattle.cpa_file.specs.Lists.{read_all}
-use Rattle.cpa_file.specs.Entries.{resource_entry, source_entry, task_entry, task_fields, path_entry, has_executions}
+use Rattle.cpa_file.specs.Entries.{resource_entry, source_entry, task_entry, task_fields, path_entry}
 use Rattle.cpa_file.specs.Document.{draft_of, lists_of, has_form, entries_at, items_at}
 use Rattle.cpa_model.specs.Redraft.{redraft_resource, redraft_source, redraft_task, redraft_path, redraft}
 use Rattle.cpa_file.specs.Printed.{put, resource_data, source_data, task_names_data, task_data, name_data, path_data, system_data}
@@ -55,7 +55,7 @@ unfolding source_entry source_data required optional has_only
 source-printed r = refl
 
 task_by : (s : SystemLists) (t : Task) (turn : Turn) → let u : Task = record t { turn = turn } in task_entry (task_data s u) ≡ Some (redraft_task s u)
-unfolding task_entry task_fields has_executions task_data task_names_data required optional has_only
+unfolding task_entry task_fields task_data task_names_data required optional has_only
 task_by s t (Priority number) = refl
 task_by s t (Slot ticks) = refl
 

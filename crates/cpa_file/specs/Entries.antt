@@ -8,6 +8,7 @@ use Rattle.cpa_draft.specs.declared.draft.DraftResource.{DraftResource}
 use Rattle.cpa_draft.specs.declared.draft.DraftSource.{DraftSource}
 use Rattle.cpa_draft.specs.declared.draft.DraftTask.{DraftTask}
 use Rattle.cpa_draft.specs.declared.draft.DraftPath.{DraftPath}
+use Rattle.cpa_model.specs.Built.{has_executions}
 use Rattle.cpa_file.specs.Lists.{read_all}
 use Rattle.cpa_file.specs.Fields.{◌>>=◌, optional, required, has_only}
 
@@ -46,11 +47,6 @@ resource_entry d = do
   if has_only (codes "name" ∷ codes "kind" ∷ codes "limit" ∷ codes "gap" ∷ codes "bit" ∷ []) d
       then Some (record { name = name; kind = kind; limit = limit; gap = gap; bit = bit }) else None
 
--- A task has both executions, or a payload and neither; `extended` stands beside a payload alone.
-unfoldable pub has_executions : Option ℤ → Option ℤ → Option ℤ → Option Bool → Bool
-has_executions best worst (Some payload) extended = is_none best && is_none worst
-has_executions best worst None extended = is_some best && is_some worst && is_none extended
-
 -- the keys of a task, each of its type
 unfoldable pub task_fields : Data → Option DraftTask
 task_fields d = do
@@ -69,7 +65,7 @@ task_fields d = do
 
 -- the task, if its executions stand in one of the two ways
 abbrev pub with_executions : DraftTask → Option DraftTask
-with_executions t = if has_executions t.best t.worst t.payload t.extended then Some t else None
+with_executions t = if has_executions t then Some t else None
 
 -- the entry, if it has the form of a task
 unfoldable pub task_entry : Data → Option DraftTask

@@ -5,7 +5,8 @@ ghost use Rattle.toml.specs.View.{view, items_view};
 ghost use Rattle.cpa_file.specs.Lists.{GivesList, read_all};
 ghost use Rattle.toml.specs.Data.{as_str};
 ghost use Rattle.cpa_file.specs.Fields.{Gives, required, optional};
-ghost use Rattle.cpa_file.specs.Entries.{kind_of_word, as_kind, as_texts, task_fields, has_executions};
+ghost use Rattle.cpa_file.specs.Entries.{kind_of_word, as_kind, as_texts, task_fields};
+ghost use Rattle.cpa_model.specs.Built.{has_executions};
 
 use crate::fault::ReadFault;
 use crate::fields::{only_has, optional_integer, optional_truth, required_integer, required_text};
@@ -80,19 +81,15 @@ impl Entry for DraftResource {
     }
 }
 
-#[tactic(auto, unfolding(crate::specs::Entries::has_executions))]
-fn executions(
-    best: Option<i64>,
-    worst: Option<i64>,
-    payload: Option<i64>,
-    extended: Option<bool>,
-) -> bool
-    ensures { result ≡ has_executions best worst payload extended }
+/// Whether a task has both executions, or a payload in place of both.
+fn has_executions(task: &DraftTask) -> bool
+    ensures { result ≡ has_executions task.now }
 {
-    match payload {
-        Some(_) => best.is_none() && worst.is_none(),
-        None => best.is_some() && worst.is_some() && extended.is_none(),
-    }
+    (task.best.is_some()
+        && task.worst.is_some()
+        && task.payload.is_none()
+        && task.extended.is_none())
+        || (task.payload.is_some() && task.best.is_none() && task.worst.is_none())
 }
 
 #[tactic(auto, unfolding(crate::specs::Entries::task_fields))]
@@ -136,7 +133,7 @@ impl Entry for DraftTask {
     #[tactic(auto, unfolding(crate::specs::Entries::task_entry))]
     fn read(alloc: Global, value: &Value) -> Result<DraftTask, ReadFault> {
         let task = read_task_fields(alloc, value)?;
-        if executions(task.best, task.worst, task.payload, task.extended) {
+        if has_executions(&task) {
             Ok(task)
         } else {
             Err(ReadFault::Malformed)

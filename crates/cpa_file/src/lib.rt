@@ -6,8 +6,6 @@ mod fault;
 mod fields;
 mod print;
 mod read;
-#[cfg(test)]
-mod tests;
 
-pub use print::print_system;
+pub use print::print_document;
 pub use read::{FileRefusal, read_system};

@@ -2,3 +2,4 @@ pub mod Built
 pub mod Chains
 pub mod Rules
 pub mod SystemLists
+pub mod Redraft
