@@ -109,8 +109,13 @@ fn share_until(rival: &Rival, rounds: u64, window: u64) -> u64
     ensures { IsSettled (share_of rival.now) rounds window result }
 {
     match (&rival.model, rival.bound) {
-        (Some(model), Bound::Within(bound)) if share(rival, rounds, window) < rounds * rival.slot =>
-            { events_until(model, window + bound).saturating_sub(bound) }
+        (Some(model), Bound::Within(bound)) => {
+            if share(rival, rounds, window) < rounds * rival.slot {
+                events_until(model, window + bound).saturating_sub(bound)
+            } else {
+                window
+            }
+        }
         _ => window,
     }
 }
