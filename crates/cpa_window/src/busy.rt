@@ -36,7 +36,8 @@ pub trait BusyWindow {
         ensures small { result ≤ MAX_EXECUTION };
 
     /// Up to which length a window after this one asks for no more than its further jobs do.
-    /// `window` itself promises nothing.
+    /// `window` itself promises nothing. Less is right too, and only slower: no clause says how far
+    /// it looks ahead.
     fn steady_until(&self, jobs: u64, window: u64) -> u64
         requires jobs { jobs ≤ MAX_LIMIT }
         requires window { window ≤ MAX_LIMIT }
@@ -45,7 +46,7 @@ pub trait BusyWindow {
     /// A longer window asks for no less.
     ghost monotone: { (b : Self) (q v w : ℕ) → v ≤ w → demand b q v ≤ demand b q w };
 
-    /// Neither does a job more.
+    /// A job more asks for that much more at least.
     ghost more: { (b : Self) (q w : ℕ) → demand b q w + each b ≤ demand b (q + 1) w };
 
     /// Each job asks for a tick at least.
