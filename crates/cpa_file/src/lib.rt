@@ -9,3 +9,6 @@ mod read;
 
 pub use print::print_document;
 pub use read::{FileRefusal, read_system};
+
+#[cfg(test)]
+mod tests;
