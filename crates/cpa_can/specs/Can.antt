@@ -1,4 +1,6 @@
--- The bound of a frame on a CAN bus, whose rivals are the tasks of higher priority.
+-- The bound of a frame on a CAN bus, whose rivals are the tasks of higher priority: that of Davis, Burns, Bril and
+-- Lukkien ("Controller Area Network (CAN) schedulability analysis: Refuted, revisited and revised", 2007), with event
+-- models in place of periods and jitters.
 use Rattle.std.specs.Prelude.{ℕ, ◌+◌, ◌-◌, ◌*◌, List}
 use Rattle.cpa_units.specs.declared.bound.Bound.{Bound}
 use Rattle.cpa_units.specs.declared.bound.Bound.TheVariants.{Within, Overload}
@@ -9,11 +11,11 @@ use Rattle.cpa_window.specs.declared.rivals.Rival.{Rival}
 use Rattle.cpa_window.specs.Rivals.{work_in}
 use Rattle.cpa_window.specs.Windows.{window}
 
--- what keeps the bus busy: one frame of lower priority, and all of the task's own and of higher priority
+-- what keeps the bus busy: one frame of lower priority, and all of the task's own and of higher priority (Davis et al.)
 abbrev pub can_busy_demand : Model → ℕ → ℕ → List Rival → ℕ → Bound
 can_busy_demand own worst blocking rivals w = bound_plus (Within (blocking + eta_plus own w * worst)) (work_in rivals w)
 
--- what comes before the start of the task's q-th frame
+-- what comes before the start of the task's q-th frame; what comes within a bit time after it goes first (Davis et al.)
 abbrev pub can_demand : ℕ → ℕ → List Rival → ℕ → ℕ → ℕ → Bound
 can_demand worst blocking rivals bit q w = bound_plus (Within (blocking + (q - 1) * worst)) (work_in rivals (w + bit))
 

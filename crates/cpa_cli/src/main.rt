@@ -8,6 +8,8 @@ mod reading;
 mod refusal;
 mod report;
 mod shapes;
+#[cfg(test)]
+mod tests;
 mod text;
 mod words;
 
@@ -28,8 +30,13 @@ fn read_words<R: Env + AllocGlobal>(rt: &R, alloc: Global) -> io::Result<Vec<Str
 
 fn main(rt: HostRuntime) -> ExitCode {
     let alloc = rt.alloc();
-    let Ok(words) = read_words(&rt, alloc) else {
-        return ExitCode::from(30);
+    let words = match read_words(&rt, alloc) {
+        Ok(words) => words,
+        Err(error) if matches!(error.kind(), io::ErrorKind::OutOfMemory) => {
+            return ExitCode::from(30);
+        }
+        // Words that are no text are as little accepted as none.
+        Err(_) => Vec::new(alloc),
     };
     let mut sink = RealSink::new(io::writer(&rt));
     let mut files = RealFiles::new(&rt, alloc);

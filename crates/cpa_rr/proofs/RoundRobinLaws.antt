@@ -1,6 +1,5 @@
 -- The bound under round robin grows, and the code's demand is that of the definition.
 use Rattle.std.proofs.Common.{◌≡◌, ℕ, ◌+◌, ◌*◌, ◌<◌, ◌≤◌, List, [], ◌∷◌, Option, Some, None, refl, arith}
-use Rattle.std.specs.List.{sum_by}
 use Rattle.std.proofs.Math.Nat.{mul-le-mul_left, mul-le-mul_right, le_trans}
 use Rattle.std.proofs.lemmas.List.Sums.{sum_by-cons}
 use Rattle.std.specs.Int.{div_ceil}
@@ -14,10 +13,11 @@ use Rattle.cpa_events.specs.Events.{delta_minus, IsNoDenser}
 use Rattle.cpa_events.proofs.EventLaws.{eta_plus-mono, eta_plus-denser, delta_minus-denser}
 use Rattle.cpa_window.specs.declared.rivals.Rival.{Rival}
 use Rattle.cpa_window.specs.Rivals.{IsInputNoDenser, IsNoHeavier, AreNoHeavier}
+use Rattle.cpa_window.specs.Walk.{IsSteady}
 use Rattle.cpa_window.proofs.RivalLaws.{sum_bounds-mono}
 use Rattle.cpa_window.proofs.BusyWindowLaws.{busy_window_bound-grows, busy_window_bound-low, busy_window_bound-high}
 use Rattle.cpa_rr.specs.RoundRobin.{events_with_backlog, work_in_rounds, round_robin_demand, round_robin_bound}
-use Rattle.cpa_rr.specs.RoundRobinWork.{slots_or_work, share_of, round_robin_work}
+use Rattle.cpa_rr.specs.RoundRobinWork.{slots_or_work, share_of, shares_of, round_robin_work, IsSettled}
 
 events_with_backlog-mono : (m n : Option Model) (a b : Bound) (w : ℕ) → IsInputNoDenser m n → IsAtMost a b → IsAtMost (events_with_backlog m a w) (events_with_backlog n b w)
 events_with_backlog-mono m None a b w d h = tt
@@ -64,10 +64,22 @@ bounded_share slots worst (Some m) (Within bound) window = refl
 bounded_share slots worst (Some m) Overload window = refl
 bounded_share slots worst None bound window = refl
 
-bounded_shares : (rounds : ℕ) (rivals : List Rival) (window : ℕ) → sum_bounds (λ r. work_in_rounds rounds r window) rivals ≡ Within (sum_by (share_of rounds window) rivals)
+bounded_shares : (rounds : ℕ) (rivals : List Rival) (window : ℕ) → sum_bounds (λ r. work_in_rounds rounds r window) rivals ≡ Within (shares_of rivals rounds window)
 bounded_shares rounds [] window = refl
 bounded_shares rounds (r ∷ rs) window =
-    rw (bounded_share (rounds * r.slot) r.worst r.model r.bound window, bounded_shares rounds rs window, sum_by-cons (share_of rounds window) r rs) refl
+    rw (bounded_share (rounds * r.slot) r.worst r.model r.bound window, bounded_shares rounds rs window, sum_by-cons (λ r. share_of r rounds window) r rs) refl
 
 pub demand-number : (worst slot : ℕ) (rivals : List Rival) (q w : ℕ) → Within (round_robin_work worst slot rivals q w) ≡ round_robin_demand worst slot rivals q w
 demand-number worst slot rivals q w = rw (bounded_shares (div_ceil (q * worst) slot) rivals w) refl
+
+-- ---- windows that are known from the last one
+
+-- until a rival sends something new, a longer window asks for no more than the jobs that it has more
+pub round_robin_work-steady : (worst slot : ℕ) (rivals : List Rival) (jobs from until : ℕ) → IsSettled (shares_of rivals) (div_ceil (jobs * worst) slot) from until → IsSteady (round_robin_work worst slot rivals) worst jobs from until
+round_robin_work-steady worst slot rivals jobs from until s =
+    record {
+      adds = λ q v w j f lt le.
+          let own : jobs * worst ≤ q * worst = mul-le-mul_right worst j in
+          let rounds = div_ceil-mono (jobs * worst) (q * worst) slot own in
+          omega (arith, s.stays (div_ceil (q * worst) slot) (div_ceil ((q + 1) * worst) slot) v w rounds f lt le);
+    }

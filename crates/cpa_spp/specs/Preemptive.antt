@@ -1,4 +1,5 @@
--- The bound of a task under preemptive priority, whose rivals are the tasks of higher priority.
+-- The bound of a task under preemptive priority, whose rivals are the tasks of higher priority: that of Richter's thesis
+-- (2005) and of Henia et al. (2005).
 use Rattle.std.specs.Prelude.{ℕ, ◌*◌, List}
 use Rattle.cpa_units.specs.declared.bound.Bound.{Bound}
 use Rattle.cpa_units.specs.declared.bound.Bound.TheVariants.{Within}
@@ -9,7 +10,7 @@ use Rattle.cpa_window.specs.declared.rivals.Rival.{Rival}
 use Rattle.cpa_window.specs.Rivals.{work_in}
 use Rattle.cpa_window.specs.BusyWindow.{busy_window_bound, windows_of}
 
--- the work of q jobs, and of all that may come before them
+-- the work of q jobs, and of all jobs of higher priority that come in the window
 abbrev pub preemptive_demand : ℕ → List Rival → ℕ → ℕ → Bound
 preemptive_demand worst rivals q w = bound_plus (Within (q * worst)) (work_in rivals w)
 

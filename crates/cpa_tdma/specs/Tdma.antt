@@ -1,4 +1,4 @@
--- The bound of a task with a slot of its own in a cycle.
+-- The bound of a task with a slot of its own in a cycle: that of Richter's thesis (2005) and of Henia et al. (2005).
 use Rattle.std.specs.Prelude.{ℕ, ◌+◌, ◌-◌, ◌*◌}
 use Rattle.std.specs.Int.{div_ceil}
 use Rattle.cpa_units.specs.declared.bound.Bound.{Bound}
@@ -7,7 +7,7 @@ use Rattle.cpa_events.specs.declared.Model.{Model}
 use Rattle.cpa_events.specs.Events.{delta_minus}
 use Rattle.cpa_window.specs.BusyWindow.{busy_window_bound, windows_of}
 
--- the work of q jobs, and the rest of each cycle that it takes
+-- the work of q jobs, and what is left beside the slot of each cycle that it takes
 abbrev pub tdma_work : ℕ → ℕ → ℕ → ℕ → ℕ
 tdma_work worst slot cycle q = q * worst + div_ceil (q * worst) slot * (cycle - slot)
 

@@ -1,4 +1,5 @@
--- Busy windows: the jobs of a task until its resource is done with it before the next can come.
+-- Busy windows: the jobs of a task until its resource is done with it before the next can come. Richter's thesis (2005)
+-- and Henia et al. (2005) take the greatest response among those jobs for the bound.
 use Rattle.std.specs.Prelude.{ℕ, ◌+◌, nat_le, Bool, true}
 use Rattle.cpa_units.specs.declared.bound.Bound.{Bound}
 use Rattle.cpa_units.specs.declared.bound.Bound.TheVariants.{Within, Overload}
@@ -11,7 +12,7 @@ abbrev pub is_last : Bound → ℕ → Bool
 is_last (Within w) next = nat_le w next
 is_last Overload next = true
 
--- how many jobs of the task a busy window has at most: the first q whose window is the last
+-- how many jobs of the task a busy window has at most: the least q whose window is the last
 unfoldable pub jobs_in_busy_window : (ℕ → Bound) → (ℕ → ℕ) → ℕ → ℕ
 jobs_in_busy_window window_of earliest limit = least_from (λ q. is_last (window_of q) (earliest (q + 1))) 1 limit
 

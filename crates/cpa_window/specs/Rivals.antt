@@ -22,13 +22,14 @@ pub record AreRivals (rivals : List Rival) : Type 0 where
   pub few : length rivals < MAX_TASKS
   pub each : All IsRival rivals
 
--- the most events of an input in a window; of an unbounded one above every number, unless the window has no length
+-- the most events of an input in a window; those of an unbounded one are above every number, unless the window has no
+-- length
 abbrev pub events_in : Option Model → ℕ → Bound
 events_in (Some m) window = Within (eta_plus m window)
 events_in None zero = Within 0
 events_in None (suc window) = Overload
 
--- the work that rivals bring in a window
+-- the work that rivals bring in a window: of each its events, and its greatest execution for each (Richter)
 abbrev pub work_in : List Rival → ℕ → Bound
 work_in rivals window = sum_bounds (λ r. bound_times (events_in r.model window) r.worst) rivals
 

@@ -1,4 +1,4 @@
--- Windows: the least length that has room for the demand in it.
+-- Windows: the least length that has room for the demand in it, as the busy windows of Richter's thesis (2005) and pyCPA.
 use Rattle.std.specs.Prelude.{ℕ, ◌+◌, ◌-◌, ◌≤◌, ◌<◌}
 use Rattle.cpa_units.specs.declared.bound.Bound.{Bound}
 use Rattle.cpa_units.specs.declared.bound.Bound.TheVariants.{Within, Overload}

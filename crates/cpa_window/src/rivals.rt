@@ -1,4 +1,4 @@
-// The other tasks of a resource, and the work that they bring.
+//! The other tasks of a resource, and the work that they bring.
 
 ghost use Rattle.std.specs.Prelude.{◌≡◌, ◌+◌, ◌*◌, ◌^◌, ◌≤◌};
 ghost use Rattle.cpa_events.specs.Events.{delta_minus, eta_plus, IsModelInRange};
@@ -13,14 +13,15 @@ use cpa_units::limits::{MAX_BIT, MAX_EXECUTION, MAX_LIMIT};
 pub struct Rival {
     /// The model of its input; none where that is unbounded.
     pub model: Option<Model>,
+    /// Its greatest execution, in ticks.
     pub worst: u64,
-    /// Its slot, 0 where slots don't count.
+    /// Its slot in ticks, 0 where slots don't count.
     pub slot: u64,
-    /// Its bound so far.
+    /// Its bound so far; a number is at most ten million ticks.
     pub bound: Bound,
 }
 
-/// The work of a window's events, each of which takes so long.
+/// The work of a window's events, each of which takes so long, in ticks.
 pub fn events_work(model: &Model, window: u64, each: u64) -> u64
     requires model { IsModelInRange model.now }
     requires window { window ≤ 2 * MAX_LIMIT }
@@ -31,7 +32,7 @@ pub fn events_work(model: &Model, window: u64, each: u64) -> u64
     model.eta_plus(window) * each
 }
 
-/// Up to which length windows have no more events than this one: until the next event can come.
+/// Up to which length windows have no more events than this one: when the next event can come.
 pub fn events_until(model: &Model, window: u64) -> u64
     requires model { IsModelInRange model.now }
     requires window { window ≤ 2 * MAX_LIMIT }
@@ -48,7 +49,7 @@ pub fn some_unbounded(rivals: &[Rival]) -> bool
     rivals.iter().any(|rival| rival.model.is_none())
 }
 
-/// The work of rivals whose inputs are bounded, in a window. Others count as nothing.
+/// The work of rivals whose inputs are bounded, in a window, in ticks. Others count as nothing.
 pub fn work_in(rivals: &[Rival], window: u64) -> u64
     requires rivals { AreRivals rivals.now }
     requires window { window ≤ MAX_LIMIT + MAX_BIT }
@@ -62,7 +63,8 @@ pub fn work_in(rivals: &[Rival], window: u64) -> u64
     total
 }
 
-/// Up to which length windows have no more work of such rivals than this window has.
+/// Up to which length windows have no more work of such rivals than this window has. Less would be
+/// right too: how far it looks ahead is left open.
 pub fn work_until(rivals: &[Rival], window: u64) -> u64
     requires rivals { AreRivals rivals.now }
     requires window { window ≤ MAX_LIMIT + MAX_BIT }

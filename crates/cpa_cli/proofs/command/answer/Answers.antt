@@ -12,9 +12,9 @@ pub returns-in-Ok-clause-answered : goal.returns-in-Ok-clause-answered
 returns-in-Ok-clause-answered g c =
     IfOk-weaker c.answer_bytes.result _ _
     (λ o said told ne.
-        let short : length c.as_slice.result.now ≤ 1048576 = omega (arith, c.in-Ok.ensures.within, c.as_slice.ensures.len) in
-        output-at (map string_bytes c.args.words.now) (g.F.Files.held c.args.files.now) (Analyse c.in-Some.file.now) (reply o.status o.text.items) (sym c.in-Some.ensures)
-        (answer-held (Analyse c.in-Some.file.now) (g.F.Files.held c.args.files.now c.in-Some.file.now) c.as_slice.result.now (reply o.status o.text.items) (c.in-Ok.ensures.content told ∙ ap Some (sym c.as_slice.ensures.value)) short said))
+    let short : length c.as_slice.result.now ≤ 1048576 = omega (arith, c.in-Ok.ensures.within, c.as_slice.ensures.len) in
+    output-at (map string_bytes c.args.words.now) (g.F.Files.held c.args.files.now) (Analyse c.in-Some.file.now) (reply o.status o.text.items) (sym c.in-Some.ensures)
+    (answer-held (Analyse c.in-Some.file.now) (g.F.Files.held c.args.files.now c.in-Some.file.now) c.as_slice.result.now (reply o.status o.text.items) (c.in-Ok.ensures.content told ∙ ap Some (sym c.as_slice.ensures.value)) short said))
     c.answer_bytes.ensures.answered
 
 pub returns-in_ok-file_line-in-Err-TooLong-clause-answered : goal.returns-in_ok-file_line-in-Err-TooLong-clause-answered
