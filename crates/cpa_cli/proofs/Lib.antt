@@ -1,4 +1,5 @@
 pub mod AcceptedLaws
+pub mod ExecutionLaws
 pub mod InputLaws
 pub mod OutputLaws
 pub mod ReadingLaws

@@ -1,9 +1,9 @@
 -- The lines of the refusals.
 use Rattle.std.specs.Prelude.{ℕ, codes, List, ◌++◌}
 use Rattle.std.specs.Fmt.{decimal}
-use Rattle.cpa_model.specs.declared.refusal.Refusal.{Refusal}
-use Rattle.cpa_model.specs.declared.refusal.Part.{Part}
-use Rattle.cpa_model.specs.declared.refusal.Part.TheVariants.{File, Resource, Source, Task, Path}
+use Rattle.cpa_draft.specs.declared.refusal.Refusal.{Refusal}
+use Rattle.cpa_draft.specs.declared.refusal.Part.{Part}
+use Rattle.cpa_draft.specs.declared.refusal.Part.TheVariants.{File, Resource, Source, Task, Path}
 
 abbrev pub words_refused : List ℕ
 words_refused = codes "words refused\n"

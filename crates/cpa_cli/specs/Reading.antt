@@ -1,17 +1,25 @@
 -- The system that a file stands for.
-use Rattle.std.specs.Prelude.{◌≡◌, ℕ, ℤ, pos, ◌==◌, codes, Bool, true, false, ◌&&◌, ◌||◌, if◌then◌else◌, List, [], ◌∷◌, Option, Some, None, option_map, option_and_then}
+use Rattle.std.specs.Prelude.{◌≡◌, ℕ, ℤ, pos, ◌==◌, codes, Bool, true, false, ◌&&◌, ◌||◌, if◌then◌else◌, nat_le, length, List, [], ◌∷◌, Option, Some, None, option_map, option_and_then}
 use Rattle.std.specs.Str.{bytes_eq, is_utf8}
+use Rattle.std.specs.List.{list_all, range_with_len}
 use Rattle.toml.specs.Data.{Data, table, Items, no_items, item, Members, no_members, member, as_str, as_integer, as_array, get_member}
 use Rattle.toml.specs.Parse.{parse_document}
-use Rattle.cpa_model.specs.DraftLists.{DraftLists}
+use Rattle.cpa_draft.specs.DraftLists.{DraftLists}
 use Rattle.cpa_model.specs.SystemLists.{SystemLists}
-use Rattle.cpa_model.specs.Plain.{is_plain, not_plain, system_of}
-use Rattle.cpa_model.specs.declared.draft.DraftResource.{DraftResource}
-use Rattle.cpa_model.specs.declared.draft.DraftSource.{DraftSource}
-use Rattle.cpa_model.specs.declared.draft.DraftTask.{DraftTask}
-use Rattle.cpa_model.specs.declared.draft.KindWord.{KindWord}
-use Rattle.cpa_model.specs.declared.draft.KindWord.TheVariants as word
-use Rattle.cpa_model.specs.declared.refusal.Refusal.{Refusal}
+use Rattle.cpa_model.specs.SystemLists.{resource_at, task_at, task_places}
+use Rattle.cpa_model.specs.Built.{system_of}
+use Rattle.cpa_model.specs.declared.entries.Kind.{Kind}
+use Rattle.cpa_model.specs.declared.entries.Kind.TheVariants.{Preemptive}
+use Rattle.cpa_model.specs.declared.entries.Activator.{Activator}
+use Rattle.cpa_model.specs.declared.entries.Activator.TheVariants.{Source as FromSource}
+use Rattle.cpa_draft.specs.Refusals.{first_refusal}
+use Rattle.cpa_draft.specs.declared.refusal.Part.TheVariants as part
+use Rattle.cpa_draft.specs.declared.draft.DraftResource.{DraftResource}
+use Rattle.cpa_draft.specs.declared.draft.DraftSource.{DraftSource}
+use Rattle.cpa_draft.specs.declared.draft.DraftTask.{DraftTask}
+use Rattle.cpa_draft.specs.declared.draft.KindWord.{KindWord}
+use Rattle.cpa_draft.specs.declared.draft.KindWord.TheVariants as word
+use Rattle.cpa_draft.specs.declared.refusal.Refusal.{Refusal}
 use Rattle.cpa_cli.specs.declared.refusal.FileRefusal.{FileRefusal}
 use Rattle.cpa_cli.specs.declared.refusal.FileRefusal.TheVariants as fault
 use Rattle.cpa_cli.specs.declared.shapes.Shape.{Shape}
@@ -127,9 +135,31 @@ pub data Reading : Type 0 where
   Refused : Refusal → Reading
   Accepted : SystemLists → Reading
 
+-- the refusal of what can't be read or analysed yet
+abbrev pub not_plain : Refusal
+not_plain = record { reason = 1; part = part.File; place = 0 }
+
+abbrev pub is_preemptive : Kind → Bool
+is_preemptive Preemptive = true
+is_preemptive _ = false
+
+abbrev pub is_source : Activator → Bool
+is_source (FromSource k) = true
+is_source _ = false
+
+-- whether all resources are preemptive, sources activate all tasks, and there are no paths
+abbrev pub is_analysable : SystemLists → Bool
+is_analysable s =
+    list_all (λ k. is_preemptive (resource_at s k).kind) (range_with_len 0 (length s.resources))
+    && list_all (λ i. is_source (task_at s i).after) (task_places s) && nat_le (length s.paths) 0
+
+abbrev pub reading_as : Option Refusal → SystemLists → Reading
+reading_as None s = if is_analysable s then Accepted s else Refused not_plain
+reading_as (Some r) s = Refused r
+
 abbrev pub reading_by : Option DraftLists → Reading
 reading_by None = Refused not_plain
-reading_by (Some d) = if is_plain d then Accepted (system_of d) else Refused not_plain
+reading_by (Some d) = reading_as (first_refusal d) (system_of d)
 
 abbrev pub reading_from : Option Members → Reading
 reading_from None = NotToml

@@ -1,18 +1,20 @@
 //! Reads a plain system file: the system that its bytes stand for.
 
-ghost use Rattle.std.specs.Prelude.{◌≡◌, ℤ, List, Option, option_map, option_and_then, IfOk, IfErr, codes, string_bytes};
-ghost use Rattle.std.specs.List.{list_all};
+ghost use Rattle.std.specs.Prelude.{◌≡◌, ℤ, List, Option, option_map, option_and_then, length, IfOk, IfErr, codes, string_bytes};
+ghost use Rattle.std.specs.List.{list_all, range_with_len};
+ghost use Rattle.cpa_model.specs.SystemLists.{resource_at, task_at, task_places};
 ghost use Rattle.std.specs.BTreeMap.{keys};
 ghost use Rattle.toml.specs.View.{view, table_view, items_view};
 ghost use Rattle.toml.specs.Data.{Data, get_member};
-ghost use Rattle.cpa_cli.specs.Reading.{is_key, all_keys, text_at, integer_at, optional_at, kind_word, is_format, from_table, entries_of, entries_at, draft_resource, draft_source, draft_task, draft_of, reading_by, reading_of, Accepted, IsReadFault};
+ghost use Rattle.cpa_cli.specs.Reading.{is_key, all_keys, text_at, integer_at, optional_at, kind_word, is_format, from_table, entries_of, entries_at, draft_resource, draft_source, draft_task, draft_of, reading_by, reading_of, is_preemptive, is_source, is_analysable, Accepted, IsReadFault};
 
 use crate::refusal::FileRefusal;
 use crate::shapes::Shape;
 use cpa_model::{
-    BuildFault, Draft, DraftResource, DraftSource, DraftTask, KindWord, Raw, Refusal, System,
+    Activator, BuildFault, Draft, DraftResource, DraftSource, DraftTask, Kind, KindWord, Raw,
+    Refusal, System,
 };
-use cpa_units::NoMemory;
+use cpa_units::{NoMemory, ResId, TaskId};
 use std::alloc::Global;
 use toml::{Table, Value};
 
@@ -310,6 +312,43 @@ const NOT_PLAIN: Refusal = Refusal {
     place: 0,
 };
 
+fn is_preemptive(kind: Kind) -> bool
+    ensures { result ≡ is_preemptive kind }
+{
+    match kind {
+        Kind::Preemptive => true,
+        _ => false,
+    }
+}
+
+fn is_source(activator: Activator) -> bool
+    ensures { result ≡ is_source activator }
+{
+    match activator {
+        Activator::Source(_) => true,
+        _ => false,
+    }
+}
+
+fn are_preemptive(system: &System) -> bool
+    ensures { result ≡ list_all (λ k. is_preemptive (resource_at system.now k).kind) (range_with_len 0 (length system.now.resources)) }
+{
+    (0..system.resources()).all(|k| is_preemptive(system.resource(ResId(k)).kind))
+}
+
+fn have_sources(system: &System) -> bool
+    ensures { result ≡ list_all (λ i. is_source (task_at system.now i).after) (task_places system.now) }
+{
+    (0..system.tasks()).all(|i| is_source(system.task(TaskId(i)).after))
+}
+
+/// Whether the analysis can do a system so far.
+fn is_analysable(system: &System) -> bool
+    ensures { result ≡ is_analysable system.now }
+{
+    are_preemptive(system) && have_sources(system) && system.paths() <= 0
+}
+
 /// The system that a document stands for.
 fn build_system(alloc: Global, table: &Table) -> Result<System, FileRefusal>
     ensures ok { IfOk result (λ s. reading_by (draft_of (table_view table.now)) ≡ Accepted s) }
@@ -319,7 +358,8 @@ fn build_system(alloc: Global, table: &Table) -> Result<System, FileRefusal>
         Err(_) => Err(FileRefusal::Memory),
         Ok(None) => Err(FileRefusal::Refused(NOT_PLAIN)),
         Ok(Some(draft)) => match System::build(alloc, draft) {
-            Ok(system) => Ok(system),
+            Ok(system) if is_analysable(&system) => Ok(system),
+            Ok(_) => Err(FileRefusal::Refused(NOT_PLAIN)),
             Err(BuildFault::Refused(refusal)) => Err(FileRefusal::Refused(refusal)),
             Err(BuildFault::Memory) => Err(FileRefusal::Memory),
         },

@@ -135,7 +135,7 @@ fn analyses(rt: HostRuntime) -> Result<(), Fail> {
         (
             "format = 1\nsource = [{ name = \"s\", period = 0 }]",
             14,
-            NOT_PLAIN,
+            "system refused reason 2 source 1\n",
         ),
         (
             "format = 1\nsource = [{ name = \"s\", period = 5, jitter = 1 }]",
