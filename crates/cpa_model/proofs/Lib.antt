@@ -1,3 +1,4 @@
 pub mod BuiltLaws
+pub mod ChainLaws
 pub mod EntryLaws
 pub mod SystemLaws

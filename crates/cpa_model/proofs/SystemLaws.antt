@@ -1,6 +1,14 @@
 -- What the rules of a system give to those who read it.
-use Rattle.std.proofs.Common.{◌≡◌, ℕ, zero, suc, ◌+◌, ◌-◌, ◌<◌, ◌≤◌, List, [], ◌∷◌, map, length, Option, Some, None, IsSome, option_map, unwrap_or, slice_index_or, get_or, refl, sym, ap, ◌∙◌, arith, true, false}
+use Rattle.std.proofs.Common.{◌≡◌, ℕ, zero, suc, ◌+◌, ◌-◌, ◌<◌, ◌≤◌, List, [], ◌∷◌, map, length, Option, Some, None, IsSome, option_map, unwrap_or, slice_index_or, get_or, refl, sym, ap, ◌∙◌, arith, true, false, ◌==◌, Bool, cond, ◌++◌, add-zero}
+use Rattle.std.specs.List.{range_with_len, sum_by, filter}
 use Rattle.std.proofs.lemmas.Bool.{false≢true}
+use Rattle.std.proofs.lemmas.List.Elements.{filter-append}
+use Rattle.std.proofs.lemmas.List.Sums.{sum_by-append}
+use Rattle.cpa_units.specs.declared.places.SourceId.{SourceId}
+use Rattle.cpa_model.specs.declared.entries.Kind.{Kind}
+use Rattle.cpa_model.specs.declared.entries.Kind.TheVariants as kind
+use Rattle.cpa_model.specs.declared.entries.Turn.{Turn}
+use Rattle.cpa_model.specs.declared.entries.Turn.TheVariants as turn
 use Rattle.std.proofs.lemmas.Option.{none-some, same_Some}
 use Rattle.std.proofs.lemmas.List.{get_or-map, length-map}
 use Rattle.cpa_model.specs.declared.entries.Task.{Task as Entry}
@@ -8,9 +16,9 @@ use Rattle.cpa_model.specs.declared.entries.Path.{Path}
 use Rattle.cpa_model.specs.declared.entries.Activator.{Activator}
 use Rattle.cpa_model.specs.declared.entries.Activator.TheVariants.{Source, Task}
 use Rattle.cpa_units.specs.declared.places.TaskId.{TaskId}
-use Rattle.cpa_model.specs.Chains.{chain_step, depth_within, activators}
-use Rattle.cpa_model.specs.Rules.{IsSystem, IsPath}
-use Rattle.cpa_model.specs.SystemLists.{SystemLists, task_at, no_task, depth_of}
+use Rattle.cpa_model.specs.Chains.{chain_step, depth_within, root_step, root_within, activators}
+use Rattle.cpa_model.specs.Rules.{IsSystem, IsPath, IsActivator, TurnFits, KindFits}
+use Rattle.cpa_model.specs.SystemLists.{SystemLists, task_at, no_task, depth_of, root_of, slot_of, gap_of}
 
 abbrev pub Links : Type 0
 Links = List (Option Activator)
@@ -122,3 +130,78 @@ path-short s rules p path =
     let deep = path-depth s rules p path (length p.tasks - 1) (omega (arith, path.some)) in
     let most = depth_of-most s (get_or p.tasks (length p.tasks - 1) no_id).0 in
     omega arith
+
+-- the source that begins a chain is there
+some_suc : (o : Option ℕ) → IsSome (option_map suc o) → IsSome o
+some_suc None some = absurd (false≢true some)
+some_suc (Some d) some = refl
+
+root-step : (s : SystemLists) (a : Activator) (f : ℕ → SourceId) (g : ℕ → Option ℕ) → IsActivator s a → ((j : ℕ) → j < length s.tasks → IsSome (g j) → (f j).0 < length s.sources)
+    → IsSome (chain_step (Some a) g) → (root_step (Some a) f).0 < length s.sources
+root-step s (Source k) f g there each some = there
+root-step s (Task j) f g there each some = each j.0 there (some_suc (g j.0) some)
+
+pub root_within-there : (s : SystemLists) → IsSystem s → (n i : ℕ) → i < length s.tasks → IsSome (depth_within (activators s.tasks) n i) → (root_within (activators s.tasks) n i).0 < length s.sources
+unfolding depth_within root_within
+root_within-there s rules zero i h some = absurd (false≢true some)
+root_within-there s rules (suc n) i h some =
+    let at : slice_index_or (activators s.tasks) i None ≡ Some (task_at s i).after = activator_at s.tasks i h in
+    rw at
+    (root-step s (task_at s i).after (root_within (activators s.tasks) n) (depth_within (activators s.tasks) n) (rules.tasks i no_task h).activated
+    (λ j less deeper. root_within-there s rules n j less deeper) (rw at at some))
+
+pub root_of-there : (s : SystemLists) → IsSystem s → (i : ℕ) → i < length s.tasks → (root_of s i).0 < length s.sources
+root_of-there s rules i h = root_within-there s rules 32 i h (rules.chains i h)
+
+-- the slots of a resource, one task further
+pub range-more : (a n : ℕ) → range_with_len a (n + 1) ≡ range_with_len a n ++ (a + n) ∷ []
+range-more a zero = rw add-zero refl
+range-more a (suc n) =
+    let one : suc n + 1 ≡ suc (n + 1) = omega arith in
+    let last : a + 1 + n ≡ a + suc n = omega arith in
+    rw one (ap (λ rest. a ∷ rest) (range-more (a + 1) n ∙ ap (λ m. range_with_len (a + 1) n ++ m ∷ []) last))
+
+one-more : (f : ℕ → ℕ) (b : Bool) (m : ℕ) (p : ℕ → Bool) → p m ≡ b → sum_by f (filter p (m ∷ [])) ≡ cond b (f m) 0
+one-more f true m p e = rw e (omega arith)
+one-more f false m p e = rw e refl
+
+pub slots-more : (f : ℕ → ℕ) (p : ℕ → Bool) (n : ℕ) → sum_by f (filter p (range_with_len 0 (n + 1))) ≡ sum_by f (filter p (range_with_len 0 n)) + cond (p n) (f n) 0
+slots-more f p n =
+    let same : 0 + n ≡ n = omega arith in
+    ap (λ ms. sum_by f (filter p ms)) (range-more 0 n ∙ ap (λ m. range_with_len 0 n ++ m ∷ []) same)
+    ∙ ap (sum_by f) (filter-append p (range_with_len 0 n) (n ∷ []))
+    ∙ sum_by-append f (filter p (range_with_len 0 n)) (filter p (n ∷ []))
+    ∙ ap (λ x. sum_by f (filter p (range_with_len 0 n)) + x) (one-more f (p n) n p refl)
+
+pub slot-small : (k : Kind) (t : Turn) → TurnFits k t → slot_of t ≤ 1000000
+slot-small k (turn.Priority number) h = omega arith
+slot-small kind.Preemptive (turn.Slot ticks) h = absurd h
+slot-small kind.RoundRobin (turn.Slot ticks) h = h.1
+slot-small (kind.Tdma gap) (turn.Slot ticks) h = h.1
+slot-small (kind.Can bit) (turn.Slot ticks) h = absurd h
+
+pub gap-small : (k : Kind) → KindFits k → gap_of k ≤ 1000000
+gap-small kind.Preemptive h = omega arith
+gap-small kind.RoundRobin h = omega arith
+gap-small (kind.Tdma gap) h = h
+gap-small (kind.Can bit) h = omega arith
+
+pub cond-small : (b : Bool) (n most : ℕ) → n ≤ most → cond b n 0 ≤ most
+cond-small true n most h = h
+cond-small false n most h = omega arith
+
+abbrev pub slots_to : SystemLists → ℕ → ℕ → ℕ
+slots_to s r i = sum_by (λ i. slot_of (task_at s i).turn) (filter (λ i. (task_at s i).res.0 == r) (range_with_len 0 i))
+
+pub cycle-more : (s : SystemLists) (i r cycle gap x : ℕ) (t : Entry) → t ≡ task_at s i → cycle ≡ slots_to s r i + gap → x ≡ cond (t.res.0 == r) (slot_of t.turn) 0
+    → cycle + x ≡ slots_to s r (i + 1) + gap
+cycle-more s i r cycle gap x t at sum e =
+    let f = λ (i : ℕ). slot_of (task_at s i).turn in
+    let p = λ (i : ℕ). (task_at s i).res.0 == r in
+    let is : x ≡ cond (p i) (f i) 0 = e ∙ ap (λ (u : Entry). cond (u.res.0 == r) (slot_of u.turn) 0) at in
+    omega (arith, slots-more f p i)
+
+pub cycle-small : (s : SystemLists) → IsSystem s → (i r x : ℕ) (t : Entry) → i < length s.tasks → t ≡ task_at s i → x ≡ cond (t.res.0 == r) (slot_of t.turn) 0 → x ≤ 1000000
+cycle-small s rules i r x t h at e =
+    let small : slot_of t.turn ≤ 1000000 = rw at (slot-small _ _ (rules.tasks i no_task h).turn_fits) in
+    rw e (cond-small (t.res.0 == r) (slot_of t.turn) 1000000 small)

@@ -1,8 +1,11 @@
 -- A system: its resources, sources, tasks and paths, as in the system graphs of SymTA/S.
-use Rattle.std.specs.Prelude.{ℕ, ◌+◌, ◌==◌, ◌&&◌, nat_lt, not, max, Bool, List, [], filter, sum_by, fold, length, slice_index_or, None, unwrap_or}
+use Rattle.std.specs.Prelude.{ℕ, ◌+◌, ◌==◌, ◌&&◌, nat_lt, not, max, Bool, List, [], filter, sum_by, fold, length, slice_index_or, None, Option, option_map, position, unwrap_or}
 use Rattle.std.specs.List.{range_with_len}
+use Rattle.std.specs.Str.{bytes_eq}
 use Rattle.cpa_units.specs.declared.limits.TheConstants.{MAX_CHAIN}
+use Rattle.cpa_units.specs.declared.places.ResId.{ResId}
 use Rattle.cpa_units.specs.declared.places.SourceId.{SourceId}
+use Rattle.cpa_units.specs.declared.places.TaskId.{TaskId}
 use Rattle.cpa_model.specs.Chains.{activators, depth_within, root_within}
 use Rattle.cpa_model.specs.declared.entries.Resource.{Resource}
 use Rattle.cpa_model.specs.declared.entries.Source.{Source}
@@ -103,3 +106,13 @@ depth_of s i = unwrap_or (depth_within (activators s.tasks) MAX_CHAIN i) 0
 -- the source that begins a task's chain
 abbrev pub root_of : SystemLists → ℕ → SourceId
 root_of s i = root_within (activators s.tasks) MAX_CHAIN i
+
+-- the resource, the source and the task with a name
+abbrev pub resource_named : SystemLists → List ℕ → Option ResId
+resource_named s name = option_map (λ k. record { 0 = k }) (position (λ (r : Resource). bytes_eq name r.name) s.resources)
+
+abbrev pub source_named : SystemLists → List ℕ → Option SourceId
+source_named s name = option_map (λ k. record { 0 = k }) (position (λ (r : Source). bytes_eq name r.name) s.sources)
+
+abbrev pub task_named : SystemLists → List ℕ → Option TaskId
+task_named s name = option_map (λ k. record { 0 = k }) (position (λ (t : Task). bytes_eq name t.name) s.tasks)

@@ -1,6 +1,8 @@
 //! The entries of a system. Times are in ticks.
 
-ghost use Rattle.std.specs.Prelude.{◌≡◌, ◌<◌, ◌^◌, length, slice_get, Some};
+ghost use Rattle.std.specs.Prelude.{◌≡◌, ◌<◌, ◌^◌, length, slice_get, Some, IfSome, position, ◌==◌, if◌then◌else◌};
+ghost use Rattle.std.specs.Str.{bytes_eq};
+ghost use Rattle.cpa_model.specs.SystemLists.{gap_of, slot_of};
 
 use cpa_units::{Name, ResId, SourceId, TaskId};
 use std::marker::Model;
@@ -114,4 +116,77 @@ pub struct Path {
     pub tasks: TaskList,
     /// 1 to 1,000,000,000.
     pub deadline: Option<u64>,
+}
+
+/// What has a name.
+pub(crate) trait Named {
+    ghost use Rattle.std.specs.Prelude.{◌≡◌, List, ℕ};
+
+    ghost named: { Self → List ℕ };
+
+    fn name_bytes(&self) -> &[u8]
+        ensures { result.now ≡ named self.now };
+}
+
+impl Named for Resource {
+    ghost named = { λ e. e.name };
+
+    fn name_bytes(&self) -> &[u8] {
+        self.name.bytes()
+    }
+}
+
+impl Named for Source {
+    ghost named = { λ e. e.name };
+
+    fn name_bytes(&self) -> &[u8] {
+        self.name.bytes()
+    }
+}
+
+impl Named for Task {
+    ghost named = { λ e. e.name };
+
+    fn name_bytes(&self) -> &[u8] {
+        self.name.bytes()
+    }
+}
+
+/// The place of the first entry with a name.
+pub(crate) fn first_with_name<E: Named>(entries: &[E], name: &[u8]) -> Option<usize>
+    ensures place { result ≡ position (λ e. bytes_eq name.now (E.named e)) entries.now }
+    ensures within { IfSome result (λ k. k < length entries.now) }
+{
+    entries.iter().position(|entry| name == entry.name_bytes())
+}
+
+/// The gap of a kind, 0 where it has none.
+pub(crate) fn gap_of(kind: Kind) -> u64
+    ensures { result ≡ gap_of kind }
+{
+    match kind {
+        Kind::Tdma { gap } => gap,
+        _ => 0,
+    }
+}
+
+/// The slot of a turn, 0 where it has a priority.
+fn slot_of(turn: Turn) -> u64
+    ensures { result ≡ slot_of turn }
+{
+    match turn {
+        Turn::Priority(_) => 0,
+        Turn::Slot(ticks) => ticks,
+    }
+}
+
+/// The slot of a task on a resource, 0 where it is on another.
+pub(crate) fn slot_on(task: &Task, res: ResId) -> u64
+    ensures { result ≡ (if task.now.res.0 == res.0 then slot_of task.now.turn else 0) }
+{
+    if task.res.0 == res.0 {
+        slot_of(task.turn)
+    } else {
+        0
+    }
 }

@@ -4,6 +4,7 @@
 #![tactic(auto)]
 
 pub mod build;
+mod chains;
 pub mod entries;
 pub mod system;
 

@@ -2,7 +2,8 @@
 
 ghost use Rattle.std.specs.Prelude.{◌≡◌, ◌<◌, length};
 
-use crate::entries::{Path, Resource, Source, Task};
+use crate::chains::{chain_depth, chain_root};
+use crate::entries::{Path, Resource, Source, Task, first_with_name, gap_of, slot_on};
 use cpa_units::{PathId, ResId, SourceId, TaskId};
 use std::marker::Model;
 
@@ -27,7 +28,7 @@ impl Model for System {
 }
 
 impl System {
-    ghost use Rattle.cpa_model.specs.SystemLists.{resource_at, source_at, task_at, path_at};
+    ghost use Rattle.cpa_model.specs.SystemLists.{resource_at, source_at, task_at, path_at, resource_named, source_named, task_named, root_of, depth_of, cycle_of};
     ghost use Rattle.cpa_model.specs.Rules.{IsSystem, IsResource, IsSource, IsTask, IsPath};
 
     /// The number of resources.
@@ -92,5 +93,64 @@ impl System {
         ensures rules { IsPath self.now result.now }
     {
         &self.paths[path.0 as usize]
+    }
+
+    /// The resource with a name.
+    pub fn find_resource(&self, name: &[u8]) -> Option<ResId>
+        ensures { result ≡ resource_named self.now name.now }
+    {
+        match first_with_name(self.resources.as_slice(), name) {
+            None => None,
+            Some(place) => Some(ResId(place as u32)),
+        }
+    }
+
+    /// The source with a name.
+    pub fn find_source(&self, name: &[u8]) -> Option<SourceId>
+        ensures { result ≡ source_named self.now name.now }
+    {
+        match first_with_name(self.sources.as_slice(), name) {
+            None => None,
+            Some(place) => Some(SourceId(place as u32)),
+        }
+    }
+
+    /// The task with a name.
+    pub fn find_task(&self, name: &[u8]) -> Option<TaskId>
+        ensures { result ≡ task_named self.now name.now }
+    {
+        match first_with_name(self.tasks.as_slice(), name) {
+            None => None,
+            Some(place) => Some(TaskId(place as u32)),
+        }
+    }
+
+    /// The source that begins a task's chain.
+    pub fn root(&self, task: TaskId) -> SourceId
+        requires { task.0 < length self.now.tasks }
+        ensures source { result ≡ root_of self.now task.0 }
+        ensures there { result.0 < length self.now.sources }
+    {
+        chain_root(self.tasks.as_slice(), task.0 as usize)
+    }
+
+    /// The number of tasks in a task's chain up to and with itself.
+    pub fn depth(&self, task: TaskId) -> u32
+        requires { task.0 < length self.now.tasks }
+        ensures { result ≡ depth_of self.now task.0 }
+    {
+        chain_depth(self.tasks.as_slice(), task.0 as usize)
+    }
+
+    /// The slots of a resource's tasks and its gap, which are the cycle of a TDMA resource.
+    pub fn cycle(&self, res: ResId) -> u64
+        requires { res.0 < length self.now.resources }
+        ensures { result ≡ cycle_of self.now res.0 }
+    {
+        let mut cycle = gap_of(self.resources[res.0 as usize].kind);
+        for task in &self.tasks {
+            cycle += slot_on(task, res);
+        }
+        cycle
     }
 }
