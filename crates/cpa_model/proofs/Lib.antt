@@ -1,3 +1,4 @@
 pub mod BuiltLaws
 pub mod EntryLaws
+pub mod RedraftNames
 pub mod SystemLaws
