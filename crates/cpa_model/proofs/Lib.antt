@@ -1,5 +1,9 @@
 pub mod BuiltLaws
 pub mod EntryLaws
+pub mod RedraftAccepted
+pub mod RedraftChains
 pub mod RedraftNames
+pub mod RedraftNumbers
+pub mod RedraftRanks
 pub mod RedraftStands
 pub mod SystemLaws
