@@ -1,9 +1,9 @@
 pub mod BuiltLaws
 pub mod EntryLaws
-pub mod RedraftAccepted
 pub mod RedraftChains
+pub mod RedraftLaws
 pub mod RedraftNames
 pub mod RedraftNumbers
 pub mod RedraftRanks
-pub mod RedraftStands
+pub mod RedraftUnrefused
 pub mod SystemLaws

@@ -1,26 +1,25 @@
 -- The chains of the redraft of a system reach their sources, within as many tasks as there are.
-use Rattle.std.proofs.Common.{◌≡◌, ◌≢◌, ℕ, zero, suc, ◌+◌, ◌-◌, ◌<◌, ◌≤◌, Bool, true, false, ◌||◌, List, [], ◌∷◌, map, length, slice_index_or, Option, Some, None, IsSome, option_map, is_none, inl, inr, refl, sym, ap, ◌∙◌, arith}
+use Rattle.std.proofs.Common.{◌≡◌, ◌≢◌, ℕ, zero, suc, ◌-◌, ◌<◌, ◌≤◌, true, false, List, [], ◌∷◌, map, length, slice_index_or, Option, Some, None, IsSome, is_none, inl, inr, refl, sym, ap, ◌∙◌, arith}
 use Rattle.std.specs.List.{list_any, IsDistinct, AllByRecursion}
-use Rattle.std.proofs.lemmas.Bool.{cases_Bool, true≢false, false≢true, eqb-true, ne_eqb}
+use Rattle.std.proofs.lemmas.Bool.{cases_Bool, false≢true, eqb-true, ne_eqb}
 use Rattle.std.proofs.Math.Dec.{eqb}
 use Rattle.std.proofs.lemmas.List.{length-map}
 use Rattle.std.proofs.lemmas.Option.{none-some, same_Some}
 use Rattle.std.proofs.lemmas.Map.Keys.{IsDistinct-cons}
 use Rattle.std.proofs.lemmas.Map.Steps.{length-le_from_distinct_below}
 use Rattle.cpa_draft.specs.Names.{link_of, links_of}
-use Rattle.cpa_draft.specs.Chains.{link_step, chain_within, first_longer}
+use Rattle.cpa_draft.specs.Chains.{chain_within, first_longer}
 use Rattle.cpa_draft.specs.declared.draft.DraftTask.{DraftTask}
 use Rattle.cpa_draft.specs.declared.links.Link.{Link}
 use Rattle.cpa_draft.specs.declared.links.Link.TheVariants as link
 use Rattle.cpa_draft.proofs.FirstLemmas.{all_unmarked}
 use Rattle.cpa_draft.proofs.ChainLaws.{chain_within-exact, chain_within-below, chain_within-next}
-use Rattle.cpa_model.specs.declared.entries.Task.{Task}
-use Rattle.cpa_model.specs.Chains.{depth_within, activators}
+use Rattle.cpa_model.specs.Chains.{activators}
 use Rattle.cpa_model.specs.SystemLists.{SystemLists}
 use Rattle.cpa_model.specs.Rules.{IsSystem}
 use Rattle.cpa_model.specs.Redraft.{redraft_task, redraft}
-use Rattle.cpa_model.proofs.BuiltLaws.{link_from, chain-same}
-use Rattle.cpa_model.proofs.RedraftNames.{links_of-redraft}
+use Rattle.cpa_model.proofs.BuiltLaws.{chain-same}
+use Rattle.cpa_model.proofs.RedraftNames.{tasks-redraft, links_of-redraft}
 
 -- what a rule of each member gives
 all-members : {X : Type 0} (P Q : X → Type 0) (xs : List X) → ((x : X) → P x → Q x) → AllByRecursion P xs → AllByRecursion Q xs
@@ -115,16 +114,13 @@ links-count : (s : SystemLists) → length (links_of (redraft s)) ≡ length s.t
 unfolding redraft
 links-count s = length-map (map (redraft_task s) s.tasks) (λ (t : DraftTask). link_of (redraft s) t.after) ∙ length-map s.tasks (redraft_task s)
 
-tasks-count : (s : SystemLists) → length (redraft s).tasks ≡ length s.tasks
-unfolding redraft
-tasks-count s = length-map s.tasks (redraft_task s)
-
 -- each chain of the redraft is found within 32
 redraft-found : (s : SystemLists) → IsSystem s → (i : ℕ) → i < length (links_of (redraft s)) → IsSome (chain_within (links_of (redraft s)) 32 i)
 redraft-found s rules i less =
     rw (ap (λ links. chain_within links 32 i) (links_of-redraft s rules) ∙ chain-same (activators s.tasks) 32 i)
     (rules.chains i (omega (arith, links-count s)))
 
+-- what is there isn't nothing
 some-not_none : {X : Type 0} (o : Option X) → IsSome o → is_none o ≡ false
 some-not_none None some = absurd (false≢true some)
 some-not_none (Some x) some = refl
@@ -140,4 +136,4 @@ pub chains-sourced : (s : SystemLists) → IsSystem s → first_longer (links_of
 unfolding first_longer
 chains-sourced s rules =
     all_unmarked (λ i _. is_none (chain_within (links_of (redraft s)) (length (redraft s).tasks) i)) (links_of (redraft s))
-    (λ i d less. found-within (links_of (redraft s)) 32 (length (redraft s).tasks) i (omega (arith, links-count s, tasks-count s)) (redraft-found s rules i less))
+    (λ i d less. found-within (links_of (redraft s)) 32 (length (redraft s).tasks) i (omega (arith, links-count s, tasks-redraft s)) (redraft-found s rules i less))

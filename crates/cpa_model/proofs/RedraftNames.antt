@@ -1,15 +1,13 @@
 -- What the names of the redraft of a system name there.
-use Rattle.std.proofs.Common.{◌≡◌, ℕ, ◌+◌, ◌-◌, ◌<◌, ◌≤◌, true, false, List, [], ◌∷◌, ◌++◌, map, length, get_or, Some, option_map, unwrap_or, nat_lt, refl, sym, ap, ◌∙◌, arith, length-append}
+use Rattle.std.proofs.Common.{◌≡◌, ℕ, ◌+◌, ◌-◌, ◌<◌, ◌≤◌, List, [], map, length, get_or, Some, refl, sym, ap, ◌∙◌, arith, length-append}
 use Rattle.std.proofs.lemmas.Bool.{lt-ltb, le-ltb}
 use Rattle.std.proofs.lemmas.List.{length-map, get_or-map, get_or_append_left, get_or-append-add}
-use Rattle.cpa_units.specs.declared.places.SourceId.{SourceId}
 use Rattle.cpa_units.specs.declared.places.TaskId.{TaskId}
-use Rattle.cpa_draft.specs.Names.{resource_names, activity_names as draft_names, place_of, kind_of, link_at, link_of, links_of}
-use Rattle.cpa_draft.specs.DraftLists.{DraftLists, resource_at as draft_resource_at, task_at as draft_task_at, no_resource as no_draft_resource, no_task as no_draft_task}
+use Rattle.cpa_draft.specs.Names.{resource_names, activity_names as draft_names, place_of, kind_of, link_of, links_of}
+use Rattle.cpa_draft.specs.DraftLists.{resource_at as draft_resource_at, no_resource as no_draft_resource}
 use Rattle.cpa_draft.specs.declared.draft.DraftResource.{DraftResource}
 use Rattle.cpa_draft.specs.declared.draft.DraftSource.{DraftSource}
 use Rattle.cpa_draft.specs.declared.draft.DraftTask.{DraftTask}
-use Rattle.cpa_draft.specs.declared.links.Link.{Link}
 use Rattle.cpa_draft.specs.declared.links.Link.TheVariants as link
 use Rattle.cpa_draft.proofs.ListLaws.{map-map}
 use Rattle.cpa_draft.proofs.NameLaws.{Differ, place_of-own}
@@ -21,7 +19,7 @@ use Rattle.cpa_model.specs.declared.entries.Activator.TheVariants as activator
 use Rattle.cpa_model.specs.Chains.{activators}
 use Rattle.cpa_model.specs.SystemLists.{SystemLists, resource_at, source_at, task_at, no_resource, no_source, no_task}
 use Rattle.cpa_model.specs.Rules.{IsSystem, IsActivator, activity_names}
-use Rattle.cpa_model.specs.Built.{resource_place, activity_place, activator_at, built_activator, task_named}
+use Rattle.cpa_model.specs.Built.{built_activator, task_named}
 use Rattle.cpa_model.specs.Redraft.{redraft_resource, redraft_source, redraft_task, activator_name, word_of, redraft}
 use Rattle.cpa_model.proofs.BuiltLaws.{link_from, map-same}
 
@@ -40,11 +38,17 @@ pub sources-redraft : (s : SystemLists) → length (redraft s).sources ≡ lengt
 unfolding redraft
 sources-redraft s = length-map s.sources redraft_source
 
+-- and that of tasks
+pub tasks-redraft : (s : SystemLists) → length (redraft s).tasks ≡ length s.tasks
+unfolding redraft
+tasks-redraft s = length-map s.tasks (redraft_task s)
+
 -- the name of an entry is found at its place
 place_of-entry : {X : Type 0} (name : X → List ℕ) (xs : List X) (k : ℕ) (d : X) → Differ (map name xs) → k < length xs → place_of (map name xs) (name (get_or xs k d)) ≡ Some k
 place_of-entry name xs k d differ less =
     ap (place_of (map name xs)) (sym (get_or-map name xs k d [] less)) ∙ place_of-own (map name xs) k differ (rw (length-map xs name) less)
 
+-- so is that of a resource
 pub place_of-resource : (s : SystemLists) → IsSystem s → (k : ℕ) → k < length s.resources → place_of (resource_names (redraft s)) (resource_at s k).name ≡ Some k
 place_of-resource s rules k less = rw (resource_names-redraft s) (place_of-entry (λ (r : Resource). r.name) s.resources k no_resource rules.resource_names less)
 
@@ -67,12 +71,14 @@ activity_names-count s =
     length-append (map (λ (r : Source). r.name) s.sources) (map (λ (t : Task). t.name) s.tasks)
     ∙ rw (length-map s.sources (λ (r : Source). r.name), length-map s.tasks (λ (t : Task). t.name)) refl
 
+-- a source's name is found at the source's place
 pub place_of-source : (s : SystemLists) → IsSystem s → (k : ℕ) → k < length s.sources → place_of (draft_names (redraft s)) (source_at s k).name ≡ Some k
 place_of-source s rules k less =
     rw (activity_names-redraft s)
     (ap (place_of (activity_names s)) (sym (source-name s k less))
     ∙ place_of-own (activity_names s) k rules.activity_names (omega (arith, activity_names-count s)))
 
+-- and a task's name after all sources
 pub place_of-task : (s : SystemLists) → IsSystem s → (j : ℕ) → j < length s.tasks → place_of (draft_names (redraft s)) (task_at s j).name ≡ Some (length s.sources + j)
 place_of-task s rules j less =
     rw (activity_names-redraft s)
@@ -118,14 +124,15 @@ task-back s rules j there =
     let place : length s.sources + j.0 - length s.sources ≡ j.0 = omega arith in
     rw (place_of-task s rules j.0 there, sources-redraft s, place) refl
 
--- the entries of the redraft by place
+-- the resources of the redraft by place
 pub resource_at-redraft : (s : SystemLists) (k : ℕ) → k < length s.resources → draft_resource_at (redraft s) k ≡ redraft_resource (resource_at s k)
 unfolding redraft
 resource_at-redraft s k less = get_or-map redraft_resource s.resources k no_resource no_draft_resource less
 
-pub task_at-redraft : (s : SystemLists) (j : ℕ) → j < length s.tasks → draft_task_at (redraft s) j ≡ redraft_task s (task_at s j)
+-- and its tasks
+pub task_at-redraft : (s : SystemLists) (j : ℕ) (t : DraftTask) → j < length s.tasks → get_or (redraft s).tasks j t ≡ redraft_task s (task_at s j)
 unfolding redraft
-task_at-redraft s j less = get_or-map (redraft_task s) s.tasks j no_task no_draft_task less
+task_at-redraft s j t less = get_or-map (redraft_task s) s.tasks j no_task t less
 
 -- the kind of a resource by its name
 pub kind_of-redraft : (s : SystemLists) → IsSystem s → (k : ℕ) → k < length s.resources → kind_of (redraft s) (resource_at s k).name ≡ Some (word_of (resource_at s k).kind)

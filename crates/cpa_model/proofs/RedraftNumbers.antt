@@ -1,10 +1,9 @@
 -- The numbers of the redraft of a system are in their ranges, and they fit the kinds.
-use Rattle.std.proofs.Common.{◌≡◌, ℕ, ℤ, pos, ◌<◌, ◌≤◌, Bool, true, false, ◌&&◌, ◌||◌, nat_lt, List, Option, Some, None, option_map, is_some, is_none, refl, sym, ap, ◌∙◌, arith, lit≤}
+use Rattle.std.proofs.Common.{◌≡◌, ℕ, pos, ◌≤◌, true, false, Option, Some, None, option_map, refl, arith}
 use Rattle.std.specs.Option.{ForSome}
 use Rattle.std.proofs.lemmas.Bool.{and_from, le-leb, le-ltb}
-use Rattle.cpa_draft.specs.Numbers.{nat_of, nat_or, is_within, may_be_within}
+use Rattle.cpa_draft.specs.Numbers.{is_within, may_be_within}
 use Rattle.cpa_draft.specs.Refusals.{resource_fits, source_fits, task_fits, path_fits, by_priority, turn_misfits, task_misfits, resource_misfits, is_crossed}
-use Rattle.cpa_draft.specs.declared.draft.KindWord.{KindWord}
 use Rattle.cpa_model.specs.declared.entries.Resource.{Resource}
 use Rattle.cpa_model.specs.declared.entries.Source.{Source}
 use Rattle.cpa_model.specs.declared.entries.Task.{Task}
@@ -89,10 +88,11 @@ kind-suits r kind.RoundRobin is = rw is refl
 kind-suits r (kind.Tdma gap) is = rw is refl
 kind-suits r (kind.Can bit) is = rw is refl
 
+-- so a resource has what its kind wants
 pub resource-suits : (r : Resource) → resource_misfits (redraft_resource r) ≡ false
 resource-suits r = kind-suits r r.kind refl
 
--- a task has what the kind of its resource wants
+-- a task has the turn that the kind of its resource wants
 turn-suits : (s : SystemLists) (t : Task) (k : Kind) (u : Turn) → t.turn ≡ u → TurnFits k u → turn_misfits (by_priority (Some (word_of k))) (redraft_task s t) ≡ false
 turn-suits s t kind.Preemptive (turn.Priority number) is fits = rw is refl
 turn-suits s t kind.Preemptive (turn.Slot ticks) is fits = absurd fits
@@ -103,6 +103,7 @@ turn-suits s t (kind.Tdma gap) (turn.Slot ticks) is fits = rw is refl
 turn-suits s t (kind.Can bit) (turn.Priority number) is fits = rw is refl
 turn-suits s t (kind.Can bit) (turn.Slot ticks) is fits = absurd fits
 
+-- and no payload
 pub task-suits : (s : SystemLists) (t : Task) → IsTask s t → task_misfits (Some (word_of (resource_at s t.res.0).kind)) (redraft_task s t) ≡ false
 task-suits s t fits = rw (turn-suits s t (resource_at s t.res.0).kind t.turn refl fits.turn_fits) refl
 

@@ -1,13 +1,11 @@
 -- No two tasks of the redraft of a system have one priority on one resource.
-use Rattle.std.proofs.Common.{◌≡◌, ◌≢◌, ℕ, ℤ, pos, zero, suc, ◌+◌, ◌<◌, ◌≤◌, Bool, true, false, ◌&&◌, ◌||◌, ◌==◌, cond, List, [], ◌∷◌, map, length, take, get_or, Option, Some, None, option_map, unwrap_or, refl, sym, ap, ◌∙◌, arith, length-take}
+use Rattle.std.proofs.Common.{◌≡◌, ◌≢◌, ℕ, ℤ, suc, ◌<◌, Bool, true, false, cond, List, [], ◌∷◌, length, take, get_or, Option, Some, None, option_map, refl, sym, ap, ◌∙◌, arith, length-take}
 use Rattle.std.specs.List.{list_any, filter_map, cons_option}
-use Rattle.std.proofs.lemmas.Bool.{and_parts, eqb-true, true≢false, false_from_ne_true}
-use Rattle.std.proofs.lemmas.List.{length-map, get_or-map, get_or-take}
+use Rattle.std.proofs.lemmas.Bool.{and_parts, eqb-true, false_from_ne_true}
+use Rattle.std.proofs.lemmas.List.{get_or-take}
 use Rattle.std.proofs.lemmas.Option.{none-some, same_Some}
-use Rattle.cpa_units.specs.declared.places.ResId.{ResId}
 use Rattle.cpa_draft.specs.Numbers.{nat_of}
 use Rattle.cpa_draft.specs.First.{first_place}
-use Rattle.cpa_draft.specs.Names.{kind_of}
 use Rattle.cpa_draft.specs.Refusals.{by_priority, rank_of, same_rank, is_taken}
 use Rattle.cpa_draft.specs.DraftLists.{DraftLists}
 use Rattle.cpa_draft.specs.declared.draft.DraftTask.{DraftTask}
@@ -15,16 +13,17 @@ use Rattle.cpa_draft.proofs.FirstLemmas.{all_unmarked}
 use Rattle.cpa_model.specs.declared.entries.Task.{Task}
 use Rattle.cpa_model.specs.declared.entries.Turn.{Turn}
 use Rattle.cpa_model.specs.declared.entries.Turn.TheVariants as turn
-use Rattle.cpa_model.specs.SystemLists.{SystemLists, resource_at, task_at, no_task}
-use Rattle.cpa_model.specs.Rules.{IsSystem, IsTask, HaveOwnPriorities}
+use Rattle.cpa_model.specs.SystemLists.{SystemLists, resource_at, no_task}
+use Rattle.cpa_model.specs.Rules.{IsSystem, IsTask}
 use Rattle.cpa_model.specs.Redraft.{word_of, priority_at, redraft_task, redraft}
-use Rattle.cpa_model.proofs.RedraftNames.{place_of-resource, kind_of-redraft}
+use Rattle.cpa_model.proofs.RedraftNames.{place_of-resource, kind_of-redraft, tasks-redraft, task_at-redraft}
 
--- what a test of what some give doesn't mark
+-- a test that marks neither what is given first nor what is given later
 none-cons : {Y : Type 0} (p : Y → Bool) (o : Option Y) (ys : List Y) → ((y : Y) → o ≡ Some y → p y ≡ false) → list_any p ys ≡ false → list_any p (cons_option o ys) ≡ false
 none-cons p None ys here later = later
 none-cons p (Some y) ys here later = rw (here y refl) later
 
+-- nor what it marks in what a list gives
 none-kept : {X Y : Type 0} (f : X → Option Y) (p : Y → Bool) (xs : List X) → ((i : ℕ) (d : X) → i < length xs → (y : Y) → f (get_or xs i d) ≡ Some y → p y ≡ false) → list_any p (filter_map f xs) ≡ false
 none-kept f p [] each = refl
 none-kept f p (x ∷ xs) each = none-cons p (f x) (filter_map f xs) (each 0 x (omega arith)) (none-kept f p xs (λ i d less. each (suc i) d (omega arith)))
@@ -58,32 +57,24 @@ ranks-apart s rules i k t before less a b rank-k rank-i = false_from_ne_true _ a
         let place : (get_or s.tasks i t).res ≡ (get_or s.tasks k t).res = ap (λ n. record { 0 = n }) (first.0 ∙ sym same.0 ∙ sym later.0) in
         rules.priorities i k t before less place a.1 (first.1 ∙ ap turn.Priority (sym same.1)) later.1
 
--- no rank of one is taken by those before
+-- a rank that none of some tasks has isn't taken by them
 untaken : (o : Option (ℕ × ℕ)) (d : DraftLists) (ts : List DraftTask) → ((a : ℕ × ℕ) → o ≡ Some a → (i : ℕ) (t : DraftTask) → i < length ts → (b : ℕ × ℕ) → rank_of d (get_or ts i t) ≡ Some b → same_rank a b ≡ false)
     → is_taken o (filter_map (rank_of d) ts) ≡ false
 untaken None d ts each = refl
 untaken (Some a) d ts each = none-kept (rank_of d) (same_rank a) ts (each a refl)
 
--- the tasks of the redraft by place
-task-at : (s : SystemLists) (k : ℕ) (t : DraftTask) → k < length s.tasks → get_or (redraft s).tasks k t ≡ redraft_task s (task_at s k)
-unfolding redraft
-task-at s k t less = get_or-map (redraft_task s) s.tasks k no_task t less
-
-tasks-count : (s : SystemLists) → length (redraft s).tasks ≡ length s.tasks
-unfolding redraft
-tasks-count s = length-map s.tasks (redraft_task s)
-
--- so none is taken
+-- so none is taken by those before
 rank-own : (s : SystemLists) → IsSystem s → (k : ℕ) (t : DraftTask) → k < length (redraft s).tasks
     → is_taken (rank_of (redraft s) (get_or (redraft s).tasks k t)) (filter_map (rank_of (redraft s)) (take k (redraft s).tasks)) ≡ false
 rank-own s rules k t less =
-    let here : k < length s.tasks = omega (arith, tasks-count s) in
+    let here : k < length s.tasks = omega (arith, tasks-redraft s) in
     untaken (rank_of (redraft s) (get_or (redraft s).tasks k t)) (redraft s) (take k (redraft s).tasks)
     (λ a rank-k i u below b rank-i.
-        let before : i < k = omega (arith, length-take k (redraft s).tasks) in
-        ranks-apart s rules i k no_task before here a b
-        (ap (rank_of (redraft s)) (sym (task-at s k t here)) ∙ rank-k)
-        (ap (rank_of (redraft s)) (sym (get_or-take k (redraft s).tasks i u before ∙ task-at s i u (omega arith))) ∙ rank-i))
+    let before : i < k = omega (arith, length-take k (redraft s).tasks) in
+    ranks-apart s rules i k no_task before here a b
+    (ap (rank_of (redraft s)) (sym (task_at-redraft s k t here)) ∙ rank-k)
+    (ap (rank_of (redraft s)) (sym (get_or-take k (redraft s).tasks i u before ∙ task_at-redraft s i u (omega arith))) ∙ rank-i))
 
+-- and no task has the priority of one before it
 pub ranks-own : (s : SystemLists) → IsSystem s → first_place (λ k t. is_taken (rank_of (redraft s) t) (filter_map (rank_of (redraft s)) (take k (redraft s).tasks))) (redraft s).tasks ≡ None
 ranks-own s rules = all_unmarked (λ k t. is_taken (rank_of (redraft s) t) (filter_map (rank_of (redraft s)) (take k (redraft s).tasks))) (redraft s).tasks (rank-own s rules)

@@ -1,7 +1,6 @@
 -- No reason applies to the redraft of a system.
-use Rattle.std.proofs.Common.{◌≡◌, ℕ, zero, suc, ◌+◌, ◌-◌, ◌<◌, ◌≤◌, Bool, true, false, not, ◌||◌, nat_le, List, [], ◌++◌, map, length, get_or, All, Option, Some, None, is_none, refl, sym, ap, ◌∙◌, arith, length-append}
+use Rattle.std.proofs.Common.{◌≡◌, ℕ, ◌+◌, ◌-◌, ◌<◌, Bool, true, false, not, ◌||◌, nat_le, List, [], ◌++◌, map, length, get_or, Some, None, is_none, refl, sym, ap, ◌∙◌, arith, length-append}
 use Rattle.std.specs.List.{list_all, range_with_len}
-use Rattle.std.specs.Str.{bytes_eq}
 use Rattle.std.proofs.lemmas.Bool.{lt-leb}
 use Rattle.std.proofs.lemmas.List.{length-map, get_or-map, get_or_append_left}
 use Rattle.std.proofs.lemmas.List.FromFn.{get_or-range_with_len, length-range_with_len}
@@ -9,27 +8,25 @@ use Rattle.cpa_units.specs.Name.{is_name}
 use Rattle.cpa_units.specs.declared.places.TaskId.{TaskId}
 use Rattle.cpa_draft.specs.First.{first_known}
 use Rattle.cpa_draft.specs.Names.{source_names, resource_names, place_of, kind_of, link_of, is_nothing, is_task, is_after}
-use Rattle.cpa_draft.specs.DraftLists.{DraftLists, task_at as draft_task_at}
-use Rattle.cpa_draft.specs.Refusals.{resource_fits, source_fits, task_fits, path_fits, resource_misfits, task_misfits, is_crossed, is_linked, first_refusal}
+use Rattle.cpa_draft.specs.DraftLists.{task_at as draft_task_at, no_task as no_draft_task}
+use Rattle.cpa_draft.specs.Refusals.{resource_fits, source_fits, task_fits, path_fits, resource_misfits, task_misfits, is_crossed, is_linked}
 use Rattle.cpa_draft.specs.declared.draft.DraftResource.{DraftResource}
 use Rattle.cpa_draft.specs.declared.draft.DraftSource.{DraftSource}
 use Rattle.cpa_draft.specs.declared.draft.DraftTask.{DraftTask}
 use Rattle.cpa_draft.specs.declared.draft.DraftPath.{DraftPath}
-use Rattle.cpa_draft.specs.declared.links.Link.TheVariants as link
 use Rattle.cpa_draft.proofs.ListLaws.{all-map, all-list_all, map-map}
 use Rattle.cpa_draft.proofs.NameLaws.{Differ, same-bytes, differ-new}
-use Rattle.cpa_draft.proofs.UnrefusedLaws.{IsUnrefused, not_refused}
-use Rattle.cpa_model.specs.declared.entries.Resource.{Resource}
+use Rattle.cpa_draft.proofs.UnrefusedLaws.{IsUnrefused}
 use Rattle.cpa_model.specs.declared.entries.Source.{Source}
 use Rattle.cpa_model.specs.declared.entries.Task.{Task}
 use Rattle.cpa_model.specs.declared.entries.Path.{Path}
 use Rattle.cpa_model.specs.declared.entries.Activator.{Activator}
 use Rattle.cpa_model.specs.declared.entries.Activator.TheVariants as activator
 use Rattle.cpa_model.specs.SystemLists.{SystemLists, resource_at, task_at}
-use Rattle.cpa_model.specs.Rules.{IsSystem, IsTask, IsPath, AllDiffer, activity_names}
+use Rattle.cpa_model.specs.Rules.{IsSystem, IsTask, IsPath}
 use Rattle.cpa_model.specs.Redraft.{redraft_resource, redraft_source, redraft_task, redraft_path, activator_name, redraft}
 use Rattle.cpa_model.proofs.BuiltLaws.{link_from}
-use Rattle.cpa_model.proofs.RedraftNames.{resource_names-redraft, activity_names-redraft, place_of-resource, link_of-task, link_of-activator, task_at-redraft, kind_of-redraft}
+use Rattle.cpa_model.proofs.RedraftNames.{place_of-resource, link_of-task, link_of-activator, task_at-redraft, kind_of-redraft}
 use Rattle.cpa_model.proofs.RedraftNumbers.{resource-fits, source-fits, task-fits, path-fits, resource-suits, task-suits, task-ordered}
 use Rattle.cpa_model.proofs.RedraftRanks.{ranks-own}
 use Rattle.cpa_model.proofs.RedraftChains.{chains-short, chains-sourced}
@@ -70,6 +67,7 @@ path-knows s rules p path =
 
 -- paths
 
+-- what stands outside a path
 no_id : TaskId
 no_id = record { 0 = 0 }
 
@@ -85,10 +83,11 @@ after-one s rules p path k less =
     let j = get_or p.tasks (k + 1) no_id in
     let there : j.0 < length s.tasks = path.there (k + 1) no_id less in
     let activated : (draft_task_at (redraft s) j.0).after ≡ (task_at s (get_or p.tasks k no_id).0).name =
-    ap (λ (t : DraftTask). t.after) (task_at-redraft s j.0 there) ∙ ap (activator_name s) (path.linked k less) in
+    ap (λ (t : DraftTask). t.after) (task_at-redraft s j.0 no_draft_task there) ∙ ap (activator_name s) (path.linked k less) in
     rw (path-name s p k (omega arith), path-name s p (k + 1) less, link_of-task s rules j.0 there, activated)
     (same-bytes (task_at s (get_or p.tasks k no_id).0).name)
 
+-- so a path is linked
 path-linked : (s : SystemLists) → IsSystem s → (p : Path) → IsPath s p → is_linked (redraft s) (redraft_path s p).tasks ≡ true
 path-linked s rules p path = all-list_all test places each
   where
@@ -153,7 +152,3 @@ redraft-unrefused s rules = record {
   few_tasks = rw (length-map s.tasks (redraft_task s)) rules.few_tasks;
   few_paths = rw (length-map s.paths (redraft_path s)) rules.few_paths;
 }
-
--- the redraft of a system is accepted
-pub redraft-accepted : (s : SystemLists) → IsSystem s → first_refusal (redraft s) ≡ None
-redraft-accepted s rules = not_refused (redraft s) (redraft-unrefused s rules)

@@ -1,11 +1,12 @@
--- The redraft of a system stands for it.
-use Rattle.std.proofs.Common.{◌≡◌, ℕ, ℤ, pos, ◌<◌, List, map, length, get_or, All, Option, Some, None, option_map, refl, ap, ◌∙◌}
+-- The redraft of a system is accepted, and it stands for the system.
+use Rattle.std.proofs.Common.{◌≡◌, ℕ, pos, ◌<◌, List, map, length, get_or, All, Option, Some, None, option_map, refl, ap, ◌∙◌}
 use Rattle.std.proofs.lemmas.List.Folds.{map_fixed}
 use Rattle.cpa_units.specs.declared.places.TaskId.{TaskId}
 use Rattle.cpa_draft.specs.Numbers.{nat_of}
 use Rattle.cpa_draft.specs.Names.{kind_of}
-use Rattle.cpa_draft.specs.Refusals.{by_priority}
+use Rattle.cpa_draft.specs.Refusals.{by_priority, first_refusal}
 use Rattle.cpa_draft.proofs.ListLaws.{map-map}
+use Rattle.cpa_draft.proofs.UnrefusedLaws.{not_refused}
 use Rattle.cpa_model.specs.declared.entries.Resource.{Resource}
 use Rattle.cpa_model.specs.declared.entries.Source.{Source}
 use Rattle.cpa_model.specs.declared.entries.Task.{Task}
@@ -19,6 +20,7 @@ use Rattle.cpa_model.specs.Rules.{IsSystem, IsTask, IsPath, TurnFits}
 use Rattle.cpa_model.specs.Built.{built_kind, built_resource, built_source, built_task, built_path, built_turn, task_named, system_of}
 use Rattle.cpa_model.specs.Redraft.{word_of, gap_at, bit_at, redraft_resource, redraft_source, redraft_task, redraft_path, redraft}
 use Rattle.cpa_model.proofs.RedraftNames.{place_of-resource, kind_of-redraft, activator-back, task-back}
+use Rattle.cpa_model.proofs.RedraftUnrefused.{redraft-unrefused}
 
 -- a kind with its number comes back
 kind-back : (k : Kind) → built_kind (word_of k) (gap_at k) (bit_at k) ≡ k
@@ -85,3 +87,7 @@ redraft-stands s rules =
     map-map (redraft_path s) (built_path (redraft s)) s.paths
     ∙ map_fixed (λ (p : Path). built_path (redraft s) (redraft_path s p)) s.paths (λ k p less. path-back s rules (get_or s.paths k p) (rules.paths k p less)) in
     rw (same_resources, same_sources, same_tasks, same_paths) refl
+
+-- and no reason applies to it
+pub redraft-accepted : (s : SystemLists) → IsSystem s → first_refusal (redraft s) ≡ None
+redraft-accepted s rules = not_refused (redraft s) (redraft-unrefused s rules)
