@@ -9,6 +9,7 @@ use Rattle.std.proofs.lemmas.Bool.{and_parts, and_from, or_parts, false≢true, 
 use Rattle.std.proofs.lemmas.List.{length-map, get_or-map, get_or-take}
 use Rattle.std.proofs.lemmas.List.FromFn.{get_or-range_with_len, length-range_with_len}
 use Rattle.std.proofs.lemmas.Option.{none-some, same_Some}
+use Rattle.cpa_units.specs.Name.{is_name}
 use Rattle.cpa_units.specs.declared.places.ResId.{ResId}
 use Rattle.cpa_units.specs.declared.places.TaskId.{TaskId}
 use Rattle.cpa_draft.specs.Numbers.{nat_of, nat_or, may_be_within}
@@ -265,7 +266,7 @@ path-kept-at d u i e less =
     }
 
 pub system-kept : (d : DraftLists) → IsUnrefused d → All (λ t. has_executions t ≡ true) d.tasks → IsSystem (system_of d)
-unfolding system_of
+unfolding system_of built_task
 system-kept d u given = record {
   few_resources = rw (length-map d.resources built_resource) u.few_resources;
   few_sources = rw (length-map d.sources built_source) u.few_sources;
@@ -276,6 +277,10 @@ system-kept d u given = record {
   tasks = all-map (IsTask (system_of d)) (built_task d) d.tasks (task-kept-at d u given);
   paths = all-map (IsPath (system_of d)) (built_path d) d.paths (path-kept-at d u);
   chains = chains-kept d u;
+  resources_named = all-map (λ (r : Resource). is_name r.name ≡ true) built_resource d.resources u.resources_named;
+  sources_named = all-map (λ (r : Source). is_name r.name ≡ true) built_source d.sources u.sources_named;
+  tasks_named = all-map (λ (t : Task). is_name t.name ≡ true) (built_task d) d.tasks u.tasks_named;
+  paths_named = all-map (λ (p : Path). is_name p.name ≡ true) (built_path d) d.paths u.paths_named;
   resource_names = resources-differ d u;
   activity_names = activities-differ d u;
   path_names = paths-differ d u;

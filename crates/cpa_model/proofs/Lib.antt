@@ -1,4 +1,10 @@
 pub mod BuiltLaws
 pub mod ChainLaws
 pub mod EntryLaws
+pub mod RedraftChains
+pub mod RedraftLaws
+pub mod RedraftNames
+pub mod RedraftNumbers
+pub mod RedraftRanks
+pub mod RedraftUnrefused
 pub mod SystemLaws

@@ -1,8 +1,9 @@
 -- The rules that every system keeps.
-use Rattle.std.specs.Prelude.{◌≡◌, ◌≢◌, ℕ, ◌+◌, ◌≤◌, ◌<◌, List, ◌++◌, map, length, IsSome, slice_index_or, All}
+use Rattle.std.specs.Prelude.{◌≡◌, true, ◌≢◌, ℕ, ◌+◌, ◌≤◌, ◌<◌, List, ◌++◌, map, length, IsSome, slice_index_or, All}
 use Rattle.std.specs.List.{AllPairs}
 use Rattle.std.specs.Option.{ForSome}
 use Rattle.cpa_units.specs.declared.limits.TheConstants.{MAX_RESOURCES, MAX_SOURCES, MAX_TASKS, MAX_PATHS, MAX_PERIOD, MAX_JITTER, MAX_EXECUTION, MAX_GAP, MAX_BIT, MAX_LIMIT, MAX_PRIORITY, MAX_CHAIN}
+use Rattle.cpa_units.specs.Name.{is_name}
 use Rattle.cpa_units.specs.declared.places.TaskId.{TaskId}
 use Rattle.cpa_model.specs.declared.entries.Resource.{Resource}
 use Rattle.cpa_model.specs.declared.entries.Source.{Source}
@@ -89,6 +90,10 @@ pub record IsSystem (s : SystemLists) : Type 0 where
   pub tasks : All (IsTask s) s.tasks
   pub paths : All (IsPath s) s.paths
   pub chains : (i : ℕ) → i < length s.tasks → IsSome (depth_within (activators s.tasks) MAX_CHAIN i)
+  pub resources_named : All (λ (r : Resource). is_name r.name ≡ true) s.resources
+  pub sources_named : All (λ (r : Source). is_name r.name ≡ true) s.sources
+  pub tasks_named : All (λ (t : Task). is_name t.name ≡ true) s.tasks
+  pub paths_named : All (λ (p : Path). is_name p.name ≡ true) s.paths
   pub resource_names : AllDiffer (map (λ (r : Resource). r.name) s.resources)
   pub activity_names : AllDiffer (activity_names s)
   pub path_names : AllDiffer (map (λ (p : Path). p.name) s.paths)

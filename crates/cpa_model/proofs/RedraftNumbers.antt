@@ -1,0 +1,112 @@
+-- The numbers of the redraft of a system are in their ranges, and they fit the kinds.
+use Rattle.std.proofs.Common.{◌≡◌, ℕ, pos, ◌≤◌, true, false, Option, Some, None, option_map, refl, arith}
+use Rattle.std.specs.Option.{ForSome}
+use Rattle.std.proofs.lemmas.Bool.{and_from, le-leb, le-ltb}
+use Rattle.cpa_draft.specs.Numbers.{is_within, may_be_within}
+use Rattle.cpa_draft.specs.Refusals.{resource_fits, source_fits, task_fits, path_fits, by_priority, turn_misfits, task_misfits, resource_misfits, is_crossed}
+use Rattle.cpa_model.specs.declared.entries.Resource.{Resource}
+use Rattle.cpa_model.specs.declared.entries.Source.{Source}
+use Rattle.cpa_model.specs.declared.entries.Task.{Task}
+use Rattle.cpa_model.specs.declared.entries.Path.{Path}
+use Rattle.cpa_model.specs.declared.entries.Kind.{Kind}
+use Rattle.cpa_model.specs.declared.entries.Kind.TheVariants as kind
+use Rattle.cpa_model.specs.declared.entries.Turn.{Turn}
+use Rattle.cpa_model.specs.declared.entries.Turn.TheVariants as turn
+use Rattle.cpa_model.specs.SystemLists.{SystemLists, resource_at}
+use Rattle.cpa_model.specs.Rules.{IsResource, IsSource, IsTask, IsPath, KindFits, TurnFits}
+use Rattle.cpa_model.specs.Redraft.{word_of, gap_at, bit_at, priority_at, slot_at, redraft_resource, redraft_source, redraft_task, redraft_path}
+
+-- a number in its range
+number-within : (least most n : ℕ) → least ≤ n → n ≤ most → is_within least most (pos n) ≡ true
+number-within least most n some few = and_from _ _ (le-leb least n some) (le-leb n most few)
+
+-- the gap of a kind
+gap-within : (k : Kind) → KindFits k → may_be_within 0 1000000 (gap_at k) ≡ true
+gap-within kind.Preemptive fits = refl
+gap-within kind.RoundRobin fits = refl
+gap-within (kind.Tdma gap) fits = number-within 0 1000000 gap (omega arith) fits
+gap-within (kind.Can bit) fits = refl
+
+-- the bit time of a kind
+bit-within : (k : Kind) → KindFits k → may_be_within 1 1000 (bit_at k) ≡ true
+bit-within kind.Preemptive fits = refl
+bit-within kind.RoundRobin fits = refl
+bit-within (kind.Tdma gap) fits = refl
+bit-within (kind.Can bit) fits = number-within 1 1000 bit fits.0 fits.1
+
+-- the numbers of a resource
+pub resource-fits : (r : Resource) → IsResource r → resource_fits (redraft_resource r) ≡ true
+resource-fits r fits =
+    and_from _ _
+    (and_from _ _ (number-within 1 10000000 r.limit fits.some_limit fits.limit) (gap-within r.kind fits.kind_fits))
+    (bit-within r.kind fits.kind_fits)
+
+-- the numbers of a source
+pub source-fits : (r : Source) → IsSource r → source_fits (redraft_source r) ≡ true
+source-fits r fits =
+    and_from _ _
+    (and_from _ _ (number-within 1 1000000000 r.period fits.some_period fits.period) (number-within 0 1000000000 r.jitter (omega arith) fits.jitter))
+    (number-within 0 r.period r.distance (omega arith) fits.distance)
+
+-- the priority that a turn may have
+priority-within : (k : Kind) (u : Turn) → TurnFits k u → may_be_within 0 536870911 (priority_at u) ≡ true
+priority-within kind.Preemptive (turn.Priority number) fits = number-within 0 536870911 number (omega arith) fits
+priority-within kind.RoundRobin (turn.Priority number) fits = absurd fits
+priority-within (kind.Tdma gap) (turn.Priority number) fits = absurd fits
+priority-within (kind.Can bit) (turn.Priority number) fits = number-within 0 536870911 number (omega arith) fits
+priority-within k (turn.Slot ticks) fits = refl
+
+-- the slot that a turn may have
+slot-within : (k : Kind) (u : Turn) → TurnFits k u → may_be_within 1 1000000 (slot_at u) ≡ true
+slot-within k (turn.Priority number) fits = refl
+slot-within kind.Preemptive (turn.Slot ticks) fits = absurd fits
+slot-within kind.RoundRobin (turn.Slot ticks) fits = number-within 1 1000000 ticks fits.0 fits.1
+slot-within (kind.Tdma gap) (turn.Slot ticks) fits = number-within 1 1000000 ticks fits.0 fits.1
+slot-within (kind.Can bit) (turn.Slot ticks) fits = absurd fits
+
+-- the numbers of a task
+pub task-fits : (s : SystemLists) (t : Task) → IsTask s t → task_fits (redraft_task s t) ≡ true
+task-fits s t fits =
+    let k = (resource_at s t.res.0).kind in
+    let best : is_within 1 1000000 (pos t.best) ≡ true = number-within 1 1000000 t.best fits.some_best (omega (arith, fits.ordered, fits.worst)) in
+    let worst : is_within 1 1000000 (pos t.worst) ≡ true = number-within 1 1000000 t.worst (omega (arith, fits.some_best, fits.ordered)) fits.worst in
+    and_from _ _ (and_from _ _ (and_from _ _ (and_from _ _ best worst) refl) (priority-within k t.turn fits.turn_fits)) (slot-within k t.turn fits.turn_fits)
+
+-- a deadline
+deadline-within : (o : Option ℕ) → ForSome o (λ d. (1 ≤ d) × (d ≤ 1000000000)) → may_be_within 1 1000000000 (option_map pos o) ≡ true
+deadline-within None each = refl
+deadline-within (Some d) each = let fits = each d refl in number-within 1 1000000000 d fits.0 fits.1
+
+-- the numbers of a path
+pub path-fits : (s : SystemLists) (p : Path) → IsPath s p → path_fits (redraft_path s p) ≡ true
+path-fits s p path = deadline-within p.deadline path.deadline
+
+-- a kind has the number that it wants alone
+kind-suits : (r : Resource) (k : Kind) → r.kind ≡ k → resource_misfits (redraft_resource r) ≡ false
+kind-suits r kind.Preemptive is = rw is refl
+kind-suits r kind.RoundRobin is = rw is refl
+kind-suits r (kind.Tdma gap) is = rw is refl
+kind-suits r (kind.Can bit) is = rw is refl
+
+-- so a resource has what its kind wants
+pub resource-suits : (r : Resource) → resource_misfits (redraft_resource r) ≡ false
+resource-suits r = kind-suits r r.kind refl
+
+-- a task has the turn that the kind of its resource wants
+turn-suits : (s : SystemLists) (t : Task) (k : Kind) (u : Turn) → t.turn ≡ u → TurnFits k u → turn_misfits (by_priority (Some (word_of k))) (redraft_task s t) ≡ false
+turn-suits s t kind.Preemptive (turn.Priority number) is fits = rw is refl
+turn-suits s t kind.Preemptive (turn.Slot ticks) is fits = absurd fits
+turn-suits s t kind.RoundRobin (turn.Priority number) is fits = absurd fits
+turn-suits s t kind.RoundRobin (turn.Slot ticks) is fits = rw is refl
+turn-suits s t (kind.Tdma gap) (turn.Priority number) is fits = absurd fits
+turn-suits s t (kind.Tdma gap) (turn.Slot ticks) is fits = rw is refl
+turn-suits s t (kind.Can bit) (turn.Priority number) is fits = rw is refl
+turn-suits s t (kind.Can bit) (turn.Slot ticks) is fits = absurd fits
+
+-- and no payload
+pub task-suits : (s : SystemLists) (t : Task) → IsTask s t → task_misfits (Some (word_of (resource_at s t.res.0).kind)) (redraft_task s t) ≡ false
+task-suits s t fits = rw (turn-suits s t (resource_at s t.res.0).kind t.turn refl fits.turn_fits) refl
+
+-- the least execution isn't above the greatest
+pub task-ordered : (s : SystemLists) (t : Task) → IsTask s t → is_crossed (redraft_task s t) ≡ false
+task-ordered s t fits = le-ltb t.worst t.best fits.ordered
