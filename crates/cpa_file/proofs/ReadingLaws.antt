@@ -1,5 +1,5 @@
 -- What is known of a system that a file stands for.
-use Rattle.std.proofs.Common.{◌≡◌, ℕ, List, Option, Some, None, Result, Ok, Err, refl, sym, ◌∙◌, subst}
+use Rattle.std.proofs.Common.{◌≡◌, ℕ, List, Option, Some, None, Result, Ok, Err, refl, subst}
 use Rattle.toml.specs.Data.{Members, Data, table}
 use Rattle.cpa_draft.specs.DraftLists.{DraftLists}
 use Rattle.cpa_draft.specs.Refusals.{first_refusal}
@@ -10,7 +10,7 @@ use Rattle.cpa_model.specs.Built.{system_of}
 use Rattle.cpa_model.specs.Rules.{IsSystem}
 use Rattle.cpa_model.proofs.BuiltLaws.{system-kept}
 use Rattle.cpa_file.specs.Document.{document_of, draft_of}
-use Rattle.cpa_file.specs.Reading.{Reading, NotToml, Refused, Accepted, reading_of, by_document, by_draft, by_refusal}
+use Rattle.cpa_file.specs.Reading.{Accepted, reading_of, by_document, by_draft, by_refusal}
 use Rattle.cpa_file.proofs.EntryLaws.{draft-executions}
 
 same_system : (s t : SystemLists) → Accepted s ≡ Accepted t → s ≡ t

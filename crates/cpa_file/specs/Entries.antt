@@ -1,5 +1,5 @@
 -- The entries of a system file, as they are read.
-use Rattle.std.specs.Prelude.{ℕ, ℤ, Bool, ◌&&◌, is_some, is_none, List, [], ◌∷◌, Option, Some, None, Result, Ok, Err, codes, if◌then◌else◌}
+use Rattle.std.specs.Prelude.{ℕ, List, [], ◌∷◌, Option, Some, None, Result, Ok, Err, codes, if◌then◌else◌}
 use Rattle.std.specs.Str.{bytes_eq}
 use Rattle.toml.specs.Data.{Data, Items, as_str, as_integer, as_bool, as_array}
 use Rattle.cpa_draft.specs.declared.draft.KindWord.{KindWord}

@@ -7,7 +7,7 @@ mod fields;
 mod print;
 mod read;
 
-pub use print::print_document;
+pub use print::print_system;
 pub use read::{FileRefusal, read_system};
 
 #[cfg(test)]

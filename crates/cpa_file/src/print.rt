@@ -265,7 +265,7 @@ fn system_table(alloc: Global, system: &System) -> Result<Table, NoMemory>
 }
 
 /// The bytes of a system's document.
-pub fn print_document(alloc: Global, system: &System) -> Result<Vec<u8>, NoMemory>
+fn print_document(alloc: Global, system: &System) -> Result<Vec<u8>, NoMemory>
     ensures printed { IfOk result (λ v. IsPrinted system.now v.items) }
     ensures rules { OnOk result (IsSystem system.now) }
 {
@@ -274,4 +274,11 @@ pub fn print_document(alloc: Global, system: &System) -> Result<Vec<u8>, NoMemor
         Ok(text) => Ok(Vec::from_slice(alloc, text.as_str().as_bytes())?),
         Err(_) => Err(NoMemory),
     }
+}
+/// The bytes of a file that stands for the system. Executions are printed as `best` and `worst`; the layout is that of
+/// `toml`'s printer.
+pub fn print_system(alloc: Global, system: &System) -> Result<Vec<u8>, NoMemory>
+    ensures { IfOk result (λ v. reading_of v.items ≡ Accepted system.now) }
+{
+    Ok(print_document(alloc, system)?)
 }

@@ -1,4 +1,4 @@
-use crate::print::print_document;
+use crate::print::print_system;
 use crate::read::{FileRefusal, read_system};
 use cpa_model::{Part, Refusal};
 use std::test::Fail;
@@ -288,10 +288,10 @@ fn prints_and_reads_back(rt: HostRuntime) -> Result<(), Fail> {
         let system = read_system(alloc, text.as_bytes())?;
         assert_eq!(rt; system.tasks(), tasks, "{text}");
         assert_eq!(rt; system.paths(), paths, "{text}");
-        let printed = print_document(alloc, &system)?;
+        let printed = print_system(alloc, &system)?;
         let again = read_system(alloc, printed.as_slice())?;
         assert!(rt;
-            print_document(alloc, &again)?.as_slice() == printed.as_slice(),
+            print_system(alloc, &again)?.as_slice() == printed.as_slice(),
             "{text}"
         );
     }

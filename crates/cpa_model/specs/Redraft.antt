@@ -1,5 +1,5 @@
 -- The draft that says the same as a system.
-use Rattle.std.specs.Prelude.{ℕ, ℤ, pos, List, map, Option, Some, None, option_map}
+use Rattle.std.specs.Prelude.{◌≡◌, ℕ, ℤ, pos, List, map, Option, Some, None, option_map}
 use Rattle.cpa_units.specs.declared.places.TaskId.{TaskId}
 use Rattle.cpa_model.specs.declared.entries.Resource.{Resource}
 use Rattle.cpa_model.specs.declared.entries.Source.{Source}
@@ -18,6 +18,9 @@ use Rattle.cpa_draft.specs.declared.draft.DraftPath.{DraftPath}
 use Rattle.cpa_draft.specs.declared.draft.KindWord.{KindWord}
 use Rattle.cpa_draft.specs.declared.draft.KindWord.TheVariants as word
 use Rattle.cpa_draft.specs.DraftLists.{DraftLists}
+use Rattle.cpa_draft.specs.Refusals.{first_refusal}
+use Rattle.cpa_model.specs.Built.{system_of}
+use Rattle.cpa_model.specs.Rules.{IsSystem}
 use Rattle.cpa_model.specs.SystemLists.{SystemLists, resource_at, source_at, task_at}
 
 abbrev pub word_of : Kind → KindWord
@@ -75,3 +78,11 @@ redraft s = record {
   tasks = map (redraft_task s) s.tasks;
   paths = map (redraft_path s) s.paths;
 }
+
+-- no system's own draft is refused
+abbrev pub OwnDraftsAreAccepted : Type 0
+OwnDraftsAreAccepted = (s : SystemLists) → IsSystem s → first_refusal (redraft s) ≡ None
+
+-- and it stands for the system
+abbrev pub OwnDraftsStand : Type 0
+OwnDraftsStand = (s : SystemLists) → IsSystem s → system_of (redraft s) ≡ s

@@ -8,6 +8,7 @@ ghost use Rattle.cpa_draft.specs.Judged.{Judges};
 ghost use Rattle.cpa_draft.specs.Refusals.{by_priority, first_refusal};
 ghost use Rattle.cpa_draft.specs.declared.refusal.BuildFault.TheVariants.{Memory};
 ghost use Rattle.cpa_model.specs.Built.{built_kind, built_resource, built_source, built_task, built_path, built_turn, built_activator, resource_place, activity_place, bit_time, task_named, least_execution, greatest_execution, has_executions, TaskFitsTypes, PathFitsTypes, system_of};
+ghost use Rattle.cpa_model.specs.Redraft.{OwnDraftsAreAccepted, OwnDraftsStand};
 
 use crate::entries::{Activator, Kind, Path, Resource, Source, Task, TaskList, Turn};
 use crate::system::System;
@@ -289,3 +290,9 @@ impl System {
         })
     }
 }
+
+/// The draft that says the same as a system isn't refused, and stands for the system.
+pub fn own_drafts_have_laws()
+    ensures accepted { OwnDraftsAreAccepted }
+    ensures stand { OwnDraftsStand }
+{}

@@ -7,7 +7,10 @@ pub mod build;
 mod chains;
 pub mod entries;
 pub mod system;
+#[cfg(test)]
+mod tests;
 
+pub use build::own_drafts_have_laws;
 pub use cpa_draft::{
     BuildFault, Draft, DraftPath, DraftResource, DraftSource, DraftTask, KindWord, Part, Raw,
     RawList, Refusal,

@@ -1,0 +1,5 @@
+use Rattle.cpa_file.proofs.RoundTripLaws.{printed-reads}
+use Rattle.cpa_file.proofs.print.print_system.Goals as goal
+
+pub returns : goal.returns
+returns c = printed-reads c.args.system.now c.in_ok-print_document.field-0.items c.in_ok-print_document.ensures.rules c.in_ok-print_document.ensures.printed
