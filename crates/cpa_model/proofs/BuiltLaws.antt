@@ -135,6 +135,7 @@ task-kept-at d u given i e less =
     let turn : TurnFits (built_kind r.kind r.gap r.bit) (built_turn (by_priority (kind_of d t.on)) t) =
     rw is_kind (turn-kept r.kind r.gap r.bit t (rw is_kind at suit) fit-priority.1 fit.1) in
     record {
+      named = u.tasks_named i e less;
       placed = rw (length-map d.resources built_resource) below;
       activated = activator-kept (system_of d) (length d.sources) (activity_place d t.after) (sym (length-map d.sources built_source)) (rw (length-map d.tasks (built_task d)) active);
       some_best = run.some;
@@ -257,6 +258,7 @@ path-kept-at d u i e less =
     let some : 0 < length p.tasks = leb-false _ _ linked.0 in
     let know = u.paths_know i e less in
     record {
+      named = u.paths_named i e less;
       some = rw (length-map p.tasks (task_named d)) some;
       there = all-map (λ (t : TaskId). t.0 < length (map (built_task d) d.tasks)) (task_named d) p.tasks
           (λ k name below. rw (length-map d.tasks (built_task d)) (task-below d (get_or p.tasks k name) (passes-at (λ name. is_task (link_of d name)) p.tasks k name know below)));
@@ -271,8 +273,8 @@ system-kept d u given = record {
   few_sources = rw (length-map d.sources built_source) u.few_sources;
   few_tasks = rw (length-map d.tasks (built_task d)) u.few_tasks;
   few_paths = rw (length-map d.paths (built_path d)) u.few_paths;
-  resources = all-map IsResource built_resource d.resources (λ k r less. resource-kept (get_or d.resources k r) (u.resources_fit k r less));
-  sources = all-map IsSource built_source d.sources (λ k r less. source-kept (get_or d.sources k r) (u.sources_fit k r less));
+  resources = all-map IsResource built_resource d.resources (λ k r less. resource-kept (get_or d.resources k r) (u.resources_named k r less) (u.resources_fit k r less));
+  sources = all-map IsSource built_source d.sources (λ k r less. source-kept (get_or d.sources k r) (u.sources_named k r less) (u.sources_fit k r less));
   tasks = all-map (IsTask (system_of d)) (built_task d) d.tasks (task-kept-at d u given);
   paths = all-map (IsPath (system_of d)) (built_path d) d.paths (path-kept-at d u);
   chains = chains-kept d u;

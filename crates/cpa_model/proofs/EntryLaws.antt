@@ -5,6 +5,7 @@ use Rattle.std.specs.Option.{ForSome}
 use Rattle.std.proofs.Math.Nat.{mul-le-mul_right, mul-le-mul_left}
 use Rattle.std.proofs.lemmas.Bool.{and_parts, or_parts, false≢true, true≢false, leb-true, ltb-true, ltb-false, cases_Bool, lt-ltb, le-ltb}
 use Rattle.std.proofs.lemmas.List.{length-map, get_or-map}
+use Rattle.cpa_units.specs.Name.{is_name}
 use Rattle.cpa_units.specs.Frames.{least_frame_bits, greatest_frame_bits}
 use Rattle.cpa_draft.specs.Numbers.{nat_of, nat_or, is_within, may_be_within}
 use Rattle.cpa_draft.specs.Names.{place_of, link_at, is_nothing, is_task}
@@ -43,21 +44,21 @@ kind-kept word.RoundRobin gap bit g b = tt
 kind-kept word.Tdma gap bit g b = (may-range 0 1000000 0 gap (lit≤ tt, lit≤ tt) g).1
 kind-kept word.Can gap bit g b = may-range 1 1000 1 bit (lit≤ tt, lit≤ tt) b
 
-pub resource-kept : (r : DraftResource) → resource_fits r ≡ true → IsResource (built_resource r)
-resource-kept r h =
+pub resource-kept : (r : DraftResource) → is_name r.name ≡ true → resource_fits r ≡ true → IsResource (built_resource r)
+resource-kept r named h =
     let a = and_parts _ _ h in
     let b = and_parts _ _ a.0 in
     let limit = may-range 1 10000000 1000000 r.limit (lit≤ tt, lit≤ tt) b.0 in
-    record { some_limit = limit.0; limit = limit.1; kind_fits = kind-kept r.kind r.gap r.bit b.1 a.1 }
+    record { named = named; some_limit = limit.0; limit = limit.1; kind_fits = kind-kept r.kind r.gap r.bit b.1 a.1 }
 
-pub source-kept : (r : DraftSource) → source_fits r ≡ true → IsSource (built_source r)
-source-kept r h =
+pub source-kept : (r : DraftSource) → is_name r.name ≡ true → source_fits r ≡ true → IsSource (built_source r)
+source-kept r named h =
     let a = and_parts _ _ h in
     let b = and_parts _ _ a.0 in
     let period = range 1 1000000000 r.period b.0 in
     let jitter = may-range 0 1000000000 0 r.jitter (lit≤ tt, lit≤ tt) b.1 in
     let distance = may-range 0 (nat_of r.period) 0 r.distance (omega arith, omega arith) a.1 in
-    record { some_period = period.0; period = period.1; jitter = jitter.1; distance = distance.1 }
+    record { named = named; some_period = period.0; period = period.1; jitter = jitter.1; distance = distance.1 }
 
 -- names that name something
 

@@ -1,4 +1,5 @@
 pub mod BuiltLaws
 pub mod ChainLaws
 pub mod EntryLaws
+pub mod RedraftLaws
 pub mod SystemLaws

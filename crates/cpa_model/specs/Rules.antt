@@ -1,7 +1,8 @@
 -- The rules that every system keeps.
-use Rattle.std.specs.Prelude.{◌≡◌, ◌≢◌, ℕ, ◌+◌, ◌≤◌, ◌<◌, List, ◌++◌, map, length, IsSome, slice_index_or, All}
+use Rattle.std.specs.Prelude.{◌≡◌, ◌≢◌, true, ℕ, ◌+◌, ◌≤◌, ◌<◌, List, ◌++◌, map, length, IsSome, slice_index_or, All}
 use Rattle.std.specs.List.{AllPairs}
 use Rattle.std.specs.Option.{ForSome}
+use Rattle.cpa_units.specs.Name.{is_name}
 use Rattle.cpa_units.specs.declared.limits.TheConstants.{MAX_RESOURCES, MAX_SOURCES, MAX_TASKS, MAX_PATHS, MAX_PERIOD, MAX_JITTER, MAX_EXECUTION, MAX_GAP, MAX_BIT, MAX_LIMIT, MAX_PRIORITY, MAX_CHAIN}
 use Rattle.cpa_units.specs.declared.places.TaskId.{TaskId}
 use Rattle.cpa_model.specs.declared.entries.Resource.{Resource}
@@ -24,11 +25,13 @@ KindFits (kind.Can bit) = (1 ≤ bit) × (bit ≤ MAX_BIT)
 KindFits _ = Unit {0}
 
 pub record IsResource (r : Resource) : Type 0 where
+  pub named : is_name r.name ≡ true
   pub some_limit : 1 ≤ r.limit
   pub limit : r.limit ≤ MAX_LIMIT
   pub kind_fits : KindFits r.kind
 
 pub record IsSource (r : Source) : Type 0 where
+  pub named : is_name r.name ≡ true
   pub some_period : 1 ≤ r.period
   pub period : r.period ≤ MAX_PERIOD
   pub jitter : r.jitter ≤ MAX_JITTER
@@ -48,6 +51,7 @@ TurnFits (kind.Tdma gap) (turn.Slot ticks) = (1 ≤ ticks) × (ticks ≤ MAX_EXE
 TurnFits _ _ = ⊥
 
 pub record IsTask (s : SystemLists) (t : Task) : Type 0 where
+  pub named : is_name t.name ≡ true
   pub placed : t.res.0 < length s.resources
   pub activated : IsActivator s t.after
   pub some_best : 1 ≤ t.best
@@ -61,6 +65,7 @@ IsLinked s ts = (k : ℕ) → k + 1 < length ts
     → (task_at s (slice_index_or ts (k + 1) (record { 0 = 0 })).0).after ≡ activator.Task (slice_index_or ts k (record { 0 = 0 }))
 
 pub record IsPath (s : SystemLists) (p : Path) : Type 0 where
+  pub named : is_name p.name ≡ true
   pub some : 0 < length p.tasks
   pub there : All (λ (t : TaskId). t.0 < length s.tasks) p.tasks
   pub linked : IsLinked s p.tasks

@@ -7,6 +7,8 @@ pub mod build;
 mod chains;
 pub mod entries;
 pub mod system;
+#[cfg(test)]
+mod tests;
 
 pub use cpa_draft::{
     BuildFault, Draft, DraftPath, DraftResource, DraftSource, DraftTask, KindWord, Part, Raw,
