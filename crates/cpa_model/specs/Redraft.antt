@@ -1,5 +1,5 @@
 -- The draft of a system: what a system file says of it.
-use Rattle.std.specs.Prelude.{◌≡◌, ℕ, ℤ, pos, List, map, Option, Some, None, option_map}
+use Rattle.std.specs.Prelude.{◌≡◌, ℕ, ℤ, pos, true, All, List, map, Option, Some, None, option_map}
 use Rattle.cpa_units.specs.declared.places.TaskId.{TaskId}
 use Rattle.cpa_draft.specs.DraftLists.{DraftLists}
 use Rattle.cpa_draft.specs.Refusals.{first_refusal}
@@ -21,7 +21,7 @@ use Rattle.cpa_model.specs.declared.entries.Turn.{Turn}
 use Rattle.cpa_model.specs.declared.entries.Turn.TheVariants as turn
 use Rattle.cpa_model.specs.SystemLists.{SystemLists, resource_at, source_at, task_at}
 use Rattle.cpa_model.specs.Rules.{IsSystem}
-use Rattle.cpa_model.specs.Built.{system_of}
+use Rattle.cpa_model.specs.Built.{has_executions, system_of}
 
 -- a kind's word, gap and bit time
 abbrev pub word_of : Kind → KindWord
@@ -77,7 +77,11 @@ redraft_path s p = record { name = p.name; tasks = map (λ (t : TaskId). (task_a
 unfoldable pub redraft : SystemLists → DraftLists
 redraft s = record { resources = map redraft_resource s.resources; sources = map redraft_source s.sources; tasks = map (redraft_task s) s.tasks; paths = map (redraft_path s) s.paths }
 
--- a system's draft isn't refused
+-- the tasks of a system's draft have their executions
+abbrev pub RedraftsHaveExecutions : Type 0
+RedraftsHaveExecutions = (s : SystemLists) → All (λ t. has_executions t ≡ true) (redraft s).tasks
+
+-- it isn't refused
 abbrev pub RedraftsPass : Type 0
 RedraftsPass = (s : SystemLists) → IsSystem s → first_refusal (redraft s) ≡ None
 

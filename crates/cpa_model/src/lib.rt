@@ -6,6 +6,7 @@
 pub mod build;
 mod chains;
 pub mod entries;
+pub mod redraft;
 pub mod system;
 #[cfg(test)]
 mod tests;
@@ -15,4 +16,5 @@ pub use cpa_draft::{
     RawList, Refusal,
 };
 pub use entries::{Activator, Kind, Path, Resource, Source, Task, TaskList, Turn};
+pub use redraft::redrafts_have_laws;
 pub use system::System;
