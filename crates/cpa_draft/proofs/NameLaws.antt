@@ -1,17 +1,16 @@
 -- Names that differ, and the places at which they are found.
-use Rattle.std.proofs.Common.{◌≡◌, ◌≢◌, ℕ, zero, suc, ◌+◌, ◌<◌, ◌≤◌, Bool, true, false, List, [], ◌∷◌, ◌++◌, map, length, take, get_or, slice_index_or, All, Option, Some, None, is_none, unwrap_or, refl, sym, ap, ◌∙◌, arith, length-take, length-append}
+use Rattle.std.proofs.Common.{◌≡◌, ◌≢◌, ℕ, zero, suc, ◌+◌, ◌<◌, Bool, true, false, List, [], ◌∷◌, ◌++◌, map, length, take, get_or, Option, Some, None, is_none, unwrap_or, refl, sym, ap, ◌∙◌, arith, length-take, length-append}
 use Rattle.std.proofs.lemmas.List.{length-map, get_or-map, get_or-take, get_or_append_left, get_or-append-add}
 use Rattle.std.proofs.lemmas.List.Quantifiers.{position-Some}
-use Rattle.std.specs.Prelude.{position}
 use Rattle.std.specs.List.{position_from, list_any, AllPairs}
 use Rattle.std.specs.Str.{bytes_eq}
-use Rattle.std.proofs.lemmas.Bool.{false≢true, true≢false, cases_Bool, false_from_ne_true}
+use Rattle.std.proofs.lemmas.Bool.{true≢false, false_from_ne_true}
 use Rattle.std.proofs.lemmas.Slice.Eq.{bytes_eq-Decides}
 use Rattle.std.proofs.lemmas.Iterator.Adapters.{position_from-zero}
 use Rattle.cpa_draft.specs.First.{first_known}
 use Rattle.cpa_draft.specs.Names.{place_of}
 use Rattle.cpa_draft.proofs.FirstLemmas.{none_marked, all_unmarked}
-use Rattle.cpa_draft.proofs.ListLaws.{any-append, none-at, none-any, all-map, all-append, pairs-map, pairs-append, get_or-any}
+use Rattle.cpa_draft.proofs.ListLaws.{any-append, none-at, none-any, all-map, all-append, pairs-map, pairs-append}
 
 -- no two names are the same
 abbrev pub Differ : List (List ℕ) → Type 0

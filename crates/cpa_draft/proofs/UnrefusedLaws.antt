@@ -1,7 +1,7 @@
 -- What a draft has to which no reason applies, and that it is all.
-use Rattle.std.proofs.Common.{◌≡◌, ℕ, zero, suc, ◌+◌, ◌<◌, ◌≤◌, Bool, true, false, not, ◌||◌, nat_le, nat_lt, List, [], ◌∷◌, length, take, get_or, All, Option, Some, None, is_none, refl, sym, ap, ◌∙◌, arith, inl, inr}
+use Rattle.std.proofs.Common.{◌≡◌, ℕ, ◌≤◌, Bool, true, false, not, ◌||◌, nat_le, nat_lt, List, [], ◌∷◌, length, take, All, Option, Some, None, is_none, refl, sym, ap, ◌∙◌, arith, inl, inr}
 use Rattle.std.specs.List.{list_all, filter_map}
-use Rattle.std.proofs.lemmas.Bool.{false≢true, true≢false, le-leb, lt-ltb, leb-true, ltb-true, ltb-false, cases_Bool, false_from_ne_true}
+use Rattle.std.proofs.lemmas.Bool.{true≢false, le-leb, leb-true, ltb-true, ltb-false, cases_Bool, false_from_ne_true}
 use Rattle.std.proofs.lemmas.Option.{none-some}
 use Rattle.cpa_units.specs.Name.{is_name}
 use Rattle.cpa_draft.specs.First.{first_place, first_known}

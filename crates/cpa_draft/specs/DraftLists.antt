@@ -1,5 +1,5 @@
 -- A system as it was read.
-use Rattle.std.specs.Prelude.{ℕ, List, [], Option, None, slice_index_or}
+use Rattle.std.specs.Prelude.{ℕ, List, [], None, slice_index_or}
 use Rattle.cpa_draft.specs.declared.draft.DraftResource.{DraftResource}
 use Rattle.cpa_draft.specs.declared.draft.DraftSource.{DraftSource}
 use Rattle.cpa_draft.specs.declared.draft.DraftTask.{DraftTask}

@@ -1,5 +1,5 @@
 -- What the names of a draft name.
-use Rattle.std.specs.Prelude.{◌≡◌, ℕ, ◌-◌, ◌&&◌, nat_lt, if◌then◌else◌, Bool, true, false, List, ◌++◌, Option, Some, None, map, length, position, option_map}
+use Rattle.std.specs.Prelude.{◌≡◌, ℕ, ◌-◌, nat_lt, if◌then◌else◌, Bool, true, false, List, ◌++◌, Option, Some, None, map, length, position, option_map}
 use Rattle.std.specs.Str.{bytes_eq}
 use Rattle.cpa_draft.specs.DraftLists.{DraftLists, resource_at, task_at}
 use Rattle.cpa_draft.specs.declared.draft.DraftResource.{DraftResource}

@@ -1,5 +1,5 @@
 -- Why a draft is refused: the reasons in their order, and the first place of the first that applies.
-use Rattle.std.specs.Prelude.{ℕ, ◌+◌, ◌-◌, ◌&&◌, ◌||◌, ◌==◌, nat_le, nat_lt, if◌then◌else◌, not, Bool, true, false, List, [], ◌∷◌, Option, Some, None, is_some, is_none, unwrap_or, option_map, map, length, take, slice_index_or}
+use Rattle.std.specs.Prelude.{ℕ, ◌+◌, ◌-◌, ◌&&◌, ◌||◌, ◌==◌, nat_le, nat_lt, if◌then◌else◌, not, Bool, true, false, List, [], ◌∷◌, Option, Some, None, is_some, is_none, unwrap_or, option_map, length, take, slice_index_or}
 use Rattle.std.specs.List.{list_all, list_any, filter_map, range_with_len}
 use Rattle.cpa_units.specs.Name.{is_name}
 use Rattle.cpa_units.specs.declared.limits.TheConstants.{MAX_RESOURCES, MAX_TASKS, MAX_SOURCES, MAX_PATHS, MAX_CHAIN, MAX_PERIOD, MAX_JITTER, MAX_EXECUTION, MAX_GAP, MAX_BIT, MAX_LIMIT, MAX_PRIORITY, MAX_PAYLOAD}

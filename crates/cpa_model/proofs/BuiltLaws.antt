@@ -1,11 +1,10 @@
 -- The system that a draft stands for keeps the rules, where no reason applies to the draft.
-use Rattle.std.proofs.Common.{◌≡◌, ◌≢◌, ℕ, ℤ, zero, suc, ◌+◌, ◌-◌, ◌<◌, ◌≤◌, Bool, true, false, not, ◌&&◌, ◌||◌, nat_le, nat_lt, cond, List, [], ◌∷◌, ◌++◌, map, length, take, get_or, slice_index_or, All, Option, Some, None, IsSome, is_some, is_none, option_map, unwrap_or, refl, sym, ap, ◌∙◌, arith, inl, inr, eq-eqb, lit≤, length-append, length-take, ◌==◌}
+use Rattle.std.proofs.Common.{◌≡◌, ℕ, ℤ, zero, suc, ◌+◌, ◌-◌, ◌<◌, ◌≤◌, Bool, true, false, not, nat_le, nat_lt, cond, List, [], ◌∷◌, map, length, take, get_or, slice_index_or, All, Option, Some, None, IsSome, is_none, option_map, unwrap_or, refl, sym, ap, ◌∙◌, arith, inl, inr, eq-eqb, lit≤, length-append, length-take}
 use Rattle.std.specs.Option.{ForSome}
-use Rattle.std.specs.List.{list_all, list_any, filter_map, cons_option, range_with_len, AllPairs}
-use Rattle.std.specs.Str.{bytes_eq}
+use Rattle.std.specs.List.{list_all, list_any, filter_map, cons_option, range_with_len}
 use Rattle.std.proofs.lemmas.Slice.Eq.{bytes_eq-Decides}
 use Rattle.std.proofs.Math.Bool.{or-true}
-use Rattle.std.proofs.lemmas.Bool.{and_parts, and_from, or_parts, false≢true, true≢false, leb-true, leb-false, ltb-true, ltb-false, le-ltb, cases_Bool}
+use Rattle.std.proofs.lemmas.Bool.{and_parts, and_from, or_parts, true≢false, leb-false, ltb-true, ltb-false, le-ltb, cases_Bool}
 use Rattle.std.proofs.lemmas.List.{length-map, get_or-map, get_or-take}
 use Rattle.std.proofs.lemmas.List.FromFn.{get_or-range_with_len, length-range_with_len}
 use Rattle.std.proofs.lemmas.Option.{none-some, same_Some}
@@ -15,18 +14,17 @@ use Rattle.cpa_draft.specs.Numbers.{nat_of, nat_or, may_be_within}
 use Rattle.cpa_draft.specs.DraftLists.{DraftLists, resource_at as draft_resource_at, task_at as draft_task_at, no_resource as no_draft_resource, no_task as no_draft_task}
 use Rattle.cpa_draft.specs.Names.{resource_names, source_names, task_names, activity_names as draft_names, place_of, kind_of, link_at, link_of, links_of, is_nothing, is_task, is_after}
 use Rattle.cpa_draft.specs.Chains.{link_step, chain_within, first_longer}
-use Rattle.cpa_draft.specs.Refusals.{by_priority, turn_misfits, task_misfits, rank_of, same_rank, is_taken, is_linked, task_fits}
+use Rattle.cpa_draft.specs.Refusals.{by_priority, turn_misfits, rank_of, same_rank, is_taken, is_linked, task_fits}
 use Rattle.cpa_draft.specs.declared.draft.DraftResource.{DraftResource}
 use Rattle.cpa_draft.specs.declared.draft.DraftSource.{DraftSource}
 use Rattle.cpa_draft.specs.declared.draft.DraftTask.{DraftTask}
 use Rattle.cpa_draft.specs.declared.draft.DraftPath.{DraftPath}
-use Rattle.cpa_draft.specs.declared.draft.KindWord.{KindWord}
 use Rattle.cpa_draft.specs.declared.links.Link.{Link}
 use Rattle.cpa_draft.specs.declared.links.Link.TheVariants as link
 use Rattle.cpa_draft.proofs.FirstLemmas.{none_marked}
-use Rattle.cpa_draft.proofs.ListLaws.{passes-at, all-map, pairs-map, map-map, get_or-any, not-false}
-use Rattle.cpa_draft.proofs.NameLaws.{same_name, new-differ}
-use Rattle.cpa_draft.proofs.UnrefusedLaws.{IsUnrefused, unrefused}
+use Rattle.cpa_draft.proofs.ListLaws.{passes-at, all-map, pairs-map, map-map, not-false}
+use Rattle.cpa_draft.proofs.NameLaws.{new-differ}
+use Rattle.cpa_draft.proofs.UnrefusedLaws.{IsUnrefused}
 use Rattle.cpa_model.specs.declared.entries.Resource.{Resource}
 use Rattle.cpa_model.specs.declared.entries.Source.{Source}
 use Rattle.cpa_model.specs.declared.entries.Task.{Task}
@@ -35,7 +33,7 @@ use Rattle.cpa_model.specs.declared.entries.Turn.TheVariants as turn
 use Rattle.cpa_model.specs.declared.entries.Activator.{Activator}
 use Rattle.cpa_model.specs.declared.entries.Activator.TheVariants as activator
 use Rattle.cpa_model.specs.Chains.{chain_step, depth_within, activators}
-use Rattle.cpa_model.specs.SystemLists.{SystemLists, resource_at, task_at, no_resource, no_task}
+use Rattle.cpa_model.specs.SystemLists.{SystemLists, task_at, no_resource, no_task}
 use Rattle.cpa_model.specs.Rules.{IsSystem, IsResource, IsSource, IsTask, IsActivator, IsPath, IsLinked, AllDiffer, HaveOwnPriorities, TurnFits, activity_names}
 use Rattle.cpa_model.specs.Built.{built_kind, built_resource, built_source, built_task, built_path, built_turn, built_activator, activator_at, resource_place, activity_place, bit_time, task_named, has_executions, TaskFitsTypes, PathFitsTypes, system_of}
 use Rattle.cpa_model.proofs.SystemLaws.{path-short}

@@ -1,19 +1,17 @@
 -- A system's draft stands for the system.
-use Rattle.std.proofs.Common.{◌≡◌, ◌≢◌, ℕ, ℤ, pos, zero, suc, ◌+◌, ◌-◌, ◌<◌, ◌≤◌, Bool, true, false, not, ◌&&◌, ◌||◌, nat_le, nat_lt, cond, List, [], ◌∷◌, ◌++◌, map, length, get_or, slice_index_or, All, Option, Some, None, IsSome, is_some, is_none, option_map, unwrap_or, refl, sym, ap, ◌∙◌, arith, length-append}
-use Rattle.std.proofs.lemmas.Bool.{lt-ltb, le-ltb, false≢true}
+use Rattle.std.proofs.Common.{◌≡◌, ℕ, pos, suc, ◌+◌, ◌-◌, ◌<◌, false, nat_lt, List, [], ◌∷◌, map, length, get_or, Option, Some, None, option_map, refl, sym, ap, ◌∙◌, arith, length-append}
+use Rattle.std.proofs.lemmas.Bool.{lt-ltb, le-ltb}
 use Rattle.std.proofs.lemmas.List.{length-map, get_or-map, get_or_append_left, get_or-append-add}
 use Rattle.cpa_units.specs.declared.places.TaskId.{TaskId}
-use Rattle.cpa_draft.specs.Numbers.{nat_of, nat_or}
-use Rattle.cpa_draft.specs.DraftLists.{DraftLists, resource_at as draft_resource_at, no_resource as no_draft_resource}
+use Rattle.cpa_draft.specs.Numbers.{nat_of}
+use Rattle.cpa_draft.specs.DraftLists.{resource_at as draft_resource_at, no_resource as no_draft_resource}
 use Rattle.cpa_draft.specs.Names.{resource_names, source_names, task_names, activity_names as draft_names, place_of, kind_of, link_at, link_of}
 use Rattle.cpa_draft.specs.Refusals.{by_priority}
 use Rattle.cpa_draft.specs.declared.draft.DraftResource.{DraftResource}
 use Rattle.cpa_draft.specs.declared.draft.DraftSource.{DraftSource}
 use Rattle.cpa_draft.specs.declared.draft.DraftTask.{DraftTask}
-use Rattle.cpa_draft.specs.declared.draft.DraftPath.{DraftPath}
-use Rattle.cpa_draft.specs.declared.draft.KindWord.{KindWord}
 use Rattle.cpa_draft.specs.declared.links.Link.TheVariants as link
-use Rattle.cpa_draft.proofs.ListLaws.{map-map, get_or-any}
+use Rattle.cpa_draft.proofs.ListLaws.{map-map}
 use Rattle.cpa_draft.proofs.NameLaws.{place_of-own}
 use Rattle.cpa_model.specs.declared.entries.Resource.{Resource}
 use Rattle.cpa_model.specs.declared.entries.Source.{Source}
@@ -27,8 +25,8 @@ use Rattle.cpa_model.specs.declared.entries.Activator.{Activator}
 use Rattle.cpa_model.specs.declared.entries.Activator.TheVariants as activator
 use Rattle.cpa_model.specs.SystemLists.{SystemLists, resource_at, source_at, task_at, no_resource, no_source, no_task}
 use Rattle.cpa_model.specs.Rules.{IsSystem, IsTask, IsPath, IsActivator, TurnFits, activity_names}
-use Rattle.cpa_model.specs.Built.{built_kind, built_resource, built_source, built_task, built_path, built_turn, built_activator, activator_at, resource_place, activity_place, task_named, system_of}
-use Rattle.cpa_model.specs.Redraft.{word_of, gap_given, bit_given, redraft_resource, redraft_source, redraft_task, redraft_path, activator_name, priority_given, slot_given, redraft}
+use Rattle.cpa_model.specs.Built.{built_kind, built_resource, built_source, built_task, built_path, built_turn, built_activator, activator_at, task_named, system_of}
+use Rattle.cpa_model.specs.Redraft.{word_of, gap_given, bit_given, redraft_resource, redraft_source, redraft_task, redraft_path, activator_name, redraft}
 use Rattle.cpa_model.proofs.BuiltLaws.{link_from}
 
 -- what is made of each member and gives it back

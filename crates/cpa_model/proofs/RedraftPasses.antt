@@ -1,32 +1,28 @@
 -- No reason applies to a system's draft.
-use Rattle.std.proofs.Common.{◌≡◌, ◌≢◌, ℕ, ℤ, pos, zero, suc, ◌+◌, ◌-◌, ◌<◌, ◌≤◌, Bool, true, false, not, ◌&&◌, ◌||◌, nat_le, nat_lt, cond, List, [], ◌∷◌, ◌++◌, map, length, take, get_or, slice_index_or, All, Option, Some, None, IsSome, is_some, is_none, option_map, unwrap_or, refl, sym, ap, ◌∙◌, arith, inl, inr, length-take, length-append, ◌==◌}
+use Rattle.std.proofs.Common.{◌≡◌, ◌≢◌, ℕ, ℤ, pos, zero, suc, ◌+◌, ◌-◌, ◌<◌, ◌≤◌, Bool, true, false, not, ◌||◌, nat_le, nat_lt, cond, List, [], ◌∷◌, ◌++◌, map, length, take, get_or, slice_index_or, All, Option, Some, None, IsSome, is_none, option_map, unwrap_or, refl, sym, ap, ◌∙◌, arith, inl, inr, length-take, length-append}
 use Rattle.std.specs.Option.{ForSome}
 use Rattle.std.specs.List.{list_all, list_any, filter_map, cons_option, range_with_len, AllPairs}
-use Rattle.std.specs.Str.{bytes_eq}
-use Rattle.std.proofs.lemmas.Bool.{and_parts, and_from, false≢true, true≢false, leb-true, le-leb, le-ltb, ltb-true, ltb-false, eqb-true, cases_Bool, false_from_ne_true}
+use Rattle.std.proofs.lemmas.Bool.{and_parts, and_from, false≢true, leb-true, le-leb, le-ltb, ltb-true, ltb-false, eqb-true, cases_Bool, false_from_ne_true}
 use Rattle.std.proofs.lemmas.List.{length-map, get_or-map, get_or-take, get_or_append_left}
-use Rattle.std.proofs.lemmas.List.Elements.{All-cons}
 use Rattle.std.proofs.lemmas.List.FromFn.{get_or-range_with_len, length-range_with_len, get_or-map-range_with_len}
 use Rattle.std.proofs.lemmas.Option.{none-some, same_Some}
 use Rattle.cpa_units.specs.Name.{is_name}
 use Rattle.cpa_units.specs.declared.places.ResId.{ResId}
 use Rattle.cpa_units.specs.declared.places.TaskId.{TaskId}
 use Rattle.cpa_units.specs.declared.places.SourceId.{SourceId}
-use Rattle.cpa_draft.specs.Numbers.{nat_of, nat_or, is_within, may_be_within}
+use Rattle.cpa_draft.specs.Numbers.{nat_of, may_be_within}
 use Rattle.cpa_draft.specs.First.{first_place}
-use Rattle.cpa_draft.specs.DraftLists.{DraftLists, task_at as draft_task_at, no_task as no_draft_task}
-use Rattle.cpa_draft.specs.Names.{resource_names, source_names, place_of, kind_of, link_of, links_of, is_nothing, is_task, is_after}
+use Rattle.cpa_draft.specs.DraftLists.{task_at as draft_task_at, no_task as no_draft_task}
+use Rattle.cpa_draft.specs.Names.{resource_names, source_names, place_of, kind_of, link_of, links_of, is_nothing, is_task}
 use Rattle.cpa_draft.specs.Chains.{chain_within, first_longer}
-use Rattle.cpa_draft.specs.Refusals.{by_priority, turn_misfits, task_misfits, resource_misfits, resource_fits, source_fits, task_fits, path_fits, is_crossed, rank_of, same_rank, is_taken, is_linked, first_refusal}
+use Rattle.cpa_draft.specs.Refusals.{by_priority, task_misfits, resource_misfits, resource_fits, source_fits, task_fits, path_fits, is_crossed, rank_of, same_rank, is_taken, is_linked}
 use Rattle.cpa_draft.specs.declared.draft.DraftResource.{DraftResource}
 use Rattle.cpa_draft.specs.declared.draft.DraftSource.{DraftSource}
 use Rattle.cpa_draft.specs.declared.draft.DraftTask.{DraftTask}
 use Rattle.cpa_draft.specs.declared.draft.DraftPath.{DraftPath}
-use Rattle.cpa_draft.specs.declared.links.Link.{Link}
-use Rattle.cpa_draft.specs.declared.links.Link.TheVariants as link
 use Rattle.cpa_draft.proofs.ChainLaws.{chain_within-exact}
 use Rattle.cpa_draft.proofs.FirstLemmas.{all_unmarked}
-use Rattle.cpa_draft.proofs.ListLaws.{all-map, map-map, none-any, all-list_all, get_or-any}
+use Rattle.cpa_draft.proofs.ListLaws.{all-map, map-map, all-list_all}
 use Rattle.cpa_draft.proofs.NameLaws.{differ-new, same-bytes}
 use Rattle.cpa_draft.proofs.UnrefusedLaws.{IsUnrefused, not_refused}
 use Rattle.cpa_model.specs.declared.entries.Resource.{Resource}
@@ -39,14 +35,14 @@ use Rattle.cpa_model.specs.declared.entries.Turn.{Turn}
 use Rattle.cpa_model.specs.declared.entries.Turn.TheVariants as turn
 use Rattle.cpa_model.specs.declared.entries.Activator.{Activator}
 use Rattle.cpa_model.specs.declared.entries.Activator.TheVariants as activator
-use Rattle.cpa_model.specs.Chains.{chain_step, depth_within, activators}
-use Rattle.cpa_model.specs.SystemLists.{SystemLists, resource_at, source_at, task_at, no_resource, no_source, no_task, depth_of}
-use Rattle.cpa_model.specs.Rules.{IsSystem, IsResource, IsSource, IsTask, IsPath, IsLinked, IsActivator, KindFits, TurnFits, HaveOwnPriorities, activity_names}
+use Rattle.cpa_model.specs.Chains.{depth_within, activators}
+use Rattle.cpa_model.specs.SystemLists.{SystemLists, resource_at, task_at, no_task, depth_of}
+use Rattle.cpa_model.specs.Rules.{IsSystem, IsResource, IsSource, IsTask, IsPath, IsActivator, KindFits, TurnFits}
 use Rattle.cpa_model.specs.Built.{has_executions}
 use Rattle.cpa_model.specs.Redraft.{word_of, gap_given, bit_given, redraft_resource, redraft_source, redraft_task, redraft_path, activator_name, priority_given, slot_given, redraft, RedraftsPass, RedraftsHaveExecutions}
 use Rattle.cpa_model.proofs.BuiltLaws.{link_from, chain-same, map-same}
 use Rattle.cpa_model.proofs.SystemLaws.{depth_of-task, depth_of-most, no_id}
-use Rattle.cpa_model.proofs.RedraftLaws.{resource-found, task-found, link-back, kind_of-redraft, resource_names-redraft, source_names-redraft, draft_names-redraft, tasks-count, sources-count}
+use Rattle.cpa_model.proofs.RedraftLaws.{resource-found, link-back, kind_of-redraft, draft_names-redraft, tasks-count}
 
 -- ranges
 

@@ -1,5 +1,5 @@
 -- The system that a draft stands for.
-use Rattle.std.specs.Prelude.{ℕ, ℤ, ◌+◌, ◌-◌, ◌*◌, ◌&&◌, ◌||◌, ◌<◌, ◌≤◌, ◌^◌, All, nat_lt, if◌then◌else◌, Bool, true, false, List, map, length, Option, Some, None, is_some, is_none, option_map, unwrap_or}
+use Rattle.std.specs.Prelude.{ℕ, ℤ, ◌-◌, ◌*◌, ◌&&◌, ◌||◌, ◌<◌, ◌≤◌, ◌^◌, All, nat_lt, if◌then◌else◌, Bool, true, false, List, map, length, Option, Some, None, is_some, is_none, option_map, unwrap_or}
 use Rattle.cpa_units.specs.declared.limits.TheConstants.{DEFAULT_LIMIT, MAX_PAYLOAD, MAX_BIT}
 use Rattle.cpa_units.specs.declared.places.TaskId.{TaskId}
 use Rattle.cpa_units.specs.Frames.{least_frame_bits, greatest_frame_bits}

@@ -1,5 +1,4 @@
-use Rattle.std.proofs.Common.{◌<◌, ◌≡◌, arith}
-use Rattle.cpa_model.specs.Built.{activity_place}
+use Rattle.std.proofs.Common.{arith}
 use Rattle.cpa_model.proofs.build.build_path_tasks.Goals as goal
 
 pub task_named-requires-clause-place : goal.task_named-requires-clause-place

@@ -1,4 +1,4 @@
-use Rattle.std.proofs.Common.{◌≡◌, refl}
+use Rattle.std.proofs.Common.{refl}
 use Rattle.cpa_model.specs.Built.{built_task}
 use Rattle.cpa_model.proofs.build.build_task.Goals as goal
 

@@ -1,4 +1,4 @@
-use Rattle.std.proofs.Common.{◌≡◌, refl}
+use Rattle.std.proofs.Common.{refl}
 use Rattle.cpa_draft.proofs.UnrefusedLaws.{unrefused}
 use Rattle.cpa_model.specs.Built.{system_of}
 use Rattle.cpa_model.proofs.BuiltLaws.{system-kept, tasks-fit-types, paths-fit-types}

@@ -1,4 +1,4 @@
-use Rattle.std.proofs.Common.{◌≡◌, ◌<◌, length, arith, rules}
+use Rattle.std.proofs.Common.{◌≡◌}
 use Rattle.cpa_model.specs.Rules.{IsSystem}
 use Rattle.cpa_model.specs.SystemLists.{root_of}
 use Rattle.cpa_model.proofs.SystemLaws.{root_of-there}
