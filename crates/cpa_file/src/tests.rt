@@ -1,7 +1,13 @@
+mod systems;
+
 use crate::print::print_system;
 use crate::read::{FileRefusal, read_system};
 use cpa_model::{Part, Refusal};
 use std::test::Fail;
+use systems::{
+    BURST, CROSSING_CHAINS, DAVIS_BUS, ENDLESS_JITTER, FRAME_LENGTHS, LONG_WINDOW, ROUND_ROBIN,
+    ROUND_ROBIN_SHARE, TDMA_GAP, TWO_TASKS,
+};
 
 fn refused(reason: u8, part: Part, place: u64) -> Option<FileRefusal> {
     Some(FileRefusal::Refused(Refusal {
@@ -222,68 +228,22 @@ fn refuses_other_bytes(rt: HostRuntime) -> Result<(), Fail> {
     Ok(())
 }
 
-const CROSSING_CHAINS: &str = "format = 1
-resource = [{ name = \"p\", kind = \"preemptive\" }, { name = \"q\", kind = \"preemptive\" }]
-source = [{ name = \"sa\", period = 100 }, { name = \"sb\", period = 100 }]
-task = [
-  { name = \"a1\", on = \"p\", after = \"sa\", best = 5, worst = 10, priority = 2 },
-  { name = \"a2\", on = \"q\", after = \"a1\", best = 5, worst = 10, priority = 1 },
-  { name = \"b1\", on = \"q\", after = \"sb\", best = 10, worst = 20, priority = 2 },
-  { name = \"b2\", on = \"p\", after = \"b1\", best = 10, worst = 20, priority = 1 },
-]
-path = [
-  { name = \"pa\", tasks = [\"a1\", \"a2\"], deadline = 45 },
-  { name = \"pb\", tasks = [\"b1\", \"b2\"] },
-]
-";
-
-const BUS: &str = "format = 1
-[[resource]]
-name = \"bus\"
-kind = \"can\"
-bit = 2
-[[source]]
-name = \"s1\"
-period = 10000
-jitter = 7
-distance = 3
-[[task]]
-name = \"f\"
-on = \"bus\"
-after = \"s1\"
-payload = 8
-priority = 1
-[[task]]
-name = \"g\"
-on = \"bus\"
-after = \"s1\"
-payload = 0
-extended = true
-priority = 2
-[[path]]
-name = \"d3\"
-tasks = [\"f\"]
-deadline = 325
-";
-
-const RINGS: &str = "format = 1
-resource = [{ name = \"ring\", kind = \"tdma\", gap = 8 }, { name = \"rr\", kind = \"round-robin\", limit = 1000 }]
-source = [{ name = \"s\", period = 40 }]
-task = [
-  { name = \"t\", on = \"ring\", after = \"s\", best = 3, worst = 3, slot = 2 },
-  { name = \"a\", on = \"rr\", after = \"t\", best = 3, worst = 3, slot = 2 },
-]
-";
-
 /// What is printed is read again, and printed the same.
 #[test]
 fn prints_and_reads_back(rt: HostRuntime) -> Result<(), Fail> {
     let alloc = rt.alloc();
     for (text, tasks, paths) in [
         ("format = 1", 0, 0),
+        (TWO_TASKS, 2, 0),
+        (LONG_WINDOW, 2, 0),
+        (DAVIS_BUS, 3, 1),
+        (FRAME_LENGTHS, 2, 0),
         (CROSSING_CHAINS, 4, 2),
-        (BUS, 2, 1),
-        (RINGS, 2, 0),
+        (ENDLESS_JITTER, 5, 1),
+        (TDMA_GAP, 1, 0),
+        (ROUND_ROBIN, 2, 0),
+        (ROUND_ROBIN_SHARE, 2, 0),
+        (BURST, 1, 0),
     ] {
         let system = read_system(alloc, text.as_bytes())?;
         assert_eq!(rt; system.tasks(), tasks, "{text}");
