@@ -1,0 +1,3 @@
+pub mod Inputs
+pub mod Local
+pub mod Solution

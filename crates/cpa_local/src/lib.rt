@@ -1,0 +1,10 @@
+//! The analysis of one task: what it receives along its chain, and its bound where all other tasks
+//! keep to the bounds of a vector.
+//!
+//! Inputs and bounds are those of compositional performance analysis (Richter's thesis, 2005). All
+//! times are in ticks.
+#![tactic(auto)]
+
+mod start;
+
+pub use start::floor;
