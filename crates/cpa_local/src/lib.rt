@@ -5,6 +5,8 @@
 //! times are in ticks.
 #![tactic(auto)]
 
+mod inputs;
 mod start;
 
+pub use inputs::input;
 pub use start::floor;
