@@ -1,3 +1,4 @@
 pub mod InputLaws
 pub mod RivalLaws
+pub mod TrailLaws
 pub mod VectorLaws

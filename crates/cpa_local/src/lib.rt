@@ -7,6 +7,8 @@
 
 mod inputs;
 mod start;
+mod trail;
 
 pub use inputs::input;
 pub use start::floor;
+pub use trail::Trail;
