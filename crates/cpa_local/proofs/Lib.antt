@@ -1,3 +1,5 @@
+pub mod BlockingLaws
+pub mod CycleLaws
 pub mod InputLaws
 pub mod RivalLaws
 pub mod TrailLaws

@@ -5,10 +5,13 @@
 //! times are in ticks.
 #![tactic(auto)]
 
+mod analysis;
 mod inputs;
+mod neighbours;
 mod start;
 mod trail;
 
+pub use analysis::respond;
 pub use inputs::input;
 pub use start::floor;
 pub use trail::Trail;
