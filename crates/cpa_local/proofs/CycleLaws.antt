@@ -1,12 +1,12 @@
 -- The slots of a TDMA resource: each is in the cycle, and the cycle is within its limit.
-use Rattle.std.proofs.Common.{◌≡◌, ℕ, zero, suc, ◌+◌, ◌*◌, ◌<◌, ◌≤◌, ◌==◌, Bool, true, List, length, cond, refl, subst, inl, inr, arith}
+use Rattle.std.proofs.Common.{◌≡◌, ℕ, zero, suc, ◌+◌, ◌*◌, ◌<◌, ◌≤◌, ◌==◌, Bool, true, length, cond, refl, subst, inl, inr, arith}
 use Rattle.std.specs.Prelude.{filter}
 use Rattle.std.specs.List.{range_with_len, sum_by}
 use Rattle.std.proofs.lemmas.Bool.{cases_lt, cases_eq}
 use Rattle.std.proofs.lemmas.Bool.Decides.{nat_tests}
 use Rattle.std.proofs.Math.ListN.{get_or-eq_default}
-use Rattle.cpa_units.specs.declared.limits.TheConstants.{MAX_CYCLE, MAX_EXECUTION}
-use Rattle.cpa_model.specs.SystemLists.{SystemLists, task_at, resource_at, no_task, no_resource, slot_of, gap_of, cycle_of}
+use Rattle.cpa_units.specs.declared.limits.TheConstants.{MAX_CYCLE}
+use Rattle.cpa_model.specs.SystemLists.{SystemLists, task_at, resource_at, no_task, no_resource, slot_of, cycle_of}
 use Rattle.cpa_model.specs.Rules.{IsSystem, IsTask, IsResource}
 use Rattle.cpa_model.proofs.SystemLaws.{slots-more, slot-small, gap-small, cond-small}
 

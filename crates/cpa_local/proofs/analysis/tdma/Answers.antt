@@ -1,4 +1,3 @@
-use Rattle.std.proofs.Common.{arith}
 use Rattle.cpa_local.proofs.CycleLaws.{cycle-in_range, slot-in_cycle}
 use Rattle.cpa_local.proofs.analysis.tdma.Goals as goal
 
