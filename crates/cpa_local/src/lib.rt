@@ -9,6 +9,8 @@ mod analysis;
 mod inputs;
 mod neighbours;
 mod start;
+#[cfg(test)]
+mod tests;
 mod trail;
 
 pub use analysis::respond;
