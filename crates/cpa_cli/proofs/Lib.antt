@@ -1,5 +1,3 @@
 pub mod AcceptedLaws
-pub mod InputLaws
 pub mod OutputLaws
-pub mod RivalLaws
 pub mod SolutionLaws

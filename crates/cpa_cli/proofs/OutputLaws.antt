@@ -10,10 +10,11 @@ use Rattle.cpa_cli.specs.Lines.{words_refused, too_long, not_toml, system_refuse
 use Rattle.cpa_file.specs.Reading.{Reading, NotToml, Refused, Accepted}
 use Rattle.cpa_cli.specs.Reading.{reading_here}
 use Rattle.cpa_cli.specs.Report.{report_text, verdict}
-use Rattle.cpa_cli.specs.Local.{responses}
-use Rattle.cpa_cli.specs.Solution.{floor_of}
+use Rattle.cpa_local.specs.Local.{responses}
+use Rattle.cpa_local.specs.Solution.{floor_of}
 use Rattle.cpa_cli.specs.Output.{Answer, reply, IsReport, IsAnswerOf, IsAnswerTo, IsAnswerAt, IsAnswerBy, IsOutput, SendsPart}
-use Rattle.cpa_cli.proofs.SolutionLaws.{responses-least, least-one}
+use Rattle.cpa_local.proofs.VectorLaws.{least-one}
+use Rattle.cpa_cli.proofs.SolutionLaws.{responses-least}
 use Rattle.cpa_cli.proofs.AcceptedLaws.{IsAccepted, accepted-by_bytes}
 
 abbrev pub Words : Type 0

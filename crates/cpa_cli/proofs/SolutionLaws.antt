@@ -1,14 +1,12 @@
 -- The least solution of a system of preemptive tasks that sources activate: there the bounds are the same at every vector.
-use Rattle.std.proofs.Common.{◌≡◌, ℕ, ◌<◌, ◌≤◌, length, List, [], ◌∷◌, map, Some, refl, sym, ap, ◌∙◌, inl, inr, arith}
+use Rattle.std.proofs.Common.{◌≡◌, ℕ, ◌<◌, length, List, [], ◌∷◌, map, Some, refl, sym, ap, ◌∙◌, inl, inr}
 use Rattle.std.proofs.lemmas.Bool.{cases_lt}
-use Rattle.std.proofs.lemmas.List.{ext_get_or}
-use Rattle.std.proofs.lemmas.List.FromFn.{get_or-map-range_with_len, length-map-range_with_len}
 use Rattle.std.proofs.Math.ListN.{get_or-eq_default}
 use Rattle.cpa_units.specs.declared.bound.Bound.{Bound}
-use Rattle.cpa_units.specs.declared.bound.Bound.TheVariants.{Within, Overload}
+use Rattle.cpa_units.specs.declared.bound.Bound.TheVariants.{Within}
 use Rattle.cpa_units.specs.declared.limits.TheConstants.{MAX_LIMIT}
-use Rattle.cpa_units.specs.Bounds.{IsAtMost, RespectsLimit, IsNowhereAbove, bound_of}
-use Rattle.cpa_units.proofs.BoundLaws.{IsAtMost_trans, IsAtMost_antisymm, IsNowhereAbove_refl}
+use Rattle.cpa_units.specs.Bounds.{IsAtMost, RespectsLimit}
+use Rattle.cpa_units.proofs.BoundLaws.{IsAtMost_trans, IsNowhereAbove_refl}
 use Rattle.cpa_events.specs.declared.Model.{Model}
 use Rattle.cpa_window.proofs.RivalLaws.{load_of, work_in-same}
 use Rattle.cpa_spp.specs.Preemptive.{preemptive_bound}
@@ -19,10 +17,11 @@ use Rattle.cpa_model.specs.declared.entries.Kind.TheVariants.{Preemptive}
 use Rattle.cpa_model.specs.SystemLists.{SystemLists, task_at, source_at, resource_at, resource_of, task_places, higher_tasks, no_task, no_resource}
 use Rattle.cpa_model.specs.Rules.{IsSystem, IsResource, IsTask}
 use Rattle.cpa_cli.specs.Analysable.{IsAnalysable, IsSourceOf}
-use Rattle.cpa_cli.specs.Inputs.{model_of, input}
-use Rattle.cpa_cli.specs.Local.{rival_of, response, responses}
-use Rattle.cpa_cli.specs.Solution.{IsVector, IsLeast, floor_of}
-use Rattle.cpa_cli.proofs.InputLaws.{input-from_source}
+use Rattle.cpa_local.specs.Inputs.{model_of, input}
+use Rattle.cpa_local.specs.Local.{rival_of, response, responses}
+use Rattle.cpa_local.specs.Solution.{IsLeast}
+use Rattle.cpa_local.proofs.InputLaws.{input-from_source}
+use Rattle.cpa_local.proofs.VectorLaws.{weaker_limit, vector-from}
 
 -- what activates a task, also outside the list, is a source
 pub record IsFed (s : SystemLists) (i : ℕ) : Type 0 where
@@ -74,30 +73,6 @@ responses-same s a x y =
     let e : response s x ≡ response s y = λ k i. response-same s a x y i k in
     ap (λ f. map f (task_places s)) e
 
--- vectors by place
-
-pub bound_of-places : (s : SystemLists) (f : ℕ → Bound) (i : ℕ) → i < length s.tasks → bound_of (map f (task_places s)) i ≡ f i
-bound_of-places s f i less = get_or-map-range_with_len f 0 (length s.tasks) i i (Within 0) less (omega arith)
-
-weaker_limit : (m n : ℕ) (b : Bound) → m ≤ n → RespectsLimit m b → RespectsLimit n b
-weaker_limit m n (Within a) h k = omega arith
-weaker_limit m n Overload h k = tt
-
--- bounds by place are a vector where each lies from the least execution to the greatest number
-pub vector-from : (s : SystemLists) (f : ℕ → Bound) → ((i : ℕ) → i < length s.tasks → IsAtMost (Within (task_at s i).best) (f i))
-    → ((i : ℕ) → i < length s.tasks → RespectsLimit MAX_LIMIT (f i)) → IsVector s (map f (task_places s))
-vector-from s f low high =
-    record {
-      long = length-map-range_with_len f 0 (length s.tasks);
-      low = λ i less. rw (bound_of-places s f i less) (low i less);
-      high = λ i less. rw (bound_of-places s f i less) (high i less);
-    }
-
-pub floor-vector : (s : SystemLists) → IsSystem s → IsVector s (floor_of s)
-floor-vector s rules =
-    vector-from s (λ i. Within (task_at s i).best) (λ i less. omega arith)
-    (λ i less. let t : IsTask s (task_at s i) = rules.tasks i no_task less in omega (arith, t.ordered, t.worst))
-
 response-low : (s : SystemLists) → IsAnalysable s → IsSystem s → (x : List Bound) (i : ℕ) → i < length s.tasks → IsAtMost (Within (task_at s i).best) (response s x i)
 response-low s a rules x i less =
     let own = fed s a i in
@@ -125,11 +100,3 @@ responses-least s a rules x =
       closed = rw (responses-same s a (responses s x) x) (IsNowhereAbove_refl (responses s x));
       least = λ y vector closed. rw (responses-same s a x y) closed;
     }
-
--- there is no other
-
-same_bounds : (x y : List Bound) → length x ≡ length y → IsNowhereAbove x y → IsNowhereAbove y x → x ≡ y
-same_bounds x y long h k = ext_get_or (Within 0) x y long (λ i less. IsAtMost_antisymm (bound_of x i) (bound_of y i) (h i) (k i))
-
-pub least-one : (s : SystemLists) (x y : List Bound) → IsLeast s x → IsLeast s y → x ≡ y
-least-one s x y h k = same_bounds x y (h.vector.long ∙ sym k.vector.long) (h.least y k.vector k.closed) (k.least x h.vector h.closed)

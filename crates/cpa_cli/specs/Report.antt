@@ -12,7 +12,7 @@ use Rattle.cpa_model.specs.declared.entries.Activator.{Activator}
 use Rattle.cpa_model.specs.declared.entries.Activator.TheVariants.{Source as FromSource, Task as FromTask}
 use Rattle.cpa_model.specs.declared.entries.Path.{Path}
 use Rattle.cpa_model.specs.SystemLists.{SystemLists, task_at, source_at, resource_of, task_places}
-use Rattle.cpa_cli.specs.Inputs.{input}
+use Rattle.cpa_local.specs.Inputs.{input}
 
 -- the verdict on a path's deadline
 pub data Outcome : Type 0 where

@@ -9,11 +9,12 @@ ghost use Rattle.cpa_window.specs.Rivals.{IsRival, AreRivals};
 ghost use Rattle.cpa_model.specs.SystemLists.{priority_of, slot_of, higher_tasks};
 ghost use Rattle.cpa_model.specs.Rules.{IsSource};
 ghost use Rattle.cpa_cli.specs.Analysable.{IsAnalysable};
-ghost use Rattle.cpa_cli.specs.Inputs.{model_of, input};
-ghost use Rattle.cpa_cli.specs.Local.{rival_of, response};
-ghost use Rattle.cpa_cli.specs.Solution.{IsVector, IsLeast, floor_of};
+ghost use Rattle.cpa_local.specs.Inputs.{model_of, input};
+ghost use Rattle.cpa_local.specs.Local.{rival_of, response};
+ghost use Rattle.cpa_local.specs.Solution.{IsVector, IsLeast};
 
 use cpa_events::Model;
+use cpa_local::floor;
 use cpa_model::{Activator, Source, System, Task, Turn};
 use cpa_units::{Bound, NoMemory, TaskId, Vector};
 use cpa_window::Rival;
@@ -121,18 +122,6 @@ fn respond(alloc: Global, system: &System, task: TaskId, x: &Vector) -> Result<B
     let entry = system.task(task);
     let limit = system.resource(entry.res).limit;
     Ok(cpa_spp::respond(&own, entry.worst, rivals.as_slice(), limit))
-}
-
-/// Each task's least execution.
-fn floor(alloc: Global, system: &System) -> Result<Vector, NoMemory>
-    ensures value { IfOk result (λ x. x ≡ floor_of system.now) }
-    ensures vector { IfOk result (λ x. IsVector system.now x) }
-{
-    let mut x = Vector::filled(alloc, system.tasks(), Bound::Overload)?;
-    for k in 0..system.tasks() {
-        x.set(TaskId(k), Bound::Within(system.task(TaskId(k)).best));
-    }
-    Ok(x)
 }
 
 /// The least solution.

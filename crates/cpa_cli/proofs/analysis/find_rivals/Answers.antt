@@ -3,8 +3,8 @@ use Rattle.std.proofs.lemmas.List.Elements.{All-push}
 use Rattle.cpa_units.proofs.PlaceLaws.{passing-places_more, failing-places_more}
 use Rattle.cpa_window.specs.Rivals.{IsRival}
 use Rattle.cpa_model.specs.SystemLists.{is_higher}
-use Rattle.cpa_cli.specs.Local.{rival_of}
-use Rattle.cpa_cli.proofs.RivalLaws.{higher-other, few-found, few-left}
+use Rattle.cpa_local.specs.Local.{rival_of}
+use Rattle.cpa_local.proofs.RivalLaws.{higher-other, few-found, few-left}
 use Rattle.cpa_cli.proofs.analysis.find_rivals.Goals as goal
 use Rattle.cpa_cli.proofs.analysis.find_rivals.Goals.{then-is_higher+in_ok-push, else-is_higher}
 

@@ -3,7 +3,7 @@ use Rattle.std.specs.Prelude.{filter}
 use Rattle.std.specs.List.{range_with_len}
 use Rattle.cpa_window.specs.Rivals.{IsRival}
 use Rattle.cpa_model.specs.SystemLists.{is_higher}
-use Rattle.cpa_cli.specs.Local.{rival_of}
+use Rattle.cpa_local.specs.Local.{rival_of}
 use Rattle.cpa_cli.proofs.analysis.find_rivals.Given as goal
 
 abbrev pub invariant-loop-k : goal.invariant-loop-k

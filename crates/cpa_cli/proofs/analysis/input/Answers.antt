@@ -2,8 +2,8 @@ use Rattle.std.proofs.Common.{◌≡◌, ap, sym, ◌∙◌, Some}
 use Rattle.cpa_model.specs.declared.entries.Task.{Task}
 use Rattle.cpa_model.specs.declared.entries.Activator.TheVariants.{Source as FromSource}
 use Rattle.cpa_model.specs.SystemLists.{task_at}
-use Rattle.cpa_cli.specs.Inputs.{model_of}
-use Rattle.cpa_cli.proofs.InputLaws.{input-from_source}
+use Rattle.cpa_local.specs.Inputs.{model_of}
+use Rattle.cpa_local.proofs.InputLaws.{input-from_source}
 use Rattle.cpa_cli.proofs.analysis.input.Goals as goal
 
 pub returns-clause-value : goal.returns-clause-value

@@ -1,7 +1,7 @@
 use Rattle.std.proofs.Common.{◌<◌, length, arith}
 use Rattle.std.proofs.lemmas.List.{length-set}
 use Rattle.cpa_units.proofs.PlaceLaws.{set-places, all-places}
-use Rattle.cpa_cli.specs.Local.{response}
+use Rattle.cpa_local.specs.Local.{response}
 use Rattle.cpa_cli.proofs.SolutionLaws.{responses-least}
 use Rattle.cpa_cli.proofs.analysis.solve.Goals as goal
 

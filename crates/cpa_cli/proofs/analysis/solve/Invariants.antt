@@ -1,6 +1,6 @@
 use Rattle.std.proofs.Common.{◌≡◌, length, map, take}
 use Rattle.std.specs.List.{range_with_len}
-use Rattle.cpa_cli.specs.Local.{response}
+use Rattle.cpa_local.specs.Local.{response}
 use Rattle.cpa_cli.proofs.analysis.solve.Given as goal
 
 abbrev pub invariant-loop-k : goal.invariant-loop-k

@@ -12,7 +12,7 @@ use Rattle.cpa_can.specs.Can.{can_bound}
 use Rattle.cpa_model.specs.declared.entries.Kind.{Kind}
 use Rattle.cpa_model.specs.declared.entries.Kind.TheVariants.{Preemptive, RoundRobin, Tdma, Can}
 use Rattle.cpa_model.specs.SystemLists.{SystemLists, task_at, resource_of, task_places, slot_of, higher_tasks, other_tasks, blocking_of, cycle_of}
-use Rattle.cpa_cli.specs.Inputs.{input}
+use Rattle.cpa_local.specs.Inputs.{input}
 
 -- a task as its neighbours see it
 abbrev pub rival_of : SystemLists → List Bound → ℕ → Rival

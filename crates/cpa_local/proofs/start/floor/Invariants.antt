@@ -2,7 +2,7 @@ use Rattle.std.proofs.Common.{◌≡◌, length, map, take}
 use Rattle.std.specs.List.{range_with_len}
 use Rattle.cpa_units.specs.declared.bound.Bound.TheVariants.{Within}
 use Rattle.cpa_model.specs.SystemLists.{task_at}
-use Rattle.cpa_cli.proofs.analysis.floor.Given as goal
+use Rattle.cpa_local.proofs.start.floor.Given as goal
 
 abbrev pub invariant-loop-k : goal.invariant-loop-k
 invariant-loop-k l = record {

@@ -5,7 +5,7 @@ use Rattle.cpa_units.specs.declared.bound.Bound.TheVariants.{Within}
 use Rattle.cpa_units.specs.declared.limits.TheConstants.{MAX_LIMIT}
 use Rattle.cpa_units.specs.Bounds.{IsAtMost, RespectsLimit, IsNowhereAbove, bound_of}
 use Rattle.cpa_model.specs.SystemLists.{SystemLists, task_at, task_places}
-use Rattle.cpa_cli.specs.Local.{responses}
+use Rattle.cpa_local.specs.Local.{responses}
 
 -- a vector of the system: a bound per task, none below the task's least execution, no number past the greatest
 pub record IsVector (s : SystemLists) (x : List Bound) : Type 0 where

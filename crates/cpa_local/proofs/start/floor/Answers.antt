@@ -4,8 +4,8 @@ use Rattle.cpa_units.specs.declared.bound.Bound.TheVariants.{Within}
 use Rattle.cpa_units.proofs.PlaceLaws.{set-places, all-places}
 use Rattle.cpa_model.specs.declared.entries.Task.{Task}
 use Rattle.cpa_model.specs.SystemLists.{task_at}
-use Rattle.cpa_cli.proofs.SolutionLaws.{floor-vector}
-use Rattle.cpa_cli.proofs.analysis.floor.Goals as goal
+use Rattle.cpa_local.proofs.VectorLaws.{floor-vector}
+use Rattle.cpa_local.proofs.start.floor.Goals as goal
 
 pub loop-k-preserved : goal.loop-k-preserved
 loop-k-preserved c =

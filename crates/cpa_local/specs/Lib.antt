@@ -1,0 +1,4 @@
+pub mod Inputs
+pub mod Local
+pub mod Solution
+pub mod Trails

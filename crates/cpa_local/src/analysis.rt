@@ -1,0 +1,147 @@
+//! The bound of one task, by the rule of its resource's kind. All times are in ticks.
+
+ghost use Rattle.std.specs.Prelude.{◌≡◌, ℕ, ◌<◌, ◌≤◌, List, length, vec_capacity};
+ghost use Rattle.cpa_units.specs.declared.bound.Bound.{Bound};
+ghost use Rattle.cpa_units.specs.Numbers.{IsExecution};
+ghost use Rattle.cpa_events.specs.Events.{IsModelInRange};
+ghost use Rattle.cpa_model.specs.declared.entries.Kind.TheVariants.{Preemptive, RoundRobin, Tdma, Can};
+ghost use Rattle.cpa_model.specs.SystemLists.{task_at, resource_of, slot_of};
+ghost use Rattle.cpa_model.specs.Rules.{IsSystem};
+ghost use Rattle.cpa_local.specs.Local.{bound_by_kind, response};
+ghost use Rattle.cpa_local.specs.Solution.{IsVector};
+ghost use Rattle.cpa_local.specs.Trails.{IsKept, NewMarksAre, AreMarked};
+
+use crate::inputs::input;
+use crate::neighbours::{blocking, gather_higher, gather_others, slot};
+use crate::trail::Trail;
+use cpa_events::Model;
+use cpa_model::{Kind, System};
+use cpa_units::{Bound, TaskId, Vector};
+use cpa_window::Rival;
+
+/// The bound of a task at a vector, in ticks: the component of the analysis for that task, where all
+/// other tasks keep to their bounds (Richter's thesis, 2005). It is computed in the trail's room, and
+/// the task is marked.
+#[tactic(auto, unfolding(crate::specs::Local::response))]
+pub fn respond(system: &System, task: TaskId, x: &Vector, trail: &mut Trail) -> Bound
+    requires there { task.0 < length system.now.tasks }
+    requires vector { IsVector system.now x.now }
+    requires room { length system.now.tasks ≤ trail.old.room }
+    ensures value { result ≡ response system.now x.now task.0 }
+    ensures kept { IsKept trail.old trail.new }
+    ensures fresh { NewMarksAre trail.old trail.new (λ i. i ≡ task.0) }
+    ensures marked { AreMarked trail.new (λ i. i ≡ task.0) }
+{
+    let tasks = system.tasks();
+    prove!(tasks <= 512);
+    trail.mark(task);
+    let Some(own) = input(system, task, x) else {
+        return Bound::Overload;
+    };
+    bound_by_kind(system, task, x, &own, &mut trail.rivals)
+}
+
+/// The bound of a task with a bounded input, by the rule of the resource's kind.
+fn bound_by_kind(
+    system: &System,
+    task: TaskId,
+    x: &Vector,
+    own: &Model,
+    rivals: &mut Vec<Rival>,
+) -> Bound
+    requires rules { IsSystem system.now }
+    requires there { task.0 < length system.now.tasks }
+    requires vector { IsVector system.now x.now }
+    requires own { IsModelInRange own.now }
+    requires room { length system.now.tasks ≤ vec_capacity rivals.old }
+    ensures value { result ≡ bound_by_kind system.now x.now task.0 own.now (resource_of system.now task.0).kind }
+    ensures room { vec_capacity rivals.new ≡ vec_capacity rivals.old }
+{
+    match system.resource(system.task(task).res).kind {
+        Kind::Preemptive => preemptive(system, task, x, own, rivals),
+        Kind::RoundRobin => round_robin(system, task, x, own, rivals),
+        Kind::Tdma { gap: _ } => tdma(system, task, own),
+        Kind::Can { bit } => can(system, task, x, own, bit, rivals),
+    }
+}
+
+/// The bound under preemptive priority.
+fn preemptive(
+    system: &System,
+    task: TaskId,
+    x: &Vector,
+    own: &Model,
+    rivals: &mut Vec<Rival>,
+) -> Bound
+    requires there { task.0 < length system.now.tasks }
+    requires vector { IsVector system.now x.now }
+    requires own { IsModelInRange own.now }
+    requires room { length system.now.tasks ≤ vec_capacity rivals.old }
+    ensures value { result ≡ bound_by_kind system.now x.now task.0 own.now Preemptive }
+    ensures room { vec_capacity rivals.new ≡ vec_capacity rivals.old }
+{
+    gather_higher(system, task, x, rivals);
+    let entry = system.task(task);
+    let limit = system.resource(entry.res).limit;
+    cpa_spp::respond(own, entry.worst, rivals.as_slice(), limit)
+}
+
+/// The bound under slotted round robin.
+fn round_robin(
+    system: &System,
+    task: TaskId,
+    x: &Vector,
+    own: &Model,
+    rivals: &mut Vec<Rival>,
+) -> Bound
+    requires there { task.0 < length system.now.tasks }
+    requires kind { (resource_of system.now task.0).kind ≡ RoundRobin }
+    requires vector { IsVector system.now x.now }
+    requires own { IsModelInRange own.now }
+    requires room { length system.now.tasks ≤ vec_capacity rivals.old }
+    ensures value { result ≡ bound_by_kind system.now x.now task.0 own.now RoundRobin }
+    ensures room { vec_capacity rivals.new ≡ vec_capacity rivals.old }
+{
+    gather_others(system, task, x, rivals);
+    let entry = system.task(task);
+    let limit = system.resource(entry.res).limit;
+    cpa_rr::respond(own, entry.worst, slot(entry.turn), rivals.as_slice(), limit)
+}
+
+/// The bound under TDMA, which is the same at every vector. The gap is in the cycle.
+fn tdma(system: &System, task: TaskId, own: &Model) -> Bound
+    requires rules { IsSystem system.now }
+    requires there { task.0 < length system.now.tasks }
+    requires slot { IsExecution (slot_of (task_at system.now task.0).turn) }
+    requires own { IsModelInRange own.now }
+    ensures { (x : List Bound) (gap : ℕ) → result ≡ bound_by_kind system.now x task.0 own.now (Tdma gap) }
+{
+    let entry = system.task(task);
+    let limit = system.resource(entry.res).limit;
+    let cycle = system.cycle(entry.res);
+    cpa_tdma::respond(own, entry.worst, slot(entry.turn), cycle, limit)
+}
+
+/// The bound on a CAN bus whose bits take so many ticks.
+fn can(
+    system: &System,
+    task: TaskId,
+    x: &Vector,
+    own: &Model,
+    bit: u64,
+    rivals: &mut Vec<Rival>,
+) -> Bound
+    requires there { task.0 < length system.now.tasks }
+    requires kind { (resource_of system.now task.0).kind ≡ Can bit }
+    requires vector { IsVector system.now x.now }
+    requires own { IsModelInRange own.now }
+    requires room { length system.now.tasks ≤ vec_capacity rivals.old }
+    ensures value { result ≡ bound_by_kind system.now x.now task.0 own.now (Can bit) }
+    ensures room { vec_capacity rivals.new ≡ vec_capacity rivals.old }
+{
+    gather_higher(system, task, x, rivals);
+    let entry = system.task(task);
+    let limit = system.resource(entry.res).limit;
+    let longest = blocking(system, task);
+    cpa_can::respond(own, entry.worst, longest, rivals.as_slice(), bit, limit)
+}

@@ -1,0 +1,19 @@
+//! The analysis of one task: what it receives along its chain, and its bound where all other tasks
+//! keep to the bounds of a vector.
+//!
+//! Inputs and bounds are those of compositional performance analysis (Richter's thesis, 2005). All
+//! times are in ticks.
+#![tactic(auto)]
+
+mod analysis;
+mod inputs;
+mod neighbours;
+mod start;
+#[cfg(test)]
+mod tests;
+mod trail;
+
+pub use analysis::respond;
+pub use inputs::input;
+pub use start::floor;
+pub use trail::Trail;

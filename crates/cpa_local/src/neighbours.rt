@@ -1,0 +1,118 @@
+//! The other tasks of a task's resource, as its analysis sees them. All times are in ticks.
+
+ghost use Rattle.std.specs.Prelude.{◌≡◌, ◌<◌, ◌≤◌, ◌==◌, ◌&&◌, nat_lt, map, length, vec_capacity, true};
+ghost use Rattle.cpa_units.specs.declared.limits.TheConstants.{MAX_CYCLE, MAX_EXECUTION};
+ghost use Rattle.cpa_window.specs.Rivals.{IsRival, AreRivals};
+ghost use Rattle.cpa_model.specs.SystemLists.{task_at, priority_of, slot_of, is_higher, is_other, higher_tasks, other_tasks, blocking_of, cycle_of};
+ghost use Rattle.cpa_local.specs.Local.{rival_of};
+ghost use Rattle.cpa_local.specs.Solution.{IsVector};
+
+use crate::inputs::input;
+use cpa_model::{System, Turn};
+use cpa_units::{TaskId, Vector};
+use cpa_window::Rival;
+
+fn priority(turn: Turn) -> u32
+    ensures { result ≡ priority_of turn }
+{
+    match turn {
+        Turn::Priority(number) => number,
+        Turn::Slot(_) => 0,
+    }
+}
+
+/// The slot of a turn, 0 where it has a priority.
+pub(crate) fn slot(turn: Turn) -> u64
+    ensures { result ≡ slot_of turn }
+{
+    match turn {
+        Turn::Priority(_) => 0,
+        Turn::Slot(ticks) => ticks,
+    }
+}
+
+/// Whether the second task is on the resource of the first, and of higher priority.
+fn is_higher(system: &System, task: TaskId, other: TaskId) -> bool
+    requires task { task.0 < length system.now.tasks }
+    requires other { other.0 < length system.now.tasks }
+    ensures { result ≡ is_higher system.now task.0 other.0 }
+{
+    let first = system.task(task);
+    let second = system.task(other);
+    first.res.0 == second.res.0 && priority(second.turn) < priority(first.turn)
+}
+
+/// Whether the second task is another on the resource of the first.
+fn is_other(system: &System, task: TaskId, other: TaskId) -> bool
+    requires task { task.0 < length system.now.tasks }
+    requires other { other.0 < length system.now.tasks }
+    ensures { result ≡ is_other system.now task.0 other.0 }
+{
+    system.task(task).res.0 == system.task(other).res.0 && other.0 != task.0
+}
+
+/// A task as its neighbours see it, where the vector has its bound.
+fn rival(system: &System, task: TaskId, x: &Vector) -> Rival
+    requires there { task.0 < length system.now.tasks }
+    requires vector { IsVector system.now x.now }
+    ensures value { result ≡ rival_of system.now x.now task.0 }
+    ensures in_range { IsRival result }
+{
+    let entry = system.task(task);
+    Rival {
+        model: input(system, task, x),
+        worst: entry.worst,
+        slot: slot(entry.turn),
+        bound: x.get(task),
+    }
+}
+
+/// Gathers the tasks of higher priority on the resource of a task, in the room that there is.
+pub(crate) fn gather_higher(system: &System, task: TaskId, x: &Vector, rivals: &mut Vec<Rival>)
+    requires there { task.0 < length system.now.tasks }
+    requires vector { IsVector system.now x.now }
+    requires room { length system.now.tasks ≤ vec_capacity rivals.old }
+    ensures value { rivals.new.items ≡ map (rival_of system.now x.now) (higher_tasks system.now task.0) }
+    ensures in_range { AreRivals rivals.new.items }
+    ensures room { vec_capacity rivals.new ≡ vec_capacity rivals.old }
+{
+    rivals.clear();
+    for k in 0..system.tasks() {
+        if is_higher(system, task, TaskId(k)) {
+            rivals.push_reserved(rival(system, TaskId(k), x));
+        }
+    }
+}
+
+/// Gathers the other tasks on the resource of a task, in the room that there is.
+pub(crate) fn gather_others(system: &System, task: TaskId, x: &Vector, rivals: &mut Vec<Rival>)
+    requires there { task.0 < length system.now.tasks }
+    requires vector { IsVector system.now x.now }
+    requires room { length system.now.tasks ≤ vec_capacity rivals.old }
+    ensures value { rivals.new.items ≡ map (rival_of system.now x.now) (other_tasks system.now task.0) }
+    ensures in_range { AreRivals rivals.new.items }
+    ensures room { vec_capacity rivals.new ≡ vec_capacity rivals.old }
+{
+    rivals.clear();
+    for k in 0..system.tasks() {
+        if is_other(system, task, TaskId(k)) {
+            rivals.push_reserved(rival(system, TaskId(k), x));
+        }
+    }
+}
+
+/// The greatest execution among the tasks of lower priority on the resource of a task, 0 if there
+/// are none.
+pub(crate) fn blocking(system: &System, task: TaskId) -> u64
+    requires there { task.0 < length system.now.tasks }
+    ensures value { result ≡ blocking_of system.now task.0 }
+    ensures in_range { result ≤ MAX_EXECUTION }
+{
+    let mut most: u64 = 0;
+    for k in 0..system.tasks() {
+        if is_higher(system, TaskId(k), task) {
+            most = most.max(system.task(TaskId(k)).worst);
+        }
+    }
+    most
+}

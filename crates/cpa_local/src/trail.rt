@@ -1,0 +1,59 @@
+//! Which tasks were analysed, and room for what an analysis gathers.
+
+ghost use Rattle.std.specs.Prelude.{◌≡◌, ◌≤◌, ◌<◌, ◌↔◌, ℕ, IfOk, IsTrue};
+ghost use Rattle.cpa_units.specs.declared.limits.TheConstants.{MAX_TASKS};
+ghost use Rattle.cpa_local.specs.Trails.{IsMarked, IsKept, NewMarksAre, AreMarked};
+
+use cpa_units::{NoMemory, TaskId};
+use cpa_window::Rival;
+use std::alloc::Global;
+use std::marker::Model;
+
+/// A mark for each task that was analysed, and room for the rivals of a task, taken beforehand.
+#[derive(Drop)]
+pub struct Trail {
+    pub(crate) marks: [bool; 512],
+    pub(crate) rivals: Vec<Rival>,
+}
+
+impl Model for Trail {
+    ghost use Rattle.std.specs.Prelude.{vec_capacity};
+    ghost use Rattle.cpa_local.specs.Trails.{Marks};
+
+    ghost Value = { Marks };
+
+    ghost view = { λ t. record { marks = t.marks; room = vec_capacity t.rivals } };
+}
+
+impl Trail {
+    /// A trail without marks, with room for a system of so many tasks.
+    pub fn with_room(alloc: Global, tasks: u32) -> Result<Trail, NoMemory>
+        requires { tasks ≤ MAX_TASKS }
+        ensures room { IfOk result (λ t. t.room ≡ tasks) }
+        ensures none { IfOk result (λ t. (i : ℕ) → IsMarked t i → ⊥) }
+    {
+        let rivals = Vec::with_capacity(alloc, tasks as usize)?;
+        Ok(Trail {
+            marks: [false; 512],
+            rivals,
+        })
+    }
+
+    /// Whether a task was analysed.
+    pub fn marked(&self, task: TaskId) -> bool
+        requires { task.0 < MAX_TASKS }
+        ensures { IsTrue result ↔ IsMarked self.now task.0 }
+    {
+        self.marks[task.0 as usize]
+    }
+
+    /// Sets a task's mark.
+    pub(crate) fn mark(&mut self, task: TaskId)
+        requires { task.0 < MAX_TASKS }
+        ensures kept { IsKept self.old self.new }
+        ensures fresh { NewMarksAre self.old self.new (λ i. i ≡ task.0) }
+        ensures marked { AreMarked self.new (λ i. i ≡ task.0) }
+    {
+        self.marks[task.0 as usize] = true;
+    }
+}
