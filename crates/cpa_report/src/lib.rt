@@ -3,6 +3,8 @@
 
 mod paths;
 mod report;
+#[cfg(test)]
+mod tests;
 mod text;
 
 pub use paths::{path_best, path_worst};

@@ -48,7 +48,7 @@ fn put_model(text: &mut Text, model: &Model) -> Result<(), NoMemory>
 }
 
 #[tactic(auto, unfolding(crate::specs::Report::unbounded_text))]
-fn put_unbounded(text: &mut Text, period: u64) -> Result<(), NoMemory>
+pub(crate) fn put_unbounded(text: &mut Text, period: u64) -> Result<(), NoMemory>
     ensures { OnOk result (text.new ≡ text.old ++ unbounded_text period) }
 {
     text.put_count(b" period ", period)?;
@@ -67,7 +67,7 @@ fn put_input(text: &mut Text, system: &System, task: TaskId, x: &Vector) -> Resu
 }
 
 #[tactic(auto, unfolding(crate::specs::Report::bounds_text))]
-fn put_bounds(text: &mut Text, best: u64, worst: Bound) -> Result<(), NoMemory>
+pub(crate) fn put_bounds(text: &mut Text, best: u64, worst: Bound) -> Result<(), NoMemory>
     ensures { OnOk result (text.new ≡ text.old ++ bounds_text best worst) }
 {
     text.put_count(b" best ", best)?;
@@ -97,7 +97,7 @@ fn put_tasks(text: &mut Text, system: &System, x: &Vector) -> Result<(), NoMemor
     Ok(())
 }
 
-fn put_deadline(text: &mut Text, deadline: Option<u64>) -> Result<(), NoMemory>
+pub(crate) fn put_deadline(text: &mut Text, deadline: Option<u64>) -> Result<(), NoMemory>
     ensures { OnOk result (text.new ≡ text.old ++ deadline_text deadline) }
 {
     match deadline {
@@ -106,7 +106,7 @@ fn put_deadline(text: &mut Text, deadline: Option<u64>) -> Result<(), NoMemory>
     }
 }
 
-fn put_outcome(text: &mut Text, outcome: Outcome) -> Result<(), NoMemory>
+pub(crate) fn put_outcome(text: &mut Text, outcome: Outcome) -> Result<(), NoMemory>
     ensures { OnOk result (text.new ≡ text.old ++ outcome_text outcome) }
 {
     match outcome {
