@@ -2,5 +2,4 @@ pub mod Analysable
 pub mod Lines
 pub mod Output
 pub mod Reading
-pub mod Report
 pub mod Words

@@ -8,7 +8,7 @@ use Rattle.cpa_cli.specs.Words.{Command, Analyse, accepted, system_file, named_f
 use Rattle.cpa_cli.specs.Lines.{words_refused, too_long, not_toml, system_refused}
 use Rattle.cpa_file.specs.Reading.{Reading, NotToml, Refused, Accepted}
 use Rattle.cpa_cli.specs.Reading.{reading_here}
-use Rattle.cpa_cli.specs.Report.{report_text, verdict}
+use Rattle.cpa_report.specs.Report.{report_text, verdict}
 use Rattle.cpa_local.specs.Solution.{IsLeast}
 
 -- a status, where there is one, and a text

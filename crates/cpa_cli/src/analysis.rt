@@ -33,7 +33,7 @@ fn source_model(source: &Source) -> Model
 }
 
 /// The event model of what activates a task, at any vector.
-pub fn input(system: &System, task: TaskId) -> Model
+fn input(system: &System, task: TaskId) -> Model
     requires analysable { IsAnalysable system.now }
     requires there { task.0 < length system.now.tasks }
     ensures value { (x : List Bound) → input system.now x task.0 ≡ Some result }

@@ -12,11 +12,11 @@ ghost use Rattle.cpa_cli.specs.Output.{reply, IsReport, IsAnswerTo, IsOutput, Is
 use crate::analysis::solve;
 use crate::lines::{file_line, refusal_line, words_line};
 use crate::reading::is_analysable;
-use crate::report::{report_text, verdict};
 use crate::words::accept;
 use cpa_file::{FileRefusal, read_system};
 use cpa_io::{Files, LoadFault, Sink, SinkFault, put_all};
 use cpa_model::{Part, Refusal, System};
+use cpa_report::{report_text, verdict};
 use cpa_units::NoMemory;
 use cpa_units::limits::MAX_SYSTEM_FILE;
 use std::alloc::Global;

@@ -5,10 +5,8 @@ mod analysis;
 mod command;
 mod lines;
 mod reading;
-mod report;
 #[cfg(test)]
 mod tests;
-mod text;
 mod words;
 
 use cpa_io::{RealFiles, RealSink};

@@ -1,7 +1,7 @@
 use Rattle.std.proofs.Common.{append_assoc}
 use Rattle.cpa_units.proofs.PlaceLaws.{flat_map-places_more}
-use Rattle.cpa_cli.specs.Report.{task_line}
-use Rattle.cpa_cli.proofs.report.put_tasks.Goals as goal
+use Rattle.cpa_report.specs.Report.{task_line}
+use Rattle.cpa_report.proofs.report.put_tasks.Goals as goal
 
 pub loop-k-preserved : goal.loop-k-preserved
 loop-k-preserved c =

@@ -1,10 +1,10 @@
 use Rattle.std.proofs.Common.{◌≡◌, ◌≤◌, take}
 use Rattle.std.specs.Prelude.{count_by}
-use Rattle.cpa_cli.specs.Report.{is_overload}
-use Rattle.cpa_cli.proofs.report.count_overloads.Given as goal
+use Rattle.cpa_report.specs.Report.{is_missed}
+use Rattle.cpa_report.proofs.report.count_missed.Given as goal
 
 abbrev pub invariant-loop-k : goal.invariant-loop-k
 invariant-loop-k l = record {
-  count : l.count ≡ count_by is_overload (take l.k l.x);
+  count : l.count ≡ count_by (is_missed l.x) (take l.k l.system.paths);
   small : l.count ≤ l.k;
 }

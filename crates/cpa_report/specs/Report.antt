@@ -1,25 +1,17 @@
 -- The text of a report, and its verdict.
-use Rattle.std.specs.Prelude.{ℕ, zero, suc, ◌++◌, nat_le, Bool, true, false, Option, Some, None, List, length, sum_by, count_by, codes, if◌then◌else◌}
+use Rattle.std.specs.Prelude.{ℕ, ◌++◌, nat_le, Bool, true, false, Option, Some, None, List, length, sum_by, count_by, codes, if◌then◌else◌}
 use Rattle.std.specs.List.{list_any, flat_map}
 use Rattle.std.specs.Fmt.{decimal}
 use Rattle.cpa_units.specs.declared.bound.Bound.{Bound}
 use Rattle.cpa_units.specs.declared.bound.Bound.TheVariants.{Within, Overload}
-use Rattle.cpa_units.specs.declared.limits.TheConstants.{MAX_CHAIN}
 use Rattle.cpa_units.specs.declared.places.TaskId.{TaskId}
 use Rattle.cpa_units.specs.Bounds.{bound_of, sum_bounds}
 use Rattle.cpa_events.specs.declared.Model.{Model}
-use Rattle.cpa_model.specs.declared.entries.Activator.{Activator}
-use Rattle.cpa_model.specs.declared.entries.Activator.TheVariants.{Source as FromSource, Task as FromTask}
 use Rattle.cpa_model.specs.declared.entries.Path.{Path}
-use Rattle.cpa_model.specs.SystemLists.{SystemLists, task_at, source_at, resource_of, task_places}
+use Rattle.cpa_model.specs.SystemLists.{SystemLists, task_at, source_at, resource_of, root_of, task_places}
 use Rattle.cpa_local.specs.Inputs.{input}
-
--- the verdict on a path's deadline
-pub data Outcome : Type 0 where
-  Met : Outcome
-  Missed : Outcome
-  Unknown : Outcome
-  NoDeadline : Outcome
+use Rattle.cpa_report.specs.declared.paths.Outcome.{Outcome}
+use Rattle.cpa_report.specs.declared.paths.Outcome.TheVariants.{Met, Missed, Unknown, NoDeadline}
 
 -- the least time from end to end
 abbrev pub path_best : SystemLists → Path → ℕ
@@ -63,11 +55,9 @@ abbrev pub deadline_text : Option ℕ → List ℕ
 deadline_text (Some deadline) = decimal deadline
 deadline_text None = codes "-"
 
--- the period of the source that begins a chain of at most so many tasks
-abbrev pub root_period_along : SystemLists → ℕ → Activator → ℕ
-root_period_along s more (FromSource k) = (source_at s k.0).period
-root_period_along s zero (FromTask j) = 0
-root_period_along s (suc more) (FromTask j) = root_period_along s more (task_at s j.0).after
+-- the period of the source that begins a task's chain
+abbrev pub root_period : SystemLists → ℕ → ℕ
+root_period s i = (source_at s (root_of s i).0).period
 
 -- a task's name and its resource's
 unfoldable pub names_text : SystemLists → ℕ → List ℕ
@@ -82,7 +72,7 @@ unbounded_text period = codes " period " ++ decimal period ++ codes " jitter ove
 -- a task's input model; of one that is unbounded the period alone is known
 abbrev pub input_text : SystemLists → ℕ → Option Model → List ℕ
 input_text s i (Some m) = model_text m
-input_text s i None = unbounded_text (root_period_along s MAX_CHAIN (task_at s i).after)
+input_text s i None = unbounded_text (root_period s i)
 
 -- the least execution and the bound
 unfoldable pub bounds_text : ℕ → Bound → List ℕ

@@ -1,6 +1,6 @@
 use Rattle.std.proofs.Common.{append_assoc}
-use Rattle.cpa_cli.specs.Report.{summary_line}
-use Rattle.cpa_cli.proofs.report.put_summary.Goals as goal
+use Rattle.cpa_report.specs.Report.{summary_line}
+use Rattle.cpa_report.proofs.report.put_summary.Goals as goal
 
 pub returns : goal.returns
 unfolding summary_line

@@ -1,0 +1,10 @@
+use Rattle.std.proofs.Common.{◌≡◌, ◌≤◌, take}
+use Rattle.std.specs.Prelude.{count_by}
+use Rattle.cpa_report.specs.Report.{is_overload}
+use Rattle.cpa_report.proofs.report.count_overloads.Given as goal
+
+abbrev pub invariant-loop-k : goal.invariant-loop-k
+invariant-loop-k l = record {
+  count : l.count ≡ count_by is_overload (take l.k l.x);
+  small : l.count ≤ l.k;
+}

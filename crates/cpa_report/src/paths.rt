@@ -1,0 +1,107 @@
+//! The times of paths from end to end, and what they say of deadlines. All times are in ticks.
+
+ghost use Rattle.std.specs.Prelude.{◌≡◌, ◌<◌, length, All};
+ghost use Rattle.cpa_units.specs.Bounds.{RespectsLimit, bound_of, bound_plus, sum_bounds};
+ghost use Rattle.cpa_model.specs.SystemLists.{task_at, path_at};
+ghost use Rattle.cpa_local.specs.Solution.{IsVector};
+ghost use Rattle.std.specs.List.{sum_by};
+ghost use Rattle.cpa_report.specs.Report.{path_best, path_worst, outcome_of, is_missed_by, is_missed};
+
+use cpa_model::{System, TaskList};
+use cpa_units::{Bound, PathId, Vector};
+
+/// The verdict on a path's deadline.
+#[derive(Clone, Copy, Debug, PartialEq, Eq)]
+pub enum Outcome {
+    Met,
+    Missed,
+    Unknown,
+    NoDeadline,
+}
+
+fn sum_best(system: &System, tasks: &TaskList) -> u64
+    requires { All (λ i. i.0 < length system.now.tasks) tasks.now }
+    ensures { result ≡ sum_by (λ i. (task_at system.now i.0).best) tasks.now }
+{
+    let mut sum = 0u64;
+    for k in 0..tasks.len() {
+        sum += system.task(tasks.get(k)).best;
+    }
+    sum
+}
+
+/// The least time of a path from end to end.
+pub fn path_best(system: &System, path: PathId) -> u64
+    requires { path.0 < length system.now.paths }
+    ensures { result ≡ path_best system.now (path_at system.now path.0) }
+{
+    sum_best(system, &system.path(path).tasks)
+}
+
+fn plus(sum: Bound, more: Bound) -> Bound
+    requires sum { RespectsLimit 1000000000000000000 sum }
+    requires more { RespectsLimit 10000000 more }
+    ensures { result ≡ bound_plus sum more }
+{
+    match sum {
+        Bound::Overload => Bound::Overload,
+        Bound::Within(sum) => match more {
+            Bound::Overload => Bound::Overload,
+            Bound::Within(more) => Bound::Within(sum + more),
+        },
+    }
+}
+
+fn sum_worst(system: &System, tasks: &TaskList, x: &Vector) -> Bound
+    requires there { All (λ i. i.0 < length system.now.tasks) tasks.now }
+    requires vector { IsVector system.now x.now }
+    ensures { result ≡ sum_bounds (λ i. bound_of x.now i.0) tasks.now }
+{
+    let mut sum = Bound::Within(0);
+    for k in 0..tasks.len() {
+        sum = plus(sum, x.get(tasks.get(k)));
+    }
+    sum
+}
+
+/// The greatest time of a path from end to end, by the bounds of its tasks.
+pub fn path_worst(system: &System, path: PathId, x: &Vector) -> Bound
+    requires there { path.0 < length system.now.paths }
+    requires vector { IsVector system.now x.now }
+    ensures { result ≡ path_worst x.now (path_at system.now path.0) }
+{
+    sum_worst(system, &system.path(path).tasks, x)
+}
+
+/// The verdict on a deadline, by the greatest time.
+pub(crate) fn judge(deadline: Option<u64>, worst: Bound) -> Outcome
+    ensures { result ≡ outcome_of deadline worst }
+{
+    match deadline {
+        None => Outcome::NoDeadline,
+        Some(deadline) => match worst {
+            Bound::Overload => Outcome::Unknown,
+            Bound::Within(worst) if worst <= deadline => Outcome::Met,
+            Bound::Within(_) => Outcome::Missed,
+        },
+    }
+}
+
+fn is_missed_by(outcome: Outcome) -> bool
+    ensures { result ≡ is_missed_by outcome }
+{
+    match outcome {
+        Outcome::Missed => true,
+        Outcome::Met | Outcome::Unknown | Outcome::NoDeadline => false,
+    }
+}
+
+/// Whether a path's deadline is missed.
+pub(crate) fn is_missed(system: &System, path: PathId, x: &Vector) -> bool
+    requires there { path.0 < length system.now.paths }
+    requires vector { IsVector system.now x.now }
+    ensures { result ≡ is_missed x.now (path_at system.now path.0) }
+{
+    let worst = path_worst(system, path, x);
+    is_missed_by(judge(system.path(path).deadline, worst))
+}

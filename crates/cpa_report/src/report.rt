@@ -1,0 +1,246 @@
+//! The report of a system and its bounds.
+
+ghost use Rattle.std.specs.Prelude.{◌≡◌, ◌<◌, ◌≤◌, ◌++◌, length, count_by, OnOk, IfOk};
+ghost use Rattle.std.specs.List.{list_any, range_with_len, flat_map};
+ghost use Rattle.std.specs.Fmt.{decimal};
+ghost use Rattle.cpa_units.specs.Bounds.{bound_of};
+ghost use Rattle.cpa_model.specs.SystemLists.{path_at, task_places};
+ghost use Rattle.cpa_local.specs.Inputs.{input};
+ghost use Rattle.cpa_local.specs.Solution.{IsVector};
+ghost use Rattle.cpa_report.specs.Report.{is_overload, is_missed, bound_text, outcome_text, deadline_text, names_text, model_text, unbounded_text, input_text, bounds_text, task_line, path_line, summary_line, report_text, verdict};
+
+use crate::paths::{Outcome, is_missed, judge, path_best, path_worst};
+use crate::text::Text;
+use cpa_events::Model;
+use cpa_local::input;
+use cpa_model::System;
+use cpa_units::{Bound, NoMemory, PathId, TaskId, Vector};
+use std::alloc::Global;
+
+fn put_bound(text: &mut Text, bound: Bound) -> Result<(), NoMemory>
+    ensures { OnOk result (text.new ≡ text.old ++ bound_text bound) }
+{
+    match bound {
+        Bound::Within(ticks) => text.put_number(ticks),
+        Bound::Overload => text.put(b"overload"),
+    }
+}
+
+#[tactic(auto, unfolding(crate::specs::Report::names_text))]
+fn put_names(text: &mut Text, system: &System, task: TaskId) -> Result<(), NoMemory>
+    requires { task.0 < length system.now.tasks }
+    ensures { OnOk result (text.new ≡ text.old ++ names_text system.now task.0) }
+{
+    let entry = system.task(task);
+    text.put(b"task ")?;
+    text.put(entry.name.bytes())?;
+    text.put(b" ")?;
+    text.put(system.resource(entry.res).name.bytes())
+}
+
+#[tactic(auto, unfolding(crate::specs::Report::model_text))]
+fn put_model(text: &mut Text, model: &Model) -> Result<(), NoMemory>
+    ensures { OnOk result (text.new ≡ text.old ++ model_text model.now) }
+{
+    text.put_count(b" period ", model.period)?;
+    text.put_count(b" jitter ", model.jitter)?;
+    text.put_count(b" distance ", model.distance)
+}
+
+#[tactic(auto, unfolding(crate::specs::Report::unbounded_text))]
+pub(crate) fn put_unbounded(text: &mut Text, period: u64) -> Result<(), NoMemory>
+    ensures { OnOk result (text.new ≡ text.old ++ unbounded_text period) }
+{
+    text.put_count(b" period ", period)?;
+    text.put(b" jitter overload distance overload")
+}
+
+fn put_input(text: &mut Text, system: &System, task: TaskId, x: &Vector) -> Result<(), NoMemory>
+    requires there { task.0 < length system.now.tasks }
+    requires vector { IsVector system.now x.now }
+    ensures { OnOk result (text.new ≡ text.old ++ input_text system.now task.0 (input system.now x.now task.0)) }
+{
+    match input(system, task, x) {
+        Some(model) => put_model(text, &model),
+        None => put_unbounded(text, system.source(system.root(task)).period),
+    }
+}
+
+#[tactic(auto, unfolding(crate::specs::Report::bounds_text))]
+pub(crate) fn put_bounds(text: &mut Text, best: u64, worst: Bound) -> Result<(), NoMemory>
+    ensures { OnOk result (text.new ≡ text.old ++ bounds_text best worst) }
+{
+    text.put_count(b" best ", best)?;
+    text.put(b" worst ")?;
+    put_bound(text, worst)
+}
+
+#[tactic(auto, unfolding(crate::specs::Report::task_line))]
+fn put_task(text: &mut Text, system: &System, task: TaskId, x: &Vector) -> Result<(), NoMemory>
+    requires there { task.0 < length system.now.tasks }
+    requires vector { IsVector system.now x.now }
+    ensures { OnOk result (text.new ≡ text.old ++ task_line system.now x.now task.0) }
+{
+    put_names(text, system, task)?;
+    put_input(text, system, task, x)?;
+    put_bounds(text, system.task(task).best, x.get(task))?;
+    text.put(b"\n")
+}
+
+fn put_tasks(text: &mut Text, system: &System, x: &Vector) -> Result<(), NoMemory>
+    requires vector { IsVector system.now x.now }
+    ensures { OnOk result (text.new ≡ text.old ++ flat_map (task_line system.now x.now) (task_places system.now)) }
+{
+    for k in 0..system.tasks() {
+        put_task(text, system, TaskId(k), x)?;
+    }
+    Ok(())
+}
+
+pub(crate) fn put_deadline(text: &mut Text, deadline: Option<u64>) -> Result<(), NoMemory>
+    ensures { OnOk result (text.new ≡ text.old ++ deadline_text deadline) }
+{
+    match deadline {
+        Some(deadline) => text.put_number(deadline),
+        None => text.put(b"-"),
+    }
+}
+
+pub(crate) fn put_outcome(text: &mut Text, outcome: Outcome) -> Result<(), NoMemory>
+    ensures { OnOk result (text.new ≡ text.old ++ outcome_text outcome) }
+{
+    match outcome {
+        Outcome::Met => text.put(b"met"),
+        Outcome::Missed => text.put(b"missed"),
+        Outcome::Unknown => text.put(b"unknown"),
+        Outcome::NoDeadline => text.put(b"none"),
+    }
+}
+
+#[tactic(auto, unfolding(crate::specs::Report::path_line))]
+fn put_path(text: &mut Text, system: &System, path: PathId, x: &Vector) -> Result<(), NoMemory>
+    requires there { path.0 < length system.now.paths }
+    requires vector { IsVector system.now x.now }
+    ensures { OnOk result (text.new ≡ text.old ++ path_line system.now x.now (path_at system.now path.0)) }
+{
+    let entry = system.path(path);
+    let worst = path_worst(system, path, x);
+    text.put(b"path ")?;
+    text.put(entry.name.bytes())?;
+    put_bounds(text, path_best(system, path), worst)?;
+    text.put(b" deadline ")?;
+    put_deadline(text, entry.deadline)?;
+    text.put(b" ")?;
+    put_outcome(text, judge(entry.deadline, worst))?;
+    text.put(b"\n")
+}
+
+fn put_paths(text: &mut Text, system: &System, x: &Vector) -> Result<(), NoMemory>
+    requires { IsVector system.now x.now }
+    ensures { OnOk result (text.new ≡ text.old ++ flat_map (path_line system.now x.now) system.now.paths) }
+{
+    for k in 0..system.paths() {
+        put_path(text, system, PathId(k), x)?;
+    }
+    Ok(())
+}
+
+#[tactic(auto, unfolding(crate::specs::Report::summary_line))]
+fn put_summary(text: &mut Text, tasks: u64, overload: u64, missed: u64) -> Result<(), NoMemory>
+    ensures { OnOk result (text.new ≡ text.old ++ summary_line tasks overload missed) }
+{
+    text.put_count(b"summary tasks ", tasks)?;
+    text.put_count(b" overload ", overload)?;
+    text.put_count(b" missed ", missed)?;
+    text.put(b"\n")?;
+    Ok(())
+}
+
+fn is_overload(bound: Bound) -> bool
+    ensures { result ≡ is_overload bound }
+{
+    match bound {
+        Bound::Within(_) => false,
+        Bound::Overload => true,
+    }
+}
+
+fn count_overloads(x: &Vector) -> u32
+    ensures { result ≡ count_by is_overload x.now }
+{
+    let mut count = 0u32;
+    for k in 0..x.len() {
+        if is_overload(x.get(TaskId(k))) {
+            count += 1;
+        }
+    }
+    count
+}
+
+fn count_missed(system: &System, x: &Vector) -> u32
+    requires { IsVector system.now x.now }
+    ensures { result ≡ count_by (is_missed x.now) system.now.paths }
+{
+    let mut count = 0u32;
+    for k in 0..system.paths() {
+        if is_missed(system, PathId(k), x) {
+            count += 1;
+        }
+    }
+    count
+}
+
+/// The report of a system at a vector: a line per task, a line per path, and the counts.
+#[tactic(auto, unfolding(crate::specs::Report::report_text))]
+pub fn report_text(alloc: Global, system: &System, x: &Vector) -> Result<Vec<u8>, NoMemory>
+    requires { IsVector system.now x.now }
+    ensures { IfOk result (λ v. v.items ≡ report_text system.now x.now) }
+{
+    let mut text = Text::new(alloc);
+    put_tasks(&mut text, system, x)?;
+    put_paths(&mut text, system, x)?;
+    let tasks = u64::from(system.tasks());
+    let overload = u64::from(count_overloads(x));
+    let missed = u64::from(count_missed(system, x));
+    put_summary(&mut text, tasks, overload, missed)?;
+    Ok(text.into_bytes())
+}
+
+fn has_overload(x: &Vector) -> bool
+    ensures { result ≡ list_any is_overload x.now }
+{
+    for k in 0..x.len() {
+        if is_overload(x.get(TaskId(k))) {
+            return true;
+        }
+    }
+    false
+}
+
+fn has_missed(system: &System, x: &Vector) -> bool
+    requires { IsVector system.now x.now }
+    ensures { result ≡ list_any (is_missed x.now) system.now.paths }
+{
+    for k in 0..system.paths() {
+        if is_missed(system, PathId(k), x) {
+            return true;
+        }
+    }
+    false
+}
+
+/// The verdict: 2 where a bound is an overload; else 1 where a deadline is missed; else 0.
+#[tactic(auto, unfolding(crate::specs::Report::verdict))]
+pub fn verdict(system: &System, x: &Vector) -> u8
+    requires { IsVector system.now x.now }
+    ensures value { result ≡ verdict system.now x.now }
+    ensures small { result ≤ 2 }
+{
+    if has_overload(x) {
+        2
+    } else if has_missed(system, x) {
+        1
+    } else {
+        0
+    }
+}
