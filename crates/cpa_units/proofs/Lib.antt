@@ -2,3 +2,4 @@ pub mod SearchLaws
 pub mod BoundLaws
 pub mod NumberLaws
 pub mod PlaceLaws
+pub mod SetLaws

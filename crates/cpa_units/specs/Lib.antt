@@ -4,3 +4,4 @@ pub mod Bounds
 pub mod Words
 pub mod Numbers
 pub mod Name
+pub mod Sets

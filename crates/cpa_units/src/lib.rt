@@ -8,6 +8,7 @@ pub mod frames;
 pub mod limits;
 pub mod name;
 pub mod places;
+pub mod res_set;
 #[cfg(test)]
 mod tests;
 pub mod vector;
@@ -16,4 +17,5 @@ pub use bound::{Bound, words_have_laws};
 pub use frames::frame_bits;
 pub use name::{Name, NameFault, is_name};
 pub use places::{NoMemory, PathId, ResId, SourceId, TaskId};
+pub use res_set::ResSet;
 pub use vector::Vector;
