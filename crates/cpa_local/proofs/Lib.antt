@@ -1,6 +1,8 @@
 pub mod BlockingLaws
 pub mod CycleLaws
 pub mod InputLaws
+pub mod ResponseLaws
 pub mod RivalLaws
+pub mod SolutionLaws
 pub mod TrailLaws
 pub mod VectorLaws

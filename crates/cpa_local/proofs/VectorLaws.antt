@@ -38,7 +38,8 @@ floor-vector s rules =
 
 -- there is no other
 
-same_bounds : (x y : List Bound) → length x ≡ length y → IsNowhereAbove x y → IsNowhereAbove y x → x ≡ y
+-- vectors that are nowhere above each other are one
+pub same_bounds : (x y : List Bound) → length x ≡ length y → IsNowhereAbove x y → IsNowhereAbove y x → x ≡ y
 same_bounds x y long h k = ext_get_or (Within 0) x y long (λ i less. IsAtMost_antisymm (bound_of x i) (bound_of y i) (h i) (k i))
 
 pub least-one : (s : SystemLists) (x y : List Bound) → IsLeast s x → IsLeast s y → x ≡ y

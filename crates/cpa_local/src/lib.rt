@@ -7,6 +7,7 @@
 
 mod analysis;
 mod inputs;
+mod laws;
 mod neighbours;
 mod start;
 #[cfg(test)]
@@ -15,5 +16,6 @@ mod trail;
 
 pub use analysis::respond;
 pub use inputs::input;
+pub use laws::{least_solutions_have_laws, responses_are_monotone};
 pub use start::floor;
 pub use trail::Trail;

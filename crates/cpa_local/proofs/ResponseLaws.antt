@@ -1,0 +1,154 @@
+-- Bounds grow with the vector; each is at least the task's greatest execution, and its number within the resource's limit.
+use Rattle.std.proofs.Common.{◌≡◌, ℕ, zero, suc, ◌<◌, ◌≤◌, length, List, [], ◌∷◌, map, Option, Some, None, refl, inl, inr, arith}
+use Rattle.std.proofs.lemmas.Bool.{cases_lt}
+use Rattle.std.proofs.lemmas.List.{get_or_past}
+use Rattle.std.proofs.lemmas.List.FromFn.{get_or-map-range_with_len, length-map-range_with_len}
+use Rattle.std.proofs.Math.ListN.{get_or-eq_default}
+use Rattle.cpa_units.specs.declared.bound.Bound.{Bound}
+use Rattle.cpa_units.specs.declared.bound.Bound.TheVariants.{Within, Overload}
+use Rattle.cpa_units.specs.declared.limits.TheConstants.{MAX_CHAIN}
+use Rattle.cpa_units.specs.Bounds.{IsAtMost, RespectsLimit, IsNowhereAbove, bound_of}
+use Rattle.cpa_events.specs.declared.Model.{Model}
+use Rattle.cpa_events.specs.Events.{IsModel, IsNoDenser}
+use Rattle.cpa_events.proofs.EventLaws.{IsNoDenser_refl, after_response-is_model, after_response-denser}
+use Rattle.cpa_window.specs.Rivals.{IsInput, IsInputNoDenser, AreNoHeavier}
+use Rattle.cpa_spp.proofs.PreemptiveLaws.{preemptive_bound-mono, preemptive_bound-low, preemptive_bound-high}
+use Rattle.cpa_rr.proofs.RoundRobinLaws.{round_robin_bound-mono, round_robin_bound-low, round_robin_bound-high}
+use Rattle.cpa_tdma.proofs.TdmaLaws.{tdma_bound-mono, tdma_bound-low, tdma_bound-high}
+use Rattle.cpa_can.proofs.CanLaws.{can_bound-mono, can_bound-ge, can_bound-limit}
+use Rattle.cpa_model.specs.declared.entries.Kind.{Kind}
+use Rattle.cpa_model.specs.declared.entries.Kind.TheVariants.{Preemptive, RoundRobin, Tdma, Can}
+use Rattle.cpa_model.specs.declared.entries.Activator.{Activator}
+use Rattle.cpa_model.specs.declared.entries.Activator.TheVariants.{Source as FromSource, Task as FromTask}
+use Rattle.cpa_model.specs.SystemLists.{SystemLists, task_at, source_at, resource_of, slot_of, higher_tasks, other_tasks, blocking_of, cycle_of, no_source}
+use Rattle.cpa_model.specs.Rules.{IsSystem, IsSource}
+use Rattle.cpa_local.specs.Inputs.{model_of, output_of, sent_by, input_along, input}
+use Rattle.cpa_local.specs.Local.{rival_of, bound_by_kind, bound_at_input, response, responses}
+
+-- ---- inputs are models
+
+output_of-is_input : (best : ℕ) (bound : Bound) (m : Option Model) → IsInput m → IsInput (output_of best bound m)
+output_of-is_input best (Within bound) (Some m) i = after_response-is_model m best bound i
+output_of-is_input best (Within bound) None i = tt
+output_of-is_input best Overload m i = tt
+
+module _ (s : SystemLists) (x : List Bound) (rules : IsSystem s) where
+  source-is_model : (k : ℕ) → IsModel (model_of (source_at s k))
+  source-is_model k =
+      elim (cases_lt k (length s.sources)) [
+        | inl less ↦ let r : IsSource (source_at s k) = rules.sources k no_source less in r.some_period
+        | inr past ↦ rw (get_or-eq_default s.sources no_source past) (omega arith)
+      ]
+
+  sent_by-is_input : (f : ℕ → Option Model) (a : Activator) → ((j : ℕ) → IsInput (f j)) → IsInput (sent_by s x f a)
+  sent_by-is_input f (FromSource k) h = source-is_model k.0
+  sent_by-is_input f (FromTask j) h = output_of-is_input (task_at s j.0).best (bound_of x j.0) (f j.0) (h j.0)
+
+  input_along-is_input : (chain i : ℕ) → IsInput (input_along s x chain i)
+  input_along-is_input zero i = tt
+  input_along-is_input (suc chain) i = sent_by-is_input (input_along s x chain) (task_at s i).after (input_along-is_input chain)
+
+  pub input-is_input : (i : ℕ) → IsInput (input s x i)
+  unfolding input
+  input-is_input i = input_along-is_input MAX_CHAIN i
+
+  bound_by_kind-ge : (i : ℕ) (own : Model) (kind : Kind) → IsModel own → IsAtMost (Within (task_at s i).worst) (bound_by_kind s x i own kind)
+  bound_by_kind-ge i own Preemptive m = preemptive_bound-low own (task_at s i).worst (map (rival_of s x) (higher_tasks s i)) (resource_of s i).limit
+  bound_by_kind-ge i own RoundRobin m = round_robin_bound-low own (task_at s i).worst (slot_of (task_at s i).turn) (map (rival_of s x) (other_tasks s i)) (resource_of s i).limit
+  bound_by_kind-ge i own (Tdma gap) m = tdma_bound-low own (task_at s i).worst (slot_of (task_at s i).turn) (cycle_of s (task_at s i).res.0) (resource_of s i).limit
+  bound_by_kind-ge i own (Can bit) m = can_bound-ge own (task_at s i).worst (blocking_of s i) (map (rival_of s x) (higher_tasks s i)) bit (resource_of s i).limit m
+
+  bound_at_input-ge : (i : ℕ) (m : Option Model) → IsInput m → IsAtMost (Within (task_at s i).worst) (bound_at_input s x i m)
+  bound_at_input-ge i (Some own) m = bound_by_kind-ge i own (resource_of s i).kind m
+  bound_at_input-ge i None m = tt
+
+  -- a bound is at least the task's greatest execution
+  pub response-ge : (i : ℕ) → IsAtMost (Within (task_at s i).worst) (response s x i)
+  unfolding response
+  response-ge i = bound_at_input-ge i (input s x i) (input-is_input i)
+
+-- ---- within the limit
+
+module _ (s : SystemLists) (x : List Bound) where
+  bound_by_kind-limit : (i : ℕ) (own : Model) (kind : Kind) → RespectsLimit (resource_of s i).limit (bound_by_kind s x i own kind)
+  bound_by_kind-limit i own Preemptive = preemptive_bound-high own (task_at s i).worst (map (rival_of s x) (higher_tasks s i)) (resource_of s i).limit
+  bound_by_kind-limit i own RoundRobin = round_robin_bound-high own (task_at s i).worst (slot_of (task_at s i).turn) (map (rival_of s x) (other_tasks s i)) (resource_of s i).limit
+  bound_by_kind-limit i own (Tdma gap) = tdma_bound-high own (task_at s i).worst (slot_of (task_at s i).turn) (cycle_of s (task_at s i).res.0) (resource_of s i).limit
+  bound_by_kind-limit i own (Can bit) = can_bound-limit own (task_at s i).worst (blocking_of s i) (map (rival_of s x) (higher_tasks s i)) bit (resource_of s i).limit
+
+  bound_at_input-limit : (i : ℕ) (m : Option Model) → RespectsLimit (resource_of s i).limit (bound_at_input s x i m)
+  bound_at_input-limit i (Some own) = bound_by_kind-limit i own (resource_of s i).kind
+  bound_at_input-limit i None = tt
+
+  -- a bound is within the resource's limit
+  pub response-limit : (i : ℕ) → RespectsLimit (resource_of s i).limit (response s x i)
+  unfolding response
+  response-limit i = bound_at_input-limit i (input s x i)
+
+-- ---- growing with the vector
+
+output_of-mono : (best : ℕ) (a b : Bound) (m n : Option Model) → IsAtMost a b → IsInputNoDenser m n → IsInputNoDenser (output_of best a m) (output_of best b n)
+output_of-mono best a Overload m n h d = tt
+output_of-mono best a (Within b) m None h d = tt
+output_of-mono best Overload (Within b) m (Some n) h d = absurd h
+output_of-mono best (Within a) (Within b) None (Some n) h d = absurd d
+output_of-mono best (Within a) (Within b) (Some m) (Some n) h d = after_response-denser m n best best a b d (omega arith) h
+
+module _ (s : SystemLists) (x y : List Bound) (below : IsNowhereAbove x y) where
+  sent_by-mono : (f g : ℕ → Option Model) (a : Activator) → ((j : ℕ) → IsInputNoDenser (f j) (g j)) → IsInputNoDenser (sent_by s x f a) (sent_by s y g a)
+  sent_by-mono f g (FromSource k) h = IsNoDenser_refl (model_of (source_at s k.0))
+  sent_by-mono f g (FromTask j) h = output_of-mono (task_at s j.0).best (bound_of x j.0) (bound_of y j.0) (f j.0) (g j.0) (below j.0) (h j.0)
+
+  input_along-mono : (chain i : ℕ) → IsInputNoDenser (input_along s x chain i) (input_along s y chain i)
+  input_along-mono zero i = tt
+  input_along-mono (suc chain) i =
+      sent_by-mono (input_along s x chain) (input_along s y chain) (task_at s i).after (input_along-mono chain)
+
+  pub input-mono : (i : ℕ) → IsInputNoDenser (input s x i) (input s y i)
+  unfolding input
+  input-mono i = input_along-mono MAX_CHAIN i
+
+  rivals-mono : (js : List ℕ) → AreNoHeavier (map (rival_of s x) js) (map (rival_of s y) js)
+  rivals-mono [] = tt
+  rivals-mono (j ∷ js) =
+      (record { model = input-mono j; worst = omega arith; slot = refl; bound = below j }, rivals-mono js)
+
+  bound_by_kind-mono : (i : ℕ) (m n : Model) (kind : Kind) → IsNoDenser m n → IsAtMost (bound_by_kind s x i m kind) (bound_by_kind s y i n kind)
+  bound_by_kind-mono i m n Preemptive d =
+      preemptive_bound-mono m n (task_at s i).worst (task_at s i).worst _ _ (resource_of s i).limit d (omega arith) (rivals-mono (higher_tasks s i))
+  bound_by_kind-mono i m n RoundRobin d =
+      round_robin_bound-mono m n (task_at s i).worst (task_at s i).worst (slot_of (task_at s i).turn) _ _ (resource_of s i).limit d (omega arith) (rivals-mono (other_tasks s i))
+  bound_by_kind-mono i m n (Tdma gap) d =
+      let cycle = cycle_of s (task_at s i).res.0 in
+      tdma_bound-mono m n (task_at s i).worst (task_at s i).worst (slot_of (task_at s i).turn) cycle cycle (resource_of s i).limit d (omega arith) (omega arith)
+  bound_by_kind-mono i m n (Can bit) d =
+      can_bound-mono m n (task_at s i).worst (task_at s i).worst (blocking_of s i) (blocking_of s i) _ _ bit (resource_of s i).limit d (omega arith) (omega arith) (rivals-mono (higher_tasks s i))
+
+  bound_at_input-mono : (i : ℕ) (m n : Option Model) → IsInputNoDenser m n → IsAtMost (bound_at_input s x i m) (bound_at_input s y i n)
+  bound_at_input-mono i m None d = tt
+  bound_at_input-mono i None (Some n) d = absurd d
+  bound_at_input-mono i (Some m) (Some n) d = bound_by_kind-mono i m n (resource_of s i).kind d
+
+  -- a bound grows with the vector
+  pub response-mono : (i : ℕ) → IsAtMost (response s x i) (response s y i)
+  unfolding response
+  response-mono i = bound_at_input-mono i (input s x i) (input s y i) (input-mono i)
+
+-- ---- what stands in F
+
+pub bound_of-responses : (s : SystemLists) (x : List Bound) (i : ℕ) → i < length s.tasks → bound_of (responses s x) i ≡ response s x i
+bound_of-responses s x i h = get_or-map-range_with_len (response s x) 0 (length s.tasks) i i (Within 0) h (omega arith)
+
+pub length-responses : (s : SystemLists) (x : List Bound) → length (responses s x) ≡ length s.tasks
+length-responses s x = length-map-range_with_len (response s x) 0 (length s.tasks)
+
+pub bound_of-responses_past : (s : SystemLists) (x : List Bound) (i : ℕ) → length s.tasks ≤ i → bound_of (responses s x) i ≡ Within 0
+bound_of-responses_past s x i h = get_or_past (responses s x) i (Within 0) (omega (arith, length-responses s x))
+
+-- F is monotone
+pub responses-mono : (s : SystemLists) (x y : List Bound) → IsNowhereAbove x y → IsNowhereAbove (responses s x) (responses s y)
+responses-mono s x y below i =
+    elim (cases_lt i (length s.tasks)) [
+      | inl in_range ↦ rw (bound_of-responses s x i in_range, bound_of-responses s y i in_range) (response-mono s x y below i)
+      | inr past ↦ rw (bound_of-responses_past s x i past, bound_of-responses_past s y i past) (omega arith)
+    ]

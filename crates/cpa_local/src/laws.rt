@@ -1,0 +1,16 @@
+//! What holds of bounds and of least solutions, for whoever builds on this crate.
+
+ghost use Rattle.cpa_local.specs.Laws.{ResponsesAreMonotone, LeastExists, LeastIsUnique, LeastIsFixed, ClosedBelowIsLeast};
+
+/// Where a vector rises, no bound falls, whatever the kinds of the resources (Richter's thesis, 2005).
+pub fn responses_are_monotone()
+    ensures { ResponsesAreMonotone }
+{}
+
+/// Each system has exactly one least solution, and the bounds at it are it (Knaster and Tarski; Kleene).
+pub fn least_solutions_have_laws()
+    ensures exists { LeastExists }
+    ensures unique { LeastIsUnique }
+    ensures fixed { LeastIsFixed }
+    ensures closed_below { ClosedBelowIsLeast }
+{}
