@@ -1,7 +1,7 @@
 -- Walks along chains, and what resources read.
-use Rattle.std.proofs.Common.{◌≡◌, ℕ, suc, ◌+◌, ◌-◌, ◌<◌, ◌≤◌, ◌⊎◌, ◌↔◌, ◌||◌, ◌==◌, length, Bool, true, false, List, Option, Some, None, IsSome, option_map, refl, sym, ap, ◌∙◌, inl, inr, subst, slice_index_or, arith}
+use Rattle.std.proofs.Common.{◌≡◌, ℕ, suc, ◌+◌, ◌-◌, ◌<◌, ◌≤◌, ◌⊎◌, ◌↔◌, ◌||◌, ◌==◌, length, Bool, true, false, List, [], Option, Some, None, IsSome, option_map, refl, sym, ap, ◌∙◌, inl, inr, subst, slice_index_or, arith}
 use Rattle.std.proofs.lemmas.Bool.{cases_lt, or_cases, eqb-true, eq-eqb, false≢true}
-use Rattle.std.proofs.lemmas.List.{get_or_past, get_or-map}
+use Rattle.std.proofs.lemmas.List.{get_or_past, get_or-map, get_or_default}
 use Rattle.cpa_units.specs.declared.places.TaskId.{TaskId}
 use Rattle.cpa_units.specs.Sets.{holds, Members}
 use Rattle.cpa_model.specs.declared.entries.Activator.{Activator}
@@ -11,7 +11,7 @@ use Rattle.cpa_model.specs.Chains.{chain_step, depth_within, activators}
 use Rattle.cpa_model.specs.SystemLists.{SystemLists, task_at, no_task}
 use Rattle.cpa_model.specs.Rules.{IsSystem, IsTask, IsActivator}
 use Rattle.cpa_model.proofs.ChainLaws.{depth_within-step, depth_within-over}
-use Rattle.cpa_depend.specs.Cone.{Activates, LeadsTo, directly, through, Reads, itself, earlier, HasEarlierOn}
+use Rattle.cpa_depend.specs.Cone.{Activates, LeadsTo, directly, through, Reads, itself, earlier, HasEarlierOn, AreReads}
 
 -- tasks and activators that are there
 
@@ -220,3 +220,7 @@ Reads-in_range s r q rules there reads =
       | inl same ↦ subst (λ (n : ℕ). n < length s.resources) same there
       | inr both ↦ both.1
     ]
+
+-- what a table has at a place in it, whatever stands for places outside
+pub AreReads-row : (s : SystemLists) (table : List (List Bool)) (r : ℕ) (outside : List Bool) → AreReads s table → r < length s.resources → r < length table → (q : ℕ) → Members (slice_index_or table r outside) q ↔ Reads s r q
+AreReads-row s table r outside all there in_table q = rw (get_or_default table r outside [] in_table) (all r there q)

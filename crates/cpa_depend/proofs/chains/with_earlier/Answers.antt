@@ -1,6 +1,5 @@
 use Rattle.std.proofs.Common.{◌≡◌, ◌||◌, ◌==◌, ℕ, sym, ap, ◌∙◌, arith}
 use Rattle.cpa_units.specs.Sets.{holds}
-use Rattle.cpa_model.specs.declared.entries.Activator.{Activator}
 use Rattle.cpa_model.specs.declared.entries.Activator.TheVariants.{Source, Task}
 use Rattle.cpa_model.specs.declared.entries.Task.{Task as Entry}
 use Rattle.cpa_model.specs.SystemLists.{task_at}
