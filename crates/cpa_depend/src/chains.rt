@@ -1,0 +1,59 @@
+//! What resources read, along the chains of their tasks.
+
+ghost use Rattle.std.specs.Prelude.{◌<◌, ℕ, ◌⊎◌, ◌↔◌, length};
+ghost use Rattle.cpa_units.specs.Sets.{Members};
+ghost use Rattle.cpa_model.specs.Rules.{IsSystem};
+ghost use Rattle.cpa_depend.specs.Cone.{Reads, HasEarlierOn, AreReads};
+
+use cpa_model::{Activator, System};
+use cpa_units::limits::MAX_CHAIN;
+use cpa_units::{ResId, ResSet, TaskId};
+
+/// The set, with the resources of all earlier tasks of a task's chain.
+fn with_earlier(system: &System, task: TaskId, set: ResSet) -> ResSet
+    requires rules { IsSystem system.now }
+    requires there { task.0 < length system.now.tasks }
+    ensures { (q : ℕ) → Members result q ↔ (Members set q ⊎ HasEarlierOn system.now task.0 q) }
+{
+    let mut all = set;
+    let mut at = task;
+    for done in 0..MAX_CHAIN {
+        match system.task(at).after {
+            Activator::Source(_) => return all,
+            Activator::Task(earlier) => {
+                at = earlier;
+                all = all.with(system.task(at).res);
+            }
+        }
+    }
+    all
+}
+
+/// Exactly the resources that a resource reads: itself, and those of all earlier tasks in the chains
+/// of its tasks. All are places below the number of resources.
+pub fn reads(system: &System, res: ResId) -> ResSet
+    requires { res.0 < length system.now.resources }
+    ensures { (q : ℕ) → Members result q ↔ Reads system.now res.0 q }
+{
+    let tasks = system.tasks();
+    let resources = system.resources();
+    let mut set = ResSet::none().with(res);
+    for k in 0..tasks {
+        if system.task(TaskId(k)).res.0 == res.0 {
+            set = with_earlier(system, TaskId(k), set);
+        }
+    }
+    set
+}
+
+/// Exactly what each resource reads, by its place; places from the number of resources on say nothing.
+pub fn reads_of_all(system: &System) -> [ResSet; 64]
+    ensures { AreReads system.now result }
+{
+    let resources = system.resources();
+    let mut all = [ResSet::none(); 64];
+    for place in 0..resources {
+        all[place as usize] = reads(system, ResId(place));
+    }
+    all
+}

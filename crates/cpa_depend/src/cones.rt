@@ -1,0 +1,56 @@
+//! The resources that read some others, directly or through others.
+
+ghost use Rattle.std.specs.Prelude.{◌≡◌, ◌<◌, ◌≤◌, ℕ, ◌↔◌, IsTrue, length, MatchOption};
+ghost use Rattle.cpa_units.specs.Sets.{Members};
+ghost use Rattle.cpa_model.specs.Rules.{IsSystem};
+ghost use Rattle.cpa_depend.specs.Cone.{AreReads, InCone, Meets, IsClosedUnder, IsWiderWithin};
+
+use crate::chains::reads_of_all;
+use cpa_model::System;
+use cpa_units::{ResId, ResSet};
+
+/// Whether two sets have a member below `count` in common.
+fn meets(a: ResSet, b: ResSet, count: u32) -> bool
+    requires { count ≤ 64 }
+    ensures { IsTrue result ↔ Meets a b count }
+{
+    for place in 0..count {
+        if a.has(ResId(place)) && b.has(ResId(place)) {
+            return true;
+        }
+    }
+    false
+}
+
+/// The set with resources that read a member; none where each such resource is a member.
+fn widened(system: &System, reads: &[ResSet; 64], set: ResSet) -> Option<ResSet>
+    requires reads { AreReads system.now reads.now }
+    ensures { MatchOption result (IsClosedUnder system.now set) (λ wider. IsWiderWithin system.now set wider) }
+{
+    let count = system.resources();
+    let mut wider = set;
+    let mut grown = false;
+    for place in 0..count {
+        let res = ResId(place);
+        if !wider.has(res) && meets(reads[place as usize], wider, count) {
+            wider = wider.with(res);
+            grown = true;
+        }
+    }
+    if grown { Some(wider) } else { None }
+}
+
+/// Exactly the resources that read one of `from`, directly or through others, and those of `from`.
+/// All are places below the number of resources.
+pub fn cone(system: &System, from: ResSet) -> ResSet
+    requires { (r : ℕ) → Members from r → r < length system.now.resources }
+    ensures { (r : ℕ) → Members result r ↔ InCone system.now (Members from) r }
+{
+    let count = system.resources();
+    let reads = reads_of_all(system);
+    let mut set = from;
+    'passes: while let Some(wider) = widened(system, &reads, set) {
+        set = wider;
+    }
+    set
+}

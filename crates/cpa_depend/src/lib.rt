@@ -1,0 +1,14 @@
+//! Which resources read which: the dependencies between tasks, as compositional performance analysis
+//! has them (SymTA/S, pyCPA), told by resources.
+//!
+//! A resource reads those whose bounds its own analysis needs: along the chains of its tasks. What
+//! reads it, directly or through others, is its cone.
+#![tactic(auto)]
+
+mod chains;
+mod cones;
+#[cfg(test)]
+mod tests;
+
+pub use chains::{reads, reads_of_all};
+pub use cones::cone;

@@ -1,0 +1,111 @@
+ghost use Rattle.std.specs.Prelude.{◌≡◌, All, IfOk, true};
+ghost use Rattle.cpa_model.specs.Built.{has_executions};
+
+use crate::{cone, reads, reads_of_all};
+use cpa_model::{Draft, DraftResource, DraftSource, DraftTask, KindWord, Raw, System};
+use cpa_units::{ResId, ResSet};
+use std::alloc::{AllocError, Global};
+use std::test::Fail;
+
+fn raw(alloc: Global, text: &str) -> Result<Raw, AllocError> {
+    Ok(Raw::new(Vec::from_slice(alloc, text.as_bytes())?))
+}
+
+fn resource(alloc: Global, name: &str) -> Result<DraftResource, AllocError> {
+    Ok(DraftResource {
+        name: raw(alloc, name)?,
+        kind: KindWord::Preemptive,
+        limit: None,
+        gap: None,
+        bit: None,
+    })
+}
+
+fn source(alloc: Global, name: &str) -> Result<DraftSource, AllocError> {
+    Ok(DraftSource {
+        name: raw(alloc, name)?,
+        period: 100,
+        jitter: None,
+        distance: None,
+    })
+}
+
+fn task(
+    alloc: Global,
+    name: &str,
+    on: &str,
+    after: &str,
+    priority: i64,
+) -> Result<DraftTask, AllocError>
+    ensures { IfOk result (λ t. has_executions t ≡ true) }
+{
+    Ok(DraftTask {
+        name: raw(alloc, name)?,
+        on: raw(alloc, on)?,
+        after: raw(alloc, after)?,
+        best: Some(2),
+        worst: Some(7),
+        payload: None,
+        extended: None,
+        priority: Some(priority),
+        slot: None,
+    })
+}
+
+/// Two chains that cross on p and q, the first of which goes on to r; nothing is on t.
+fn crossing(alloc: Global) -> Result<Draft, AllocError>
+    ensures { IfOk result (λ d. All (λ t. has_executions t ≡ true) d.tasks) }
+{
+    Ok(Draft {
+        resources: vec![in alloc;
+            resource(alloc, "p")?,
+            resource(alloc, "q")?,
+            resource(alloc, "r")?,
+            resource(alloc, "t")?,
+        ]?,
+        sources: vec![in alloc; source(alloc, "sa")?, source(alloc, "sb")?]?,
+        tasks: vec![in alloc;
+            task(alloc, "a1", "p", "sa", 1)?,
+            task(alloc, "a2", "q", "a1", 1)?,
+            task(alloc, "b1", "q", "sb", 2)?,
+            task(alloc, "b2", "p", "b1", 2)?,
+            task(alloc, "a3", "r", "a2", 1)?,
+        ]?,
+        paths: Vec::new(alloc),
+    })
+}
+
+/// Which of the first four places are members.
+fn members(set: ResSet) -> [bool; 4] {
+    [
+        set.has(ResId(0)),
+        set.has(ResId(1)),
+        set.has(ResId(2)),
+        set.has(ResId(3)),
+    ]
+}
+
+#[test]
+fn crossing_chains(rt: HostRuntime) -> Result<(), Fail> {
+    let alloc = rt.alloc();
+    let system = System::build(alloc, crossing(alloc)?)?;
+    assert_eq!(rt; system.resources(), 4);
+    let all = reads_of_all(&system);
+    let cases = [
+        ([true, true, false, false], [true, true, true, false]),
+        ([true, true, false, false], [true, true, true, false]),
+        ([true, true, true, false], [false, false, true, false]),
+        ([false, false, false, true], [false, false, false, true]),
+    ];
+    for (place, (read, reached)) in cases.into_iter().enumerate() {
+        let res = ResId(place as u32);
+        assert_eq!(rt; members(reads(&system, res)), read, "reads of {place}");
+        assert_eq!(rt; members(all[place]), read, "table at {place}");
+        assert_eq!(rt;
+            members(cone(&system, ResSet::none().with(res))),
+            reached,
+            "cone of {place}"
+        );
+    }
+    Ok(())
+}
