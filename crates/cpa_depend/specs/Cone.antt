@@ -34,6 +34,10 @@ AreReads s table = (r : ℕ) → r < length s.resources → (q : ℕ) → Member
 abbrev pub HasEarlierOn : SystemLists → ℕ → ℕ → Type 0
 HasEarlierOn s i q = (j : ℕ) × LeadsTo s j i × ((task_at s j).res.0 ≡ q)
 
+-- a task on r has an earlier task of its chain on r
+abbrev pub LeadsBack : SystemLists → ℕ → Type 0
+LeadsBack s r = (i : ℕ) × (i < length s.tasks) × ((task_at s i).res.0 ≡ r) × HasEarlierOn s i r
+
 -- two sets have a member below `count` in common
 abbrev pub Meets : List Bool → List Bool → ℕ → Type 0
 Meets a b count = (q : ℕ) × (q < count) × Members a q × Members b q

@@ -1,9 +1,9 @@
 //! What resources read, along the chains of their tasks.
 
-ghost use Rattle.std.specs.Prelude.{◌<◌, ℕ, ◌⊎◌, ◌↔◌, length};
+ghost use Rattle.std.specs.Prelude.{◌<◌, ℕ, ◌⊎◌, ◌↔◌, IsTrue, length};
 ghost use Rattle.cpa_units.specs.Sets.{Members};
 ghost use Rattle.cpa_model.specs.Rules.{IsSystem};
-ghost use Rattle.cpa_depend.specs.Cone.{Reads, HasEarlierOn, AreReads};
+ghost use Rattle.cpa_depend.specs.Cone.{Reads, HasEarlierOn, AreReads, LeadsBack};
 
 use cpa_model::{Activator, System};
 use cpa_units::limits::MAX_CHAIN;
@@ -44,6 +44,24 @@ pub fn reads(system: &System, res: ResId) -> ResSet
         }
     }
     set
+}
+
+/// Whether a task on a resource has an earlier task of its chain on that resource as well.
+pub fn leads_back(system: &System, res: ResId) -> bool
+    requires { res.0 < length system.now.resources }
+    ensures { IsTrue result ↔ LeadsBack system.now res.0 }
+{
+    let tasks = system.tasks();
+    let resources = system.resources();
+    for k in 0..tasks {
+        let task = TaskId(k);
+        if system.task(task).res.0 == res.0
+            && with_earlier(system, task, ResSet::none()).has(res)
+        {
+            return true;
+        }
+    }
+    false
 }
 
 /// Exactly what each resource reads, by its place; places from the number of resources on say nothing.

@@ -10,5 +10,5 @@ mod cones;
 #[cfg(test)]
 mod tests;
 
-pub use chains::{reads, reads_of_all};
+pub use chains::{leads_back, reads, reads_of_all};
 pub use cones::cone;

@@ -1,0 +1,113 @@
+-- What raising one bound does.
+use Rattle.std.proofs.Common.{◌≡◌, ℕ, ◌+◌, ◌<◌, length, set, List, refl, sym, ◌∙◌, inl, inr, subst, arith, get_or-set_same, get_or-set_other, length-set}
+use Rattle.std.proofs.lemmas.Bool.{cases_eq, cases_lt}
+use Rattle.cpa_units.specs.declared.bound.Bound.{Bound}
+use Rattle.cpa_units.specs.declared.bound.Bound.TheVariants.{Within, Overload}
+use Rattle.cpa_units.specs.Bounds.{IsAtMost, IsNowhereAbove, RespectsLimit, bound_of, bound_max}
+use Rattle.cpa_model.specs.SystemLists.{SystemLists, task_at, resource_of, IsRegular}
+use Rattle.cpa_local.specs.Local.{response}
+use Rattle.cpa_local.specs.Solution.{IsVector, least_of, MAX_LIMIT}
+use Rattle.cpa_units.proofs.BoundLaws.{IsAtMost_refl, IsAtMost_trans, IsNowhereAbove_refl, IsNowhereAbove_trans, le-bound_max_left, le-bound_max_right, bound_max-le}
+use Rattle.cpa_local.proofs.ResponseLaws.{response-limit}
+use Rattle.cpa_local.proofs.SolutionLaws.{RespectsLimit-mono}
+use Rattle.cpa_fix.proofs.ReadingLaws.{response-below}
+use Rattle.cpa_local.specs.Trails.{Marks, IsKept, NewMarksAre, AreMarked}
+use Rattle.cpa_local.proofs.TrailLaws.{IsKept_refl, IsKept_trans, NewMarks_trans, NewMarks-weaker}
+use Rattle.cpa_fix.specs.Rounds.{TasksOn, IsRisen, IsRaised}
+
+max-high : (limit : ℕ) (a b : Bound) → RespectsLimit limit a → RespectsLimit limit b → RespectsLimit limit (bound_max a b)
+max-high limit (Within a) (Within b) h k = omega arith
+max-high limit (Within a) Overload h k = k
+max-high limit Overload b h k = tt
+
+bound_of-set_same : (x : List Bound) (i : ℕ) (b : Bound) → i < length x → bound_of (set x i b) i ≡ b
+bound_of-set_same x i b h = get_or-set_same x i b (Within 0) h
+
+bound_of-set_other : (x : List Bound) (i j : ℕ) (b : Bound) → (j ≡ i → ⊥) → bound_of (set x i b) j ≡ bound_of x j
+bound_of-set_other x i j b ne = rw get_or-set_other refl
+
+pub IsRisen_refl : (s : SystemLists) (old new : List Bound) → IsRisen s old new → IsRisen s new new
+IsRisen_refl s old new h = record { vector = h.vector; up = IsNowhereAbove_refl new; below = h.below }
+
+pub IsRisen_trans : (s : SystemLists) (a b c : List Bound) → IsRisen s a b → IsRisen s b c → IsRisen s a c
+IsRisen_trans s a b c first second =
+    record { vector = second.vector; up = IsNowhereAbove_trans a b c first.up second.up; below = second.below }
+
+-- the bound of one task raised by its analysis at a vector nowhere above the least solution
+pub risen-set : (s : SystemLists) (seen x : List Bound) (i : ℕ) → IsSystem s → i < length s.tasks → IsNowhereAbove seen (least_of s) → IsVector s x → IsNowhereAbove x (least_of s) → IsRisen s x (set x i (bound_max (response s seen i) (bound_of x i)))
+risen-set s seen x i regular h seen_below vector below =
+    let b = bound_max (response s seen i) (bound_of x i) in
+    let here : i < length x = rw vector.long h in
+    let up : IsAtMost (bound_of x i) b = le-bound_max_right (response s seen i) (bound_of x i) in
+    record {
+      vector = record {
+        long = length-set x i b ∙ vector.long;
+        low = λ j k. elim (cases_eq j i) [
+          | inl same ↦ rw (same, bound_of-set_same x i b here) (IsAtMost_trans (Within (task_at s i).best) (bound_of x i) b (vector.low i h) up)
+          | inr other ↦ rw (bound_of-set_other x i j b other) (vector.low j k)
+        ];
+        high = λ j k. elim (cases_eq j i) [
+          | inl same ↦ rw (same, bound_of-set_same x i b here) (max-high MAX_LIMIT (response s seen i) (bound_of x i) (RespectsLimit-mono (resource_of s i).limit MAX_LIMIT (response s seen i) (regular.limits i h) (response-limit s seen i)) (vector.high i h))
+          | inr other ↦ rw (bound_of-set_other x i j b other) (vector.high j k)
+        ];
+      };
+      up = λ j. elim (cases_eq j i) [
+        | inl same ↦ rw (same, bound_of-set_same x i b here) up
+        | inr other ↦ rw (bound_of-set_other x i j b other) (IsAtMost_refl (bound_of x j))
+      ];
+      below = λ j. elim (cases_eq j i) [
+        | inl same ↦ rw (same, bound_of-set_same x i b here) (bound_max-le (response s seen i) (bound_of x i) (bound_of (least_of s) i) (response-below s seen i h seen_below) (below i))
+        | inr other ↦ rw (bound_of-set_other x i j b other) (below j)
+      ];
+    }
+
+pub raise-start : (s : SystemLists) (r : ℕ) (seen x : List Bound) (trail : Marks) → IsRisen s x x → IsRaised s r seen x x trail trail 0
+raise-start s r seen x trail risen =
+    record {
+      risen = risen;
+      others = λ i off. refl;
+      answered = λ i h. absurd (omega arith);
+      kept = IsKept_refl trail;
+      fresh = λ i m. inl m;
+      marked = λ i h. absurd (omega arith);
+    }
+
+pub raise-skip : (s : SystemLists) (r : ℕ) (seen old new : List Bound) (before after : Marks) (task : ℕ) → ((task_at s task).res.0 ≡ r → ⊥) → IsRaised s r seen old new before after task → IsRaised s r seen old new before after (task + 1)
+raise-skip s r seen old new before after task off h =
+    record {
+      risen = h.risen;
+      others = h.others;
+      answered = λ i lt on. elim (cases_lt i task) [
+        | inl under ↦ h.answered i under on
+        | inr ge ↦ let here : i ≡ task = omega arith in absurd (off (subst (λ (k : ℕ). (task_at s k).res.0 ≡ r) here on))
+      ];
+      kept = h.kept;
+      fresh = h.fresh;
+      marked = λ i lt on. elim (cases_lt i task) [
+        | inl under ↦ h.marked i under on
+        | inr ge ↦ let here : i ≡ task = omega arith in absurd (off (subst (λ (k : ℕ). (task_at s k).res.0 ≡ r) here on))
+      ];
+    }
+
+pub raise-task : (s : SystemLists) (r : ℕ) (seen old new : List Bound) (before after marked : Marks) (task : ℕ) → IsSystem s → task < length s.tasks → (task_at s task).res.0 ≡ r → IsNowhereAbove seen (least_of s) → IsKept after marked → NewMarksAre after marked (λ i. i ≡ task) → AreMarked marked (λ i. i ≡ task) → IsRaised s r seen old new before after task → IsRaised s r seen old (set new task (bound_max (response s seen task) (bound_of new task))) before marked (task + 1)
+raise-task s r seen old new before after marked task regular h on below kept fresh mark raised =
+    let b = bound_max (response s seen task) (bound_of new task) in
+    let here : task < length new = rw raised.risen.vector.long h in
+    let step = risen-set s seen new task regular h below raised.risen.vector raised.risen.below in
+    record {
+      risen = IsRisen_trans s old new (set new task b) raised.risen step;
+      others = λ i off. elim (cases_eq i task) [
+        | inl same ↦ absurd (off (subst (λ (k : ℕ). (task_at s k).res.0 ≡ r) (sym same) on))
+        | inr other ↦ bound_of-set_other new task i b other ∙ raised.others i off
+      ];
+      answered = λ i lt on_i. elim (cases_eq i task) [
+        | inl same ↦ rw (same, bound_of-set_same new task b here) (le-bound_max_left (response s seen task) (bound_of new task))
+        | inr other ↦ IsAtMost_trans (response s seen i) (bound_of new i) (bound_of (set new task b) i) (raised.answered i (omega arith) on_i) (step.up i)
+      ];
+      kept = IsKept_trans before after marked raised.kept kept;
+      fresh = NewMarks_trans before after marked (TasksOn s (λ q. q ≡ r)) raised.fresh (NewMarks-weaker after marked (λ i. i ≡ task) (TasksOn s (λ q. q ≡ r)) (λ i same. rw same (h, on)) fresh);
+      marked = λ i lt on_i. elim (cases_eq i task) [
+        | inl same ↦ mark i same
+        | inr other ↦ kept.marks i (raised.marked i (omega arith) on_i)
+      ];
+    }

@@ -1,0 +1,15 @@
+//! What the search for the least solution stands on, for whoever builds on this crate.
+
+ghost use Rattle.cpa_fix.specs.Laws.{BoundsDependOnReads, BoundsWithoutFeedback, CleanIsLeast};
+
+/// The bounds on a resource depend on what it reads alone; without feedback not even on the bounds of
+/// its own tasks.
+pub fn bounds_depend_on_reads()
+    ensures reads { BoundsDependOnReads }
+    ensures outside { BoundsWithoutFeedback }
+{}
+
+/// A vector nowhere above the least solution is it where each resource is clean.
+pub fn clean_is_least()
+    ensures { CleanIsLeast }
+{}

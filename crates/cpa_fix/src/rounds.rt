@@ -1,0 +1,42 @@
+//! One round of analyses.
+
+ghost use Rattle.std.specs.Prelude.{ℕ, ◌<◌, length};
+ghost use Rattle.std.specs.Result.{OnOk};
+ghost use Rattle.std.specs.Thread.{IsSync};
+ghost use Rattle.cpa_units.specs.Sets.{holds, Members};
+ghost use Rattle.cpa_local.specs.Trails.{IsKept, NewMarksAre, AreMarked};
+ghost use Rattle.cpa_fix.specs.Rounds.{MayStart, IsRisen, IsRound, TasksOn};
+
+use crate::readings::Readings;
+use cpa_local::Trail;
+use cpa_model::System;
+use cpa_units::{NoMemory, ResSet, Vector};
+use std::alloc::Global;
+use std::thread::Threads;
+
+/// Analyses each dirty resource, in any order and by any number of workers.
+pub trait Round {
+    /// One round: raises the bounds on the members of `dirty`, and keeps a reading of each of them.
+    ///
+    /// The vector never falls and stays nowhere above the least solution, also where memory is
+    /// refused; other bounds and readings stay as they are. The trail has then the marks that it had
+    /// and those of all tasks on members; after a refusal, of some of them.
+    fn round<H: Threads + Sync>(
+        &mut self,
+        rt: &H,
+        alloc: Global,
+        system: &System,
+        x: &mut Vector,
+        dirty: ResSet,
+        readings: &mut Readings,
+        trail: &mut Trail,
+    ) -> Result<(), NoMemory>
+        requires threads { IsSync H.row }
+        requires start { MayStart system.now x.old readings.old trail.old }
+        requires in_range { (r : ℕ) → Members dirty r → r < length system.now.resources }
+        ensures risen { IsRisen system.now x.old x.new }
+        ensures kept { IsKept trail.old trail.new }
+        ensures fresh { NewMarksAre trail.old trail.new (TasksOn system.now (Members dirty)) }
+        ensures done { OnOk result (IsRound system.now (holds dirty) x.old x.new readings.old readings.new) }
+        ensures marked { OnOk result (AreMarked trail.new (TasksOn system.now (Members dirty))) };
+}

@@ -1,0 +1,132 @@
+//! The search for the least solution.
+
+ghost use Rattle.std.specs.Prelude.{ℕ, ◌<◌, ◌≡◌, ◌↔◌, IsTrue, length, IfOk};
+ghost use Rattle.std.specs.Bool.{OnTrue, OnFalse};
+ghost use Rattle.std.specs.Result.{OnOk};
+ghost use Rattle.cpa_units.specs.Sets.{Members};
+ghost use Rattle.cpa_model.specs.Rules.{IsSystem};
+ghost use Rattle.cpa_local.specs.Solution.{IsVector};
+ghost use Rattle.cpa_local.specs.Trails.{IsKept, NewMarksAre, AreMarked};
+ghost use Rattle.cpa_depend.specs.Cone.{Reads, InCone, AreReads};
+ghost use Rattle.cpa_fix.specs.Readings.{AgreeOnReads, AreSound, HasCleanReading, IsDirty, IsSolved};
+ghost use Rattle.cpa_fix.specs.Rounds.{MayStart, TasksOn};
+ghost use Rattle.cpa_fix.specs.Stale.{Differs, IsStale, AreStale};
+
+use crate::readings::Readings;
+use crate::rounds::Round;
+use cpa_depend::reads_of_all;
+use cpa_local::Trail;
+use cpa_model::System;
+use cpa_units::{Bound, NoMemory, ResId, ResSet, TaskId, Vector};
+use std::alloc::Global;
+use std::thread::Threads;
+
+/// The least solution, with a reading of each resource.
+#[derive(Debug, Drop)]
+pub struct Solution {
+    pub bounds: Vector,
+    pub readings: Readings,
+}
+
+/// The least solution of a system, by rounds that begin at `start` with the readings that are kept and
+/// go on until every resource is clean. Each round analyses the dirty resources alone.
+///
+/// All tasks on resources that were dirty at the start are then marked, and only tasks on resources
+/// in their cone are marked anew, also where memory is refused.
+pub fn solve<H: Threads + Sync, R: Round>(
+    rt: &H,
+    alloc: Global,
+    system: &System,
+    start: Vector,
+    kept: Readings,
+    round: &mut R,
+    trail: &mut Trail,
+) -> Result<Solution, NoMemory>
+    requires { MayStart system.now start kept trail.old }
+    ensures solved { IfOk result (λ it. IsSolved system.now it.bounds it.readings) }
+    ensures kept { IsKept trail.old trail.new }
+    ensures fresh { NewMarksAre trail.old trail.new (TasksOn system.now (InCone system.now (IsDirty system.now kept start))) }
+    ensures marked { OnOk result (AreMarked trail.new (TasksOn system.now (IsDirty system.now kept start))) }
+{
+    let reads = reads_of_all(system);
+    let mut x = start;
+    let mut readings = kept;
+    let mut dirty = dirty_resources(system, &reads, &x, &readings);
+    'rounds: while let Some(set) = dirty {
+        round.round(rt, alloc, system, &mut x, set, &mut readings, trail)?;
+        dirty = dirty_resources(system, &reads, &x, &readings);
+    }
+    Ok(Solution {
+        bounds: x,
+        readings,
+    })
+}
+
+/// The resources that aren't clean, where the table tells what each reads; none where all are.
+fn dirty_resources(
+    system: &System,
+    reads: &[ResSet; 64],
+    x: &Vector,
+    readings: &Readings,
+) -> Option<ResSet>
+    requires reads { AreReads system.now reads.now }
+    requires vector { IsVector system.now x.now }
+    requires sound { AreSound system.now readings.now x.now }
+    ensures stale { AreStale system.now readings.now x.now result }
+    ensures rules { IsSystem system.now }
+{
+    let count = system.resources();
+    let mut dirty = ResSet::none();
+    let mut found = false;
+    for place in 0..count {
+        let res = ResId(place);
+        if is_stale(system, res, reads[place as usize], x, readings) {
+            dirty = dirty.with(res);
+            found = true;
+        }
+    }
+    if found { Some(dirty) } else { None }
+}
+
+/// Whether a resource that reads those of `read` has no reading that is up to date.
+fn is_stale(system: &System, res: ResId, read: ResSet, x: &Vector, readings: &Readings) -> bool
+    requires vector { IsVector system.now x.now }
+    requires in_range { res.0 < length system.now.resources }
+    requires read { (q : ℕ) → Members read q ↔ Reads system.now res.0 q }
+    requires sound { AreSound system.now readings.now x.now }
+    ensures yes { OnTrue result (IsStale system.now readings.now x.now res.0) }
+    ensures no { OnFalse result (HasCleanReading system.now readings.now x.now res.0) }
+{
+    match readings.get(res) {
+        None => true,
+        Some(reading) => differs(system, res, read, &reading.seen, x),
+    }
+}
+
+/// Whether two vectors differ for a task on one of the resources of `read`, which `res` reads.
+fn differs(system: &System, res: ResId, read: ResSet, seen: &Vector, x: &Vector) -> bool
+    requires read { (q : ℕ) → Members read q ↔ Reads system.now res.0 q }
+    requires seen { IsVector system.now seen.now }
+    requires vector { IsVector system.now x.now }
+    ensures yes { OnTrue result (Differs system.now res.0 seen.now x.now) }
+    ensures no { OnFalse result (AgreeOnReads system.now res.0 seen.now x.now) }
+{
+    for place in 0..system.tasks() {
+        let task = TaskId(place);
+        if read.has(system.task(task).res) && !is_same(seen.get(task), x.get(task)) {
+            return true;
+        }
+    }
+    false
+}
+
+/// Whether two bounds are equal.
+fn is_same(a: Bound, b: Bound) -> bool
+    ensures { IsTrue result ↔ (a ≡ b) }
+{
+    match (a, b) {
+        (Bound::Within(m), Bound::Within(n)) => m == n,
+        (Bound::Overload, Bound::Overload) => true,
+        _ => false,
+    }
+}
