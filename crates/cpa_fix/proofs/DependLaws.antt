@@ -9,16 +9,13 @@ use Rattle.cpa_units.proofs.BoundLaws.{zero_at_most}
 use Rattle.cpa_events.specs.declared.Model.{Model}
 use Rattle.cpa_window.specs.declared.rivals.Rival.{Rival}
 use Rattle.cpa_window.proofs.RivalLaws.{load_of, work_in-same}
-use Rattle.cpa_spp.specs.Preemptive.{preemptive_bound}
 use Rattle.cpa_spp.proofs.PreemptiveLaws.{preemptive_bound-same}
 use Rattle.cpa_rr.specs.RoundRobin.{round_robin_bound}
-use Rattle.cpa_can.specs.Can.{can_bound}
 use Rattle.cpa_can.proofs.CanLaws.{can_bound-same}
 use Rattle.cpa_model.specs.declared.entries.Kind.{Kind}
 use Rattle.cpa_model.specs.declared.entries.Kind.TheVariants.{Preemptive, RoundRobin, Tdma, Can}
 use Rattle.cpa_model.specs.declared.entries.Activator.{Activator}
 use Rattle.cpa_model.specs.declared.entries.Activator.TheVariants.{Source as FromSource, Task as FromTask}
-use Rattle.cpa_model.specs.declared.entries.Task.{Task}
 use Rattle.cpa_model.specs.SystemLists.{SystemLists, task_at, resource_at, resource_of, task_places, slot_of, is_higher, is_other, shares_resource, higher_tasks, blocking_of, no_task}
 use Rattle.cpa_model.specs.Rules.{IsSystem, IsTask}
 use Rattle.cpa_local.specs.Inputs.{sent_by, input_along, input}
@@ -72,7 +69,7 @@ module _ (s : SystemLists) (x y : List Bound) where
     loads-same i on =
         loads-of s x (higher_tasks s i)
         ∙ map-filter-same (is_higher s i) (λ j. (input s x j, (task_at s j).worst)) (λ j. (input s y j, (task_at s j).worst)) (task_places s)
-          (λ j p. ap (λ m. (m, (task_at s j).worst)) (own_input j (shares r i j on (and_parts _ _ p).0)))
+        (λ j p. ap (λ m. (m, (task_at s j).worst)) (own_input j (shares r i j on (and_parts _ _ p).0)))
         ∙ sym (loads-of s y (higher_tasks s i))
 
     module _ (turns : (i : ℕ) (own : Model) → (task_at s i).res.0 ≡ r → (resource_of s i).kind ≡ RoundRobin → bound_by_kind s x i own RoundRobin ≡ bound_by_kind s y i own RoundRobin) where
@@ -99,8 +96,8 @@ module _ (s : SystemLists) (x y : List Bound) where
 pub response-same : (s : SystemLists) (x y : List Bound) (r : ℕ) → AgreeOnReads s r x y → (i : ℕ) → (task_at s i).res.0 ≡ r → response s x i ≡ response s y i
 response-same s x y r agree =
     response_by_turns s x y r before (λ i own on e.
-      ap (λ rs. round_robin_bound own (task_at s i).worst (slot_of (task_at s i).turn) rs (resource_of s i).limit)
-      (map-filter-same (is_other s i) (rival_of s x) (rival_of s y) (task_places s) (λ j p. rival-same j (shares s x y r i j on (and_parts _ _ p).0))))
+    ap (λ rs. round_robin_bound own (task_at s i).worst (slot_of (task_at s i).turn) rs (resource_of s i).limit)
+    (map-filter-same (is_other s i) (rival_of s x) (rival_of s y) (task_places s) (λ j p. rival-same j (shares s x y r i j on (and_parts _ _ p).0))))
   where
     before : (i : ℕ) → (task_at s i).res.0 ≡ r → (j : ℕ) → LeadsTo s j i → bound_of x j ≡ bound_of y j
     before i on j leads = agree j (subst (λ (q : ℕ). Reads s q (task_at s j).res.0) on (earlier leads))

@@ -2,23 +2,18 @@
 use Rattle.std.proofs.Common.{◌≡◌, ℕ, ◌+◌, ◌<◌, length, set, List, refl, sym, ◌∙◌, inl, inr, subst, arith, get_or-set_same, get_or-set_other, length-set}
 use Rattle.std.proofs.lemmas.Bool.{cases_eq, cases_lt}
 use Rattle.cpa_units.specs.declared.bound.Bound.{Bound}
-use Rattle.cpa_units.specs.declared.bound.Bound.TheVariants.{Within, Overload}
-use Rattle.cpa_units.specs.Bounds.{IsAtMost, IsNowhereAbove, RespectsLimit, bound_of, bound_max}
-use Rattle.cpa_model.specs.SystemLists.{SystemLists, task_at, resource_of, IsRegular}
+use Rattle.cpa_units.specs.declared.bound.Bound.TheVariants.{Within}
+use Rattle.cpa_units.specs.Bounds.{IsAtMost, IsNowhereAbove, bound_of, bound_max}
+use Rattle.cpa_model.specs.SystemLists.{SystemLists, task_at}
+use Rattle.cpa_model.specs.Rules.{IsSystem}
 use Rattle.cpa_local.specs.Local.{response}
-use Rattle.cpa_local.specs.Solution.{IsVector, least_of, MAX_LIMIT}
-use Rattle.cpa_units.proofs.BoundLaws.{IsAtMost_refl, IsAtMost_trans, IsNowhereAbove_refl, IsNowhereAbove_trans, le-bound_max_left, le-bound_max_right, bound_max-le}
-use Rattle.cpa_local.proofs.ResponseLaws.{response-limit}
-use Rattle.cpa_local.proofs.SolutionLaws.{RespectsLimit-mono}
-use Rattle.cpa_fix.proofs.ReadingLaws.{response-below}
+use Rattle.cpa_units.specs.declared.limits.TheConstants.{MAX_LIMIT}
+use Rattle.cpa_local.specs.Solution.{IsVector, least_of}
+use Rattle.cpa_units.proofs.BoundLaws.{IsAtMost_refl, IsAtMost_trans, IsNowhereAbove_refl, IsNowhereAbove_trans, le-bound_max_left, le-bound_max_right, bound_max-le, bound_max-limit}
+use Rattle.cpa_local.proofs.SolutionLaws.{response-below, response-high}
 use Rattle.cpa_local.specs.Trails.{Marks, IsKept, NewMarksAre, AreMarked}
 use Rattle.cpa_local.proofs.TrailLaws.{IsKept_refl, IsKept_trans, NewMarks_trans, NewMarks-weaker}
 use Rattle.cpa_fix.specs.Rounds.{TasksOn, IsRisen, IsRaised}
-
-max-high : (limit : ℕ) (a b : Bound) → RespectsLimit limit a → RespectsLimit limit b → RespectsLimit limit (bound_max a b)
-max-high limit (Within a) (Within b) h k = omega arith
-max-high limit (Within a) Overload h k = k
-max-high limit Overload b h k = tt
 
 bound_of-set_same : (x : List Bound) (i : ℕ) (b : Bound) → i < length x → bound_of (set x i b) i ≡ b
 bound_of-set_same x i b h = get_or-set_same x i b (Within 0) h
@@ -35,7 +30,7 @@ IsRisen_trans s a b c first second =
 
 -- the bound of one task raised by its analysis at a vector nowhere above the least solution
 pub risen-set : (s : SystemLists) (seen x : List Bound) (i : ℕ) → IsSystem s → i < length s.tasks → IsNowhereAbove seen (least_of s) → IsVector s x → IsNowhereAbove x (least_of s) → IsRisen s x (set x i (bound_max (response s seen i) (bound_of x i)))
-risen-set s seen x i regular h seen_below vector below =
+risen-set s seen x i rules h seen_below vector below =
     let b = bound_max (response s seen i) (bound_of x i) in
     let here : i < length x = rw vector.long h in
     let up : IsAtMost (bound_of x i) b = le-bound_max_right (response s seen i) (bound_of x i) in
@@ -47,7 +42,7 @@ risen-set s seen x i regular h seen_below vector below =
           | inr other ↦ rw (bound_of-set_other x i j b other) (vector.low j k)
         ];
         high = λ j k. elim (cases_eq j i) [
-          | inl same ↦ rw (same, bound_of-set_same x i b here) (max-high MAX_LIMIT (response s seen i) (bound_of x i) (RespectsLimit-mono (resource_of s i).limit MAX_LIMIT (response s seen i) (regular.limits i h) (response-limit s seen i)) (vector.high i h))
+          | inl same ↦ rw (same, bound_of-set_same x i b here) (bound_max-limit MAX_LIMIT (response s seen i) (bound_of x i) (response-high s rules seen i h) (vector.high i h))
           | inr other ↦ rw (bound_of-set_other x i j b other) (vector.high j k)
         ];
       };
@@ -90,10 +85,10 @@ raise-skip s r seen old new before after task off h =
     }
 
 pub raise-task : (s : SystemLists) (r : ℕ) (seen old new : List Bound) (before after marked : Marks) (task : ℕ) → IsSystem s → task < length s.tasks → (task_at s task).res.0 ≡ r → IsNowhereAbove seen (least_of s) → IsKept after marked → NewMarksAre after marked (λ i. i ≡ task) → AreMarked marked (λ i. i ≡ task) → IsRaised s r seen old new before after task → IsRaised s r seen old (set new task (bound_max (response s seen task) (bound_of new task))) before marked (task + 1)
-raise-task s r seen old new before after marked task regular h on below kept fresh mark raised =
+raise-task s r seen old new before after marked task rules h on below kept fresh mark raised =
     let b = bound_max (response s seen task) (bound_of new task) in
     let here : task < length new = rw raised.risen.vector.long h in
-    let step = risen-set s seen new task regular h below raised.risen.vector raised.risen.below in
+    let step = risen-set s seen new task rules h below raised.risen.vector raised.risen.below in
     record {
       risen = IsRisen_trans s old new (set new task b) raised.risen step;
       others = λ i off. elim (cases_eq i task) [

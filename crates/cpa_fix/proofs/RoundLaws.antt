@@ -1,21 +1,26 @@
 -- Rounds: over one resource, and one after another.
 use Rattle.std.proofs.Common.{◌≡◌, ℕ, ◌+◌, ◌<◌, ◌==◌, ◌||◌, ◌&&◌, nat_lt, length, set, Bool, true, false, List, Option, Some, None, refl, sym, ap, ◌∙◌, inl, inr, subst, arith, get_or-set_same, get_or-set_other, length-set}
-use Rattle.std.proofs.lemmas.Bool.{cases_eq, cases_lt, cases_Bool, or_cases, eqb-true, eqb-false, eq-eqb, ne_eqb, and_left, and_right, lt-ltb, le-ltb}
+use Rattle.std.proofs.lemmas.Bool.{cases_eq, cases_lt, cases_Bool, false≢true, or_cases, eqb-true, eqb-false, eq-eqb, ne_eqb, and_left, and_right, lt-ltb, le-ltb}
 use Rattle.cpa_units.specs.declared.bound.Bound.{Bound}
-use Rattle.cpa_units.specs.Bounds.{IsNowhereAbove}
-use Rattle.cpa_model.specs.SystemLists.{SystemLists, task_at}
+use Rattle.cpa_units.specs.Bounds.{IsNowhereAbove, bound_of}
+use Rattle.cpa_model.specs.SystemLists.{SystemLists, task_at, resource_at}
+use Rattle.cpa_model.specs.declared.entries.Kind.TheVariants.{RoundRobin}
+use Rattle.std.specs.Bool.{OnFalse}
+use Rattle.std.specs.Prelude.{IsTrue, ◌↔◌}
+use Rattle.cpa_depend.specs.Cone.{LeadsBack}
+use Rattle.cpa_depend.proofs.ChainLaws.{LeadsTo-in_range}
 use Rattle.cpa_local.specs.Solution.{IsVector}
 use Rattle.cpa_fix.specs.Readings.{IsSound}
 use Rattle.cpa_units.proofs.BoundLaws.{IsNowhereAbove_refl, IsNowhereAbove_trans}
 use Rattle.cpa_fix.proofs.ReadingLaws.{IsSound-mono}
-use Rattle.cpa_units.specs.Sets.{holds}
 use Rattle.cpa_local.specs.Trails.{Marks, IsKept, NewMarksAre, AreMarked}
 use Rattle.cpa_local.proofs.TrailLaws.{IsKept_refl, IsKept_trans, NewMarks_trans, NewMarks-weaker}
-use Rattle.cpa_units.specs.Sets.{Members}
+use Rattle.cpa_units.specs.Sets.{holds, Members}
 use Rattle.cpa_fix.proofs.RaiseLaws.{IsRisen_trans}
 use Rattle.cpa_fix.specs.declared.readings.Reading.{Reading}
 use Rattle.cpa_fix.specs.Readings.{reading_of, AreSound}
-use Rattle.cpa_fix.specs.Rounds.{TasksOn, MayStart, IsRisen, IsRound, IsRaised}
+use Rattle.cpa_fix.specs.Rounds.{TasksOn, MayStart, IsRisen, IsRound, IsRaised, AgreeOutside, HasNoFeedback}
+use Rattle.cpa_fix.proofs.DependLaws.{response-outside}
 
 -- readings stay sound while the vector rises
 pub AreSound-mono : (s : SystemLists) (kept : List (Option Reading)) (x y : List Bound) → IsNowhereAbove x y → AreSound s kept x → AreSound s kept y
@@ -72,29 +77,54 @@ round-same s dirty again x y a b e h =
       same = λ r off. h.same r (sym (e r) ∙ off);
     }
 
--- a resource analysed at `seen`, which lies between the old vector and the new one, with that as its reading
-pub round-of_one : (s : SystemLists) (r : ℕ) (seen x y : List Bound) (kept : List (Option Reading)) (before after : Marks) → r < length s.resources → AreSound s kept x → IsVector s seen → IsNowhereAbove x seen → IsNowhereAbove seen y → IsRaised s r seen x y before after (length s.tasks) → IsRound s (λ q. q == r) x y kept (set kept r (Some (record { seen = seen })))
-round-of_one s r seen x y kept before after in_range sound vector old below raised =
+-- what was analysed at `seen`, and raised, has that as a sound reading
+pub raised-sound : (s : SystemLists) (r : ℕ) (seen x y : List Bound) (before after : Marks) → IsVector s seen → IsNowhereAbove seen y → IsRaised s r seen x y before after (length s.tasks) → IsSound s r seen y
+raised-sound s r seen x y before after vector below raised =
+    record { vector = vector; below = below; answered = raised.answered }
+
+-- a resource whose bounds alone have risen, with a new sound reading nowhere below the old vector
+pub round-of_one : (s : SystemLists) (r : ℕ) (seen x y : List Bound) (kept : List (Option Reading)) → r < length s.resources → AreSound s kept x → IsNowhereAbove x y → ((i : ℕ) → ((task_at s i).res.0 ≡ r → ⊥) → bound_of y i ≡ bound_of x i) → IsSound s r seen y → IsNowhereAbove x seen → IsRound s (λ q. q == r) x y kept (set kept r (Some (record { seen = seen })))
+round-of_one s r seen x y kept in_range sound up others own old =
     let reading : Reading = record { seen = seen } in
     let here : r < length kept = rw sound.long in_range in
     let at_r : reading_of (set kept r (Some reading)) r ≡ Some reading = get_or-set_same kept r (Some reading) None here in
     record {
-      others = λ i h off. raised.others i (eqb-false (task_at s i).res.0 r off);
+      others = λ i h off. others i (eqb-false (task_at s i).res.0 r off);
       sound = record {
         long = length-set kept r (Some reading) ∙ sound.long;
         sound = λ q m e. elim (cases_eq q r) [
           | inl same ↦
               let it : Some reading ≡ Some m = sym at_r ∙ subst (λ (k : ℕ). reading_of (set kept r (Some reading)) k ≡ Some m) same e in
               let seen_is : seen ≡ m.seen = cc in
-              subst (λ (v : List Bound). IsSound s q v y) seen_is
-              (rw same record { vector = vector; below = below; answered = λ i h on. raised.answered i h on })
+              subst (λ (v : List Bound). IsSound s q v y) seen_is (rw same own)
           | inr other ↦
               let old_is : reading_of kept q ≡ Some m = sym (get_or-set_other kept r q (Some reading) None other) ∙ e in
-              IsSound-mono s q m.seen x y raised.risen.up (sound.sound q m old_is)
+              IsSound-mono s q m.seen x y up (sound.sound q m old_is)
         ];
       };
       fresh = λ q on. let same : q ≡ r = eqb-true q r on in (reading, ap (λ (k : ℕ). reading_of (set kept r (Some reading)) k) same ∙ at_r, old);
       same = λ q off. get_or-set_other kept r q (Some reading) None (eqb-false q r off);
+    }
+
+-- without feedback an analysis at the raised vector has the same answers
+pub sound-brought_up : (s : SystemLists) (r : ℕ) (seen x : List Bound) → IsVector s x → HasNoFeedback s r → AgreeOutside s r seen x → IsSound s r seen x → IsSound s r x x
+sound-brought_up s r seen x vector apart agree sound =
+    record {
+      vector = vector;
+      below = IsNowhereAbove_refl x;
+      answered = λ i in_range on. rw (← response-outside s seen x r apart agree i on) (sound.answered i in_range on);
+    }
+
+-- a resource that isn't round robin, and leads back nowhere
+pub no-feedback : (s : SystemLists) (r : ℕ) (back : Bool) → ((resource_at s r).kind ≡ RoundRobin → ⊥) → IsTrue back ↔ LeadsBack s r → OnFalse back (HasNoFeedback s r)
+no-feedback s r true turns back = tt
+no-feedback s r false turns back =
+    record {
+      turns = turns;
+      chains = λ i on leads. elim (cases_lt i (length s.tasks)) [
+        | inl less ↦ absurd (false≢true (back.1 (i, less, on, leads)))
+        | inr past ↦ absurd (let lt : i < length s.tasks = LeadsTo-in_range s leads.0 i leads.1 in omega arith)
+      ];
     }
 
 -- a round over the members of a set, as far as a place

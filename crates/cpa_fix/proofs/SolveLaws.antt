@@ -1,22 +1,23 @@
 -- A search over dirty resources: what its rounds keep, why it ends, and what it leaves.
-use Rattle.std.proofs.Common.{◌≡◌, ℕ, ◌+◌, ◌-◌, ◌*◌, ◌<◌, ◌≤◌, ◌⊎◌, length, Bool, true, false, List, Option, Some, None, refl, sym, ap, ◌∙◌, inl, inr, subst, arith}
+use Rattle.std.proofs.Common.{◌≡◌, ℕ, ◌+◌, ◌-◌, ◌*◌, ◌<◌, ◌≤◌, ◌⊎◌, ◌==◌, ◌||◌, length, Bool, true, false, List, Option, Some, None, refl, sym, ap, ◌∙◌, inl, inr, subst, arith}
 use Rattle.std.specs.Bool.{OnFalse}
-use Rattle.std.proofs.lemmas.Bool.{cases_lt, cases_Bool}
+use Rattle.std.proofs.lemmas.Bool.{cases_lt, cases_eq, cases_Bool, eq-eqb, ne_eqb, false≢true}
 use Rattle.std.proofs.lemmas.List.Sums.{sum_by-le}
 use Rattle.std.proofs.lemmas.List.Elements.{All-from_get_or}
 use Rattle.cpa_units.specs.declared.bound.Bound.{Bound}
 use Rattle.cpa_units.specs.declared.bound.Bound.TheVariants.{Within, Overload}
 use Rattle.cpa_units.specs.Bounds.{IsNowhereAbove, RespectsLimit, bound_of}
-use Rattle.cpa_model.specs.SystemLists.{SystemLists, task_at}
-use Rattle.cpa_local.specs.Solution.{IsVector, MAX_LIMIT, rank, risen}
+use Rattle.cpa_model.specs.SystemLists.{SystemLists, task_at, no_task}
+use Rattle.cpa_units.specs.declared.limits.TheConstants.{MAX_LIMIT}
+use Rattle.cpa_local.specs.Solution.{IsVector}
 use Rattle.cpa_fix.specs.Readings.{AgreeOnReads}
 use Rattle.cpa_fix.proofs.DependLaws.{clean_is_least}
-use Rattle.cpa_fix.proofs.ReadingLaws.{risen-same, clean_from_still}
-use Rattle.cpa_units.specs.Sets.{holds}
-use Rattle.cpa_model.specs.Rules.{IsSystem}
+use Rattle.cpa_fix.proofs.ReadingLaws.{rank, risen, risen-same, clean_from_still}
+use Rattle.cpa_units.specs.Sets.{holds, Members}
+use Rattle.cpa_model.specs.Rules.{IsSystem, IsTask}
 use Rattle.cpa_local.specs.Trails.{Marks, IsMarked, IsKept, NewMarksAre, AreMarked}
 use Rattle.cpa_local.proofs.TrailLaws.{IsKept_refl, IsKept_trans, NewMarks_trans, NewMarks-weaker}
-use Rattle.cpa_depend.specs.Cone.{Members, InCone, start, reader}
+use Rattle.cpa_depend.specs.Cone.{InCone, start, reader}
 use Rattle.cpa_fix.specs.declared.readings.Reading.{Reading}
 use Rattle.cpa_fix.specs.Readings.{reading_of, AreSound, HasCleanReading, IsDirty, IsSolved}
 use Rattle.cpa_fix.specs.Rounds.{TasksOn, MayStart, IsRisen, IsRound}
@@ -55,6 +56,35 @@ part-start s kept x set empty =
       none = λ e. empty;
       stale = λ r on. absurd (let both : true ≡ false = sym on ∙ empty r in let f : ⊥ = cc in f);
       clean = λ r h. absurd (omega arith);
+    }
+
+-- one more that is stale
+pub part-add : (s : SystemLists) (kept : List (Option Reading)) (x : List Bound) (set next : List Bool) (found : Bool) (place : ℕ) → place < length s.resources → IsStale s kept x place → ((r : ℕ) → holds next r ≡ (r == place || holds set r)) → IsStalePart s kept x set found place → IsStalePart s kept x next true (place + 1)
+part-add s kept x set next found place in_range stale all h =
+    record {
+      some = λ e. (place, all place ∙ (rw (eq-eqb place place refl) refl));
+      none = λ e. absurd (false≢true (sym e));
+      stale = λ r on. elim (cases_eq r place) [
+        | inl same ↦ rw same (in_range, stale)
+        | inr other ↦ h.stale r (let e = all r ∙ (rw (ne_eqb r place other) refl) in sym e ∙ on)
+      ];
+      clean = λ r lt off. elim (cases_eq r place) [
+        | inl same ↦ absurd (false≢true (sym off ∙ (all r ∙ (rw (same, eq-eqb place place refl) refl))))
+        | inr other ↦ h.clean r (omega arith) (let e = all r ∙ (rw (ne_eqb r place other) refl) in sym e ∙ off)
+      ];
+    }
+
+-- one more that is clean
+pub part-pass : (s : SystemLists) (kept : List (Option Reading)) (x : List Bound) (set : List Bool) (found : Bool) (place : ℕ) → HasCleanReading s kept x place → IsStalePart s kept x set found place → IsStalePart s kept x set found (place + 1)
+part-pass s kept x set found place clean h =
+    record {
+      some = h.some;
+      none = h.none;
+      stale = h.stale;
+      clean = λ r lt off. elim (cases_eq r place) [
+        | inl same ↦ rw same clean
+        | inr other ↦ h.clean r (omega arith) off
+      ];
     }
 
 -- what a round leaves dirty was dirty before it, or reads a resource that was
@@ -182,7 +212,7 @@ search-start s start_at kept old dirty rules now stale =
       reached = λ r on. start (pending-dirty s kept start_at dirty r stale on);
       held = IsKept_refl old;
       fresh = λ i m. inl m;
-      marked = λ i on. inr (dirty-pending s kept start_at dirty (task_at s i).res.0 stale (rules.regular.placed i on.0) on.1);
+      marked = λ i on. inr (dirty-pending s kept start_at dirty (task_at s i).res.0 stale (let t : IsTask s (task_at s i) = rules.tasks i no_task on.0 in t.placed) on.1);
     }
 
 stale-in_range : (s : SystemLists) (kept : List (Option Reading)) (x : List Bound) (dirty : Option (List Bool)) (r : ℕ) → AreStale s kept x dirty → IsPending dirty r → (r < length s.resources) × IsStale s kept x r
@@ -215,7 +245,7 @@ search-next s start_at kept old x y a b set dirty trail next h risen held fresh 
 pub search-solved : (s : SystemLists) (start_at : List Bound) (kept : List (Option Reading)) (old : Marks) (x : List Bound) (readings : List (Option Reading)) (trail : Marks) → IsSearch s start_at kept old x readings None trail → IsSolved s x readings
 search-solved s start_at kept old x readings trail h =
     record {
-      least = clean_is_least s x h.rules.regular h.now.vector.long h.now.below (λ r in_range. let it = h.stale r in_range in (it.0.seen, it.2));
+      least = clean_is_least s x h.rules h.now.vector h.now.below (λ r in_range. let it = h.stale r in_range in (it.0.seen, it.2));
       sound = h.now.sound;
       clean = h.stale;
     }

@@ -128,7 +128,7 @@ fn copy_entries(to: &mut Vector, from: &Vector)
     requires { length to.old ≡ length from.now }
     ensures { to.new ≡ from.now }
 {
-    for k in 0..to.len() {
+    for k in 0..from.len() {
         to.set(TaskId(k), from.get(TaskId(k)));
     }
 }

@@ -1,23 +1,23 @@
 use Rattle.std.proofs.Common.{◌<◌, sym, ap, ◌∙◌, length, arith}
-use Rattle.cpa_model.specs.declared.entries.Task.{Task}
-use Rattle.cpa_local.specs.Solution.{least_of}
 use Rattle.cpa_units.proofs.BoundLaws.{IsNowhereAbove_trans}
+use Rattle.cpa_model.specs.declared.entries.Task.{Task as Entry}
+use Rattle.cpa_local.specs.Solution.{least_of}
 use Rattle.cpa_fix.proofs.RaiseLaws.{raise-task, raise-skip}
 use Rattle.cpa_fix.proofs.one_by_one.raise.Goals as goal
 use Rattle.cpa_fix.proofs.one_by_one.raise.Goals.{then-task-res, else-task-res}
 
 pub loop-task-preserved : goal.loop-task-preserved
-loop-task-preserved g c =
+loop-task-preserved c =
     let s = c.args.system.now in
     let r = c.args.res.0 in
     let task = c.loop-task.task in
-    let on = ap (λ (t : TaskEntry). t.res) c.task.ensures.value in
+    let on = ap (λ (t : Entry). t.res.0) c.task.ensures.value in
     let in_range : task < length s.tasks = omega (arith, c.tasks-count.ensures.count) in
     elim c.if-task-res.branch [
       | then-task-res w ↦
           rw (w.x-is, w.trail-is, w.set.ensures, w.greater-raised.ensures, w.get.ensures, w.respond-bound.ensures.value)
           (raise-task s r c.args.seen.now c.args.x.now c.loop-task.x c.args.trail.now c.loop-task.trail w.respond-bound.new.trail task
-          c.tasks-count.ensures.rules.regular in_range (sym on ∙ w.if-task-res.true)
+          c.tasks-count.ensures.rules in_range (sym on ∙ w.if-task-res.true)
           (IsNowhereAbove_trans c.args.seen.now c.args.x.now (least_of s) c.requires.seen c.requires.start.below)
           w.respond-bound.ensures.kept w.respond-bound.ensures.fresh w.respond-bound.ensures.marked c.loop-task.invariant)
       | else-task-res w ↦

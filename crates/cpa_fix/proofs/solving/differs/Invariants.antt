@@ -1,7 +1,7 @@
 use Rattle.std.proofs.Common.{◌≡◌, ℕ, ◌<◌}
 use Rattle.cpa_units.specs.Bounds.{bound_of}
 use Rattle.cpa_model.specs.SystemLists.{task_at}
-use Rattle.cpa_fix.specs.Readings.{Reads}
+use Rattle.cpa_depend.specs.Cone.{Reads}
 use Rattle.cpa_fix.proofs.solving.differs.Given as goal
 
 abbrev pub invariant-loop-place : goal.invariant-loop-place
