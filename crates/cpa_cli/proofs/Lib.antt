@@ -1,3 +1,1 @@
-pub mod AcceptedLaws
 pub mod OutputLaws
-pub mod SolutionLaws

@@ -7,15 +7,14 @@ use Rattle.cpa_io.specs.Causes.{SentPart}
 use Rattle.cpa_model.specs.SystemLists.{SystemLists}
 use Rattle.cpa_cli.specs.Words.{Command, Analyse, accepted, system_file}
 use Rattle.cpa_cli.specs.Lines.{words_refused, too_long, not_toml, system_refused}
-use Rattle.cpa_file.specs.Reading.{Reading, NotToml, Refused, Accepted}
-use Rattle.cpa_cli.specs.Reading.{reading_here}
+use Rattle.cpa_file.specs.Reading.{Reading, NotToml, Refused, Accepted, reading_of}
+use Rattle.cpa_file.proofs.ReadingLaws.{accepted-is_system}
 use Rattle.cpa_report.specs.Report.{report_text, verdict}
-use Rattle.cpa_local.specs.Local.{responses}
-use Rattle.cpa_local.specs.Solution.{floor_of}
+use Rattle.cpa_local.specs.Solution.{least_of}
 use Rattle.cpa_cli.specs.Output.{Answer, reply, IsReport, IsAnswerOf, IsAnswerTo, IsAnswerAt, IsAnswerBy, IsOutput, SendsPart}
 use Rattle.cpa_local.proofs.VectorLaws.{least-one}
-use Rattle.cpa_cli.proofs.SolutionLaws.{responses-least}
-use Rattle.cpa_cli.proofs.AcceptedLaws.{IsAccepted, accepted-by_bytes}
+use Rattle.cpa_local.proofs.SolutionLaws.{least_of-is_least}
+use Rattle.cpa_model.specs.Rules.{IsSystem}
 
 abbrev pub Words : Type 0
 Words = List (List ℕ)
@@ -31,7 +30,7 @@ pub output-at : (words : Words) (held : Held) (command : Command) (answer : Answ
 unfolding IsOutput
 output-at words held command answer some at = rw some at
 
-pub answer-held : (command : Command) (content : Option (List ℕ)) (bytes : List ℕ) (answer : Answer) → content ≡ Some bytes → length bytes ≤ MAX_SYSTEM_FILE → IsAnswerTo command (reading_here bytes) answer → IsAnswerAt command content answer
+pub answer-held : (command : Command) (content : Option (List ℕ)) (bytes : List ℕ) (answer : Answer) → content ≡ Some bytes → length bytes ≤ MAX_SYSTEM_FILE → IsAnswerTo command (reading_of bytes) answer → IsAnswerAt command content answer
 answer-held command content bytes answer is short to = rw (is, le-ltb MAX_SYSTEM_FILE (length bytes) short) to
 
 pub answer-long : (command : Command) (content : Option (List ℕ)) (text : List ℕ) → IsSomeAnd content (λ bytes. MAX_SYSTEM_FILE < length bytes) → text ≡ too_long (system_file command) → IsAnswerAt command content (reply 12 text)
@@ -40,15 +39,15 @@ answer-long command (Some bytes) text more is = rw (lt-ltb MAX_SYSTEM_FILE (leng
 
 -- there is an output
 
-some-report : (s : SystemLists) → IsAccepted s → (answer : Answer) × IsReport s answer
-some-report s a =
-    let x = responses s (floor_of s) in
-    (reply (verdict s x) (report_text s x), record { bounds = x; least = responses-least s a.analysable a.rules (floor_of s); status_is = refl; text_is = refl })
+some-report : (s : SystemLists) → IsSystem s → (answer : Answer) × IsReport s answer
+some-report s rules =
+    let x = least_of s in
+    (reply (verdict s x) (report_text s x), record { bounds = x; least = least_of-is_least s rules; status_is = refl; text_is = refl })
 
-some-command : (command : Command) (s : SystemLists) → IsAccepted s → (answer : Answer) × IsAnswerOf command s answer
+some-command : (command : Command) (s : SystemLists) → IsSystem s → (answer : Answer) × IsAnswerOf command s answer
 some-command (Analyse file) s a = some-report s a
 
-some-reading : (command : Command) (reading : Reading) → ((s : SystemLists) → reading ≡ Accepted s → IsAccepted s) → (answer : Answer) × IsAnswerTo command reading answer
+some-reading : (command : Command) (reading : Reading) → ((s : SystemLists) → reading ≡ Accepted s → IsSystem s) → (answer : Answer) × IsAnswerTo command reading answer
 some-reading command NotToml a = (reply 13 (not_toml (system_file command)), refl)
 some-reading command (Refused r) a = (reply 14 (system_refused r), refl)
 some-reading command (Accepted s) a = some-command command s (a s refl)
@@ -58,7 +57,7 @@ some-content command None = (record { status = None; text = [] }, refl)
 some-content command (Some bytes) =
     elim (cases_Bool (nat_lt MAX_SYSTEM_FILE (length bytes))) [
       | inl long ↦ (reply 12 (too_long (system_file command)), rw long refl)
-      | inr short ↦ let some = some-reading command (reading_here bytes) (accepted-by_bytes bytes) in (some.0, rw short some.1)
+      | inr short ↦ let some = some-reading command (reading_of bytes) (accepted-is_system bytes) in (some.0, rw short some.1)
     ]
 
 some-words : (held : Held) (words : Option Command) → (answer : Answer) × IsAnswerBy held words answer
@@ -93,8 +92,8 @@ one-choice false P Q p q a b h k = q a b h k
 one-content : (command : Command) (content : Option (List ℕ)) (a b : Answer) → IsAnswerAt command content a → IsAnswerAt command content b → a ≡ b
 one-content command None a b h k = h ∙ sym k
 one-content command (Some bytes) a b h k =
-    one-choice (nat_lt MAX_SYSTEM_FILE (length bytes)) (λ a. a ≡ reply 12 (too_long (system_file command))) (IsAnswerTo command (reading_here bytes))
-    (λ a b h k. h ∙ sym k) (one-reading command (reading_here bytes)) a b h k
+    one-choice (nat_lt MAX_SYSTEM_FILE (length bytes)) (λ a. a ≡ reply 12 (too_long (system_file command))) (IsAnswerTo command (reading_of bytes))
+    (λ a b h k. h ∙ sym k) (one-reading command (reading_of bytes)) a b h k
 
 one-words : (held : Held) (words : Option Command) (a b : Answer) → IsAnswerBy held words a → IsAnswerBy held words b → a ≡ b
 one-words held None a b h k = h ∙ sym k

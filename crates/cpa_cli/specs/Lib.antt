@@ -1,5 +1,3 @@
-pub mod Analysable
 pub mod Lines
 pub mod Output
-pub mod Reading
 pub mod Words

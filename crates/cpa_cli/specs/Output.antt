@@ -6,8 +6,7 @@ use Rattle.cpa_io.specs.Causes.{grown, Rose, SentPart}
 use Rattle.cpa_model.specs.SystemLists.{SystemLists}
 use Rattle.cpa_cli.specs.Words.{Command, Analyse, accepted, system_file, named_files}
 use Rattle.cpa_cli.specs.Lines.{words_refused, too_long, not_toml, system_refused}
-use Rattle.cpa_file.specs.Reading.{Reading, NotToml, Refused, Accepted}
-use Rattle.cpa_cli.specs.Reading.{reading_here}
+use Rattle.cpa_file.specs.Reading.{Reading, NotToml, Refused, Accepted, reading_of}
 use Rattle.cpa_report.specs.Report.{report_text, verdict}
 use Rattle.cpa_local.specs.Solution.{IsLeast}
 
@@ -40,7 +39,7 @@ IsAnswerTo command (Accepted s) answer = IsAnswerOf command s answer
 abbrev pub IsAnswerAt : Command → Option (List ℕ) → Answer → Type 0
 IsAnswerAt command None answer = answer ≡ record { status = None; text = [] }
 IsAnswerAt command (Some bytes) answer =
-    MatchBool (nat_lt MAX_SYSTEM_FILE (length bytes)) (answer ≡ reply 12 (too_long (system_file command))) (IsAnswerTo command (reading_here bytes) answer)
+    MatchBool (nat_lt MAX_SYSTEM_FILE (length bytes)) (answer ≡ reply 12 (too_long (system_file command))) (IsAnswerTo command (reading_of bytes) answer)
 
 abbrev pub IsAnswerBy : (List ℕ → Option (List ℕ)) → Option Command → Answer → Type 0
 IsAnswerBy held None answer = answer ≡ reply 10 words_refused

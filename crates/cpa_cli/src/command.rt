@@ -2,20 +2,17 @@
 
 ghost use Rattle.std.specs.Prelude.{◌≡◌, ◌≢◌, ◌⊎◌, true, map, IfOk, string_bytes};
 ghost use Rattle.cpa_io.specs.Causes.{grown, Rose, SentPart};
-ghost use Rattle.cpa_cli.specs.Analysable.{IsAnalysable};
 ghost use Rattle.cpa_cli.specs.Words.{Analyse};
 ghost use Rattle.cpa_cli.specs.Lines.{cannot_read};
-ghost use Rattle.cpa_file.specs.Reading.{Accepted};
-ghost use Rattle.cpa_cli.specs.Reading.{limited, reading_here};
+ghost use Rattle.cpa_file.specs.Reading.{reading_of};
 ghost use Rattle.cpa_cli.specs.Output.{reply, IsReport, IsAnswerTo, IsOutput, IsOfOutput, Sends, SendsPart, IsUnread, OutputsExist, OutputsAreOne};
 
-use crate::analysis::solve;
+use crate::analysis::least_bounds;
 use crate::lines::{file_line, refusal_line, words_line};
-use crate::reading::is_analysable;
 use crate::words::accept;
 use cpa_file::{FileRefusal, read_system};
 use cpa_io::{Files, LoadFault, Sink, SinkFault, put_all};
-use cpa_model::{Part, Refusal, System};
+use cpa_model::System;
 use cpa_report::{report_text, verdict};
 use cpa_units::NoMemory;
 use cpa_units::limits::MAX_SYSTEM_FILE;
@@ -30,46 +27,29 @@ struct Outcome {
 }
 
 /// The report of a system.
-fn analyse(alloc: Global, system: &System) -> Result<Outcome, NoMemory>
-    requires { IsAnalysable system.now }
+fn analyse<R: Threads + Sync>(rt: &R, alloc: Global, system: &System) -> Result<Outcome, NoMemory>
     ensures report { IfOk result (λ o. IsReport system.now (reply o.status o.text.items)) }
     ensures status { IfOk result (λ o. IsOfOutput o.status) }
 {
-    let bounds = solve(alloc, system)?;
+    let bounds = least_bounds(rt, alloc, system)?;
     Ok(Outcome {
         status: verdict(system, &bounds),
         text: report_text(alloc, system, &bounds)?,
     })
 }
 
-const NOT_YET: Refusal = Refusal {
-    reason: 1,
-    part: Part::File,
-    place: 0,
-};
-
-/// The answer to an accepted system, which may be one that can't be analysed yet.
-fn answer_system(alloc: Global, file: &str, system: &System) -> Result<Outcome, NoMemory>
-    ensures answered { IfOk result (λ o. IsAnswerTo (Analyse file.now) (limited (Accepted system.now)) (reply o.status o.text.items)) }
-    ensures status { IfOk result (λ o. IsOfOutput o.status) }
-{
-    if !is_analysable(system) {
-        return Ok(Outcome {
-            status: 14,
-            text: refusal_line(alloc, NOT_YET)?,
-        });
-    }
-    analyse(alloc, system)
-}
-
 /// The answer to the bytes of a system file.
-#[tactic(auto, unfolding(crate::specs::Reading::reading_here))]
-fn answer_bytes(alloc: Global, file: &str, bytes: &[u8]) -> Result<Outcome, NoMemory>
-    ensures answered { IfOk result (λ o. IsAnswerTo (Analyse file.now) (reading_here bytes.now) (reply o.status o.text.items)) }
+fn answer_bytes<R: Threads + Sync>(
+    rt: &R,
+    alloc: Global,
+    file: &str,
+    bytes: &[u8],
+) -> Result<Outcome, NoMemory>
+    ensures answered { IfOk result (λ o. IsAnswerTo (Analyse file.now) (reading_of bytes.now) (reply o.status o.text.items)) }
     ensures status { IfOk result (λ o. IsOfOutput o.status) }
 {
     match read_system(alloc, bytes) {
-        Ok(system) => answer_system(alloc, file, &system),
+        Ok(system) => analyse(rt, alloc, &system),
         Err(FileRefusal::NotToml) => Ok(Outcome {
             status: 13,
             text: file_line(alloc, b"not TOML ", file)?,
@@ -83,7 +63,12 @@ fn answer_bytes(alloc: Global, file: &str, bytes: &[u8]) -> Result<Outcome, NoMe
 }
 
 /// The answer to the words.
-fn answer<F: Files>(alloc: Global, words: &[String], files: &mut F) -> Result<Outcome, NoMemory>
+fn answer<R: Threads + Sync, F: Files>(
+    rt: &R,
+    alloc: Global,
+    words: &[String],
+    files: &mut F,
+) -> Result<Outcome, NoMemory>
     ensures answered { IfOk result (λ o. F.told files.old ≡ true → o.status ≢ 11 → IsOutput (map string_bytes words.now) (F.held files.old) (reply o.status o.text.items)) }
     ensures status { IfOk result (λ o. (o.status ≢ 20) × (o.status ≢ 30)) }
     ensures unread { IfOk result (λ o. o.status ≡ 11 → IsUnread (map string_bytes words.now) (F.faults files.old) (F.faults files.new) (F.last_failed files.new)) }
@@ -96,7 +81,7 @@ fn answer<F: Files>(alloc: Global, words: &[String], files: &mut F) -> Result<Ou
         });
     };
     match files.load(alloc, file, MAX_SYSTEM_FILE) {
-        Ok(bytes) => answer_bytes(alloc, file, bytes.as_slice()),
+        Ok(bytes) => answer_bytes(rt, alloc, file, bytes.as_slice()),
         Err(LoadFault::Failed) => Ok(Outcome {
             status: 11,
             text: file_line(alloc, b"cannot read ", file)?,
@@ -114,7 +99,7 @@ fn answer<F: Files>(alloc: Global, words: &[String], files: &mut F) -> Result<Ou
 /// The words are those after the program's name. The statuses: 0 to 2 the verdict of a report, 10 to 14 a refusal, whose
 /// line was sent; 20 a fault of the sink; 30 want of memory.
 pub fn run<R: Threads + Sync, F: Files, K: Sink>(
-    _rt: &R,
+    rt: &R,
     alloc: Global,
     words: &[String],
     files: &mut F,
@@ -136,7 +121,7 @@ pub fn run<R: Threads + Sync, F: Files, K: Sink>(
     // At a fault of the sink and at want of memory a prefix of the output was sent, or of the line of a file that couldn't be loaded.
     ensures part { F.told files.old ≡ true → (result ≡ 20) ⊎ (result ≡ 30) → SendsPart (IsOutput (map string_bytes words.now) (F.held files.old)) (K.sent sink.old) (K.sent sink.new) ⊎ (IsUnread (map string_bytes words.now) (F.faults files.old) (F.faults files.new) (F.last_failed files.new) × SentPart (K.sent sink.old) (K.sent sink.new) (cannot_read (F.last_failed files.new))) }
 {
-    match answer(alloc, words, files) {
+    match answer(rt, alloc, words, files) {
         Err(NoMemory) => 30,
         Ok(outcome) => match put_all(sink, outcome.text.as_slice()) {
             Ok(()) => outcome.status,

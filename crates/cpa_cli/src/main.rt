@@ -4,7 +4,6 @@
 mod analysis;
 mod command;
 mod lines;
-mod reading;
 #[cfg(test)]
 mod tests;
 mod words;
