@@ -1,16 +1,14 @@
 -- Walks along chains, and what resources read.
-use Rattle.std.proofs.Common.{◌≡◌, ℕ, suc, ◌+◌, ◌-◌, ◌<◌, ◌≤◌, ◌⊎◌, ◌↔◌, ◌||◌, ◌==◌, length, Bool, true, false, List, [], Option, Some, None, IsSome, option_map, refl, sym, ap, ◌∙◌, inl, inr, subst, slice_index_or, arith}
-use Rattle.std.proofs.lemmas.Bool.{cases_lt, or_cases, eqb-true, eq-eqb, false≢true}
-use Rattle.std.proofs.lemmas.List.{get_or_past, get_or-map, get_or_default}
+use Rattle.std.proofs.Common.{◌≡◌, ℕ, ◌+◌, ◌<◌, ◌≤◌, ◌⊎◌, ◌↔◌, ◌||◌, ◌==◌, length, Bool, true, false, List, [], refl, sym, ap, ◌∙◌, inl, inr, subst, slice_index_or, arith}
+use Rattle.std.proofs.lemmas.Bool.{cases_lt, or_cases, eqb-true, eq-eqb}
+use Rattle.std.proofs.lemmas.List.{get_or_past, get_or_default}
 use Rattle.cpa_units.specs.declared.places.TaskId.{TaskId}
 use Rattle.cpa_units.specs.Sets.{holds, Members}
 use Rattle.cpa_model.specs.declared.entries.Activator.{Activator}
 use Rattle.cpa_model.specs.declared.entries.Activator.TheVariants.{Source, Task}
 use Rattle.cpa_model.specs.declared.entries.Task.{Task as Entry}
-use Rattle.cpa_model.specs.Chains.{chain_step, depth_within, activators}
 use Rattle.cpa_model.specs.SystemLists.{SystemLists, task_at, no_task}
 use Rattle.cpa_model.specs.Rules.{IsSystem, IsTask, IsActivator}
-use Rattle.cpa_model.proofs.ChainLaws.{depth_within-step, depth_within-over}
 use Rattle.cpa_depend.specs.Cone.{Activates, LeadsTo, directly, through, Reads, itself, earlier, HasEarlierOn, AreReads}
 
 -- tasks and activators that are there
@@ -41,37 +39,18 @@ activator-in_range s j i rules e =
     let t : IsTask s (task_at s i) = rules.tasks i no_task (LeadsTo-in_range s j i (directly e)) in
     subst (λ (a : Activator). IsActivator s a) e t.activated
 
--- chains that get shorter
-
-some_suc : (o : Option ℕ) → IsSome (option_map suc o) → IsSome o
-some_suc None some = absurd (false≢true some)
-some_suc (Some d) some = refl
-
--- the chain of task i has at most so many tasks
-abbrev pub HasChainWithin : SystemLists → ℕ → ℕ → Type 0
-HasChainWithin s n i = IsSome (depth_within (activators s.tasks) n i)
-
-chain-next : (s : SystemLists) (at done : ℕ) (k : TaskId) → done < 32 → at < length s.tasks → (task_at s at).after ≡ Task k → HasChainWithin s (32 - done) at → HasChainWithin s (32 - (done + 1)) k.0
-chain-next s at done k h there e chain =
-    let link : slice_index_or (activators s.tasks) at None ≡ Some (Task k) = get_or-map (λ (t : Entry). Some t.after) s.tasks at no_task None there ∙ ap Some e in
-    let step : depth_within (activators s.tasks) (32 - done) at ≡ option_map suc (depth_within (activators s.tasks) (32 - (done + 1)) k.0) =
-    depth_within-step (activators s.tasks) 32 done at h ∙ ap (λ o. chain_step o (depth_within (activators s.tasks) (32 - (done + 1)))) link in
-    some_suc (depth_within (activators s.tasks) (32 - (done + 1)) k.0) (subst IsSome step chain)
-
 -- a walk from task i towards its source, which collects the resources of the tasks that it meets
-pub record IsWalk (s : SystemLists) (i : ℕ) (set all : List Bool) (at done : ℕ) : Type 0 where
+pub record IsWalk (s : SystemLists) (i : ℕ) (set all : List Bool) (at : ℕ) : Type 0 where
   pub in_range : at < length s.tasks
-  pub chain : HasChainWithin s (32 - done) at
   pub path : (at ≡ i) ⊎ LeadsTo s at i
   pub kept : (q : ℕ) → Members set q → Members all q
   pub sound : (q : ℕ) → Members all q → Members set q ⊎ HasEarlierOn s i q
   pub rest : (j : ℕ) → LeadsTo s j i → Members all (task_at s j).res.0 ⊎ LeadsTo s j at
 
-pub walk-start : (s : SystemLists) (i : ℕ) (set : List Bool) → IsSystem s → i < length s.tasks → IsWalk s i set set i 0
-walk-start s i set rules h =
+pub walk-start : (s : SystemLists) (i : ℕ) (set : List Bool) → i < length s.tasks → IsWalk s i set set i
+walk-start s i set h =
     record {
       in_range = h;
-      chain = rules.chains i h;
       path = inl refl;
       kept = λ q m. m;
       sound = λ q m. inl m;
@@ -89,9 +68,9 @@ activated_once s i j k e f =
     ap (λ (t : TaskId). t.0) same
 
 -- one step of the walk
-pub walk-next : (s : SystemLists) (i : ℕ) (set all wider : List Bool) (at done : ℕ) (k : TaskId) → IsSystem s → done < 32 → (task_at s at).after ≡ Task k
-    → ((q : ℕ) → holds wider q ≡ (q == (task_at s k.0).res.0 || holds all q)) → IsWalk s i set all at done → IsWalk s i set wider k.0 (done + 1)
-walk-next s i set all wider at done k rules h e with_k walk =
+pub walk-next : (s : SystemLists) (i : ℕ) (set all wider : List Bool) (at : ℕ) (k : TaskId) → IsSystem s → (task_at s at).after ≡ Task k
+    → ((q : ℕ) → holds wider q ≡ (q == (task_at s k.0).res.0 || holds all q)) → IsWalk s i set all at → IsWalk s i set wider k.0
+walk-next s i set all wider at k rules e with_k walk =
     let before : LeadsTo s k.0 i = elim walk.path [
       | inl same ↦ directly (subst (λ (n : ℕ). Activates s k.0 n) same e)
       | inr leads ↦ LeadsTo-before s e leads
@@ -100,7 +79,6 @@ walk-next s i set all wider at done k rules h e with_k walk =
     let keep : (q : ℕ) → Members all q → Members wider q = λ q m. with_k q ∙ rw m (or_true (q == (task_at s k.0).res.0)) in
     record {
       in_range = activator-in_range s k.0 at rules e;
-      chain = chain-next s at done k h walk.in_range e walk.chain;
       path = inr before;
       kept = λ q m. keep q (walk.kept q m);
       sound = λ q m. elim (or_cases _ _ (sym (with_k q) ∙ m)) [
@@ -120,8 +98,8 @@ walk-next s i set all wider at done k rules h e with_k walk =
     }
 
 -- at a source the walk is over
-pub walk-over : (s : SystemLists) (i : ℕ) (set all : List Bool) (at done : ℕ) → ((k : ℕ) → Activates s k at → ⊥) → IsWalk s i set all at done → (q : ℕ) → Members all q ↔ (Members set q ⊎ HasEarlierOn s i q)
-walk-over s i set all at done none walk q = (
+pub walk-over : (s : SystemLists) (i : ℕ) (set all : List Bool) (at : ℕ) → ((k : ℕ) → Activates s k at → ⊥) → IsWalk s i set all at → (q : ℕ) → Members all q ↔ (Members set q ⊎ HasEarlierOn s i q)
+walk-over s i set all at none walk q = (
   walk.sound q,
   λ m. elim m [
     | inl old ↦ walk.kept q old
@@ -131,12 +109,6 @@ walk-over s i set all at done none walk q = (
     ]
   ],
 )
-
--- no walk has more steps than a chain has tasks
-pub walk-too_long : (s : SystemLists) (i : ℕ) (set all : List Bool) (at done : ℕ) → 32 ≤ done → IsWalk s i set all at done → ⊥
-walk-too_long s i set all at done long walk =
-    let none : depth_within (activators s.tasks) (32 - done) at ≡ None = depth_within-over (activators s.tasks) 32 done at long in
-    false≢true (subst IsSome none walk.chain)
 
 -- what a resource reads: itself, and what is earlier in the chains of its tasks
 pub Reads-parts : (s : SystemLists) {r q : ℕ} → Reads s r q → (r ≡ q) ⊎ ((i : ℕ) × (i < length s.tasks) × ((task_at s i).res.0 ≡ r) × HasEarlierOn s i q)

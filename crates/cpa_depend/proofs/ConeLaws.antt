@@ -111,39 +111,36 @@ pass-add s set wider next grown place q in_range off reads on with_place pass =
       done = λ e. absurd (let f : ⊥ = cc in f);
     }
 
--- the end of all passes
-pub cone-is : (s : SystemLists) (from set : List Bool) → IsSystem s → ((r : ℕ) → Members from r → Members set r) → ((r : ℕ) → Members set r → InCone s (Members from) r) → IsClosedUnder s set → (r : ℕ) → Members set r ↔ InCone s (Members from) r
-cone-is s from set rules all within closed r = (
-  within r,
-  λ h. InCone-least s (Members from) (Members set) all (λ t q reads m. elim (Reads-there s t q rules reads) [
-    | inl same ↦ subst (λ (k : ℕ). Members set k) (sym same) m
-    | inr both ↦ closed t q both.0 reads m
-  ]) h,
-)
+-- what `widened` answers
+
+pub pass-some : (s : SystemLists) (set wider : List Bool) (place : ℕ) → IsPass s set wider true place → IsWiderWithin s set wider
+pass-some s set wider place pass = record { all = pass.all; within = pass.within; more = pass.more refl }
+
+pub pass-none : (s : SystemLists) (set wider : List Bool) → IsSystem s → IsPass s set wider false (length s.resources) → IsClosedUnder s set
+pass-none s set wider rules pass r q reads member =
+    elim (Reads-there s r q rules reads) [
+      | inl same ↦ subst (λ (k : ℕ). Members set k) (sym same) member
+      | inr both ↦ pass.done refl r q both.0 reads member
+    ]
 
 pub missing-wider : (s : SystemLists) (set wider : List Bool) → IsWiderWithin s set wider → missing wider (length s.resources) < missing set (length s.resources)
 missing-wider s set wider h = let new = h.more in missing-lt set wider h.all new.0 (length s.resources) new.1 new.2 new.3
 
--- what `widened` answers
-pub pass-some : (s : SystemLists) (set wider : List Bool) (place : ℕ) → IsPass s set wider true place → IsWiderWithin s set wider
-pass-some s set wider place pass = record { all = pass.all; within = pass.within; more = pass.more refl }
-
-pub pass-none : (s : SystemLists) (set wider : List Bool) → IsPass s set wider false (length s.resources) → IsClosedUnder s set
-pass-none s set wider pass = pass.done refl
-
 -- sets on the way from `from` to its cone
 pub record IsGrown (s : SystemLists) (from set : List Bool) : Type 0 where
-  pub rules : IsSystem s
   pub all : (r : ℕ) → Members from r → Members set r
   pub within : (r : ℕ) → Members set r → InCone s (Members from) r
 
 pub grown-more : (s : SystemLists) (from set wider : List Bool) → IsGrown s from set → IsWiderWithin s set wider → IsGrown s from wider
 grown-more s from set wider grown h =
     record {
-      rules = grown.rules;
       all = λ r m. h.all r (grown.all r m);
       within = λ r m. InCone-join s (Members from) (Members set) grown.within (h.within r m);
     }
+
+-- the end of all passes
+pub cone-is : (s : SystemLists) (from set : List Bool) → IsGrown s from set → IsClosedUnder s set → (r : ℕ) → Members set r ↔ InCone s (Members from) r
+cone-is s from set grown closed r = (grown.within r, λ h. InCone-least s (Members from) (Members set) grown.all closed h)
 
 -- the cone of resources in range is in range
 pub InCone-in_range : (s : SystemLists) (from : ℕ → Type 0) → IsSystem s → ((r : ℕ) → from r → r < length s.resources) → {r : ℕ} → InCone s from r → r < length s.resources

@@ -46,7 +46,6 @@ pub fn cone(system: &System, from: ResSet) -> ResSet
     requires { (r : ℕ) → Members from r → r < length system.now.resources }
     ensures { (r : ℕ) → Members result r ↔ InCone system.now (Members from) r }
 {
-    let count = system.resources();
     let reads = reads_of_all(system);
     let mut set = from;
     'passes: while let Some(wider) = widened(system, &reads, set) {
