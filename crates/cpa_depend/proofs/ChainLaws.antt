@@ -1,6 +1,6 @@
 -- Walks along chains, and what resources read.
 use Rattle.std.proofs.Common.{◌≡◌, ℕ, ◌+◌, ◌<◌, ◌≤◌, ◌⊎◌, ◌↔◌, ◌||◌, ◌==◌, length, Bool, true, false, List, [], refl, sym, ap, ◌∙◌, inl, inr, subst, slice_index_or, arith}
-use Rattle.std.proofs.lemmas.Bool.{cases_lt, or_cases, eqb-true, eq-eqb}
+use Rattle.std.proofs.lemmas.Bool.{cases_lt, or_cases, or_left, or_right, eqb-true, eq-eqb}
 use Rattle.std.proofs.lemmas.List.{get_or_past, get_or_default}
 use Rattle.cpa_units.specs.declared.places.TaskId.{TaskId}
 use Rattle.cpa_units.specs.Sets.{holds, Members}
@@ -57,10 +57,6 @@ walk-start s i set h =
       rest = λ j leads. inr leads;
     }
 
-pub or_true : (b : Bool) → (b || true) ≡ true
-or_true true = refl
-or_true false = refl
-
 activated_once : (s : SystemLists) (i j : ℕ) (k : TaskId) → Activates s j i → (task_at s i).after ≡ Task k → j ≡ k.0
 activated_once s i j k e f =
     let both : Task (record { 0 = j }) ≡ Task k = sym e ∙ f in
@@ -75,8 +71,8 @@ walk-next s i set all wider at k rules e with_k walk =
       | inl same ↦ directly (subst (λ (n : ℕ). Activates s k.0 n) same e)
       | inr leads ↦ LeadsTo-before s e leads
     ] in
-    let here : Members wider (task_at s k.0).res.0 = with_k (task_at s k.0).res.0 ∙ rw (eq-eqb (task_at s k.0).res.0 (task_at s k.0).res.0 refl) refl in
-    let keep : (q : ℕ) → Members all q → Members wider q = λ q m. with_k q ∙ rw m (or_true (q == (task_at s k.0).res.0)) in
+    let here : Members wider (task_at s k.0).res.0 = with_k (task_at s k.0).res.0 ∙ or_left _ _ (eq-eqb (task_at s k.0).res.0 (task_at s k.0).res.0 refl) in
+    let keep : (q : ℕ) → Members all q → Members wider q = λ q m. with_k q ∙ or_right _ _ m in
     record {
       in_range = activator-in_range s k.0 at rules e;
       path = inr before;
@@ -98,7 +94,8 @@ walk-next s i set all wider at k rules e with_k walk =
     }
 
 -- at a source the walk is over
-pub walk-over : (s : SystemLists) (i : ℕ) (set all : List Bool) (at : ℕ) → ((k : ℕ) → Activates s k at → ⊥) → IsWalk s i set all at → (q : ℕ) → Members all q ↔ (Members set q ⊎ HasEarlierOn s i q)
+pub walk-over : (s : SystemLists) (i : ℕ) (set all : List Bool) (at : ℕ) → ((k : ℕ) → Activates s k at → ⊥) → IsWalk s i set all at
+    → (q : ℕ) → Members all q ↔ (Members set q ⊎ HasEarlierOn s i q)
 walk-over s i set all at none walk q = (
   walk.sound q,
   λ m. elim m [
@@ -125,10 +122,11 @@ pub record IsReadTo (s : SystemLists) (r : ℕ) (set : List Bool) (task : ℕ) :
   pub sound : (q : ℕ) → Members set q → Reads s r q
   pub done : (i q : ℕ) → i < task → (task_at s i).res.0 ≡ r → HasEarlierOn s i q → Members set q
 
-pub read-start : (s : SystemLists) (r : ℕ) (none set : List Bool) → ((q : ℕ) → holds none q ≡ false) → ((q : ℕ) → holds set q ≡ (q == r || holds none q)) → IsReadTo s r set 0
+pub read-start : (s : SystemLists) (r : ℕ) (none set : List Bool) → ((q : ℕ) → holds none q ≡ false)
+    → ((q : ℕ) → holds set q ≡ (q == r || holds none q)) → IsReadTo s r set 0
 read-start s r none set empty with_r =
     record {
-      own = with_r r ∙ rw (eq-eqb r r refl) refl;
+      own = with_r r ∙ or_left _ _ (eq-eqb r r refl);
       sound = λ q m. elim (or_cases _ _ (sym (with_r q) ∙ m)) [
         | inl same ↦ subst (λ (n : ℕ). Reads s r n) (sym (eqb-true q r same)) itself
         | inr old ↦ absurd (let both : true ≡ false = sym old ∙ empty q in let f : ⊥ = cc in f)
@@ -136,7 +134,8 @@ read-start s r none set empty with_r =
       done = λ i q h. absurd (omega arith);
     }
 
-pub read-more : (s : SystemLists) (r : ℕ) (set wider : List Bool) (task : ℕ) → (task_at s task).res.0 ≡ r → ((q : ℕ) → Members wider q ↔ (Members set q ⊎ HasEarlierOn s task q)) → IsReadTo s r set task → IsReadTo s r wider (task + 1)
+pub read-more : (s : SystemLists) (r : ℕ) (set wider : List Bool) (task : ℕ) → (task_at s task).res.0 ≡ r
+    → ((q : ℕ) → Members wider q ↔ (Members set q ⊎ HasEarlierOn s task q)) → IsReadTo s r set task → IsReadTo s r wider (task + 1)
 read-more s r set wider task on more h =
     record {
       own = (more r).1 (inl h.own);
@@ -194,5 +193,6 @@ Reads-in_range s r q rules there reads =
     ]
 
 -- what a table has at a place in it, whatever stands for places outside
-pub AreReads-row : (s : SystemLists) (table : List (List Bool)) (r : ℕ) (outside : List Bool) → AreReads s table → r < length s.resources → r < length table → (q : ℕ) → Members (slice_index_or table r outside) q ↔ Reads s r q
+pub AreReads-row : (s : SystemLists) (table : List (List Bool)) (r : ℕ) (outside : List Bool) → AreReads s table → r < length s.resources → r < length table
+    → (q : ℕ) → Members (slice_index_or table r outside) q ↔ Reads s r q
 AreReads-row s table r outside all there in_table q = rw (get_or_default table r outside [] in_table) (all r there q)

@@ -90,6 +90,7 @@ fn around(system: &System, res: ResId) -> ([bool; 4], [bool; 4])
     requires { res.0 < length system.now.resources }
 {
     let resources = system.resources();
+    prove!(resources <= 64);
     let from = ResSet::none().with(res);
     (members(reads(system, res)), members(cone(system, from)))
 }
