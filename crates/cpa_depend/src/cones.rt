@@ -1,8 +1,7 @@
 //! The resources that read some others, directly or through others.
 
-ghost use Rattle.std.specs.Prelude.{◌≡◌, ◌<◌, ◌≤◌, ℕ, ◌↔◌, IsTrue, length, MatchOption};
+ghost use Rattle.std.specs.Prelude.{◌<◌, ◌≤◌, ℕ, ◌↔◌, IsTrue, length, MatchOption};
 ghost use Rattle.cpa_units.specs.Sets.{Members};
-ghost use Rattle.cpa_model.specs.Rules.{IsSystem};
 ghost use Rattle.cpa_depend.specs.Cone.{AreReads, InCone, Meets, IsClosedUnder, IsWiderWithin};
 
 use crate::chains::reads_of_all;
