@@ -1,16 +1,14 @@
 -- Walks along chains, and what resources read.
-use Rattle.std.proofs.Common.{◌≡◌, ℕ, suc, ◌+◌, ◌-◌, ◌<◌, ◌≤◌, ◌⊎◌, ◌↔◌, ◌||◌, ◌==◌, length, Bool, true, false, List, [], Option, Some, None, IsSome, option_map, refl, sym, ap, ◌∙◌, inl, inr, subst, slice_index_or, arith}
-use Rattle.std.proofs.lemmas.Bool.{cases_lt, or_cases, eqb-true, eq-eqb, false≢true}
-use Rattle.std.proofs.lemmas.List.{get_or_past, get_or-map, get_or_default}
+use Rattle.std.proofs.Common.{◌≡◌, ℕ, ◌+◌, ◌<◌, ◌≤◌, ◌⊎◌, ◌↔◌, ◌||◌, ◌==◌, length, Bool, true, false, List, [], refl, sym, ap, ◌∙◌, inl, inr, subst, slice_index_or, arith}
+use Rattle.std.proofs.lemmas.Bool.{cases_lt, or_cases, or_left, or_right, eqb-true, eq-eqb}
+use Rattle.std.proofs.lemmas.List.{get_or_past, get_or_default}
 use Rattle.cpa_units.specs.declared.places.TaskId.{TaskId}
 use Rattle.cpa_units.specs.Sets.{holds, Members}
 use Rattle.cpa_model.specs.declared.entries.Activator.{Activator}
 use Rattle.cpa_model.specs.declared.entries.Activator.TheVariants.{Source, Task}
 use Rattle.cpa_model.specs.declared.entries.Task.{Task as Entry}
-use Rattle.cpa_model.specs.Chains.{chain_step, depth_within, activators}
 use Rattle.cpa_model.specs.SystemLists.{SystemLists, task_at, no_task}
 use Rattle.cpa_model.specs.Rules.{IsSystem, IsTask, IsActivator}
-use Rattle.cpa_model.proofs.ChainLaws.{depth_within-step, depth_within-over}
 use Rattle.cpa_depend.specs.Cone.{Activates, LeadsTo, directly, through, Reads, itself, earlier, HasEarlierOn, AreReads}
 
 -- tasks and activators that are there
@@ -41,46 +39,23 @@ activator-in_range s j i rules e =
     let t : IsTask s (task_at s i) = rules.tasks i no_task (LeadsTo-in_range s j i (directly e)) in
     subst (λ (a : Activator). IsActivator s a) e t.activated
 
--- chains that get shorter
-
-some_suc : (o : Option ℕ) → IsSome (option_map suc o) → IsSome o
-some_suc None some = absurd (false≢true some)
-some_suc (Some d) some = refl
-
--- the chain of task i has at most so many tasks
-abbrev pub HasChainWithin : SystemLists → ℕ → ℕ → Type 0
-HasChainWithin s n i = IsSome (depth_within (activators s.tasks) n i)
-
-chain-next : (s : SystemLists) (at done : ℕ) (k : TaskId) → done < 32 → at < length s.tasks → (task_at s at).after ≡ Task k → HasChainWithin s (32 - done) at → HasChainWithin s (32 - (done + 1)) k.0
-chain-next s at done k h there e chain =
-    let link : slice_index_or (activators s.tasks) at None ≡ Some (Task k) = get_or-map (λ (t : Entry). Some t.after) s.tasks at no_task None there ∙ ap Some e in
-    let step : depth_within (activators s.tasks) (32 - done) at ≡ option_map suc (depth_within (activators s.tasks) (32 - (done + 1)) k.0) =
-    depth_within-step (activators s.tasks) 32 done at h ∙ ap (λ o. chain_step o (depth_within (activators s.tasks) (32 - (done + 1)))) link in
-    some_suc (depth_within (activators s.tasks) (32 - (done + 1)) k.0) (subst IsSome step chain)
-
 -- a walk from task i towards its source, which collects the resources of the tasks that it meets
-pub record IsWalk (s : SystemLists) (i : ℕ) (set all : List Bool) (at done : ℕ) : Type 0 where
+pub record IsWalk (s : SystemLists) (i : ℕ) (set all : List Bool) (at : ℕ) : Type 0 where
   pub in_range : at < length s.tasks
-  pub chain : HasChainWithin s (32 - done) at
   pub path : (at ≡ i) ⊎ LeadsTo s at i
   pub kept : (q : ℕ) → Members set q → Members all q
   pub sound : (q : ℕ) → Members all q → Members set q ⊎ HasEarlierOn s i q
   pub rest : (j : ℕ) → LeadsTo s j i → Members all (task_at s j).res.0 ⊎ LeadsTo s j at
 
-pub walk-start : (s : SystemLists) (i : ℕ) (set : List Bool) → IsSystem s → i < length s.tasks → IsWalk s i set set i 0
-walk-start s i set rules h =
+pub walk-start : (s : SystemLists) (i : ℕ) (set : List Bool) → i < length s.tasks → IsWalk s i set set i
+walk-start s i set h =
     record {
       in_range = h;
-      chain = rules.chains i h;
       path = inl refl;
       kept = λ q m. m;
       sound = λ q m. inl m;
       rest = λ j leads. inr leads;
     }
-
-pub or_true : (b : Bool) → (b || true) ≡ true
-or_true true = refl
-or_true false = refl
 
 activated_once : (s : SystemLists) (i j : ℕ) (k : TaskId) → Activates s j i → (task_at s i).after ≡ Task k → j ≡ k.0
 activated_once s i j k e f =
@@ -89,18 +64,17 @@ activated_once s i j k e f =
     ap (λ (t : TaskId). t.0) same
 
 -- one step of the walk
-pub walk-next : (s : SystemLists) (i : ℕ) (set all wider : List Bool) (at done : ℕ) (k : TaskId) → IsSystem s → done < 32 → (task_at s at).after ≡ Task k
-    → ((q : ℕ) → holds wider q ≡ (q == (task_at s k.0).res.0 || holds all q)) → IsWalk s i set all at done → IsWalk s i set wider k.0 (done + 1)
-walk-next s i set all wider at done k rules h e with_k walk =
+pub walk-next : (s : SystemLists) (i : ℕ) (set all wider : List Bool) (at : ℕ) (k : TaskId) → IsSystem s → (task_at s at).after ≡ Task k
+    → ((q : ℕ) → holds wider q ≡ (q == (task_at s k.0).res.0 || holds all q)) → IsWalk s i set all at → IsWalk s i set wider k.0
+walk-next s i set all wider at k rules e with_k walk =
     let before : LeadsTo s k.0 i = elim walk.path [
       | inl same ↦ directly (subst (λ (n : ℕ). Activates s k.0 n) same e)
       | inr leads ↦ LeadsTo-before s e leads
     ] in
-    let here : Members wider (task_at s k.0).res.0 = with_k (task_at s k.0).res.0 ∙ rw (eq-eqb (task_at s k.0).res.0 (task_at s k.0).res.0 refl) refl in
-    let keep : (q : ℕ) → Members all q → Members wider q = λ q m. with_k q ∙ rw m (or_true (q == (task_at s k.0).res.0)) in
+    let here : Members wider (task_at s k.0).res.0 = with_k (task_at s k.0).res.0 ∙ or_left _ _ (eq-eqb (task_at s k.0).res.0 (task_at s k.0).res.0 refl) in
+    let keep : (q : ℕ) → Members all q → Members wider q = λ q m. with_k q ∙ or_right _ _ m in
     record {
       in_range = activator-in_range s k.0 at rules e;
-      chain = chain-next s at done k h walk.in_range e walk.chain;
       path = inr before;
       kept = λ q m. keep q (walk.kept q m);
       sound = λ q m. elim (or_cases _ _ (sym (with_k q) ∙ m)) [
@@ -120,8 +94,9 @@ walk-next s i set all wider at done k rules h e with_k walk =
     }
 
 -- at a source the walk is over
-pub walk-over : (s : SystemLists) (i : ℕ) (set all : List Bool) (at done : ℕ) → ((k : ℕ) → Activates s k at → ⊥) → IsWalk s i set all at done → (q : ℕ) → Members all q ↔ (Members set q ⊎ HasEarlierOn s i q)
-walk-over s i set all at done none walk q = (
+pub walk-over : (s : SystemLists) (i : ℕ) (set all : List Bool) (at : ℕ) → ((k : ℕ) → Activates s k at → ⊥) → IsWalk s i set all at
+    → (q : ℕ) → Members all q ↔ (Members set q ⊎ HasEarlierOn s i q)
+walk-over s i set all at none walk q = (
   walk.sound q,
   λ m. elim m [
     | inl old ↦ walk.kept q old
@@ -131,12 +106,6 @@ walk-over s i set all at done none walk q = (
     ]
   ],
 )
-
--- no walk has more steps than a chain has tasks
-pub walk-too_long : (s : SystemLists) (i : ℕ) (set all : List Bool) (at done : ℕ) → 32 ≤ done → IsWalk s i set all at done → ⊥
-walk-too_long s i set all at done long walk =
-    let none : depth_within (activators s.tasks) (32 - done) at ≡ None = depth_within-over (activators s.tasks) 32 done at long in
-    false≢true (subst IsSome none walk.chain)
 
 -- what a resource reads: itself, and what is earlier in the chains of its tasks
 pub Reads-parts : (s : SystemLists) {r q : ℕ} → Reads s r q → (r ≡ q) ⊎ ((i : ℕ) × (i < length s.tasks) × ((task_at s i).res.0 ≡ r) × HasEarlierOn s i q)
@@ -153,10 +122,11 @@ pub record IsReadTo (s : SystemLists) (r : ℕ) (set : List Bool) (task : ℕ) :
   pub sound : (q : ℕ) → Members set q → Reads s r q
   pub done : (i q : ℕ) → i < task → (task_at s i).res.0 ≡ r → HasEarlierOn s i q → Members set q
 
-pub read-start : (s : SystemLists) (r : ℕ) (none set : List Bool) → ((q : ℕ) → holds none q ≡ false) → ((q : ℕ) → holds set q ≡ (q == r || holds none q)) → IsReadTo s r set 0
+pub read-start : (s : SystemLists) (r : ℕ) (none set : List Bool) → ((q : ℕ) → holds none q ≡ false)
+    → ((q : ℕ) → holds set q ≡ (q == r || holds none q)) → IsReadTo s r set 0
 read-start s r none set empty with_r =
     record {
-      own = with_r r ∙ rw (eq-eqb r r refl) refl;
+      own = with_r r ∙ or_left _ _ (eq-eqb r r refl);
       sound = λ q m. elim (or_cases _ _ (sym (with_r q) ∙ m)) [
         | inl same ↦ subst (λ (n : ℕ). Reads s r n) (sym (eqb-true q r same)) itself
         | inr old ↦ absurd (let both : true ≡ false = sym old ∙ empty q in let f : ⊥ = cc in f)
@@ -164,7 +134,8 @@ read-start s r none set empty with_r =
       done = λ i q h. absurd (omega arith);
     }
 
-pub read-more : (s : SystemLists) (r : ℕ) (set wider : List Bool) (task : ℕ) → (task_at s task).res.0 ≡ r → ((q : ℕ) → Members wider q ↔ (Members set q ⊎ HasEarlierOn s task q)) → IsReadTo s r set task → IsReadTo s r wider (task + 1)
+pub read-more : (s : SystemLists) (r : ℕ) (set wider : List Bool) (task : ℕ) → (task_at s task).res.0 ≡ r
+    → ((q : ℕ) → Members wider q ↔ (Members set q ⊎ HasEarlierOn s task q)) → IsReadTo s r set task → IsReadTo s r wider (task + 1)
 read-more s r set wider task on more h =
     record {
       own = (more r).1 (inl h.own);
@@ -222,5 +193,6 @@ Reads-in_range s r q rules there reads =
     ]
 
 -- what a table has at a place in it, whatever stands for places outside
-pub AreReads-row : (s : SystemLists) (table : List (List Bool)) (r : ℕ) (outside : List Bool) → AreReads s table → r < length s.resources → r < length table → (q : ℕ) → Members (slice_index_or table r outside) q ↔ Reads s r q
+pub AreReads-row : (s : SystemLists) (table : List (List Bool)) (r : ℕ) (outside : List Bool) → AreReads s table → r < length s.resources → r < length table
+    → (q : ℕ) → Members (slice_index_or table r outside) q ↔ Reads s r q
 AreReads-row s table r outside all there in_table q = rw (get_or_default table r outside [] in_table) (all r there q)

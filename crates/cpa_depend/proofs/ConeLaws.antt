@@ -1,14 +1,15 @@
 -- Sets that grow to a cone.
 use Rattle.std.proofs.Common.{◌≡◌, ℕ, zero, suc, ◌+◌, ◌<◌, ◌≤◌, ◌⊎◌, ◌↔◌, ◌||◌, ◌==◌, length, Bool, true, false, List, refl, sym, ◌∙◌, inl, inr, subst, arith}
-use Rattle.std.proofs.lemmas.Bool.{cases_lt, cases_Bool, cases_eq, or_cases, eqb-true, eq-eqb}
+use Rattle.std.proofs.lemmas.Bool.{cases_lt, cases_Bool, cases_eq, or_cases, or_left, or_right, eqb-true, eq-eqb}
 use Rattle.cpa_model.specs.SystemLists.{SystemLists}
 use Rattle.cpa_units.specs.Sets.{holds, Members}
 use Rattle.cpa_model.specs.Rules.{IsSystem}
 use Rattle.cpa_depend.specs.Cone.{Reads, InCone, start, reader, IsClosedUnder, IsWiderWithin}
-use Rattle.cpa_depend.proofs.ChainLaws.{Reads-there, or_true}
+use Rattle.cpa_depend.proofs.ChainLaws.{Reads-there}
 
 -- the cone is within each set that has its start and every reader of a member
-pub InCone-least : (s : SystemLists) (from within : ℕ → Type 0) → ((r : ℕ) → from r → within r) → ((r q : ℕ) → Reads s r q → within q → within r) → {r : ℕ} → InCone s from r → within r
+pub InCone-least : (s : SystemLists) (from within : ℕ → Type 0) → ((r : ℕ) → from r → within r)
+    → ((r q : ℕ) → Reads s r q → within q → within r) → {r : ℕ} → InCone s from r → within r
 InCone-least s from within has closed {r} (start e) = has r e
 InCone-least s from within has closed {r} (reader {r = t} {q = q} reads h) = closed t q reads (InCone-least s from within has closed h)
 
@@ -39,7 +40,8 @@ missing-le set wider all zero = omega arith
 missing-le set wider all (suc n) =
     omega (arith, missing-le set wider all n, not_in-le (holds set n) (holds wider n) (all n))
 
-pub missing-lt : (set wider : List Bool) → ((r : ℕ) → Members set r → Members wider r) → (r n : ℕ) → r < n → holds set r ≡ false → Members wider r → missing wider n < missing set n
+pub missing-lt : (set wider : List Bool) → ((r : ℕ) → Members set r → Members wider r)
+    → (r n : ℕ) → r < n → holds set r ≡ false → Members wider r → missing wider n < missing set n
 missing-lt set wider all r zero lt off on = absurd (omega arith)
 missing-lt set wider all r (suc n) lt off on =
     elim (cases_eq r n) [
@@ -70,7 +72,8 @@ pass-start s set =
     }
 
 -- a resource is left out that reads no member, or is one
-pub pass-leave : (s : SystemLists) (set wider : List Bool) (grown : Bool) (place : ℕ) → Members wider place ⊎ ((q : ℕ) → Reads s place q → Members wider q → ⊥) → IsPass s set wider grown place → IsPass s set wider grown (place + 1)
+pub pass-leave : (s : SystemLists) (set wider : List Bool) (grown : Bool) (place : ℕ)
+    → Members wider place ⊎ ((q : ℕ) → Reads s place q → Members wider q → ⊥) → IsPass s set wider grown place → IsPass s set wider grown (place + 1)
 pass-leave s set wider grown place why pass =
     record {
       all = pass.all;
@@ -97,56 +100,56 @@ not_before s set wider grown place off pass =
     ]
 
 -- a resource is added that reads a member
-pub pass-add : (s : SystemLists) (set wider next : List Bool) (grown : Bool) (place q : ℕ) → place < length s.resources → holds wider place ≡ false → Reads s place q → Members wider q → ((r : ℕ) → holds next r ≡ (r == place || holds wider r)) → IsPass s set wider grown place → IsPass s set next true (place + 1)
+pub pass-add : (s : SystemLists) (set wider next : List Bool) (grown : Bool) (place q : ℕ) → place < length s.resources → holds wider place ≡ false → Reads s place q → Members wider q
+    → ((r : ℕ) → holds next r ≡ (r == place || holds wider r)) → IsPass s set wider grown place → IsPass s set next true (place + 1)
 pass-add s set wider next grown place q in_range off reads on with_place pass =
-    let keep : (r : ℕ) → Members wider r → Members next r = λ r m. with_place r ∙ rw m (or_true (r == place)) in
+    let keep : (r : ℕ) → Members wider r → Members next r = λ r m. with_place r ∙ or_right _ _ m in
     record {
       all = λ r m. keep r (pass.all r m);
       within = λ r m. elim (or_cases _ _ (sym (with_place r) ∙ m)) [
         | inl same ↦ subst (λ (k : ℕ). InCone s (Members set) k) (sym (eqb-true r place same)) (reader reads (pass.within q on))
         | inr old ↦ pass.within r old
       ];
-      more = λ e. (place, in_range, not_before s set wider grown place off pass, with_place place ∙ rw (eq-eqb place place refl) refl);
+      more = λ e. (place, in_range, not_before s set wider grown place off pass, with_place place ∙ or_left _ _ (eq-eqb place place refl));
       same = λ e. absurd (let f : ⊥ = cc in f);
       done = λ e. absurd (let f : ⊥ = cc in f);
     }
 
--- the end of all passes
-pub cone-is : (s : SystemLists) (from set : List Bool) → IsSystem s → ((r : ℕ) → Members from r → Members set r) → ((r : ℕ) → Members set r → InCone s (Members from) r) → IsClosedUnder s set → (r : ℕ) → Members set r ↔ InCone s (Members from) r
-cone-is s from set rules all within closed r = (
-  within r,
-  λ h. InCone-least s (Members from) (Members set) all (λ t q reads m. elim (Reads-there s t q rules reads) [
-    | inl same ↦ subst (λ (k : ℕ). Members set k) (sym same) m
-    | inr both ↦ closed t q both.0 reads m
-  ]) h,
-)
-
-pub missing-wider : (s : SystemLists) (set wider : List Bool) → IsWiderWithin s set wider → missing wider (length s.resources) < missing set (length s.resources)
-missing-wider s set wider h = let new = h.more in missing-lt set wider h.all new.0 (length s.resources) new.1 new.2 new.3
-
 -- what `widened` answers
+
 pub pass-some : (s : SystemLists) (set wider : List Bool) (place : ℕ) → IsPass s set wider true place → IsWiderWithin s set wider
 pass-some s set wider place pass = record { all = pass.all; within = pass.within; more = pass.more refl }
 
-pub pass-none : (s : SystemLists) (set wider : List Bool) → IsPass s set wider false (length s.resources) → IsClosedUnder s set
-pass-none s set wider pass = pass.done refl
+pub pass-none : (s : SystemLists) (set wider : List Bool) → IsSystem s → IsPass s set wider false (length s.resources) → IsClosedUnder s set
+pass-none s set wider rules pass r q reads member =
+    elim (Reads-there s r q rules reads) [
+      | inl same ↦ subst (λ (k : ℕ). Members set k) (sym same) member
+      | inr both ↦ pass.done refl r q both.0 reads member
+    ]
+
+pub missing-wider : (s : SystemLists) (set wider : List Bool) → IsWiderWithin s set wider
+    → missing wider (length s.resources) < missing set (length s.resources)
+missing-wider s set wider h = let new = h.more in missing-lt set wider h.all new.0 (length s.resources) new.1 new.2 new.3
 
 -- sets on the way from `from` to its cone
 pub record IsGrown (s : SystemLists) (from set : List Bool) : Type 0 where
-  pub rules : IsSystem s
   pub all : (r : ℕ) → Members from r → Members set r
   pub within : (r : ℕ) → Members set r → InCone s (Members from) r
 
 pub grown-more : (s : SystemLists) (from set wider : List Bool) → IsGrown s from set → IsWiderWithin s set wider → IsGrown s from wider
 grown-more s from set wider grown h =
     record {
-      rules = grown.rules;
       all = λ r m. h.all r (grown.all r m);
       within = λ r m. InCone-join s (Members from) (Members set) grown.within (h.within r m);
     }
 
+-- the end of all passes
+pub cone-is : (s : SystemLists) (from set : List Bool) → IsGrown s from set → IsClosedUnder s set → (r : ℕ) → Members set r ↔ InCone s (Members from) r
+cone-is s from set grown closed r = (grown.within r, λ h. InCone-least s (Members from) (Members set) grown.all closed h)
+
 -- the cone of resources in range is in range
-pub InCone-in_range : (s : SystemLists) (from : ℕ → Type 0) → IsSystem s → ((r : ℕ) → from r → r < length s.resources) → {r : ℕ} → InCone s from r → r < length s.resources
+pub InCone-in_range : (s : SystemLists) (from : ℕ → Type 0) → IsSystem s → ((r : ℕ) → from r → r < length s.resources)
+    → {r : ℕ} → InCone s from r → r < length s.resources
 InCone-in_range s from rules low cone =
     InCone-least s from (λ r. r < length s.resources) low
     (λ r q reads q_low. elim (Reads-there s r q rules reads) [

@@ -44,7 +44,7 @@ Meets a b count = (q : ℕ) × (q < count) × Members a q × Members b q
 
 -- each resource that reads a member is one
 abbrev pub IsClosedUnder : SystemLists → List Bool → Type 0
-IsClosedUnder s set = (r q : ℕ) → r < length s.resources → Reads s r q → Members set q → Members set r
+IsClosedUnder s set = (r q : ℕ) → Reads s r q → Members set q → Members set r
 
 -- the wider set has all members and one more, and each of its members is in the cone
 pub record IsWiderWithin (s : SystemLists) (set wider : List Bool) : Type 0 where

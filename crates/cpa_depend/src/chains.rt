@@ -6,7 +6,6 @@ ghost use Rattle.cpa_model.specs.Rules.{IsSystem};
 ghost use Rattle.cpa_depend.specs.Cone.{Reads, HasEarlierOn, AreReads, LeadsBack};
 
 use cpa_model::{Activator, System};
-use cpa_units::limits::MAX_CHAIN;
 use cpa_units::{ResId, ResSet, TaskId};
 
 /// The set, with the resources of all earlier tasks of a task's chain.
@@ -17,14 +16,9 @@ fn with_earlier(system: &System, task: TaskId, set: ResSet) -> ResSet
 {
     let mut all = set;
     let mut at = task;
-    for done in 0..MAX_CHAIN {
-        match system.task(at).after {
-            Activator::Source(_) => return all,
-            Activator::Task(earlier) => {
-                at = earlier;
-                all = all.with(system.task(at).res);
-            }
-        }
+    'steps: while let Activator::Task(earlier) = system.task(at).after {
+        at = earlier;
+        all = all.with(system.task(at).res);
     }
     all
 }
@@ -36,7 +30,6 @@ pub fn reads(system: &System, res: ResId) -> ResSet
     ensures { (q : ℕ) → Members result q ↔ Reads system.now res.0 q }
 {
     let tasks = system.tasks();
-    let resources = system.resources();
     let mut set = ResSet::none().with(res);
     for k in 0..tasks {
         if system.task(TaskId(k)).res.0 == res.0 {
@@ -68,9 +61,8 @@ pub fn leads_back(system: &System, res: ResId) -> bool
 pub fn reads_of_all(system: &System) -> [ResSet; 64]
     ensures { AreReads system.now result }
 {
-    let resources = system.resources();
     let mut all = [ResSet::none(); 64];
-    for place in 0..resources {
+    for place in 0..system.resources() {
         all[place as usize] = reads(system, ResId(place));
     }
     all

@@ -1,8 +1,7 @@
 //! The resources that read some others, directly or through others.
 
-ghost use Rattle.std.specs.Prelude.{◌≡◌, ◌<◌, ◌≤◌, ℕ, ◌↔◌, IsTrue, length, MatchOption};
+ghost use Rattle.std.specs.Prelude.{◌<◌, ◌≤◌, ℕ, ◌↔◌, IsTrue, length, MatchOption};
 ghost use Rattle.cpa_units.specs.Sets.{Members};
-ghost use Rattle.cpa_model.specs.Rules.{IsSystem};
 ghost use Rattle.cpa_depend.specs.Cone.{AreReads, InCone, Meets, IsClosedUnder, IsWiderWithin};
 
 use crate::chains::reads_of_all;
@@ -46,7 +45,6 @@ pub fn cone(system: &System, from: ResSet) -> ResSet
     requires { (r : ℕ) → Members from r → r < length system.now.resources }
     ensures { (r : ℕ) → Members result r ↔ InCone system.now (Members from) r }
 {
-    let count = system.resources();
     let reads = reads_of_all(system);
     let mut set = from;
     'passes: while let Some(wider) = widened(system, &reads, set) {

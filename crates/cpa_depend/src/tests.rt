@@ -1,4 +1,4 @@
-ghost use Rattle.std.specs.Prelude.{◌≡◌, All, IfOk, true};
+ghost use Rattle.std.specs.Prelude.{◌≡◌, ◌<◌, All, IfOk, length, true};
 ghost use Rattle.cpa_model.specs.Built.{has_executions};
 
 use crate::{cone, reads, reads_of_all};
@@ -85,27 +85,31 @@ fn members(set: ResSet) -> [bool; 4] {
     ]
 }
 
+/// What a resource reads, and its cone.
+fn around(system: &System, res: ResId) -> ([bool; 4], [bool; 4])
+    requires { res.0 < length system.now.resources }
+{
+    let resources = system.resources();
+    prove!(resources <= 64);
+    let from = ResSet::none().with(res);
+    (members(reads(system, res)), members(cone(system, from)))
+}
+
 #[test]
 fn crossing_chains(rt: HostRuntime) -> Result<(), Fail> {
     let alloc = rt.alloc();
     let system = System::build(alloc, crossing(alloc)?)?;
     assert_eq!(rt; system.resources(), 4);
-    let all = reads_of_all(&system);
-    let cases = [
-        ([true, true, false, false], [true, true, true, false]),
-        ([true, true, false, false], [true, true, true, false]),
-        ([true, true, true, false], [false, false, true, false]),
-        ([false, false, false, true], [false, false, false, true]),
-    ];
-    for (place, (read, reached)) in cases.into_iter().enumerate() {
-        let res = ResId(place as u32);
-        assert_eq!(rt; members(reads(&system, res)), read, "reads of {place}");
-        assert_eq!(rt; members(all[place]), read, "table at {place}");
-        assert_eq!(rt;
-            members(cone(&system, ResSet::none().with(res))),
-            reached,
-            "cone of {place}"
-        );
-    }
+    let both = [true, true, false, false];
+    let all = [true, true, true, false];
+    let third = [false, false, true, false];
+    let last = [false, false, false, true];
+    assert_eq!(rt; around(&system, ResId(0)), (both, all));
+    assert_eq!(rt; around(&system, ResId(1)), (both, all));
+    assert_eq!(rt; around(&system, ResId(2)), (all, third));
+    assert_eq!(rt; around(&system, ResId(3)), (last, last));
+    let table = reads_of_all(&system);
+    assert_eq!(rt; members(table[2]), all);
+    assert_eq!(rt; members(table[3]), last);
     Ok(())
 }

@@ -3,7 +3,7 @@ use Rattle.cpa_depend.specs.Cone.{start}
 use Rattle.cpa_depend.proofs.cones.cone.Goals as goal
 
 pub passes-init : goal.passes-init
-passes-init c = record { rules = c.resources-count.ensures.rules; all = λ r m. m; within = λ r m. start m }
+passes-init c = record { all = λ r m. m; within = λ r m. start m }
 
 pub passes-smaller : goal.passes-smaller
 passes-smaller c = missing-wider c.args.system.now c.passes.set c.in-Some.wider c.in-Some.ensures
@@ -12,6 +12,4 @@ pub passes-preserved : goal.passes-preserved
 passes-preserved c = grown-more c.args.system.now c.args.from c.passes.set c.in-Some.wider c.passes.invariant c.in-Some.ensures
 
 pub returns : goal.returns
-returns c =
-    let grown = c.passes.invariant in
-    cone-is c.args.system.now c.args.from c.passes.set grown.rules grown.all grown.within c.in_default.ensures
+returns c = cone-is c.args.system.now c.args.from c.passes.set c.passes.invariant c.in_default.ensures

@@ -1,7 +1,7 @@
-use Rattle.std.proofs.Common.{◌≡◌, ◌<◌, true, sym, ◌∙◌, List, Bool, length, arith, inl, inr}
+use Rattle.std.proofs.Common.{◌≡◌, ◌<◌, ℕ, true, false, sym, ◌∙◌, List, Bool, length, arith, inl, inr, subst}
 use Rattle.std.proofs.lemmas.Bool.{both_ways}
 use Rattle.cpa_depend.specs.Cone.{Reads}
-use Rattle.cpa_depend.proofs.ConeLaws.{pass-start, pass-leave, pass-add}
+use Rattle.cpa_depend.proofs.ConeLaws.{IsPass, pass-none, pass-start, pass-leave, pass-add}
 use Rattle.cpa_depend.proofs.ChainLaws.{Reads-in_range, AreReads-row}
 use Rattle.cpa_depend.proofs.cones.widened.Goals as goal
 use Rattle.cpa_depend.proofs.cones.widened.Goals.{then-not-has+then-meets, else-not-has, else-not-has-via-then-not-has+else-meets, else-not-has-via-else-not-has}
@@ -35,3 +35,10 @@ loop-place-preserved c =
           ])
           c.loop-place.invariant)
     ]
+
+pub returns-else-grown : goal.returns-else-grown
+returns-else-grown c =
+    let s = c.args.system.now in
+    let over : c.loop-place.place ≡ length s.resources = omega arith in
+    let pass = subst (λ (grown : Bool). IsPass s c.args.set c.loop-place.wider grown c.loop-place.place) c.if-grown.false c.loop-place.invariant in
+    pass-none s c.args.set c.loop-place.wider c.resources-count.ensures.rules (subst (λ (n : ℕ). IsPass s c.args.set c.loop-place.wider false n) over pass)
