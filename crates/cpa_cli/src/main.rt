@@ -5,6 +5,8 @@ mod analysis;
 mod command;
 mod lines;
 #[cfg(test)]
+mod rounds;
+#[cfg(test)]
 mod tests;
 mod words;
 

@@ -1,0 +1,110 @@
+#!/usr/bin/env python3
+"""Measures how long `lokwurmi analyse` takes from a system file to its report, and how much memory.
+
+Makes the largest allowed systems of each kind and of all kinds mixed (64 resources, 512 tasks in chains of 8), once with
+chains that follow the order of the resources and once with chains that cross in cycles, and three cycles of two chains on
+two resources with a limit of 10,000,000 ticks: one that settles, and two that climb until they are overloaded, in leaps
+and by some ninety ticks a round. With them goes the car network of examples/. Prints a line a system: the least time of some calls, the peak memory, the last line.
+
+    python3 bench/time_analyse.py [NAME ..]
+"""
+import os
+import subprocess
+import sys
+import tempfile
+import time
+
+TOP = os.path.join(os.path.dirname(os.path.abspath(__file__)), "..")
+PROGRAM = os.path.join(TOP, "crates/cpa_cli/out/cpa_cli")
+KINDS = {"preemptive": "preemptive", "round-robin": "round-robin", "tdma": "tdma", "can": "can"}
+
+
+def place_in_order(chain, step):
+    """The resource of a step where chains go from each eight resources to the next eight."""
+    return 8 * step + chain % 8
+
+
+def place_in_cycles(chain, step):
+    """The resource of a step where chains go around all resources, so that each depends on each."""
+    return (chain + 11 * step) % 64
+
+
+def largest(kinds, place):
+    """64 resources, 512 tasks in 64 chains of 8, 64 paths over whole chains."""
+    text = ["format = 1", "resource = ["]
+    text += [f'{{ name = "r{r}", kind = "{kinds[r % len(kinds)]}" }},' for r in range(64)]
+    text += ["]", "source = ["]
+    text += [f'{{ name = "s{c}", period = {10000 + 10 * c}, jitter = {50 * (c % 9)} }},' for c in range(64)]
+    text += ["]", "task = ["]
+    for c in range(64):
+        for k in range(8):
+            after = f"t{c}.{k - 1}" if k else f"s{c}"
+            r = place(c, k)
+            worst = 100 + 7 * ((c + k) % 30)
+            kind = kinds[r % len(kinds)]
+            turn = f"slot = {worst}" if kind in ("round-robin", "tdma") else f"priority = {10 * k + c}"
+            text.append(f'{{ name = "t{c}.{k}", on = "r{r}", after = "{after}", best = {worst // 2}, worst = {worst}, {turn} }},')
+    text += ["]", "path = ["]
+    for c in range(64):
+        tasks = ", ".join(f'"t{c}.{k}"' for k in range(8))
+        text.append(f'{{ name = "p{c}", tasks = [{tasks}], deadline = 1000000 }},')
+    return "\n".join(text + ["]"]) + "\n"
+
+
+def crossing(first, second):
+    """Two chains that cross on two preemptive resources, with these greatest executions of their first and second tasks."""
+    return f"""format = 1
+resource = [{{ name = "p", kind = "preemptive", limit = 10000000 }}, {{ name = "q", kind = "preemptive", limit = 10000000 }}]
+source = [{{ name = "sa", period = 100 }}, {{ name = "sb", period = 100 }}]
+task = [
+  {{ name = "a1", on = "p", after = "sa", best = 1, worst = {first}, priority = 2 }},
+  {{ name = "a2", on = "q", after = "a1", best = 1, worst = {second}, priority = 1 }},
+  {{ name = "b1", on = "q", after = "sb", best = 1, worst = {first}, priority = 2 }},
+  {{ name = "b2", on = "p", after = "b1", best = 1, worst = {second}, priority = 1 }},
+]
+"""
+
+
+def car_network():
+    with open(os.path.join(TOP, "examples/car_network.toml")) as file:
+        return file.read()
+
+
+def systems():
+    made = {"car-network": car_network}
+    for name, kind in KINDS.items():
+        made[f"{name}-in-order"] = lambda kind=kind: largest([kind], place_in_order)
+        made[f"{name}-in-cycles"] = lambda kind=kind: largest([kind], place_in_cycles)
+    made["mixed-in-order"] = lambda: largest(list(KINDS.values()), place_in_order)
+    made["mixed-in-cycles"] = lambda: largest(list(KINDS.values()), place_in_cycles)
+    made["cycle-settles"] = lambda: crossing(50, 49)
+    made["cycle-climbs-in-leaps"] = lambda: crossing(30, 60)
+    made["cycle-climbs-slowly"] = lambda: crossing(45, 50)
+    return made
+
+
+def call(path):
+    begin = time.perf_counter()
+    done = subprocess.run(["/usr/bin/time", "-f", "%M", PROGRAM, "analyse", path], capture_output=True, check=False)
+    took = time.perf_counter() - begin
+    return took, done.stderr.decode().split()[-1], done.stdout.decode().strip().split("\n")[-1]
+
+
+def main():
+    made = systems()
+    names = sys.argv[1:] or list(made)
+    subprocess.run([os.path.join(TOP, "lokwurmi")], capture_output=True, check=False)
+    print(f"processors: {os.cpu_count()}")
+    with tempfile.TemporaryDirectory() as folder:
+        for name in names:
+            path = os.path.join(folder, "sys")
+            with open(path, "w") as file:
+                file.write(made[name]())
+            runs = [call(path)]
+            while len(runs) < 5 and runs[0][0] < 2:
+                runs.append(call(path))
+            print(f"{name}: {min(run[0] for run in runs):.4f} s, {runs[0][1]} KiB, {runs[0][2]}", flush=True)
+
+
+if __name__ == "__main__":
+    main()
