@@ -4,3 +4,4 @@ pub mod InputLaws
 pub mod RivalLaws
 pub mod TrailLaws
 pub mod VectorLaws
+pub mod WorkedCases
