@@ -6,3 +6,4 @@ pub mod RivalLaws
 pub mod SolutionLaws
 pub mod TrailLaws
 pub mod VectorLaws
+pub mod WorkedCases

@@ -1,6 +1,7 @@
 //! The times of paths from end to end, and what they say of deadlines. All times are in ticks.
 
-ghost use Rattle.std.specs.Prelude.{◌≡◌, ◌<◌, length, All};
+ghost use Rattle.std.specs.Prelude.{◌≡◌, ◌<◌, ◌*◌, ◌^◌, length, All};
+ghost use Rattle.cpa_units.specs.declared.limits.TheConstants.{MAX_LIMIT};
 ghost use Rattle.cpa_units.specs.Bounds.{RespectsLimit, bound_of, bound_plus, sum_bounds};
 ghost use Rattle.cpa_model.specs.SystemLists.{task_at, path_at};
 ghost use Rattle.cpa_local.specs.Solution.{IsVector};
@@ -39,8 +40,8 @@ pub fn path_best(system: &System, path: PathId) -> u64
 }
 
 fn plus(sum: Bound, more: Bound) -> Bound
-    requires sum { RespectsLimit 1000000000000000000 sum }
-    requires more { RespectsLimit 10000000 more }
+    requires sum { RespectsLimit (2 ^ 32 * MAX_LIMIT) sum }
+    requires more { RespectsLimit MAX_LIMIT more }
     ensures { result ≡ bound_plus sum more }
 {
     match sum {

@@ -1,5 +1,6 @@
 use Rattle.std.proofs.Common.{◌≡◌, ◌≤◌, ◌*◌, take}
 use Rattle.std.specs.List.{sum_by}
+use Rattle.cpa_units.specs.declared.limits.TheConstants.{MAX_EXECUTION}
 use Rattle.cpa_units.specs.declared.places.TaskId.{TaskId}
 use Rattle.cpa_model.specs.SystemLists.{task_at}
 use Rattle.cpa_report.proofs.paths.sum_best.Given as goal
@@ -7,5 +8,5 @@ use Rattle.cpa_report.proofs.paths.sum_best.Given as goal
 abbrev pub invariant-loop-k : goal.invariant-loop-k
 invariant-loop-k l = record {
   sum : l.sum ≡ sum_by (λ (i : TaskId). (task_at l.system i.0).best) (take l.k l.tasks);
-  small : l.sum ≤ l.k * 1000000;
+  small : l.sum ≤ l.k * MAX_EXECUTION;
 }
