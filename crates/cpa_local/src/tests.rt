@@ -2,8 +2,7 @@ ghost use Rattle.std.specs.Prelude.{◌≡◌, All, IfOk, true};
 ghost use Rattle.cpa_model.specs.Built.{has_executions};
 
 use crate::{Trail, floor, input, respond};
-use cpa_draft::{Draft, DraftResource, DraftSource, DraftTask, KindWord, Raw};
-use cpa_model::System;
+use cpa_model::{Draft, DraftResource, DraftSource, DraftTask, KindWord, Raw, System};
 use cpa_units::{Bound, TaskId};
 use std::alloc::{AllocError, Global};
 use std::test::Fail;
