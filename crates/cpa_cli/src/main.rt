@@ -2,6 +2,8 @@
 #![tactic(auto)]
 
 mod analysis;
+#[cfg(test)]
+mod cases;
 mod command;
 mod lines;
 #[cfg(test)]

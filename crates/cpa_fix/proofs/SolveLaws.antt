@@ -9,12 +9,8 @@ use Rattle.cpa_units.specs.declared.bound.Bound.TheVariants.{Within, Overload}
 use Rattle.cpa_units.specs.Bounds.{IsNowhereAbove, RespectsLimit, bound_of}
 use Rattle.cpa_model.specs.SystemLists.{SystemLists, task_at, no_task}
 use Rattle.cpa_units.specs.declared.limits.TheConstants.{MAX_LIMIT}
-use Rattle.cpa_local.specs.Solution.{IsVector, floor_of, least_of}
-use Rattle.cpa_local.proofs.VectorLaws.{floor-vector, bound_of-places}
-use Rattle.cpa_local.proofs.SolutionLaws.{least_of-is_least}
-use Rattle.cpa_units.proofs.BoundLaws.{zero_at_most}
+use Rattle.cpa_local.specs.Solution.{IsVector}
 use Rattle.std.proofs.lemmas.List.{length-replicate}
-use Rattle.std.proofs.Math.ListN.{get_or-eq_default}
 use Rattle.cpa_fix.specs.Readings.{AgreeOnReads}
 use Rattle.cpa_fix.proofs.DependLaws.{clean_is_least}
 use Rattle.cpa_fix.proofs.ReadingLaws.{rank, risen, risen-same, clean_from_still}
@@ -258,10 +254,8 @@ search-solved s start_at kept old x readings trail h =
 pub search-marked : (s : SystemLists) (start_at : List Bound) (kept : List (Option Reading)) (old : Marks) (x : List Bound) (readings : List (Option Reading)) (trail : Marks) → IsSearch s start_at kept old x readings None trail → AreMarked trail (TasksOn s (IsDirty s kept start_at))
 search-marked s start_at kept old x readings trail h i on = elim (h.marked i on) [ inl it ↦ it | inr none ↦ absurd none ]
 
--- ---- from nothing
-
--- readings of no resource
-none-sound : (s : SystemLists) (x : List Bound) → AreSound s (replicate (length s.resources) None) x
+-- readings of no resource are sound at each vector
+pub none-sound : (s : SystemLists) (x : List Bound) → AreSound s (replicate (length s.resources) None) x
 none-sound s x =
     record {
       long = length-replicate (length s.resources) None;
@@ -272,19 +266,3 @@ none-sound s x =
     none-at zero r = refl
     none-at (suc n) zero = refl
     none-at (suc n) (suc r) = none-at n r
-
--- a search may start at the least executions, without readings
-pub MayStart-from_floor : (s : SystemLists) (trail : Marks) → IsSystem s → length s.tasks ≤ trail.room → MayStart s (floor_of s) (replicate (length s.resources) None) trail
-MayStart-from_floor s trail rules room =
-    record {
-      vector = floor-vector s rules;
-      below = floor-below;
-      sound = none-sound s (floor_of s);
-      room = room;
-    }
-  where
-    floor-below : IsNowhereAbove (floor_of s) (least_of s)
-    floor-below i = elim (cases_lt i (length s.tasks)) [
-      | inl less ↦ rw (bound_of-places s (λ i. Within (task_at s i).best) i less) ((least_of-is_least s rules).vector.low i less)
-      | inr past ↦ rw (get_or-eq_default (floor_of s) (Within 0) (let long = (floor-vector s rules).long in let k : length (floor_of s) ≤ i = omega arith in k)) (zero_at_most (bound_of (least_of s) i))
-    ]

@@ -1,9 +1,10 @@
 //! The vectors at which resources were analysed.
 
-ghost use Rattle.std.specs.Prelude.{◌≡◌, ◌<◌, ℕ, length, replicate, slice_set, IfOk, None, Some, false, MatchOption, ◌++◌, ◌∷◌, []};
+ghost use Rattle.std.specs.Prelude.{◌≡◌, ◌<◌, ℕ, length, replicate, slice_set, IfOk, None, Some, false, MatchOption, List, ◌++◌, ◌∷◌, []};
 ghost use Rattle.std.specs.Result.{OnOk};
 ghost use Rattle.cpa_units.specs.Sets.{holds, Members};
-ghost use Rattle.cpa_fix.specs.Readings.{reading_of};
+ghost use Rattle.cpa_units.specs.declared.bound.Bound.{Bound};
+ghost use Rattle.cpa_fix.specs.Readings.{reading_of, AreSound};
 
 use cpa_model::System;
 use cpa_units::{NoMemory, ResId, ResSet, Vector};
@@ -44,9 +45,10 @@ fn push(kept: &mut Vec<Option<Reading>>, reading: Option<Reading>) -> Result<(),
 }
 
 impl Readings {
-    /// No reading of any resource.
+    /// No reading of any resource, which is sound at every vector.
     pub fn none(alloc: Global, system: &System) -> Result<Readings, NoMemory>
-        ensures { IfOk result (λ kept. kept ≡ replicate (length system.now.resources) None) }
+        ensures value { IfOk result (λ kept. kept ≡ replicate (length system.now.resources) None) }
+        ensures sound { IfOk result (λ kept. (x : List Bound) → AreSound system.now kept x) }
     {
         let count = system.resources();
         let mut kept = Vec::new(alloc);

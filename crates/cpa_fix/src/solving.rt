@@ -5,7 +5,7 @@ ghost use Rattle.std.specs.Bool.{OnTrue, OnFalse};
 ghost use Rattle.std.specs.Result.{OnOk};
 ghost use Rattle.cpa_units.specs.Sets.{Members};
 ghost use Rattle.cpa_model.specs.Rules.{IsSystem};
-ghost use Rattle.cpa_local.specs.Solution.{IsVector};
+ghost use Rattle.cpa_local.specs.Solution.{IsVector, IsLeast};
 ghost use Rattle.cpa_local.specs.Trails.{IsKept, NewMarksAre, AreMarked};
 ghost use Rattle.cpa_depend.specs.Cone.{Reads, InCone, AreReads};
 ghost use Rattle.cpa_fix.specs.Readings.{AgreeOnReads, AreSound, HasCleanReading, IsDirty, IsSolved};
@@ -43,6 +43,7 @@ pub fn solve<H: Threads + Sync, R: Round>(
     trail: &mut Trail,
 ) -> Result<Solution, NoMemory>
     requires { MayStart system.now start kept trail.old }
+    ensures least { IfOk result (λ it. IsLeast system.now it.bounds) }
     ensures solved { IfOk result (λ it. IsSolved system.now it.bounds it.readings) }
     ensures kept { IsKept trail.old trail.new }
     ensures fresh { NewMarksAre trail.old trail.new (TasksOn system.now (InCone system.now (IsDirty system.now kept start))) }

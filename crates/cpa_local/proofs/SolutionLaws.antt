@@ -12,8 +12,8 @@ use Rattle.cpa_units.proofs.BoundLaws.{IsAtMost_trans, zero_at_most, IsNowhereAb
 use Rattle.cpa_model.specs.SystemLists.{SystemLists, task_at, resource_of, task_places, no_task, no_resource}
 use Rattle.cpa_model.specs.Rules.{IsSystem, IsTask, IsResource}
 use Rattle.cpa_local.specs.Local.{response, responses}
-use Rattle.cpa_local.specs.Solution.{IsVector, IsClosed, IsLeast, round, height, least_of}
-use Rattle.cpa_local.proofs.VectorLaws.{weaker_limit, same_bounds}
+use Rattle.cpa_local.specs.Solution.{IsVector, IsClosed, IsLeast, floor_of, round, height, least_of}
+use Rattle.cpa_local.proofs.VectorLaws.{weaker_limit, same_bounds, bound_of-places, floor-vector}
 use Rattle.cpa_local.proofs.ResponseLaws.{response-mono, response-limit, response-ge, responses-mono, bound_of-responses, length-responses}
 
 -- ---- how often vectors can rise
@@ -202,3 +202,13 @@ module _ (s : SystemLists) where
   -- F leads nothing above the least solution
   pub response-below : (x : List Bound) (i : ℕ) → i < length s.tasks → IsNowhereAbove x (least_of s) → IsAtMost (response s x i) (bound_of (least_of s) i)
   response-below x i in_range below = rw (bound_of-least_of i in_range) (response-mono s x (least_of s) below i)
+
+-- the least executions are nowhere above the least solution
+pub floor-below : (s : SystemLists) → IsSystem s → IsNowhereAbove (floor_of s) (least_of s)
+floor-below s rules i =
+    elim (cases_lt i (length s.tasks)) [
+      | inl less ↦ rw (bound_of-places s (λ i. Within (task_at s i).best) i less) ((least_of-is_least s rules).vector.low i less)
+      | inr past ↦
+          let long = (floor-vector s rules).long in
+          rw (get_or_past (floor_of s) i (Within 0) (omega arith)) (zero_at_most (bound_of (least_of s) i))
+    ]

@@ -1,5 +1,6 @@
 use Rattle.std.proofs.Common.{Option, Some, List, Bool, subst}
 use Rattle.cpa_fix.proofs.SolveLaws.{IsSearch, search-start, search-next, search-solved, round-smaller}
+use Rattle.cpa_local.proofs.SolutionLaws.{least_of-is_least}
 use Rattle.cpa_fix.proofs.solving.solve.Goals as goal
 
 pub rounds-init : goal.rounds-init
@@ -32,3 +33,10 @@ returns-clause-solved g c =
     let s = c.args.system.now in
     search-solved s c.args.start c.args.kept c.args.trail.now c.rounds.x c.rounds.readings c.rounds.trail
     (subst (λ (d : Option (List Bool)). IsSearch s c.args.start c.args.kept c.args.trail.now c.rounds.x c.rounds.readings d c.rounds.trail) c.in_default.is c.rounds.invariant)
+
+pub returns-clause-least : goal.returns-clause-least
+returns-clause-least g c =
+    let s = c.args.system.now in
+    let solved = search-solved s c.args.start c.args.kept c.args.trail.now c.rounds.x c.rounds.readings c.rounds.trail
+    (subst (λ (d : Option (List Bool)). IsSearch s c.args.start c.args.kept c.args.trail.now c.rounds.x c.rounds.readings d c.rounds.trail) c.in_default.is c.rounds.invariant) in
+    rw solved.least (least_of-is_least s c.dirty_resources-dirty.ensures.rules)
