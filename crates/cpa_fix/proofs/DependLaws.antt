@@ -23,6 +23,7 @@ use Rattle.cpa_local.specs.Local.{rival_of, bound_by_kind, bound_at_input, respo
 use Rattle.cpa_local.specs.Solution.{IsClosed, IsVector, least_of}
 use Rattle.cpa_local.proofs.ResponseLaws.{bound_of-responses, bound_of-responses_past}
 use Rattle.cpa_local.proofs.SolutionLaws.{least_of-from_closed}
+use Rattle.cpa_depend.proofs.ChainLaws.{LeadsTo-in_range}
 use Rattle.cpa_depend.specs.Cone.{LeadsTo, directly, through, Reads, itself, earlier}
 use Rattle.cpa_fix.specs.Readings.{AgreeOnReads, IsClean}
 use Rattle.cpa_fix.specs.Rounds.{AgreeOutside, HasNoFeedback}
@@ -113,7 +114,7 @@ response-same s x y r agree =
 pub response-outside : (s : SystemLists) (x y : List Bound) (r : ℕ) → HasNoFeedback s r → AgreeOutside s r x y → (i : ℕ) → (task_at s i).res.0 ≡ r → response s x i ≡ response s y i
 response-outside s x y r apart agree =
     response_by_turns s x y r
-    (λ i on j leads. agree j (λ back. apart.chains i on (j, leads, back)))
+    (λ i on j leads. agree j (λ back. apart.chains (i, LeadsTo-in_range s j i leads, on, (j, leads, back))))
     (λ i own on e. absurd (apart.turns (subst (λ (q : ℕ). (slice_resource q) ≡ RoundRobin) on e)))
   where
     slice_resource : ℕ → Kind

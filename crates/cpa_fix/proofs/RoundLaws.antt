@@ -8,7 +8,6 @@ use Rattle.cpa_model.specs.declared.entries.Kind.TheVariants.{RoundRobin}
 use Rattle.std.specs.Bool.{OnFalse}
 use Rattle.std.specs.Prelude.{IsTrue, ◌↔◌}
 use Rattle.cpa_depend.specs.Cone.{LeadsBack}
-use Rattle.cpa_depend.proofs.ChainLaws.{LeadsTo-in_range}
 use Rattle.cpa_local.specs.Solution.{IsVector}
 use Rattle.cpa_fix.specs.Readings.{IsSound}
 use Rattle.cpa_units.proofs.BoundLaws.{IsNowhereAbove_refl, IsNowhereAbove_trans}
@@ -121,10 +120,7 @@ no-feedback s r true turns back = tt
 no-feedback s r false turns back =
     record {
       turns = turns;
-      chains = λ i on leads. elim (cases_lt i (length s.tasks)) [
-        | inl less ↦ absurd (false≢true (back.1 (i, less, on, leads)))
-        | inr past ↦ absurd (let lt : i < length s.tasks = LeadsTo-in_range s leads.0 i leads.1 in omega arith)
-      ];
+      chains = λ leads. absurd (false≢true (back.1 leads));
     }
 
 -- a round over the members of a set, as far as a place

@@ -7,7 +7,7 @@ use Rattle.cpa_model.specs.declared.entries.Kind.TheVariants.{RoundRobin}
 use Rattle.cpa_local.specs.Local.{response}
 use Rattle.cpa_local.specs.Solution.{IsVector, least_of}
 use Rattle.cpa_local.specs.Trails.{Marks, IsMarked, IsKept, NewMarksAre}
-use Rattle.cpa_depend.specs.Cone.{HasEarlierOn}
+use Rattle.cpa_depend.specs.Cone.{LeadsBack}
 use Rattle.cpa_fix.specs.declared.readings.Reading.{Reading}
 use Rattle.cpa_fix.specs.Readings.{reading_of, AreSound}
 
@@ -57,4 +57,4 @@ AgreeOutside s r x y = (i : ℕ) → ((task_at s i).res.0 ≡ r → ⊥) → bou
 -- leads to another
 pub record HasNoFeedback (s : SystemLists) (r : ℕ) : Type 0 where
   pub turns : (resource_at s r).kind ≡ RoundRobin → ⊥
-  pub chains : (i : ℕ) → (task_at s i).res.0 ≡ r → HasEarlierOn s i r → ⊥
+  pub chains : LeadsBack s r → ⊥
