@@ -46,15 +46,24 @@ fn members(set: ResSet) -> u64 {
 }
 
 /// The number of analyses that a system takes from nothing.
+fn count_analyses<R: Threads + Sync>(
+    rt: &R,
+    alloc: Global,
+    system: &System,
+) -> Result<u64, NoMemory> {
+    let start = floor(alloc, system)?;
+    let kept = Readings::none(alloc, system)?;
+    let mut trail = Trail::with_room(alloc, system.tasks())?;
+    let mut counting = Counting { analyses: 0 };
+    solve(rt, alloc, system, start, kept, &mut counting, &mut trail)?;
+    Ok(counting.analyses)
+}
+
+/// The number of analyses that the system of a file takes from nothing.
 fn analyses<R: AllocGlobal + Threads + Sync>(rt: &R, text: &str) -> Result<u64, Fail> {
     let alloc = rt.alloc();
     let system = read_system(alloc, text.as_bytes())?;
-    let start = floor(alloc, &system)?;
-    let kept = Readings::none(alloc, &system)?;
-    let mut trail = Trail::with_room(alloc, system.tasks())?;
-    let mut counting = Counting { analyses: 0 };
-    let solution = solve(rt, alloc, &system, start, kept, &mut counting, &mut trail)?;
-    Ok(counting.analyses)
+    Ok(count_analyses(rt, alloc, &system)?)
 }
 
 /// A chain over eight resources, which stand in its order, or in the order against it.

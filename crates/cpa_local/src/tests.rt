@@ -7,6 +7,8 @@ use cpa_units::{Bound, TaskId};
 use std::alloc::{AllocError, Global};
 use std::test::Fail;
 
+fn needs_shared<T: Send + Sync>(_value: &T) {}
+
 fn raw(alloc: Global, text: &str) -> Result<Raw, AllocError> {
     Ok(Raw::new(Vec::from_slice(alloc, text.as_bytes())?))
 }
@@ -61,6 +63,7 @@ fn a_chain_of_two(rt: HostRuntime) -> Result<(), Fail> {
     assert_eq!(rt; system.tasks(), 2);
     let x = floor(alloc, &system)?;
     let mut trail = Trail::with_room(alloc, system.tasks())?;
+    needs_shared(&trail);
     assert_eq!(rt;
         respond(&system, TaskId(0), &x, &mut trail),
         Bound::Within(7)
