@@ -48,9 +48,7 @@ pub fn leads_back(system: &System, res: ResId) -> bool
     let resources = system.resources();
     for k in 0..tasks {
         let task = TaskId(k);
-        if system.task(task).res.0 == res.0
-            && with_earlier(system, task, ResSet::none()).has(res)
-        {
+        if system.task(task).res.0 == res.0 && with_earlier(system, task, ResSet::none()).has(res) {
             return true;
         }
     }

@@ -1,5 +1,5 @@
 -- What raising one bound does.
-use Rattle.std.proofs.Common.{◌≡◌, ℕ, ◌+◌, ◌<◌, length, set, List, refl, sym, ◌∙◌, inl, inr, subst, arith, get_or-set_same, get_or-set_other, length-set}
+use Rattle.std.proofs.Common.{◌≡◌, ℕ, ◌+◌, ◌<◌, ◌≤◌, length, set, List, refl, sym, ◌∙◌, inl, inr, subst, arith, get_or-set_same, get_or-set_other, length-set}
 use Rattle.std.proofs.lemmas.Bool.{cases_eq, cases_lt}
 use Rattle.cpa_units.specs.declared.bound.Bound.{Bound}
 use Rattle.cpa_units.specs.declared.bound.Bound.TheVariants.{Within}
@@ -11,9 +11,9 @@ use Rattle.cpa_units.specs.declared.limits.TheConstants.{MAX_LIMIT}
 use Rattle.cpa_local.specs.Solution.{IsVector, least_of}
 use Rattle.cpa_units.proofs.BoundLaws.{IsAtMost_refl, IsAtMost_trans, IsNowhereAbove_refl, IsNowhereAbove_trans, le-bound_max_left, le-bound_max_right, bound_max-le, bound_max-limit}
 use Rattle.cpa_local.proofs.SolutionLaws.{response-below, response-high}
-use Rattle.cpa_local.specs.Trails.{Marks, IsKept, NewMarksAre, AreMarked}
+use Rattle.cpa_local.specs.Trails.{Marks, IsMarked, IsKept, NewMarksAre, AreMarked}
 use Rattle.cpa_local.proofs.TrailLaws.{IsKept_refl, IsKept_trans, NewMarks_trans, NewMarks-weaker}
-use Rattle.cpa_fix.specs.Rounds.{TasksOn, IsRisen, IsRaised}
+use Rattle.cpa_fix.specs.Rounds.{TasksOn, IsRisen, IsRaised, AgreeOutside}
 
 bound_of-set_same : (x : List Bound) (i : ℕ) (b : Bound) → i < length x → bound_of (set x i b) i ≡ b
 bound_of-set_same x i b h = get_or-set_same x i b (Within 0) h
@@ -56,7 +56,27 @@ risen-set s seen x i rules h seen_below vector below =
       ];
     }
 
-pub raise-start : (s : SystemLists) (r : ℕ) (seen x : List Bound) (trail : Marks) → IsRisen s x x → IsRaised s r seen x x trail trail 0
+-- so far the first tasks
+pub record IsRaisedTo (s : SystemLists) (r : ℕ) (seen old new : List Bound) (before after : Marks) (count : ℕ) : Type 0 where
+  pub risen : IsRisen s old new
+  pub others : AgreeOutside s r new old
+  pub answered : (i : ℕ) → i < count → (task_at s i).res.0 ≡ r → IsAtMost (response s seen i) (bound_of new i)
+  pub kept : IsKept before after
+  pub fresh : NewMarksAre before after (TasksOn s (λ q. q ≡ r))
+  pub marked : (i : ℕ) → i < count → (task_at s i).res.0 ≡ r → IsMarked after i
+
+pub raised-whole : (s : SystemLists) (r : ℕ) (seen old new : List Bound) (before after : Marks) (count : ℕ) → length s.tasks ≤ count → IsRaisedTo s r seen old new before after count → IsRaised s r seen old new before after
+raised-whole s r seen old new before after count all h =
+    record {
+      risen = h.risen;
+      others = h.others;
+      answered = λ i less on. h.answered i (omega arith) on;
+      kept = h.kept;
+      fresh = h.fresh;
+      marked = λ i on. h.marked i (let less = on.0 in omega arith) on.1;
+    }
+
+pub raise-start : (s : SystemLists) (r : ℕ) (seen x : List Bound) (trail : Marks) → IsRisen s x x → IsRaisedTo s r seen x x trail trail 0
 raise-start s r seen x trail risen =
     record {
       risen = risen;
@@ -67,7 +87,7 @@ raise-start s r seen x trail risen =
       marked = λ i h. absurd (omega arith);
     }
 
-pub raise-skip : (s : SystemLists) (r : ℕ) (seen old new : List Bound) (before after : Marks) (task : ℕ) → ((task_at s task).res.0 ≡ r → ⊥) → IsRaised s r seen old new before after task → IsRaised s r seen old new before after (task + 1)
+pub raise-skip : (s : SystemLists) (r : ℕ) (seen old new : List Bound) (before after : Marks) (task : ℕ) → ((task_at s task).res.0 ≡ r → ⊥) → IsRaisedTo s r seen old new before after task → IsRaisedTo s r seen old new before after (task + 1)
 raise-skip s r seen old new before after task off h =
     record {
       risen = h.risen;
@@ -84,7 +104,7 @@ raise-skip s r seen old new before after task off h =
       ];
     }
 
-pub raise-task : (s : SystemLists) (r : ℕ) (seen old new : List Bound) (before after marked : Marks) (task : ℕ) → IsSystem s → task < length s.tasks → (task_at s task).res.0 ≡ r → IsNowhereAbove seen (least_of s) → IsKept after marked → NewMarksAre after marked (λ i. i ≡ task) → AreMarked marked (λ i. i ≡ task) → IsRaised s r seen old new before after task → IsRaised s r seen old (set new task (bound_max (response s seen task) (bound_of new task))) before marked (task + 1)
+pub raise-task : (s : SystemLists) (r : ℕ) (seen old new : List Bound) (before after marked : Marks) (task : ℕ) → IsSystem s → task < length s.tasks → (task_at s task).res.0 ≡ r → IsNowhereAbove seen (least_of s) → IsKept after marked → NewMarksAre after marked (λ i. i ≡ task) → AreMarked marked (λ i. i ≡ task) → IsRaisedTo s r seen old new before after task → IsRaisedTo s r seen old (set new task (bound_max (response s seen task) (bound_of new task))) before marked (task + 1)
 raise-task s r seen old new before after marked task rules h on below kept fresh mark raised =
     let b = bound_max (response s seen task) (bound_of new task) in
     let here : task < length new = rw raised.risen.vector.long h in

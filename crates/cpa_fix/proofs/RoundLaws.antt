@@ -77,7 +77,7 @@ round-same s dirty again x y a b e h =
     }
 
 -- what was analysed at `seen`, and raised, has that as a sound reading
-pub raised-sound : (s : SystemLists) (r : ℕ) (seen x y : List Bound) (before after : Marks) → IsVector s seen → IsNowhereAbove seen y → IsRaised s r seen x y before after (length s.tasks) → IsSound s r seen y
+pub raised-sound : (s : SystemLists) (r : ℕ) (seen x y : List Bound) (before after : Marks) → IsVector s seen → IsNowhereAbove seen y → IsRaised s r seen x y before after → IsSound s r seen y
 raised-sound s r seen x y before after vector below raised =
     record { vector = vector; below = below; answered = raised.answered }
 

@@ -7,7 +7,7 @@ use Rattle.std.proofs.lemmas.List.Elements.{All-from_get_or}
 use Rattle.cpa_units.specs.declared.bound.Bound.{Bound}
 use Rattle.cpa_units.specs.declared.bound.Bound.TheVariants.{Within, Overload}
 use Rattle.cpa_units.specs.Bounds.{IsNowhereAbove, RespectsLimit, bound_of}
-use Rattle.cpa_model.specs.SystemLists.{SystemLists, task_at, no_task}
+use Rattle.cpa_model.specs.SystemLists.{SystemLists, task_at}
 use Rattle.cpa_units.specs.declared.limits.TheConstants.{MAX_LIMIT}
 use Rattle.cpa_local.specs.Solution.{IsVector}
 use Rattle.std.proofs.lemmas.List.{length-replicate}
@@ -15,7 +15,7 @@ use Rattle.cpa_fix.specs.Readings.{AgreeOnReads}
 use Rattle.cpa_fix.proofs.DependLaws.{clean_is_least}
 use Rattle.cpa_fix.proofs.ReadingLaws.{rank, risen, risen-same, clean_from_still}
 use Rattle.cpa_units.specs.Sets.{holds, Members}
-use Rattle.cpa_model.specs.Rules.{IsSystem, IsTask}
+use Rattle.cpa_model.specs.Rules.{IsSystem}
 use Rattle.cpa_local.specs.Trails.{Marks, IsMarked, IsKept, NewMarksAre, AreMarked}
 use Rattle.cpa_local.proofs.TrailLaws.{IsKept_refl, IsKept_trans, NewMarks_trans, NewMarks-weaker}
 use Rattle.cpa_depend.specs.Cone.{InCone, start, reader}
@@ -34,9 +34,9 @@ clean_from_agree s kept x r reading sound e agree =
     (reading, e, record { sound = sound.sound r reading e; current = agree })
 
 -- what is stale is dirty
-pub stale-dirty : (s : SystemLists) (kept : List (Option Reading)) (x : List Bound) (r : ℕ) → IsStale s kept x r → IsDirty s kept x r
-stale-dirty s kept x r (inl none) clean = let both : None ≡ Some clean.0 = sym none ∙ clean.1 in cc
-stale-dirty s kept x r (inr old) clean =
+pub stale-unclean : (s : SystemLists) (kept : List (Option Reading)) (x : List Bound) (r : ℕ) → IsStale s kept x r → HasCleanReading s kept x r → ⊥
+stale-unclean s kept x r (inl none) clean = let both : None ≡ Some clean.0 = sym none ∙ clean.1 in cc
+stale-unclean s kept x r (inr old) clean =
     let both : Some old.0 ≡ Some clean.0 = sym old.1 ∙ clean.1 in
     let same : clean.0.seen ≡ old.0.seen = cc in
     let differs = old.2 in
@@ -165,7 +165,7 @@ none_pending s set x y a b None still vector clean round stale = refl
 none_pending s set x y a b (Some next) still vector clean round stale =
     let r = stale.some.0 in
     let is_stale = stale.stale r stale.some.1 in
-    absurd (stale-dirty s b y r is_stale.1 (still-clean s set x y a b r still vector clean round is_stale.0))
+    absurd (stale-unclean s b y r is_stale.1 (still-clean s set x y a b r still vector clean round is_stale.0))
 
 -- a round lets the vector rise, or leaves nothing dirty
 pub round-smaller : (s : SystemLists) (set : List Bool) (x y : List Bound) (a b : List (Option Reading)) (dirty : Option (List Bool)) → IsVector s x → IsRisen s x y → IsStaleSet s a x set → IsRound s (holds set) x y a b → AreStale s b y dirty → 2 * room y + pending dirty < 2 * room x + 1
@@ -192,17 +192,17 @@ pub record IsSearch (s : SystemLists) (start : List Bound) (kept : List (Option 
   pub fresh : NewMarksAre old trail (TasksOn s (InCone s (IsDirty s kept start)))
   pub marked : (i : ℕ) → TasksOn s (IsDirty s kept start) i → IsMarked trail i ⊎ IsPending dirty (task_at s i).res.0
 
-dirty-pending : (s : SystemLists) (kept : List (Option Reading)) (x : List Bound) (dirty : Option (List Bool)) (r : ℕ) → AreStale s kept x dirty → r < length s.resources → IsDirty s kept x r → IsPending dirty r
-dirty-pending s kept x None r stale in_range is_dirty = is_dirty (stale r in_range)
-dirty-pending s kept x (Some set) r stale in_range is_dirty =
+dirty-pending : (s : SystemLists) (kept : List (Option Reading)) (x : List Bound) (dirty : Option (List Bool)) (r : ℕ) → AreStale s kept x dirty → IsDirty s kept x r → IsPending dirty r
+dirty-pending s kept x None r stale is_dirty = is_dirty.1 (stale r is_dirty.0)
+dirty-pending s kept x (Some set) r stale is_dirty =
     elim (cases_Bool (holds set r)) [
       | inl on ↦ on
-      | inr off ↦ absurd (is_dirty (stale.clean r in_range off))
+      | inr off ↦ absurd (is_dirty.1 (stale.clean r is_dirty.0 off))
     ]
 
 pending-dirty : (s : SystemLists) (kept : List (Option Reading)) (x : List Bound) (dirty : Option (List Bool)) (r : ℕ) → AreStale s kept x dirty → IsPending dirty r → IsDirty s kept x r
 pending-dirty s kept x None r stale on = absurd on
-pending-dirty s kept x (Some set) r stale on = stale-dirty s kept x r (stale.stale r on).1
+pending-dirty s kept x (Some set) r stale on = let it = stale.stale r on in (it.0, stale-unclean s kept x r it.1)
 
 pub search-start : (s : SystemLists) (start_at : List Bound) (kept : List (Option Reading)) (old : Marks) (dirty : Option (List Bool)) → IsSystem s → MayStart s start_at kept old → AreStale s kept start_at dirty → IsSearch s start_at kept old start_at kept dirty old
 search-start s start_at kept old dirty rules now stale =
@@ -213,7 +213,7 @@ search-start s start_at kept old dirty rules now stale =
       reached = λ r on. start (pending-dirty s kept start_at dirty r stale on);
       held = IsKept_refl old;
       fresh = λ i m. inl m;
-      marked = λ i on. inr (dirty-pending s kept start_at dirty (task_at s i).res.0 stale (let t : IsTask s (task_at s i) = rules.tasks i no_task on.0 in t.placed) on.1);
+      marked = λ i on. inr (dirty-pending s kept start_at dirty (task_at s i).res.0 stale on.1);
     }
 
 stale-in_range : (s : SystemLists) (kept : List (Option Reading)) (x : List Bound) (dirty : Option (List Bool)) (r : ℕ) → AreStale s kept x dirty → IsPending dirty r → (r < length s.resources) × IsStale s kept x r

@@ -20,7 +20,7 @@ pub record IsSound (s : SystemLists) (r : ℕ) (seen x : List Bound) : Type 0 wh
 abbrev pub AgreeOnReads : SystemLists → ℕ → List Bound → List Bound → Type 0
 AgreeOnReads s r x y = (j : ℕ) → Reads s r (task_at s j).res.0 → bound_of x j ≡ bound_of y j
 
--- and it is up to date at x
+-- it is sound at x and up to date: it has the bounds of x wherever r reads
 pub record IsClean (s : SystemLists) (r : ℕ) (seen x : List Bound) : Type 0 where
   pub sound : IsSound s r seen x
   pub current : AgreeOnReads s r seen x
@@ -39,9 +39,9 @@ abbrev pub HasCleanReading : SystemLists → List (Option Reading) → List Boun
 HasCleanReading s kept x r =
     (reading : Reading) × (reading_of kept r ≡ Some reading) × IsClean s r reading.seen x
 
--- r is dirty at x
+-- r is a resource that is dirty at x
 abbrev pub IsDirty : SystemLists → List (Option Reading) → List Bound → ℕ → Type 0
-IsDirty s kept x r = HasCleanReading s kept x r → ⊥
+IsDirty s kept x r = (r < length s.resources) × (HasCleanReading s kept x r → ⊥)
 
 -- the least solution, with each resource clean
 pub record IsSolved (s : SystemLists) (x : List Bound) (kept : List (Option Reading)) : Type 0 where

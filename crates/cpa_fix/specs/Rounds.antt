@@ -6,7 +6,7 @@ use Rattle.cpa_model.specs.SystemLists.{SystemLists, task_at, resource_at}
 use Rattle.cpa_model.specs.declared.entries.Kind.TheVariants.{RoundRobin}
 use Rattle.cpa_local.specs.Local.{response}
 use Rattle.cpa_local.specs.Solution.{IsVector, least_of}
-use Rattle.cpa_local.specs.Trails.{Marks, IsMarked, IsKept, NewMarksAre}
+use Rattle.cpa_local.specs.Trails.{Marks, IsKept, NewMarksAre, AreMarked}
 use Rattle.cpa_depend.specs.Cone.{LeadsBack}
 use Rattle.cpa_fix.specs.declared.readings.Reading.{Reading}
 use Rattle.cpa_fix.specs.Readings.{reading_of, AreSound}
@@ -40,18 +40,18 @@ pub record IsRound (s : SystemLists) (dirty : ℕ → Bool) (old new : List Boun
   -- the readings of other resources are as before
   pub same : (r : ℕ) → dirty r ≡ false → reading_of after r ≡ reading_of before r
 
--- the first tasks of r were analysed at `seen`, and their bounds raised
-pub record IsRaised (s : SystemLists) (r : ℕ) (seen old new : List Bound) (before after : Marks) (count : ℕ) : Type 0 where
-  pub risen : IsRisen s old new
-  pub others : (i : ℕ) → ((task_at s i).res.0 ≡ r → ⊥) → bound_of new i ≡ bound_of old i
-  pub answered : (i : ℕ) → i < count → (task_at s i).res.0 ≡ r → IsAtMost (response s seen i) (bound_of new i)
-  pub kept : IsKept before after
-  pub fresh : NewMarksAre before after (TasksOn s (λ q. q ≡ r))
-  pub marked : (i : ℕ) → i < count → (task_at s i).res.0 ≡ r → IsMarked after i
-
 -- two vectors have the same for each task that isn't on r
 abbrev pub AgreeOutside : SystemLists → ℕ → List Bound → List Bound → Type 0
 AgreeOutside s r x y = (i : ℕ) → ((task_at s i).res.0 ≡ r → ⊥) → bound_of x i ≡ bound_of y i
+
+-- the tasks of r were analysed at `seen`, marked, and their bounds raised
+pub record IsRaised (s : SystemLists) (r : ℕ) (seen old new : List Bound) (before after : Marks) : Type 0 where
+  pub risen : IsRisen s old new
+  pub others : AgreeOutside s r new old
+  pub answered : (i : ℕ) → i < length s.tasks → (task_at s i).res.0 ≡ r → IsAtMost (response s seen i) (bound_of new i)
+  pub kept : IsKept before after
+  pub fresh : NewMarksAre before after (TasksOn s (λ q. q ≡ r))
+  pub marked : AreMarked after (TasksOn s (λ q. q ≡ r))
 
 -- the bounds on r don't bear on its own analysis: it isn't round robin, where a rival's bound counts, and none of its tasks
 -- leads to another

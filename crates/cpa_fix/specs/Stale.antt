@@ -12,7 +12,7 @@ use Rattle.cpa_fix.specs.Readings.{reading_of, HasCleanReading}
 abbrev pub Differs : SystemLists → ℕ → List Bound → List Bound → Type 0
 Differs s r x y = (j : ℕ) × (j < length s.tasks) × Reads s r (task_at s j).res.0 × (bound_of x j ≢ bound_of y j)
 
--- r has no reading, or one that isn't up to date
+-- r has no reading, or one that isn't up to date: what it is for a resource to be dirty, with a task that shows it
 abbrev pub IsStale : SystemLists → List (Option Reading) → List Bound → ℕ → Type 0
 IsStale s kept x r =
     (reading_of kept r ≡ None) ⊎ ((reading : Reading) × (reading_of kept r ≡ Some reading) × Differs s r reading.seen x)

@@ -74,7 +74,7 @@ fn raise(system: &System, res: ResId, seen: &Vector, x: &mut Vector, trail: &mut
     requires seen { IsNowhereAbove seen.now x.old }
     requires start { IsRisen system.now x.old x.old }
     requires room { length system.now.tasks ≤ trail.old.room }
-    ensures { IsRaised system.now res.0 seen.now x.old x.new trail.old trail.new (length system.now.tasks) }
+    ensures { IsRaised system.now res.0 seen.now x.old x.new trail.old trail.new }
 {
     let count = system.tasks();
     for task in 0..count {

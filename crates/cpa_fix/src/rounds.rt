@@ -18,9 +18,9 @@ use std::thread::Threads;
 pub trait Round {
     /// One round: raises the bounds on the members of `dirty`, and keeps a reading of each of them.
     ///
-    /// The vector never falls and stays nowhere above the least solution, also where memory is
-    /// refused; other bounds and readings stay as they are. The trail has then the marks that it had
-    /// and those of all tasks on members; after a refusal, of some of them.
+    /// After Ok other bounds and readings are as before, and the trail has the marks that it had and
+    /// those of all tasks on members. Where memory is refused the vector hasn't fallen and is nowhere
+    /// above the least solution, and new marks are of tasks on members; nothing is said of readings.
     fn round<H: Threads + Sync>(
         &mut self,
         rt: &H,

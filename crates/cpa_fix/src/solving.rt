@@ -29,10 +29,10 @@ pub struct Solution {
 }
 
 /// The least solution of a system, by rounds that begin at `start` with the readings that are kept and
-/// go on until every resource is clean. Each round analyses the dirty resources alone.
+/// go on until every resource is clean.
 ///
-/// All tasks on resources that were dirty at the start are then marked, and only tasks on resources
-/// in their cone are marked anew, also where memory is refused.
+/// All tasks on resources that were dirty at the start are then marked. New marks are of tasks on
+/// resources in their cone alone, also where memory is refused; start and readings are given up then.
 pub fn solve<H: Threads + Sync, R: Round>(
     rt: &H,
     alloc: Global,

@@ -1,5 +1,5 @@
 -- What becomes of marks.
-use Rattle.std.proofs.Common.{◌≡◌, ℕ, zero, suc, ◌≤◌, false, replicate, slice_index_or, refl, inl, inr, arith}
+use Rattle.std.proofs.Common.{◌≡◌, ℕ, zero, suc, false, replicate, slice_index_or, refl, inl, inr, arith}
 use Rattle.cpa_local.specs.Trails.{Marks, IsKept, NewMarksAre}
 
 -- where nothing is marked

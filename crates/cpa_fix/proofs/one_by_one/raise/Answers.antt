@@ -2,7 +2,7 @@ use Rattle.std.proofs.Common.{◌<◌, sym, ap, ◌∙◌, length, arith}
 use Rattle.cpa_units.proofs.BoundLaws.{IsNowhereAbove_trans}
 use Rattle.cpa_model.specs.declared.entries.Task.{Task as Entry}
 use Rattle.cpa_local.specs.Solution.{least_of}
-use Rattle.cpa_fix.proofs.RaiseLaws.{raise-task, raise-skip}
+use Rattle.cpa_fix.proofs.RaiseLaws.{raise-task, raise-skip, raised-whole}
 use Rattle.cpa_fix.proofs.one_by_one.raise.Goals as goal
 use Rattle.cpa_fix.proofs.one_by_one.raise.Goals.{then-task-res, else-task-res}
 
@@ -24,3 +24,8 @@ loop-task-preserved c =
           rw (w.x-is, w.trail-is)
           (raise-skip s r c.args.seen.now c.args.x.now c.loop-task.x c.args.trail.now c.loop-task.trail task (λ e. w.if-task-res.false (on ∙ e)) c.loop-task.invariant)
     ]
+
+pub returns : goal.returns
+returns c =
+    raised-whole c.args.system.now c.args.res.0 c.args.seen.now c.args.x.now c.loop-task.x c.args.trail.now c.loop-task.trail c.loop-task.task
+    (omega (arith, c.tasks-count.ensures.count)) c.loop-task.invariant
