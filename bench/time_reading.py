@@ -3,7 +3,7 @@
 
 Makes a file of nearly 1,048,576 bytes with 512 tasks and long comments, the largest allowed system with names of 64
 bytes, and a file with as many tasks as fit. `cpa_read_bench` loads each file alone, reads it as TOML alone, and reads it
-as a system; where the system can be analysed, `lokwurmi analyse` is timed too. Prints a line a file and way: the least
+as a system, and `lokwurmi analyse` does all of its work. Prints a line a file and way: the least
 time of five calls, and the peak memory of a call.
 
     python3 bench/time_reading.py [FOLDER for the files]
@@ -90,8 +90,7 @@ def main():
         with open(path, "w") as file:
             file.write(text)
         ways = [(way, [reader, way, path]) for way in ("load", "toml", "system")]
-        if make is comments:
-            ways.append(("analyse", [os.path.join(TOP, "lokwurmi"), "analyse", path]))
+        ways.append(("analyse", [os.path.join(TOP, "lokwurmi"), "analyse", path]))
         for way, command in ways:
             runs = [call(command) for _ in range(5)]
             print(f"{make.__name__} {len(text)} bytes, {way}: {min(run[0] for run in runs):.4f} s, {runs[0][1]} KiB, {runs[0][2][:60]}")
