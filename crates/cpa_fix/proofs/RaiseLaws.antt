@@ -10,6 +10,7 @@ use Rattle.cpa_local.specs.Local.{response}
 use Rattle.cpa_units.specs.declared.limits.TheConstants.{MAX_LIMIT}
 use Rattle.cpa_local.specs.Solution.{IsVector, least_of}
 use Rattle.cpa_units.proofs.BoundLaws.{IsAtMost_refl, IsAtMost_trans, IsNowhereAbove_refl, IsNowhereAbove_trans, le-bound_max_left, le-bound_max_right, bound_max-le, bound_max-limit}
+use Rattle.cpa_local.proofs.ResponseLaws.{response-mono}
 use Rattle.cpa_local.proofs.SolutionLaws.{response-below, response-high}
 use Rattle.cpa_local.specs.Trails.{Marks, IsMarked, IsKept, NewMarksAre, AreMarked}
 use Rattle.cpa_local.proofs.TrailLaws.{IsKept_refl, IsKept_trans, NewMarks_trans, NewMarks-weaker}
@@ -28,12 +29,12 @@ pub IsRisen_trans : (s : SystemLists) (a b c : List Bound) → IsRisen s a b →
 IsRisen_trans s a b c first second =
     record { vector = second.vector; up = IsNowhereAbove_trans a b c first.up second.up; below = second.below }
 
--- the bound of one task raised by its analysis at a vector nowhere above the least solution
-pub risen-set : (s : SystemLists) (seen x : List Bound) (i : ℕ) → IsSystem s → i < length s.tasks → IsNowhereAbove seen (least_of s) → IsVector s x → IsNowhereAbove x (least_of s) → IsRisen s x (set x i (bound_max (response s seen i) (bound_of x i)))
-risen-set s seen x i rules h seen_below vector below =
-    let b = bound_max (response s seen i) (bound_of x i) in
+-- the bound of one task raised by its analysis
+pub risen-set : (s : SystemLists) (x : List Bound) (i : ℕ) → IsSystem s → i < length s.tasks → IsVector s x → IsNowhereAbove x (least_of s) → IsRisen s x (set x i (bound_max (response s x i) (bound_of x i)))
+risen-set s x i rules h vector below =
+    let b = bound_max (response s x i) (bound_of x i) in
     let here : i < length x = rw vector.long h in
-    let up : IsAtMost (bound_of x i) b = le-bound_max_right (response s seen i) (bound_of x i) in
+    let up : IsAtMost (bound_of x i) b = le-bound_max_right (response s x i) (bound_of x i) in
     record {
       vector = record {
         long = length-set x i b ∙ vector.long;
@@ -42,7 +43,7 @@ risen-set s seen x i rules h seen_below vector below =
           | inr other ↦ rw (bound_of-set_other x i j b other) (vector.low j k)
         ];
         high = λ j k. elim (cases_eq j i) [
-          | inl same ↦ rw (same, bound_of-set_same x i b here) (bound_max-limit MAX_LIMIT (response s seen i) (bound_of x i) (response-high s rules seen i h) (vector.high i h))
+          | inl same ↦ rw (same, bound_of-set_same x i b here) (bound_max-limit MAX_LIMIT (response s x i) (bound_of x i) (response-high s rules x i h) (vector.high i h))
           | inr other ↦ rw (bound_of-set_other x i j b other) (vector.high j k)
         ];
       };
@@ -51,22 +52,22 @@ risen-set s seen x i rules h seen_below vector below =
         | inr other ↦ rw (bound_of-set_other x i j b other) (IsAtMost_refl (bound_of x j))
       ];
       below = λ j. elim (cases_eq j i) [
-        | inl same ↦ rw (same, bound_of-set_same x i b here) (bound_max-le (response s seen i) (bound_of x i) (bound_of (least_of s) i) (response-below s seen i h seen_below) (below i))
+        | inl same ↦ rw (same, bound_of-set_same x i b here) (bound_max-le (response s x i) (bound_of x i) (bound_of (least_of s) i) (response-below s x i h below) (below i))
         | inr other ↦ rw (bound_of-set_other x i j b other) (below j)
       ];
     }
 
 -- so far the first tasks
-pub record IsRaisedTo (s : SystemLists) (r : ℕ) (seen old new : List Bound) (before after : Marks) (count : ℕ) : Type 0 where
+pub record IsRaisedTo (s : SystemLists) (r : ℕ) (old new : List Bound) (before after : Marks) (count : ℕ) : Type 0 where
   pub risen : IsRisen s old new
   pub others : AgreeOutside s r new old
-  pub answered : (i : ℕ) → i < count → (task_at s i).res.0 ≡ r → IsAtMost (response s seen i) (bound_of new i)
+  pub answered : (i : ℕ) → i < count → (task_at s i).res.0 ≡ r → IsAtMost (response s old i) (bound_of new i)
   pub kept : IsKept before after
   pub fresh : NewMarksAre before after (TasksOn s (λ q. q ≡ r))
   pub marked : (i : ℕ) → i < count → (task_at s i).res.0 ≡ r → IsMarked after i
 
-pub raised-whole : (s : SystemLists) (r : ℕ) (seen old new : List Bound) (before after : Marks) (count : ℕ) → length s.tasks ≤ count → IsRaisedTo s r seen old new before after count → IsRaised s r seen old new before after
-raised-whole s r seen old new before after count all h =
+pub raised-whole : (s : SystemLists) (r : ℕ) (old new : List Bound) (before after : Marks) (count : ℕ) → length s.tasks ≤ count → IsRaisedTo s r old new before after count → IsRaised s r old new before after
+raised-whole s r old new before after count all h =
     record {
       risen = h.risen;
       others = h.others;
@@ -76,8 +77,8 @@ raised-whole s r seen old new before after count all h =
       marked = λ i on. h.marked i (let less = on.0 in omega arith) on.1;
     }
 
-pub raise-start : (s : SystemLists) (r : ℕ) (seen x : List Bound) (trail : Marks) → IsRisen s x x → IsRaisedTo s r seen x x trail trail 0
-raise-start s r seen x trail risen =
+pub raise-start : (s : SystemLists) (r : ℕ) (x : List Bound) (trail : Marks) → IsRisen s x x → IsRaisedTo s r x x trail trail 0
+raise-start s r x trail risen =
     record {
       risen = risen;
       others = λ i off. refl;
@@ -87,8 +88,8 @@ raise-start s r seen x trail risen =
       marked = λ i h. absurd (omega arith);
     }
 
-pub raise-skip : (s : SystemLists) (r : ℕ) (seen old new : List Bound) (before after : Marks) (task : ℕ) → ((task_at s task).res.0 ≡ r → ⊥) → IsRaisedTo s r seen old new before after task → IsRaisedTo s r seen old new before after (task + 1)
-raise-skip s r seen old new before after task off h =
+pub raise-skip : (s : SystemLists) (r : ℕ) (old new : List Bound) (before after : Marks) (task : ℕ) → ((task_at s task).res.0 ≡ r → ⊥) → IsRaisedTo s r old new before after task → IsRaisedTo s r old new before after (task + 1)
+raise-skip s r old new before after task off h =
     record {
       risen = h.risen;
       others = h.others;
@@ -104,11 +105,12 @@ raise-skip s r seen old new before after task off h =
       ];
     }
 
-pub raise-task : (s : SystemLists) (r : ℕ) (seen old new : List Bound) (before after marked : Marks) (task : ℕ) → IsSystem s → task < length s.tasks → (task_at s task).res.0 ≡ r → IsNowhereAbove seen (least_of s) → IsKept after marked → NewMarksAre after marked (λ i. i ≡ task) → AreMarked marked (λ i. i ≡ task) → IsRaisedTo s r seen old new before after task → IsRaisedTo s r seen old (set new task (bound_max (response s seen task) (bound_of new task))) before marked (task + 1)
-raise-task s r seen old new before after marked task rules h on below kept fresh mark raised =
-    let b = bound_max (response s seen task) (bound_of new task) in
+-- a task is analysed at the vector as it has risen by then, where its bound is no smaller than before
+pub raise-task : (s : SystemLists) (r : ℕ) (old new : List Bound) (before after marked : Marks) (task : ℕ) → IsSystem s → task < length s.tasks → (task_at s task).res.0 ≡ r → IsKept after marked → NewMarksAre after marked (λ i. i ≡ task) → AreMarked marked (λ i. i ≡ task) → IsRaisedTo s r old new before after task → IsRaisedTo s r old (set new task (bound_max (response s new task) (bound_of new task))) before marked (task + 1)
+raise-task s r old new before after marked task rules h on kept fresh mark raised =
+    let b = bound_max (response s new task) (bound_of new task) in
     let here : task < length new = rw raised.risen.vector.long h in
-    let step = risen-set s seen new task rules h below raised.risen.vector raised.risen.below in
+    let step = risen-set s new task rules h raised.risen.vector raised.risen.below in
     record {
       risen = IsRisen_trans s old new (set new task b) raised.risen step;
       others = λ i off. elim (cases_eq i task) [
@@ -116,8 +118,10 @@ raise-task s r seen old new before after marked task rules h on below kept fresh
         | inr other ↦ bound_of-set_other new task i b other ∙ raised.others i off
       ];
       answered = λ i lt on_i. elim (cases_eq i task) [
-        | inl same ↦ rw (same, bound_of-set_same new task b here) (le-bound_max_left (response s seen task) (bound_of new task))
-        | inr other ↦ IsAtMost_trans (response s seen i) (bound_of new i) (bound_of (set new task b) i) (raised.answered i (omega arith) on_i) (step.up i)
+        | inl same ↦
+            rw (same, bound_of-set_same new task b here)
+            (IsAtMost_trans (response s old task) (response s new task) b (response-mono s old new raised.risen.up task) (le-bound_max_left (response s new task) (bound_of new task)))
+        | inr other ↦ IsAtMost_trans (response s old i) (bound_of new i) (bound_of (set new task b) i) (raised.answered i (omega arith) on_i) (step.up i)
       ];
       kept = IsKept_trans before after marked raised.kept kept;
       fresh = NewMarks_trans before after marked (TasksOn s (λ q. q ≡ r)) raised.fresh (NewMarks-weaker after marked (λ i. i ≡ task) (TasksOn s (λ q. q ≡ r)) (λ i same. rw same (h, on)) fresh);

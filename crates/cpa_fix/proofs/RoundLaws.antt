@@ -76,10 +76,10 @@ round-same s dirty again x y a b e h =
       same = λ r off. h.same r (sym (e r) ∙ off);
     }
 
--- what was analysed at `seen`, and raised, has that as a sound reading
-pub raised-sound : (s : SystemLists) (r : ℕ) (seen x y : List Bound) (before after : Marks) → IsVector s seen → IsNowhereAbove seen y → IsRaised s r seen x y before after → IsSound s r seen y
-raised-sound s r seen x y before after vector below raised =
-    record { vector = vector; below = below; answered = raised.answered }
+-- what was analysed has the vector before as a sound reading
+pub raised-sound : (s : SystemLists) (r : ℕ) (x y : List Bound) (before after : Marks) → IsVector s x → IsRaised s r x y before after → IsSound s r x y
+raised-sound s r x y before after vector raised =
+    record { vector = vector; below = raised.risen.up; answered = raised.answered }
 
 -- a resource whose bounds alone have risen, with a new sound reading nowhere below the old vector
 pub round-of_one : (s : SystemLists) (r : ℕ) (seen x y : List Bound) (kept : List (Option Reading)) → r < length s.resources → AreSound s kept x → IsNowhereAbove x y → ((i : ℕ) → ((task_at s i).res.0 ≡ r → ⊥) → bound_of y i ≡ bound_of x i) → IsSound s r seen y → IsNowhereAbove x seen → IsRound s (λ q. q == r) x y kept (set kept r (Some (record { seen = seen })))

@@ -44,11 +44,11 @@ pub record IsRound (s : SystemLists) (dirty : ℕ → Bool) (old new : List Boun
 abbrev pub AgreeOutside : SystemLists → ℕ → List Bound → List Bound → Type 0
 AgreeOutside s r x y = (i : ℕ) → ((task_at s i).res.0 ≡ r → ⊥) → bound_of x i ≡ bound_of y i
 
--- the tasks of r were analysed at `seen`, marked, and their bounds raised
-pub record IsRaised (s : SystemLists) (r : ℕ) (seen old new : List Bound) (before after : Marks) : Type 0 where
+-- the tasks of r were analysed, marked, and their bounds raised: at least to what they are at the vector before
+pub record IsRaised (s : SystemLists) (r : ℕ) (old new : List Bound) (before after : Marks) : Type 0 where
   pub risen : IsRisen s old new
   pub others : AgreeOutside s r new old
-  pub answered : (i : ℕ) → i < length s.tasks → (task_at s i).res.0 ≡ r → IsAtMost (response s seen i) (bound_of new i)
+  pub answered : (i : ℕ) → i < length s.tasks → (task_at s i).res.0 ≡ r → IsAtMost (response s old i) (bound_of new i)
   pub kept : IsKept before after
   pub fresh : NewMarksAre before after (TasksOn s (λ q. q ≡ r))
   pub marked : AreMarked after (TasksOn s (λ q. q ≡ r))

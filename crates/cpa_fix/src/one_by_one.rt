@@ -62,25 +62,23 @@ fn analyse(
     ensures marked { OnOk result (AreMarked trail.new (TasksOn system.now (λ r. r ≡ res.0))) }
 {
     let mut seen = x.copy(alloc)?;
-    raise(system, res, &seen, x, trail);
+    raise(system, res, x, trail);
     bring_up(system, res, &mut seen, x);
     readings.put(res, Reading { seen });
     Ok(())
 }
 
-/// Raises the bounds on a resource by its analysis at `seen`.
-fn raise(system: &System, res: ResId, seen: &Vector, x: &mut Vector, trail: &mut Trail)
-    requires vector { IsVector system.now seen.now }
-    requires seen { IsNowhereAbove seen.now x.old }
+/// Raises the bounds on a resource by its analysis, task after task, each at the vector as it is by then.
+fn raise(system: &System, res: ResId, x: &mut Vector, trail: &mut Trail)
     requires start { IsRisen system.now x.old x.old }
     requires room { length system.now.tasks ≤ trail.old.room }
-    ensures { IsRaised system.now res.0 seen.now x.old x.new trail.old trail.new }
+    ensures { IsRaised system.now res.0 x.old x.new trail.old trail.new }
 {
     let count = system.tasks();
     for task in 0..count {
         let task = TaskId(task);
         if system.task(task).res.0 == res.0 {
-            let bound = respond(system, task, seen, trail);
+            let bound = respond(system, task, x, trail);
             let raised = greater(bound, x.get(task));
             x.set(task, raised);
         }

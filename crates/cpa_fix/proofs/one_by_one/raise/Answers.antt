@@ -1,7 +1,5 @@
 use Rattle.std.proofs.Common.{◌<◌, sym, ap, ◌∙◌, length, arith}
-use Rattle.cpa_units.proofs.BoundLaws.{IsNowhereAbove_trans}
 use Rattle.cpa_model.specs.declared.entries.Task.{Task as Entry}
-use Rattle.cpa_local.specs.Solution.{least_of}
 use Rattle.cpa_fix.proofs.RaiseLaws.{raise-task, raise-skip, raised-whole}
 use Rattle.cpa_fix.proofs.one_by_one.raise.Goals as goal
 use Rattle.cpa_fix.proofs.one_by_one.raise.Goals.{then-task-res, else-task-res}
@@ -16,16 +14,15 @@ loop-task-preserved c =
     elim c.if-task-res.branch [
       | then-task-res w ↦
           rw (w.x-is, w.trail-is, w.set.ensures, w.greater-raised.ensures, w.get.ensures, w.respond-bound.ensures.value)
-          (raise-task s r c.args.seen.now c.args.x.now c.loop-task.x c.args.trail.now c.loop-task.trail w.respond-bound.new.trail task
+          (raise-task s r c.args.x.now c.loop-task.x c.args.trail.now c.loop-task.trail w.respond-bound.new.trail task
           c.tasks-count.ensures.rules in_range (sym on ∙ w.if-task-res.true)
-          (IsNowhereAbove_trans c.args.seen.now c.args.x.now (least_of s) c.requires.seen c.requires.start.below)
           w.respond-bound.ensures.kept w.respond-bound.ensures.fresh w.respond-bound.ensures.marked c.loop-task.invariant)
       | else-task-res w ↦
           rw (w.x-is, w.trail-is)
-          (raise-skip s r c.args.seen.now c.args.x.now c.loop-task.x c.args.trail.now c.loop-task.trail task (λ e. w.if-task-res.false (on ∙ e)) c.loop-task.invariant)
+          (raise-skip s r c.args.x.now c.loop-task.x c.args.trail.now c.loop-task.trail task (λ e. w.if-task-res.false (on ∙ e)) c.loop-task.invariant)
     ]
 
 pub returns : goal.returns
 returns c =
-    raised-whole c.args.system.now c.args.res.0 c.args.seen.now c.args.x.now c.loop-task.x c.args.trail.now c.loop-task.trail c.loop-task.task
+    raised-whole c.args.system.now c.args.res.0 c.args.x.now c.loop-task.x c.args.trail.now c.loop-task.trail c.loop-task.task
     (omega (arith, c.tasks-count.ensures.count)) c.loop-task.invariant
