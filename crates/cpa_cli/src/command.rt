@@ -96,8 +96,8 @@ fn answer<R: Threads + Sync, F: Files>(
 
 /// Does what the words ask for, and answers the status.
 ///
-/// The words are those after the program's name. The statuses: 0 to 2 the verdict of a report, 10 to 14 a refusal, whose
-/// line was sent; 20 a fault of the sink; 30 want of memory.
+/// The words are those after the program's name. The statuses: 0 to 2 the verdict of a report, 10 and 12 to 14 a
+/// refusal, 11 a file that couldn't be read, each with its line sent; 20 a fault of the sink; 30 want of memory.
 pub fn run<R: Threads + Sync, F: Files, K: Sink>(
     rt: &R,
     alloc: Global,

@@ -9,7 +9,7 @@ pub fn bounds_depend_on_reads()
     ensures outside { BoundsWithoutFeedback }
 {}
 
-/// A vector nowhere above the least solution is it where each resource is clean.
+/// A vector nowhere above the least solution is the least solution where each resource is clean at it.
 pub fn clean_is_least()
     ensures { CleanIsLeast }
 {}

@@ -1,6 +1,7 @@
 //! The least solution of a system: rounds of analyses, from readings that are kept, until every
 //! resource is clean. It is the global iteration of compositional performance analysis (SymTA/S,
-//! pyCPA), which analyses a resource again only where something that it reads has risen.
+//! pyCPA), which analyses a resource again only where something that it reads has risen. Bounds are in
+//! ticks.
 #![tactic(auto)]
 
 mod laws;

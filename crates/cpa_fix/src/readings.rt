@@ -75,7 +75,8 @@ impl Readings {
         Ok(Readings { kept })
     }
 
-    /// The reading of a resource; none exactly where no reading of it is kept.
+    /// The reading of a resource, whose place is below the number of resources; none exactly where no
+    /// reading of it is kept.
     pub fn get(&self, res: ResId) -> Option<&Reading>
         requires { res.0 < length self.now }
         ensures { MatchOption result (reading_of self.now res.0 ≡ None) (λ reading. reading_of self.now res.0 ≡ Some reading.now) }
@@ -83,7 +84,8 @@ impl Readings {
         self.kept[res.0 as usize].as_ref()
     }
 
-    /// Keeps this reading of a resource, in place of the one before.
+    /// Keeps this reading of a resource, whose place is below the number of resources, in place of the
+    /// one before.
     pub fn put(&mut self, res: ResId, reading: Reading)
         requires { res.0 < length self.old }
         ensures { self.new ≡ slice_set self.old res.0 (Some reading) }

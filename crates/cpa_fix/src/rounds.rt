@@ -16,7 +16,10 @@ use std::thread::Threads;
 
 /// Analyses each dirty resource, in any order and by any number of workers.
 pub trait Round {
-    /// One round: raises the bounds on the members of `dirty`, and keeps a reading of each of them.
+    /// One round: raises bounds on the members of `dirty`, none above the least solution, and keeps a
+    /// reading of each of them, sound and nowhere below the vector at the start. A round may start at a
+    /// vector of the system nowhere above the least solution, with sound readings and a trail that has
+    /// room for all tasks; members are places below the number of resources.
     ///
     /// After Ok other bounds and readings are as before, and the trail has the marks that it had and
     /// those of all tasks on members. Where memory is refused the vector hasn't fallen and is nowhere

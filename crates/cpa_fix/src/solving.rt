@@ -28,8 +28,9 @@ pub struct Solution {
     pub readings: Readings,
 }
 
-/// The least solution of a system, by rounds that begin at `start` with the readings that are kept and
-/// go on until every resource is clean.
+/// The least solution of a system, in ticks, by rounds that begin at `start` with the readings that
+/// are kept and go on until every resource is clean. The start is a vector of the system nowhere above
+/// the least solution, the readings are sound at it, and the trail has room for all tasks.
 ///
 /// All tasks on resources that were dirty at the start are then marked. New marks are of tasks on
 /// resources in their cone alone, also where memory is refused; start and readings are given up then.

@@ -20,8 +20,9 @@ use cpa_units::{Bound, TaskId, Vector};
 use cpa_window::Rival;
 
 /// The bound of a task at a vector, in ticks: the component of the analysis for that task, where all
-/// other tasks keep to their bounds (Richter's thesis, 2005). It is computed in the trail's room, and
-/// the task is marked.
+/// other tasks keep to their bounds (Richter's thesis, 2005). `Overload` where its input is unbounded,
+/// or by the rule of its resource's kind. It is computed in the trail's room, which must be enough for
+/// all tasks, and the task is marked.
 #[tactic(auto, unfolding(crate::specs::Local::response))]
 pub fn respond(system: &System, task: TaskId, x: &Vector, trail: &mut Trail) -> Bound
     requires there { task.0 < length system.now.tasks }

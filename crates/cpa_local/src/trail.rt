@@ -26,7 +26,7 @@ impl Model for Trail {
 }
 
 impl Trail {
-    /// A trail without marks, with room for a system of so many tasks.
+    /// A trail without marks, with room for a system of so many tasks, at most 512.
     pub fn with_room(alloc: Global, tasks: u32) -> Result<Trail, NoMemory>
         requires { tasks ≤ MAX_TASKS }
         ensures room { IfOk result (λ t. t.room ≡ tasks) }
@@ -39,7 +39,7 @@ impl Trail {
         })
     }
 
-    /// Whether a task was analysed.
+    /// Whether a task, whose place is below 512, was analysed.
     pub fn marked(&self, task: TaskId) -> bool
         requires { task.0 < MAX_TASKS }
         ensures { IsTrue result ↔ IsMarked self.now task.0 }
