@@ -71,11 +71,9 @@ def many():
 
 def call(command):
     start = time.perf_counter()
-    process = subprocess.Popen(command, stdout=subprocess.PIPE, stderr=subprocess.DEVNULL)
-    first = process.stdout.readline().decode().strip()
-    process.stdout.read()
-    _, _, used = os.wait4(process.pid, 0)
-    return time.perf_counter() - start, used.ru_maxrss, first
+    done = subprocess.run(["/usr/bin/time", "-f", "%M", *command], capture_output=True, check=False)
+    took = time.perf_counter() - start
+    return took, done.stderr.decode().split()[-1], done.stdout.decode().split("\n")[0]
 
 
 def main():
@@ -83,6 +81,7 @@ def main():
     reader = os.path.join(TOP, "crates/cpa_read_bench/out/cpa_read_bench")
     if not os.path.exists(reader):
         subprocess.run(["rt", "run"], cwd=os.path.join(TOP, "crates/cpa_read_bench"), capture_output=True, check=False)
+    subprocess.run([os.path.join(TOP, "lokwurmi")], capture_output=True, check=False)
     print(f"processors: {os.cpu_count()}")
     for make in (comments, largest, many):
         text = make()
@@ -90,7 +89,7 @@ def main():
         with open(path, "w") as file:
             file.write(text)
         ways = [(way, [reader, way, path]) for way in ("load", "toml", "system")]
-        ways.append(("analyse", [os.path.join(TOP, "lokwurmi"), "analyse", path]))
+        ways.append(("analyse", [os.path.join(TOP, "crates/cpa_cli/out/cpa_cli"), "analyse", path]))
         for way, command in ways:
             runs = [call(command) for _ in range(5)]
             print(f"{make.__name__} {len(text)} bytes, {way}: {min(run[0] for run in runs):.4f} s, {runs[0][1]} KiB, {runs[0][2][:60]}")
