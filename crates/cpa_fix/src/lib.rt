@@ -9,8 +9,6 @@ mod one_by_one;
 mod readings;
 mod rounds;
 mod solving;
-#[cfg(test)]
-mod tests;
 
 pub use laws::{bounds_depend_on_reads, clean_is_least};
 pub use one_by_one::OneByOne;
