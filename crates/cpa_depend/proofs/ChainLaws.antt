@@ -47,16 +47,6 @@ pub record IsWalk (s : SystemLists) (i : ℕ) (set all : List Bool) (at : ℕ) :
   pub sound : (q : ℕ) → Members all q → Members set q ⊎ HasEarlierOn s i q
   pub rest : (j : ℕ) → LeadsTo s j i → Members all (task_at s j).res.0 ⊎ LeadsTo s j at
 
-pub walk-start : (s : SystemLists) (i : ℕ) (set : List Bool) → i < length s.tasks → IsWalk s i set set i
-walk-start s i set h =
-    record {
-      in_range = h;
-      path = inl refl;
-      kept = λ q m. m;
-      sound = λ q m. inl m;
-      rest = λ j leads. inr leads;
-    }
-
 activated_once : (s : SystemLists) (i j : ℕ) (k : TaskId) → Activates s j i → (task_at s i).after ≡ Task k → j ≡ k.0
 activated_once s i j k e f =
     let both : Task (record { 0 = j }) ≡ Task k = sym e ∙ f in

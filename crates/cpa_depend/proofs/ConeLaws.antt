@@ -117,9 +117,6 @@ pass-add s set wider next grown place q in_range off reads on with_place pass =
 
 -- what `widened` answers
 
-pub pass-some : (s : SystemLists) (set wider : List Bool) (place : ℕ) → IsPass s set wider true place → IsWiderWithin s set wider
-pass-some s set wider place pass = record { all = pass.all; within = pass.within; more = pass.more refl }
-
 pub pass-none : (s : SystemLists) (set wider : List Bool) → IsSystem s → IsPass s set wider false (length s.resources) → IsClosedUnder s set
 pass-none s set wider rules pass r q reads member =
     elim (Reads-there s r q rules reads) [

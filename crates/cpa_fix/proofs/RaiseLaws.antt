@@ -9,11 +9,11 @@ use Rattle.cpa_model.specs.Rules.{IsSystem}
 use Rattle.cpa_local.specs.Local.{response}
 use Rattle.cpa_units.specs.declared.limits.TheConstants.{MAX_LIMIT}
 use Rattle.cpa_local.specs.Solution.{IsVector, least_of}
-use Rattle.cpa_units.proofs.BoundLaws.{IsAtMost_refl, IsAtMost_trans, IsNowhereAbove_refl, IsNowhereAbove_trans, le-bound_max_left, le-bound_max_right, bound_max-le, bound_max-limit}
+use Rattle.cpa_units.proofs.BoundLaws.{IsAtMost_refl, IsAtMost_trans, IsNowhereAbove_trans, le-bound_max_left, le-bound_max_right, bound_max-le, bound_max-limit}
 use Rattle.cpa_local.proofs.ResponseLaws.{response-mono}
 use Rattle.cpa_local.proofs.SolutionLaws.{response-below, response-high}
 use Rattle.cpa_local.specs.Trails.{Marks, IsMarked, IsKept, NewMarksAre, AreMarked}
-use Rattle.cpa_local.proofs.TrailLaws.{IsKept_refl, IsKept_trans, NewMarks_trans, NewMarks-weaker}
+use Rattle.cpa_local.proofs.TrailLaws.{IsKept_trans, NewMarks_trans, NewMarks-weaker}
 use Rattle.cpa_fix.specs.Rounds.{TasksOn, IsRisen, IsRaised, AgreeOutside}
 
 bound_of-set_same : (x : List Bound) (i : ℕ) (b : Bound) → i < length x → bound_of (set x i b) i ≡ b
@@ -21,9 +21,6 @@ bound_of-set_same x i b h = get_or-set_same x i b (Within 0) h
 
 bound_of-set_other : (x : List Bound) (i j : ℕ) (b : Bound) → (j ≡ i → ⊥) → bound_of (set x i b) j ≡ bound_of x j
 bound_of-set_other x i j b ne = rw get_or-set_other refl
-
-pub IsRisen_refl : (s : SystemLists) (old new : List Bound) → IsRisen s old new → IsRisen s new new
-IsRisen_refl s old new h = record { vector = h.vector; up = IsNowhereAbove_refl new; below = h.below }
 
 pub IsRisen_trans : (s : SystemLists) (a b c : List Bound) → IsRisen s a b → IsRisen s b c → IsRisen s a c
 IsRisen_trans s a b c first second =
@@ -75,17 +72,6 @@ raised-whole s r old new before after count all h =
       kept = h.kept;
       fresh = h.fresh;
       marked = λ i on. h.marked i (let less = on.0 in omega arith) on.1;
-    }
-
-pub raise-start : (s : SystemLists) (r : ℕ) (x : List Bound) (trail : Marks) → IsRisen s x x → IsRaisedTo s r x x trail trail 0
-raise-start s r x trail risen =
-    record {
-      risen = risen;
-      others = λ i off. refl;
-      answered = λ i h. absurd (omega arith);
-      kept = IsKept_refl trail;
-      fresh = λ i m. inl m;
-      marked = λ i h. absurd (omega arith);
     }
 
 pub raise-skip : (s : SystemLists) (r : ℕ) (old new : List Bound) (before after : Marks) (task : ℕ) → ((task_at s task).res.0 ≡ r → ⊥) → IsRaisedTo s r old new before after task → IsRaisedTo s r old new before after (task + 1)

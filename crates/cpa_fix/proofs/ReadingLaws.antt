@@ -1,16 +1,16 @@
 -- What a search for the least solution keeps, and why it ends.
-use Rattle.std.proofs.Common.{◌≡◌, ℕ, suc, ◌+◌, ◌<◌, ◌≤◌, length, List, [], ◌∷◌, refl, sym, ap, ◌∙◌, arith}
+use Rattle.std.proofs.Common.{◌≡◌, ℕ, suc, ◌<◌, ◌≤◌, length, List, [], ◌∷◌, refl, sym, ap, ◌∙◌, arith}
 use Rattle.std.specs.List.{sum_by}
 use Rattle.std.proofs.lemmas.List.Sums.{sum_by-cons}
 use Rattle.cpa_units.specs.declared.bound.Bound.{Bound}
-use Rattle.cpa_units.specs.declared.bound.Bound.TheVariants.{Within, Overload}
 use Rattle.cpa_units.specs.declared.limits.TheConstants.{MAX_LIMIT}
-use Rattle.cpa_units.specs.Bounds.{IsAtMost, RespectsLimit, IsNowhereAbove, bound_of}
+use Rattle.cpa_units.specs.Bounds.{RespectsLimit, IsNowhereAbove, bound_of}
 use Rattle.cpa_units.proofs.BoundLaws.{IsAtMost_trans, IsNowhereAbove_trans}
 use Rattle.cpa_model.specs.SystemLists.{SystemLists}
 use Rattle.cpa_local.specs.Local.{response}
 use Rattle.cpa_local.specs.Solution.{IsVector}
 use Rattle.cpa_local.proofs.VectorLaws.{same_bounds}
+use Rattle.cpa_local.proofs.SolutionLaws.{rank, rank-mono, rank-same}
 use Rattle.cpa_fix.specs.Readings.{IsSound, IsClean}
 
 -- a reading stays sound while the vector rises
@@ -30,26 +30,9 @@ clean_from_still s r seen x vector up sound =
 
 -- ---- how far vectors rise
 
--- the place of a bound among all that a vector may have
-abbrev pub rank : Bound → ℕ
-rank (Within a) = a
-rank Overload = MAX_LIMIT + 1
-
 -- how far a vector has risen
 abbrev pub risen : List Bound → ℕ
-risen x = sum_by rank x
-
-rank-mono : (a b : Bound) → RespectsLimit MAX_LIMIT a → IsAtMost a b → rank a ≤ rank b
-rank-mono (Within a) (Within b) l h = h
-rank-mono (Within a) Overload l h = omega arith
-rank-mono Overload (Within b) l h = absurd h
-rank-mono Overload Overload l h = omega arith
-
-rank-same : (a b : Bound) → RespectsLimit MAX_LIMIT a → IsAtMost a b → rank b ≤ rank a → a ≡ b
-rank-same (Within a) (Within b) l h k = ap Within (omega arith)
-rank-same (Within a) Overload l h k = absurd (omega arith)
-rank-same Overload (Within b) l h k = absurd h
-rank-same Overload Overload l h k = refl
+risen x = sum_by (rank MAX_LIMIT) x
 
 -- a vector that is nowhere above another has risen no further
 pub risen-mono : (x y : List Bound) → length x ≡ length y → ((i : ℕ) → i < length x → RespectsLimit MAX_LIMIT (bound_of x i)) → IsNowhereAbove x y → risen x ≤ risen y
@@ -57,7 +40,7 @@ risen-mono [] [] e l h = omega arith
 risen-mono [] (b ∷ y) e l h = omega arith
 risen-mono (a ∷ x) [] e l h = absurd (omega arith)
 risen-mono (a ∷ x) (b ∷ y) e l h =
-    omega (arith, rank-mono a b (l 0 (omega arith)) (h 0), risen-mono x y (omega arith) (λ i k. l (suc i) (omega arith)) (λ i. h (suc i)), sum_by-cons rank a x, sum_by-cons rank b y)
+    omega (arith, rank-mono MAX_LIMIT a b (l 0 (omega arith)) (h 0), risen-mono x y (omega arith) (λ i k. l (suc i) (omega arith)) (λ i. h (suc i)), sum_by-cons (rank MAX_LIMIT) a x, sum_by-cons (rank MAX_LIMIT) b y)
 
 -- and if it has risen as far, it is the same
 pub risen-same : (x y : List Bound) → length x ≡ length y → ((i : ℕ) → i < length x → RespectsLimit MAX_LIMIT (bound_of x i)) → IsNowhereAbove x y → risen y ≤ risen x → x ≡ y
@@ -67,10 +50,10 @@ risen-same (a ∷ x) [] e l h k = absurd (omega arith)
 risen-same (a ∷ x) (b ∷ y) e l h k =
     let within = λ (i : ℕ) (below : i < length x). l (suc i) (let b : suc i < length (a ∷ x) = omega arith in b) in
     let long : length x ≡ length y = omega arith in
-    let here = rank-mono a b (l 0 (omega arith)) (h 0) in
+    let here = rank-mono MAX_LIMIT a b (l 0 (omega arith)) (h 0) in
     let rest = risen-mono x y long within (λ i. h (suc i)) in
-    let xs = sum_by-cons rank a x in
-    let ys = sum_by-cons rank b y in
-    let first : a ≡ b = rank-same a b (l 0 (omega arith)) (h 0) (omega arith) in
+    let xs = sum_by-cons (rank MAX_LIMIT) a x in
+    let ys = sum_by-cons (rank MAX_LIMIT) b y in
+    let first : a ≡ b = rank-same MAX_LIMIT a b (l 0 (omega arith)) (h 0) (omega arith) in
     let others : x ≡ y = risen-same x y long within (λ i. h (suc i)) (omega arith) in
     cc

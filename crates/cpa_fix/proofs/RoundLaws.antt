@@ -18,7 +18,7 @@ use Rattle.cpa_units.specs.Sets.{holds, Members}
 use Rattle.cpa_fix.proofs.RaiseLaws.{IsRisen_trans}
 use Rattle.cpa_fix.specs.declared.readings.Reading.{Reading}
 use Rattle.cpa_fix.specs.Readings.{reading_of, AreSound}
-use Rattle.cpa_fix.specs.Rounds.{TasksOn, MayStart, IsRisen, IsRound, IsRaised, AgreeOutside, HasNoFeedback}
+use Rattle.cpa_fix.specs.Rounds.{TasksOn, MayStart, IsRisen, IsRound, AgreeOutside, HasNoFeedback}
 use Rattle.cpa_fix.proofs.DependLaws.{response-outside}
 
 -- readings stay sound while the vector rises
@@ -75,11 +75,6 @@ round-same s dirty again x y a b e h =
       fresh = λ r on. h.fresh r (sym (e r) ∙ on);
       same = λ r off. h.same r (sym (e r) ∙ off);
     }
-
--- what was analysed has the vector before as a sound reading
-pub raised-sound : (s : SystemLists) (r : ℕ) (x y : List Bound) (before after : Marks) → IsVector s x → IsRaised s r x y before after → IsSound s r x y
-raised-sound s r x y before after vector raised =
-    record { vector = vector; below = raised.risen.up; answered = raised.answered }
 
 -- a resource whose bounds alone have risen, with a new sound reading nowhere below the old vector
 pub round-of_one : (s : SystemLists) (r : ℕ) (seen x y : List Bound) (kept : List (Option Reading)) → r < length s.resources → AreSound s kept x → IsNowhereAbove x y → ((i : ℕ) → ((task_at s i).res.0 ≡ r → ⊥) → bound_of y i ≡ bound_of x i) → IsSound s r seen y → IsNowhereAbove x seen → IsRound s (λ q. q == r) x y kept (set kept r (Some (record { seen = seen })))
@@ -193,15 +188,3 @@ part-more s dirty x y z a b c old mid new place on h risen done kept fresh marke
         | inr other ↦ kept.marks i (h.marked i (at.0, ((let lt = at.1.0 in let k : (task_at s i).res.0 < place = omega arith in k), at.1.1)))
       ];
     }
-
--- as far as the last place it is a round
-pub part-whole : (s : SystemLists) (dirty : List Bool) (x y : List Bound) (a b : List (Option Reading)) (old new : Marks) (count : ℕ) → ((r : ℕ) → Members dirty r → r < count) → IsPartRound s dirty x y a b old new count → IsRound s (holds dirty) x y a b
-part-whole s dirty x y a b old new count in_range h =
-    round-same s (λ r. nat_lt r count && holds dirty r) (holds dirty) x y a b
-    (λ r. elim (cases_Bool (holds dirty r)) [
-      | inl on ↦ rw (on, lt-ltb r count (in_range r on)) refl
-      | inr off ↦ rw off (sym (and_right _ _ refl))
-    ]) h.done
-
-pub part-marked : (s : SystemLists) (dirty : List Bool) (x y : List Bound) (a b : List (Option Reading)) (old new : Marks) (count : ℕ) → ((r : ℕ) → Members dirty r → r < count) → IsPartRound s dirty x y a b old new count → AreMarked new (TasksOn s (Members dirty))
-part-marked s dirty x y a b old new count in_range h = λ i on. h.marked i (on.0, (in_range (task_at s i).res.0 on.1, on.1))

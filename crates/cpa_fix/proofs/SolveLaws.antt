@@ -5,7 +5,7 @@ use Rattle.std.proofs.lemmas.Bool.{cases_lt, cases_eq, cases_Bool, eq-eqb, ne_eq
 use Rattle.std.proofs.lemmas.List.Sums.{sum_by-le}
 use Rattle.std.proofs.lemmas.List.Elements.{All-from_get_or}
 use Rattle.cpa_units.specs.declared.bound.Bound.{Bound}
-use Rattle.cpa_units.specs.declared.bound.Bound.TheVariants.{Within, Overload}
+use Rattle.cpa_units.specs.declared.bound.Bound.TheVariants.{Within}
 use Rattle.cpa_units.specs.Bounds.{IsNowhereAbove, RespectsLimit, bound_of}
 use Rattle.cpa_model.specs.SystemLists.{SystemLists, task_at}
 use Rattle.cpa_units.specs.declared.limits.TheConstants.{MAX_LIMIT}
@@ -13,7 +13,8 @@ use Rattle.cpa_local.specs.Solution.{IsVector}
 use Rattle.std.proofs.lemmas.List.{length-replicate}
 use Rattle.cpa_fix.specs.Readings.{AgreeOnReads}
 use Rattle.cpa_fix.proofs.DependLaws.{clean_is_least}
-use Rattle.cpa_fix.proofs.ReadingLaws.{rank, risen, risen-same, clean_from_still}
+use Rattle.cpa_fix.proofs.ReadingLaws.{risen, risen-same, clean_from_still}
+use Rattle.cpa_local.proofs.SolutionLaws.{rank, rank-le}
 use Rattle.cpa_units.specs.Sets.{holds, Members}
 use Rattle.cpa_model.specs.Rules.{IsSystem}
 use Rattle.cpa_local.specs.Trails.{Marks, IsMarked, IsKept, NewMarksAre, AreMarked}
@@ -136,12 +137,8 @@ top x = length x * (MAX_LIMIT + 1)
 abbrev pub room : List Bound → ℕ
 room x = top x - risen x
 
-rank-le : (b : Bound) → RespectsLimit MAX_LIMIT b → rank b ≤ MAX_LIMIT + 1
-rank-le (Within a) h = omega arith
-rank-le Overload h = omega arith
-
 pub risen-le : (x : List Bound) → ((j : ℕ) → j < length x → RespectsLimit MAX_LIMIT (bound_of x j)) → risen x ≤ top x
-risen-le x high = sum_by-le rank (MAX_LIMIT + 1) x (All-from_get_or (λ b. rank b ≤ MAX_LIMIT + 1) x (Within 0) (λ j k. rank-le (bound_of x j) (high j k)))
+risen-le x high = sum_by-le (rank MAX_LIMIT) (MAX_LIMIT + 1) x (All-from_get_or (λ b. rank MAX_LIMIT b ≤ MAX_LIMIT + 1) x (Within 0) (λ j k. rank-le MAX_LIMIT (bound_of x j) (high j k)))
 
 -- 1 while something is dirty
 abbrev pub pending : Option (List Bool) → ℕ
@@ -250,9 +247,6 @@ search-solved s start_at kept old x readings trail h =
       sound = h.now.sound;
       clean = h.stale;
     }
-
-pub search-marked : (s : SystemLists) (start_at : List Bound) (kept : List (Option Reading)) (old : Marks) (x : List Bound) (readings : List (Option Reading)) (trail : Marks) → IsSearch s start_at kept old x readings None trail → AreMarked trail (TasksOn s (IsDirty s kept start_at))
-search-marked s start_at kept old x readings trail h i on = elim (h.marked i on) [ inl it ↦ it | inr none ↦ absurd none ]
 
 -- readings of no resource are sound at each vector
 pub none-sound : (s : SystemLists) (x : List Bound) → AreSound s (replicate (length s.resources) None) x

@@ -1,6 +1,5 @@
 pub mod BlockingLaws
 pub mod CycleLaws
-pub mod InputLaws
 pub mod ResponseLaws
 pub mod RivalLaws
 pub mod SolutionLaws

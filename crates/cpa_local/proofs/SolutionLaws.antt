@@ -19,25 +19,25 @@ use Rattle.cpa_local.proofs.ResponseLaws.{response-mono, response-limit, respons
 -- ---- how often vectors can rise
 
 -- the place of a bound among those within a limit
-rank : ℕ → Bound → ℕ
+pub rank : ℕ → Bound → ℕ
 rank limit (Within a) = a
 rank limit Overload = limit + 1
 
-rank-mono : (limit : ℕ) (a b : Bound) → RespectsLimit limit a → IsAtMost a b → rank limit a ≤ rank limit b
+pub rank-mono : (limit : ℕ) (a b : Bound) → RespectsLimit limit a → IsAtMost a b → rank limit a ≤ rank limit b
 unfolding rank
 rank-mono limit (Within a) (Within b) l h = h
 rank-mono limit (Within a) Overload l h = omega arith
 rank-mono limit Overload (Within b) l h = absurd h
 rank-mono limit Overload Overload l h = omega arith
 
-rank-same : (limit : ℕ) (a b : Bound) → RespectsLimit limit a → IsAtMost a b → rank limit b ≤ rank limit a → a ≡ b
+pub rank-same : (limit : ℕ) (a b : Bound) → RespectsLimit limit a → IsAtMost a b → rank limit b ≤ rank limit a → a ≡ b
 unfolding rank
 rank-same limit (Within a) (Within b) l h k = ap Within (omega arith)
 rank-same limit (Within a) Overload l h k = absurd (omega arith)
 rank-same limit Overload (Within b) l h k = absurd h
 rank-same limit Overload Overload l h k = refl
 
-rank-le : (limit : ℕ) (a : Bound) → RespectsLimit limit a → rank limit a ≤ limit + 1
+pub rank-le : (limit : ℕ) (a : Bound) → RespectsLimit limit a → rank limit a ≤ limit + 1
 unfolding rank
 rank-le limit (Within a) l = omega arith
 rank-le limit Overload l = omega arith
