@@ -4,7 +4,7 @@ ghost use Rattle.std.specs.Prelude.{◌≡◌, ◌++◌, codes, IfOk};
 ghost use Rattle.cpa_cli.specs.Lines.{words_refused, part_word, system_refused};
 
 use cpa_model::{Part, Refusal};
-use cpa_report::Text;
+use cpa_text::Text;
 use cpa_units::NoMemory;
 use std::alloc::Global;
 

@@ -1,5 +1,5 @@
 -- What a search for the least solution keeps, and why it ends.
-use Rattle.std.proofs.Common.{◌≡◌, ℕ, suc, ◌<◌, ◌≤◌, length, List, [], ◌∷◌, refl, sym, ap, ◌∙◌, arith}
+use Rattle.std.proofs.Common.{◌≡◌, ℕ, zero, suc, ◌<◌, ◌≤◌, ◌⊎◌, length, List, [], ◌∷◌, Option, Some, None, refl, sym, ap, ◌∙◌, arith}
 use Rattle.std.specs.List.{sum_by}
 use Rattle.std.proofs.lemmas.List.Sums.{sum_by-cons}
 use Rattle.cpa_units.specs.declared.bound.Bound.{Bound}
@@ -11,7 +11,8 @@ use Rattle.cpa_local.specs.Local.{response}
 use Rattle.cpa_local.specs.Solution.{IsVector}
 use Rattle.cpa_local.proofs.VectorLaws.{same_bounds}
 use Rattle.cpa_local.proofs.SolutionLaws.{rank, rank-mono, rank-same}
-use Rattle.cpa_fix.specs.Readings.{IsSound, IsClean}
+use Rattle.cpa_fix.specs.declared.readings.Reading.{Reading}
+use Rattle.cpa_fix.specs.Readings.{IsSound, IsClean, reading_of}
 
 -- a reading stays sound while the vector rises
 pub IsSound-mono : (s : SystemLists) (r : ℕ) (seen x y : List Bound) → IsNowhereAbove x y → IsSound s r seen x → IsSound s r seen y
@@ -57,3 +58,19 @@ risen-same (a ∷ x) (b ∷ y) e l h k =
     let first : a ≡ b = rank-same MAX_LIMIT a b (l 0 (omega arith)) (h 0) (omega arith) in
     let others : x ≡ y = risen-same x y long within (λ i. h (suc i)) (omega arith) in
     cc
+
+-- ---- readings that are taken over
+
+-- those below a place are taken over, and those from it on are still there
+pub record IsTakenOver (others old remaining new : List (Option Reading)) (place : ℕ) : Type 0 where
+  pub long : length new ≡ length old
+  pub rest : length remaining ≡ length others
+  pub left : (r : ℕ) → place ≤ r → reading_of remaining r ≡ reading_of others r
+  pub taken : (r : ℕ) (reading : Reading) → r < place → reading_of others r ≡ Some reading → reading_of new r ≡ Some reading
+  pub same : (r : ℕ) → place ≤ r ⊎ reading_of others r ≡ None → reading_of new r ≡ reading_of old r
+
+-- a reading that is kept is one of the list
+pub reading-in_range : (kept : List (Option Reading)) (r : ℕ) (reading : Reading) → reading_of kept r ≡ Some reading → r < length kept
+reading-in_range [] r reading e = absurd (let f : ⊥ = cc in f)
+reading-in_range (m ∷ ms) zero reading e = omega arith
+reading-in_range (m ∷ ms) (suc r) reading e = let less = reading-in_range ms r reading e in omega arith

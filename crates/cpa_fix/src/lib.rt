@@ -4,14 +4,16 @@
 //! ticks.
 #![tactic(auto)]
 
+mod analysing;
 mod laws;
 mod one_by_one;
 mod readings;
 mod rounds;
 mod solving;
 
+pub use analysing::analyse;
 pub use laws::{bounds_depend_on_reads, clean_is_least};
-pub use one_by_one::OneByOne;
+pub use one_by_one::{OneByOne, round_of_one};
 pub use readings::{Reading, Readings};
 pub use rounds::Round;
 pub use solving::{Solution, solve};

@@ -1,20 +1,16 @@
 //! A round on the calling thread.
 
-ghost use Rattle.std.specs.Prelude.{ℕ, ◌<◌, ◌≤◌, ◌≡◌, ◌==◌, length};
-ghost use Rattle.std.specs.Bool.{OnFalse};
+ghost use Rattle.std.specs.Prelude.{ℕ, ◌<◌, ◌≡◌, ◌==◌, length};
 ghost use Rattle.std.specs.Result.{OnOk};
-ghost use Rattle.cpa_units.specs.Bounds.{bound_max, IsNowhereAbove};
-ghost use Rattle.cpa_local.specs.Solution.{IsVector};
 ghost use Rattle.cpa_local.specs.Trails.{IsKept, NewMarksAre, AreMarked};
-ghost use Rattle.cpa_fix.specs.Readings.{IsSound};
-ghost use Rattle.cpa_fix.specs.Rounds.{MayStart, IsRisen, IsRound, IsRaised, TasksOn, AgreeOutside, HasNoFeedback};
+ghost use Rattle.cpa_fix.specs.Rounds.{MayStart, IsRisen, IsRound, TasksOn};
 
+use crate::analysing::analyse;
 use crate::readings::{Reading, Readings};
 use crate::rounds::Round;
-use cpa_depend::leads_back;
-use cpa_local::{Trail, respond};
-use cpa_model::{Kind, System};
-use cpa_units::{Bound, NoMemory, ResId, ResSet, TaskId, Vector};
+use cpa_local::Trail;
+use cpa_model::System;
+use cpa_units::{NoMemory, ResId, ResSet, Vector};
 use std::alloc::Global;
 use std::thread::Threads;
 
@@ -37,15 +33,15 @@ impl Round for OneByOne {
         for place in 0..count {
             let res = ResId(place);
             if dirty.has(res) {
-                analyse(alloc, system, res, x, readings, trail)?;
+                round_of_one(alloc, system, res, x, readings, trail)?;
             }
         }
         Ok(())
     }
 }
 
-/// A round over one resource.
-fn analyse(
+/// A round over one resource, whose place is below the number of resources, as `Round` has it.
+pub fn round_of_one(
     alloc: Global,
     system: &System,
     res: ResId,
@@ -62,71 +58,7 @@ fn analyse(
     ensures marked { OnOk result (AreMarked trail.new (TasksOn system.now (λ r. r ≡ res.0))) }
 {
     let mut seen = x.copy(alloc)?;
-    raise(system, res, x, trail);
-    bring_up(system, res, &mut seen, x);
+    analyse(system, res, &mut seen, x, trail);
     readings.put(res, Reading { seen });
     Ok(())
-}
-
-/// Raises the bounds on a resource by its analysis, task after task, each at the vector as it is by then.
-fn raise(system: &System, res: ResId, x: &mut Vector, trail: &mut Trail)
-    requires start { IsRisen system.now x.old x.old }
-    requires room { length system.now.tasks ≤ trail.old.room }
-    ensures { IsRaised system.now res.0 x.old x.new trail.old trail.new }
-{
-    let count = system.tasks();
-    for task in 0..count {
-        let task = TaskId(task);
-        if system.task(task).res.0 == res.0 {
-            let bound = respond(system, task, x, trail);
-            let raised = greater(bound, x.get(task));
-            x.set(task, raised);
-        }
-    }
-}
-
-/// The greater of two bounds.
-fn greater(a: Bound, b: Bound) -> Bound
-    ensures { result ≡ bound_max a b }
-{
-    match (a, b) {
-        (Bound::Within(m), Bound::Within(n)) => Bound::Within(m.max(n)),
-        _ => Bound::Overload,
-    }
-}
-
-/// Brings the vector at which a resource was analysed up to the raised one where the analysis would
-/// be the same there, so that the resource isn't dirty by its own bounds.
-fn bring_up(system: &System, res: ResId, seen: &mut Vector, x: &Vector)
-    requires in_range { res.0 < length system.now.resources }
-    requires vector { IsVector system.now x.now }
-    requires sound { IsSound system.now res.0 seen.old x.now }
-    requires others { AgreeOutside system.now res.0 seen.old x.now }
-    ensures sound { IsSound system.now res.0 seen.new x.now }
-    ensures up { IsNowhereAbove seen.old seen.new }
-{
-    if !has_feedback(system, res) {
-        copy_entries(seen, x);
-    }
-}
-
-/// Whether the bounds on a resource may bear on its own analysis.
-fn has_feedback(system: &System, res: ResId) -> bool
-    requires { res.0 < length system.now.resources }
-    ensures { OnFalse result (HasNoFeedback system.now res.0) }
-{
-    match system.resource(res).kind {
-        Kind::RoundRobin => true,
-        _ => leads_back(system, res),
-    }
-}
-
-/// Gives one vector the entries of another of the same length.
-fn copy_entries(to: &mut Vector, from: &Vector)
-    requires { length to.old ≡ length from.now }
-    ensures { to.new ≡ from.now }
-{
-    for k in 0..from.len() {
-        to.set(TaskId(k), from.get(TaskId(k)));
-    }
 }

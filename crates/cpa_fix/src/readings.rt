@@ -5,6 +5,7 @@ ghost use Rattle.std.specs.Result.{OnOk};
 ghost use Rattle.cpa_units.specs.Sets.{holds, Members};
 ghost use Rattle.cpa_units.specs.declared.bound.Bound.{Bound};
 ghost use Rattle.cpa_fix.specs.Readings.{reading_of, AreSound};
+ghost use Rattle.cpa_fix.specs.declared.readings.Reading.{Reading};
 
 use cpa_model::System;
 use cpa_units::{NoMemory, ResId, ResSet, Vector};
@@ -103,6 +104,21 @@ impl Readings {
         for place in 0..self.kept.len() {
             if set.has(ResId(place as u32)) {
                 self.kept[place] = None;
+            }
+        }
+    }
+
+    /// Takes over each reading of some others, of the same system.
+    pub fn take_over(&mut self, others: Readings)
+        requires { length others ≡ length self.old }
+        ensures long { length self.new ≡ length self.old }
+        ensures taken { (r : ℕ) (reading : Reading) → reading_of others r ≡ Some reading → reading_of self.new r ≡ Some reading }
+        ensures same { (r : ℕ) → reading_of others r ≡ None → reading_of self.new r ≡ reading_of self.old r }
+    {
+        let mut all = others.kept;
+        for place in 0..all.len() {
+            if let Some(reading) = all[place].take() {
+                self.kept[place] = Some(reading);
             }
         }
     }

@@ -22,7 +22,8 @@ use Rattle.cpa_model.specs.declared.entries.Activator.{Activator}
 use Rattle.cpa_model.specs.declared.entries.Activator.TheVariants.{Source as FromSource, Task as FromTask}
 use Rattle.cpa_model.specs.SystemLists.{SystemLists, task_at, source_at, resource_of, slot_of, higher_tasks, other_tasks, blocking_of, cycle_of, no_source}
 use Rattle.cpa_model.specs.Rules.{IsSystem, IsSource}
-use Rattle.cpa_local.specs.Inputs.{model_of, output_of, sent_by, input_along, input}
+use Rattle.cpa_model.specs.Streams.{model_of}
+use Rattle.cpa_local.specs.Inputs.{output_of, sent_by, input_along, input}
 use Rattle.cpa_local.specs.Local.{rival_of, bound_by_kind, bound_at_input, response, responses}
 
 -- ---- inputs are models

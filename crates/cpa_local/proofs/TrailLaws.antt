@@ -1,5 +1,6 @@
 -- What becomes of marks.
-use Rattle.std.proofs.Common.{◌≡◌, ℕ, zero, suc, false, replicate, slice_index_or, refl, inl, inr, arith}
+use Rattle.std.proofs.Common.{◌≡◌, ℕ, zero, suc, ◌<◌, ◌⊎◌, Bool, true, false, List, [], ◌∷◌, length, replicate, slice_index_or, refl, inl, inr, arith}
+use Rattle.std.proofs.lemmas.Bool.{false≢true}
 use Rattle.cpa_local.specs.Trails.{Marks, IsKept, NewMarksAre}
 
 -- where nothing is marked
@@ -21,3 +22,15 @@ NewMarks_trans a b c which first second i h = elim (second i h) [ inl before ↦
 
 pub NewMarks-weaker : (a b : Marks) (which wider : ℕ → Type 0) → ((i : ℕ) → which i → wider i) → NewMarksAre a b which → NewMarksAre a b wider
 NewMarks-weaker a b which wider up h i m = elim (h i m) [ inl before ↦ inl before | inr new ↦ inr (up i new) ]
+
+-- the marks of two trails, as far as a place
+pub record IsJoined (one other both : List Bool) (place : ℕ) : Type 0 where
+  pub kept : (i : ℕ) → slice_index_or one i false ≡ true → slice_index_or both i false ≡ true
+  pub fresh : (i : ℕ) → slice_index_or both i false ≡ true → (slice_index_or one i false ≡ true) ⊎ (slice_index_or other i false ≡ true)
+  pub marked : (i : ℕ) → i < place → slice_index_or other i false ≡ true → slice_index_or both i false ≡ true
+
+-- a mark is a place in the list
+pub marked-in_range : (marks : List Bool) (i : ℕ) → slice_index_or marks i false ≡ true → i < length marks
+marked-in_range [] i e = absurd (false≢true e)
+marked-in_range (m ∷ ms) zero e = omega arith
+marked-in_range (m ∷ ms) (suc i) e = let less = marked-in_range ms i e in omega arith

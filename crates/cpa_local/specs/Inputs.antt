@@ -7,14 +7,10 @@ use Rattle.cpa_units.specs.declared.limits.TheConstants.{MAX_CHAIN}
 use Rattle.cpa_units.specs.Bounds.{bound_of}
 use Rattle.cpa_events.specs.declared.Model.{Model}
 use Rattle.cpa_events.specs.Events.{after_response}
-use Rattle.cpa_model.specs.declared.entries.Source.{Source}
 use Rattle.cpa_model.specs.declared.entries.Activator.{Activator}
 use Rattle.cpa_model.specs.declared.entries.Activator.TheVariants.{Source as FromSource, Task as FromTask}
-use Rattle.cpa_model.specs.SystemLists.{SystemLists, task_at, source_at}
-
--- the event model of a source
-abbrev pub model_of : Source → Model
-model_of r = record { period = r.period; jitter = r.jitter; distance = r.distance }
+use Rattle.cpa_model.specs.SystemLists.{SystemLists, task_at}
+use Rattle.cpa_model.specs.Streams.{source_model}
 
 -- what comes out of a task with this least execution, bound and input; unbounded where its bound or its input is
 abbrev pub output_of : ℕ → Bound → Option Model → Option Model
@@ -24,7 +20,7 @@ output_of best Overload m = None
 
 -- what an activator sends, where `input` tells the tasks' inputs
 abbrev pub sent_by : SystemLists → List Bound → (ℕ → Option Model) → Activator → Option Model
-sent_by s x input (FromSource k) = Some (model_of (source_at s k.0))
+sent_by s x input (FromSource k) = Some (source_model s k.0)
 sent_by s x input (FromTask j) = output_of (task_at s j.0).best (bound_of x j.0) (input j.0)
 
 -- the input of a task whose chain has at most so many tasks

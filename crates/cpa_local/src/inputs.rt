@@ -6,28 +6,13 @@ ghost use Rattle.cpa_units.specs.declared.limits.TheConstants.{MAX_CHAIN, MAX_JI
 ghost use Rattle.cpa_units.specs.Bounds.{bound_of};
 ghost use Rattle.cpa_events.specs.Events.{IsModelInRange, HasJitterUpTo};
 ghost use Rattle.cpa_model.specs.SystemLists.{task_at};
-ghost use Rattle.cpa_model.specs.Rules.{IsSource};
-ghost use Rattle.cpa_local.specs.Inputs.{model_of, output_of, input_along, input};
+ghost use Rattle.cpa_local.specs.Inputs.{output_of, input_along, input};
 ghost use Rattle.cpa_local.specs.Solution.{IsVector};
 
 use cpa_events::Model;
-use cpa_model::{Activator, Source, System};
+use cpa_model::{Activator, System};
 use cpa_units::limits::{MAX_CHAIN, MAX_JITTER, MAX_LIMIT};
 use cpa_units::{Bound, TaskId, Vector};
-
-/// The event model of a source.
-fn source_model(source: &Source) -> Model
-    requires { IsSource source.now }
-    ensures value { result ≡ model_of source.now }
-    ensures in_range { IsModelInRange result }
-    ensures jitter { HasJitterUpTo result MAX_JITTER }
-{
-    Model {
-        period: source.period,
-        jitter: source.jitter,
-        distance: source.distance,
-    }
-}
 
 /// The input of a task at a vector, as an event model in ticks; none where it is unbounded. It is
 /// what the task's activator sends: jitter grows along the chain by what each response may vary
@@ -55,7 +40,7 @@ fn input_along(system: &System, task: TaskId, x: &Vector, more: u32) -> Option<M
         return None;
     }
     match system.task(task).after {
-        Activator::Source(source) => Some(source_model(system.source(source))),
+        Activator::Source(source) => Some(system.source(source).model()),
         Activator::Task(earlier) => {
             let model = input_along(system, earlier, x, more - 1);
             output(system, earlier, x, model, more - 1)

@@ -17,12 +17,14 @@ pub struct Trail {
 }
 
 impl Model for Trail {
-    ghost use Rattle.std.specs.Prelude.{vec_capacity};
+    ghost use Rattle.std.specs.Prelude.{◌≡◌, length, vec_capacity};
     ghost use Rattle.cpa_local.specs.Trails.{Marks};
 
     ghost Value = { Marks };
 
     ghost view = { λ t. record { marks = t.marks; room = vec_capacity t.rivals } };
+
+    ghost invariant = { λ t. length t.marks ≡ 512 };
 }
 
 impl Trail {
@@ -45,6 +47,19 @@ impl Trail {
         ensures { IsTrue result ↔ IsMarked self.now task.0 }
     {
         self.marks[task.0 as usize]
+    }
+
+    /// Sets each mark of another trail as well.
+    pub fn join(&mut self, other: &Trail)
+        ensures kept { IsKept self.old self.new }
+        ensures fresh { NewMarksAre self.old self.new (IsMarked other.now) }
+        ensures marked { AreMarked self.new (IsMarked other.now) }
+    {
+        for task in 0..self.marks.len() {
+            if other.marks[task] {
+                self.marks[task] = true;
+            }
+        }
     }
 
     /// Sets a task's mark.

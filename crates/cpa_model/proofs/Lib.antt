@@ -8,3 +8,4 @@ pub mod RedraftNumbers
 pub mod RedraftRanks
 pub mod RedraftUnrefused
 pub mod SystemLaws
+pub mod ChangedLaws

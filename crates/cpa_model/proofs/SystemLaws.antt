@@ -27,7 +27,7 @@ map_some : {X Y : Type 0} (f : X → Y) (o p : Option X) (y : Y) → ((x : X) �
 map_some f None p y more e = absurd (none-some y e)
 map_some f (Some x) p y more e = rw (more x refl) e
 
-step_more : (o : Option Activator) (f g : ℕ → Option ℕ) (d : ℕ) → ((j d : ℕ) → f j ≡ Some d → g j ≡ Some d) → chain_step o f ≡ Some d → chain_step o g ≡ Some d
+pub step_more : (o : Option Activator) (f g : ℕ → Option ℕ) (d : ℕ) → ((j d : ℕ) → f j ≡ Some d → g j ≡ Some d) → chain_step o f ≡ Some d → chain_step o g ≡ Some d
 step_more None f g d more e = e
 step_more (Some (Source k)) f g d more e = e
 step_more (Some (Task j)) f g d more e = map_some suc (f j.0) (g j.0) d (more j.0) e
@@ -88,7 +88,7 @@ pub depth_of-most : (s : SystemLists) (i : ℕ) → depth_of s i ≤ 32
 depth_of-most s i = most_or (depth_within (activators s.tasks) 32 i) 32 (depth_within-most (activators s.tasks) 32 i)
 
 -- a chain has some tasks
-step_some : (o : Option Activator) (f : ℕ → Option ℕ) (d : ℕ) → chain_step o f ≡ Some d → 1 ≤ d
+pub step_some : (o : Option Activator) (f : ℕ → Option ℕ) (d : ℕ) → chain_step o f ≡ Some d → 1 ≤ d
 step_some None f d e = absurd (none-some d e)
 step_some (Some (Source k)) f d e = let p : 1 ≡ d = same_Some 1 d e in omega arith
 step_some (Some (Task j)) f d e = by (f j.0) e

@@ -3,3 +3,5 @@ pub mod Chains
 pub mod Rules
 pub mod SystemLists
 pub mod Redraft
+pub mod Changes
+pub mod Streams

@@ -1,10 +1,18 @@
 //! The entries of a system. Times are in ticks.
 
-ghost use Rattle.std.specs.Prelude.{◌≡◌, ◌<◌, ◌^◌, length, slice_get, Some, IfSome, position, ◌==◌, if◌then◌else◌};
+ghost use Rattle.std.specs.Prelude.{◌≡◌, ◌<◌, ◌^◌, length, map, slice_get, Some, IfSome, IfOk, position, ◌==◌, if◌then◌else◌};
 ghost use Rattle.std.specs.Str.{bytes_eq};
+ghost use Rattle.cpa_units.specs.declared.limits.TheConstants.{MAX_JITTER};
+ghost use Rattle.cpa_events.specs.Events.{IsModelInRange, HasJitterUpTo};
 ghost use Rattle.cpa_model.specs.SystemLists.{gap_of, slot_of};
+ghost use Rattle.cpa_model.specs.Streams.{model_of};
+ghost use Rattle.cpa_model.specs.Rules.{IsSource};
+ghost use Rattle.cpa_model.specs.Changes.{id_without};
 
-use cpa_units::{Name, ResId, SourceId, TaskId};
+use crate::changes::id_without;
+use cpa_events::Model as EventModel;
+use cpa_units::{Name, NoMemory, ResId, SourceId, TaskId};
+use std::alloc::Global;
 use std::marker::Model;
 
 /// How a resource chooses among its tasks.
@@ -39,6 +47,22 @@ pub struct Source {
     pub jitter: u64,
     /// The least time between two events, 0 to the period.
     pub distance: u64,
+}
+
+impl Source {
+    /// The event model by which its events come, in ticks (Richter's thesis, 2005).
+    pub fn model(&self) -> EventModel
+        requires { IsSource self.now }
+        ensures value { result ≡ model_of self.now }
+        ensures in_range { IsModelInRange result }
+        ensures jitter { HasJitterUpTo result MAX_JITTER }
+    {
+        EventModel {
+            period: self.period,
+            jitter: self.jitter,
+            distance: self.distance,
+        }
+    }
 }
 
 /// What starts the jobs of a task: each event of a source, or each completion of a task.
@@ -76,6 +100,14 @@ pub struct TaskList {
     tasks: Vec<TaskId>,
 }
 
+fn close_up_ids(tasks: &mut [TaskId], removed: TaskId)
+    ensures { tasks.new ≡ map (id_without removed.0) tasks.old }
+{
+    for task in tasks.iter_mut() {
+        *task = id_without(removed, *task);
+    }
+}
+
 impl Model for TaskList {
     ghost use Rattle.std.specs.Prelude.{◌<◌, ◌^◌, List, length};
     ghost use Rattle.cpa_units.specs.declared.places.TaskId.{TaskId};
@@ -106,6 +138,20 @@ impl TaskList {
         ensures { slice_get self.now k ≡ Some result }
     {
         self.tasks[k as usize]
+    }
+
+    pub(crate) fn copy(&self, alloc: Global) -> Result<TaskList, NoMemory>
+        ensures { IfOk result (λ copy. copy ≡ self.now) }
+    {
+        let tasks = Vec::from_slice(alloc, self.tasks.as_slice())?;
+        Ok(TaskList { tasks })
+    }
+
+    /// What the tasks are once a task is gone.
+    pub(crate) fn close_up(&mut self, removed: TaskId)
+        ensures { self.new ≡ map (id_without removed.0) self.old }
+    {
+        close_up_ids(self.tasks.as_mut_slice(), removed);
     }
 }
 

@@ -5,6 +5,7 @@
 
 pub mod build;
 mod chains;
+mod changes;
 pub mod entries;
 pub mod system;
 #[cfg(test)]

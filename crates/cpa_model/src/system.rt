@@ -31,6 +31,31 @@ impl System {
     ghost use Rattle.cpa_model.specs.SystemLists.{resource_at, source_at, task_at, path_at, resource_named, source_named, task_named, root_of, depth_of, cycle_of};
     ghost use Rattle.cpa_model.specs.Rules.{IsSystem, IsResource, IsSource, IsTask, IsPath};
 
+    /// A system keeps its rules. The call does nothing.
+    pub fn has_rules(&self)
+        ensures { IsSystem self.now }
+    {
+        let _ = &self.tasks;
+    }
+
+    /// The system of four lists that keep the rules.
+    pub fn of_lists(
+        resources: Vec<Resource>,
+        sources: Vec<Source>,
+        tasks: Vec<Task>,
+        paths: Vec<Path>,
+    ) -> System
+        requires { IsSystem (record { resources = resources.items; sources = sources.items; tasks = tasks.items; paths = paths.items }) }
+        ensures { result ≡ record { resources = resources.items; sources = sources.items; tasks = tasks.items; paths = paths.items } }
+    {
+        System {
+            resources,
+            sources,
+            tasks,
+            paths,
+        }
+    }
+
     /// The number of resources.
     pub fn resources(&self) -> u32
         ensures count { result ≡ length self.now.resources }

@@ -5,8 +5,7 @@ mod paths;
 mod report;
 #[cfg(test)]
 mod tests;
-mod text;
 
+pub use cpa_text::Text;
 pub use paths::{path_best, path_worst};
-pub use report::{report_text, verdict};
-pub use text::Text;
+pub use report::{put_bound, put_summary_at, report_text, verdict};

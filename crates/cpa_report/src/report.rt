@@ -10,14 +10,15 @@ ghost use Rattle.cpa_local.specs.Solution.{IsVector};
 ghost use Rattle.cpa_report.specs.Report.{is_overload, is_missed, bound_text, outcome_text, deadline_text, names_text, model_text, unbounded_text, input_text, bounds_text, task_line, path_line, summary_line, report_text, verdict};
 
 use crate::paths::{Outcome, is_missed, judge, path_best, path_worst};
-use crate::text::Text;
 use cpa_events::Model;
 use cpa_local::input;
 use cpa_model::System;
+use cpa_text::Text;
 use cpa_units::{Bound, NoMemory, PathId, TaskId, Vector};
 use std::alloc::Global;
 
-fn put_bound(text: &mut Text, bound: Bound) -> Result<(), NoMemory>
+/// Writes a bound.
+pub fn put_bound(text: &mut Text, bound: Bound) -> Result<(), NoMemory>
     ensures { OnOk result (text.new ≡ text.old ++ bound_text bound) }
 {
     match bound {
@@ -188,6 +189,19 @@ fn count_missed(system: &System, x: &Vector) -> u32
         }
     }
     count
+}
+
+/// Writes the summary of a report.
+pub fn put_summary_at(text: &mut Text, system: &System, x: &Vector) -> Result<(), NoMemory>
+    requires { IsVector system.now x.now }
+    ensures { OnOk result (text.new ≡ text.old ++ summary_line (length system.now.tasks) (count_by is_overload x.now) (count_by (is_missed x.now) system.now.paths)) }
+{
+    put_summary(
+        text,
+        u64::from(system.tasks()),
+        u64::from(count_overloads(x)),
+        u64::from(count_missed(system, x)),
+    )
 }
 
 /// The report of a system at a vector: a line per task, a line per path, and the counts.

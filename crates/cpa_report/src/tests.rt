@@ -1,6 +1,6 @@
 use crate::paths::judge;
 use crate::report::{put_bounds, put_deadline, put_outcome, put_unbounded};
-use crate::text::Text;
+use cpa_text::Text;
 use cpa_units::Bound;
 use std::test::Fail;
 

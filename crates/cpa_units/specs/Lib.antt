@@ -1,3 +1,4 @@
+pub mod Digits
 pub mod Frames
 pub mod Search
 pub mod Bounds

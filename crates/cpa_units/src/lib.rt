@@ -7,6 +7,7 @@ pub mod bound;
 pub mod frames;
 pub mod limits;
 pub mod name;
+pub mod numbers;
 pub mod places;
 pub mod res_set;
 #[cfg(test)]
@@ -16,6 +17,7 @@ pub mod vector;
 pub use bound::{Bound, words_have_laws};
 pub use frames::frame_bits;
 pub use name::{Name, NameFault, is_name};
+pub use numbers::read_number;
 pub use places::{NoMemory, PathId, ResId, SourceId, TaskId};
 pub use res_set::ResSet;
 pub use vector::Vector;

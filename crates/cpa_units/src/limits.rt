@@ -69,6 +69,9 @@ pub const MAX_TRACE_JOBS: u64 = 2_000_000;
 /// The last time of a trace.
 pub const MAX_TRACE_TIME: u64 = 10_000_000;
 
+/// The greatest phase of a trace.
+pub const MAX_PHASE: u64 = 1_000_000_000;
+
 /// The last tick of a simulation.
 pub const HORIZON: u64 = 20_000_000;
 

@@ -5,6 +5,7 @@ ghost use Rattle.std.specs.List.{list_all};
 ghost use Rattle.cpa_units.specs.Name.{is_name, is_name_byte};
 
 use crate::limits::MAX_NAME;
+use crate::places::NoMemory;
 use std::alloc::Global;
 use std::marker::Model;
 
@@ -66,6 +67,16 @@ impl Name {
         match Vec::from_slice(alloc, bytes) {
             Ok(bytes) => Ok(Name { bytes }),
             Err(_) => Err(NameFault::Memory),
+        }
+    }
+
+    /// An equal name.
+    pub fn copy(&self, alloc: Global) -> Result<Name, NoMemory>
+        ensures { IfOk result (λ copy. copy ≡ self.now) }
+    {
+        match Name::read(alloc, self.bytes()) {
+            Ok(copy) => Ok(copy),
+            Err(_) => Err(NoMemory),
         }
     }
 

@@ -1,5 +1,0 @@
-use Rattle.cpa_fix.proofs.RaiseLaws.{IsRaisedTo}
-use Rattle.cpa_fix.proofs.one_by_one.raise.Given as goal
-
-abbrev pub invariant-loop-task : goal.invariant-loop-task
-invariant-loop-task l = IsRaisedTo l.system l.fn.res.0 l.initial.x l.x l.initial.trail l.trail l.task

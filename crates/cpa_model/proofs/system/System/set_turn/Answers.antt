@@ -1,0 +1,11 @@
+use Rattle.cpa_model.proofs.ChangedLaws.{turn-written, system-same}
+use Rattle.cpa_model.proofs.system.System.set_turn.Goals as goal
+
+pub invariant_of-self : goal.invariant_of-self
+invariant_of-self c =
+    let rules = rw (← c.self.view_is) at c.requires.rules in
+    system-same _ _ (turn-written _ c.args.task.0 c.args.turn c.index_mut-entry.result.now (rw (← c.self.view_is) at c.requires.there) c.index_mut-entry.ensures.value) rules
+
+pub returns : goal.returns
+returns c =
+    rw (← c.self.view_is) (turn-written _ c.args.task.0 c.args.turn c.index_mut-entry.result.now (rw (← c.self.view_is) at c.requires.there) c.index_mut-entry.ensures.value)
