@@ -1,5 +1,5 @@
 -- Walks along chains, and what resources read.
-use Rattle.std.proofs.Common.{◌≡◌, ℕ, ◌+◌, ◌<◌, ◌≤◌, ◌⊎◌, ◌↔◌, ◌||◌, ◌==◌, length, Bool, true, false, List, [], refl, sym, ap, ◌∙◌, inl, inr, subst, slice_index_or, arith}
+use Rattle.std.proofs.Common.{◌≡◌, ℕ, ◌+◌, ◌<◌, ◌≤◌, ◌⊎◌, ◌↔◌, ◌||◌, ◌==◌, length, Bool, true, false, List, [], refl, sym, ap, ◌∙◌, inl, inr, subst, slice_index_or, get_or, arith}
 use Rattle.std.proofs.lemmas.Bool.{cases_lt, or_cases, or_left, or_right, eqb-true, eq-eqb}
 use Rattle.std.proofs.lemmas.List.{get_or_past, get_or_default}
 use Rattle.cpa_units.specs.declared.places.TaskId.{TaskId}
@@ -7,9 +7,11 @@ use Rattle.cpa_units.specs.Sets.{holds, Members}
 use Rattle.cpa_model.specs.declared.entries.Activator.{Activator}
 use Rattle.cpa_model.specs.declared.entries.Activator.TheVariants.{Source, Task}
 use Rattle.cpa_model.specs.declared.entries.Task.{Task as Entry}
-use Rattle.cpa_model.specs.SystemLists.{SystemLists, task_at, no_task}
+use Rattle.cpa_model.specs.SystemLists.{SystemLists, task_at, no_task, places_of, tasks_on}
+use Rattle.cpa_model.proofs.SystemLaws.{no_id}
+use Rattle.cpa_model.proofs.RosterLaws.{on-each, on-found}
 use Rattle.cpa_model.specs.Rules.{IsSystem, IsTask, IsActivator}
-use Rattle.cpa_depend.specs.Cone.{Activates, LeadsTo, directly, through, Reads, itself, earlier, HasEarlierOn, AreReads}
+use Rattle.cpa_depend.specs.Cone.{Activates, LeadsTo, directly, through, Reads, itself, earlier, HasEarlierOn, LeadsBack, AreReads}
 
 -- tasks and activators that are there
 
@@ -106,55 +108,63 @@ Reads-from : (s : SystemLists) (r q i : ℕ) → (task_at s i).res.0 ≡ r → H
 Reads-from s r q i on (j, leads, e) =
     subst (λ (n : ℕ). Reads s n q) on (subst (λ (n : ℕ). Reads s (task_at s i).res.0 n) e (earlier leads))
 
--- the resources that the first tasks make `r` read
-pub record IsReadTo (s : SystemLists) (r : ℕ) (set : List Bool) (task : ℕ) : Type 0 where
+-- the resources that the first tasks of a resource make it read
+pub record IsReadTo (s : SystemLists) (r : ℕ) (tasks : List TaskId) (set : List Bool) (count : ℕ) : Type 0 where
   pub own : Members set r
   pub sound : (q : ℕ) → Members set q → Reads s r q
-  pub done : (i q : ℕ) → i < task → (task_at s i).res.0 ≡ r → HasEarlierOn s i q → Members set q
+  pub done : (k q : ℕ) → k < count → HasEarlierOn s (get_or tasks k no_id).0 q → Members set q
 
-pub read-start : (s : SystemLists) (r : ℕ) (none set : List Bool) → ((q : ℕ) → holds none q ≡ false)
-    → ((q : ℕ) → holds set q ≡ (q == r || holds none q)) → IsReadTo s r set 0
-read-start s r none set empty with_r =
+pub read-start : (s : SystemLists) (r : ℕ) (tasks : List TaskId) (none set : List Bool) → ((q : ℕ) → holds none q ≡ false)
+    → ((q : ℕ) → holds set q ≡ (q == r || holds none q)) → IsReadTo s r tasks set 0
+read-start s r tasks none set empty with_r =
     record {
       own = with_r r ∙ or_left _ _ (eq-eqb r r refl);
       sound = λ q m. elim (or_cases _ _ (sym (with_r q) ∙ m)) [
         | inl same ↦ subst (λ (n : ℕ). Reads s r n) (sym (eqb-true q r same)) itself
         | inr old ↦ absurd (let both : true ≡ false = sym old ∙ empty q in let f : ⊥ = cc in f)
       ];
-      done = λ i q h. absurd (omega arith);
+      done = λ k q h. absurd (omega arith);
     }
 
-pub read-more : (s : SystemLists) (r : ℕ) (set wider : List Bool) (task : ℕ) → (task_at s task).res.0 ≡ r
-    → ((q : ℕ) → Members wider q ↔ (Members set q ⊎ HasEarlierOn s task q)) → IsReadTo s r set task → IsReadTo s r wider (task + 1)
-read-more s r set wider task on more h =
+pub read-more : (s : SystemLists) (r : ℕ) (tasks : List TaskId) (set wider : List Bool) (k : ℕ) → places_of tasks ≡ tasks_on s r → k < length tasks
+    → ((q : ℕ) → Members wider q ↔ (Members set q ⊎ HasEarlierOn s (get_or tasks k no_id).0 q)) → IsReadTo s r tasks set k → IsReadTo s r tasks wider (k + 1)
+read-more s r tasks set wider k are less more h =
     record {
       own = (more r).1 (inl h.own);
-      sound = λ q m. elim ((more q).0 m) [ inl old ↦ h.sound q old | inr new ↦ Reads-from s r q task on new ];
-      done = λ i q lt on_i has. elim (cases_lt i task) [
-        | inl before ↦ (more q).1 (inl (h.done i q before on_i has))
-        | inr ge ↦ let here : i ≡ task = omega arith in (more q).1 (inr (subst (λ (n : ℕ). HasEarlierOn s n q) here has))
+      sound = λ q m. elim ((more q).0 m) [ inl old ↦ h.sound q old | inr new ↦ Reads-from s r q (get_or tasks k no_id).0 (on-each s r tasks are k no_id less) new ];
+      done = λ i q lt has. elim (cases_lt i k) [
+        | inl before ↦ (more q).1 (inl (h.done i q before has))
+        | inr ge ↦ let here : i ≡ k = omega arith in (more q).1 (inr (subst (λ (n : ℕ). HasEarlierOn s (get_or tasks n no_id).0 q) here has))
       ];
     }
 
-pub read-skip : (s : SystemLists) (r : ℕ) (set : List Bool) (task : ℕ) → ((task_at s task).res.0 ≡ r → ⊥) → IsReadTo s r set task → IsReadTo s r set (task + 1)
-read-skip s r set task off h =
-    record {
-      own = h.own;
-      sound = h.sound;
-      done = λ i q lt on_i has. elim (cases_lt i task) [
-        | inl before ↦ h.done i q before on_i has
-        | inr ge ↦ let here : i ≡ task = omega arith in absurd (off (subst (λ (n : ℕ). (task_at s n).res.0 ≡ r) here on_i))
-      ];
-    }
-
-pub read-all : (s : SystemLists) (r : ℕ) (set : List Bool) → IsReadTo s r set (length s.tasks) → (q : ℕ) → Members set q ↔ Reads s r q
-read-all s r set h q = (
+pub read-all : (s : SystemLists) (r : ℕ) (tasks : List TaskId) (set : List Bool) (k : ℕ) → places_of tasks ≡ tasks_on s r → length tasks ≤ k → IsReadTo s r tasks set k → (q : ℕ) → Members set q ↔ Reads s r q
+read-all s r tasks set k are end h q = (
   h.sound q,
   λ reads. elim (Reads-parts s reads) [
     | inl same ↦ subst (λ (n : ℕ). Members set n) same h.own
-    | inr part ↦ h.done part.0 q part.1 part.2 part.3
+    | inr part ↦
+        let at = on-found s r tasks are part.0 no_id part.1 part.2 in
+        h.done at.0 q (let less = at.1 in omega arith) (subst (λ (n : ℕ). HasEarlierOn s n q) (sym at.2) part.3)
   ],
 )
+
+-- a task of the resource has an earlier one of its chain there, or it hasn't
+pub back-found : (s : SystemLists) (r : ℕ) (tasks : List TaskId) (none set : List Bool) (k : ℕ) → places_of tasks ≡ tasks_on s r → k < length tasks → (get_or tasks k no_id).0 < length s.tasks
+    → ((q : ℕ) → holds none q ≡ false) → ((q : ℕ) → Members set q ↔ (Members none q ⊎ HasEarlierOn s (get_or tasks k no_id).0 q)) → Members set r → LeadsBack s r
+back-found s r tasks none set k are less there empty more m =
+    elim ((more r).0 m) [
+      | inl old ↦ absurd (let both : true ≡ false = sym old ∙ empty r in let f : ⊥ = cc in f)
+      | inr has ↦ ((get_or tasks k no_id).0, there, on-each s r tasks are k no_id less, has)
+    ]
+
+pub back-not : (s : SystemLists) (r i : ℕ) (none set : List Bool) → ((q : ℕ) → Members set q ↔ (Members none q ⊎ HasEarlierOn s i q)) → holds set r ≡ false → HasEarlierOn s i r → ⊥
+back-not s r i none set more off has = let both : true ≡ false = sym ((more r).1 (inr has)) ∙ off in let f : ⊥ = cc in f
+
+pub back-none : (s : SystemLists) (r : ℕ) (tasks : List TaskId) (count : ℕ) → places_of tasks ≡ tasks_on s r → length tasks ≤ count → ((k : ℕ) → k < count → HasEarlierOn s (get_or tasks k no_id).0 r → ⊥) → LeadsBack s r → ⊥
+back-none s r tasks count are end not back =
+    let at = on-found s r tasks are back.0 no_id back.1 back.2 in
+    not at.0 (let less = at.1 in omega arith) (subst (λ (n : ℕ). HasEarlierOn s n r) (sym at.2) back.3)
 
 task-placed : (s : SystemLists) (i : ℕ) → IsSystem s → i < length s.tasks → (task_at s i).res.0 < length s.resources
 task-placed s i rules there = let t : IsTask s (task_at s i) = rules.tasks i no_task there in t.placed

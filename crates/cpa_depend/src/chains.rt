@@ -29,12 +29,10 @@ pub fn reads(system: &System, res: ResId) -> ResSet
     requires { res.0 < length system.now.resources }
     ensures { (q : ℕ) → Members result q ↔ Reads system.now res.0 q }
 {
-    let tasks = system.tasks();
+    let tasks = system.tasks_on(res);
     let mut set = ResSet::none().with(res);
-    for k in 0..tasks {
-        if system.task(TaskId(k)).res.0 == res.0 {
-            set = with_earlier(system, TaskId(k), set);
-        }
+    for task in tasks {
+        set = with_earlier(system, *task, set);
     }
     set
 }
@@ -44,11 +42,8 @@ pub fn leads_back(system: &System, res: ResId) -> bool
     requires { res.0 < length system.now.resources }
     ensures { IsTrue result ↔ LeadsBack system.now res.0 }
 {
-    let tasks = system.tasks();
-    let resources = system.resources();
-    for k in 0..tasks {
-        let task = TaskId(k);
-        if system.task(task).res.0 == res.0 && with_earlier(system, task, ResSet::none()).has(res) {
+    for task in system.tasks_on(res) {
+        if with_earlier(system, *task, ResSet::none()).has(res) {
             return true;
         }
     }

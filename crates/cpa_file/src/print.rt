@@ -11,7 +11,7 @@ ghost use Rattle.cpa_model.specs.Redraft.{activator_name};
 ghost use Rattle.cpa_file.specs.Printed.{put, kind_text, with_kind_number, resource_data, source_data, with_turn, task_names_data, task_data, with_deadline, name_data, path_data, system_data, IsPrinted};
 
 use cpa_model::{Activator, Kind, Path, Resource, Source, System, Task, TaskList, Turn};
-use cpa_units::{NoMemory, PathId, ResId, SourceId, TaskId};
+use cpa_units::{Name, NoMemory, PathId, ResId, SourceId, TaskId};
 use std::alloc::Global;
 use toml::{Table, Value};
 
@@ -33,17 +33,23 @@ fn put_number(alloc: Global, entry: &mut Table, key: &str, number: u64) -> Resul
     put(alloc, entry, key, Value::Integer(number as i64))
 }
 
-/// A name as a value; its bytes are text.
-fn text_value(alloc: Global, text: &[u8]) -> Result<Value, NoMemory>
-    ensures { IfOk result (λ v. view v ≡ string text.now) }
+/// A name as text; its bytes are ASCII.
+fn name_text(name: &Name) -> &str
+    ensures { result.now ≡ name.now }
 {
-    match std::str::from_utf8(text) {
-        Ok(text) => Ok(Value::string(alloc, text)?),
-        Err(_) => Err(NoMemory),
+    match std::str::from_utf8(name.bytes()) {
+        Ok(text) => text,
+        Err(_) => unreachable!(),
     }
 }
 
-fn put_text(alloc: Global, entry: &mut Table, key: &str, text: &[u8]) -> Result<(), NoMemory>
+fn text_value(alloc: Global, text: &str) -> Result<Value, NoMemory>
+    ensures { IfOk result (λ v. view v ≡ string text.now) }
+{
+    Ok(Value::string(alloc, text)?)
+}
+
+fn put_text(alloc: Global, entry: &mut Table, key: &str, text: &str) -> Result<(), NoMemory>
     ensures { OnOk result (table_view entry.new ≡ put key.now (string text.now) (table_view entry.old)) }
 {
     put(alloc, entry, key, text_value(alloc, text)?)
@@ -78,13 +84,8 @@ fn resource_value(alloc: Global, resource: &Resource) -> Result<Value, NoMemory>
     ensures { IfOk result (λ v. view v ≡ resource_data resource.now) }
 {
     let mut entry = Table::new(alloc);
-    put_text(alloc, &mut entry, "name", resource.name.bytes())?;
-    put_text(
-        alloc,
-        &mut entry,
-        "kind",
-        kind_word(resource.kind).as_bytes(),
-    )?;
+    put_text(alloc, &mut entry, "name", name_text(&resource.name))?;
+    put_text(alloc, &mut entry, "kind", kind_word(resource.kind))?;
     put_number(alloc, &mut entry, "limit", resource.limit)?;
     put_kind_number(alloc, &mut entry, resource.kind)?;
     Ok(Value::Table(entry))
@@ -96,7 +97,7 @@ fn source_value(alloc: Global, source: &Source) -> Result<Value, NoMemory>
     ensures { IfOk result (λ v. view v ≡ source_data source.now) }
 {
     let mut entry = Table::new(alloc);
-    put_text(alloc, &mut entry, "name", source.name.bytes())?;
+    put_text(alloc, &mut entry, "name", name_text(&source.name))?;
     put_number(alloc, &mut entry, "period", source.period)?;
     put_number(alloc, &mut entry, "jitter", source.jitter)?;
     put_number(alloc, &mut entry, "distance", source.distance)?;
@@ -104,13 +105,13 @@ fn source_value(alloc: Global, source: &Source) -> Result<Value, NoMemory>
 }
 
 /// The name of what activates a task.
-fn activator_bytes<'a>(system: &'a System, task: &Task) -> &'a [u8]
+fn activator_text<'a>(system: &'a System, task: &Task) -> &'a str
     requires { IsTask system.now task.now }
     ensures { result.now ≡ activator_name system.now task.now.after }
 {
     match task.after {
-        Activator::Source(source) => system.source(source).name.bytes(),
-        Activator::Task(earlier) => system.task(earlier).name.bytes(),
+        Activator::Source(source) => name_text(&system.source(source).name),
+        Activator::Task(earlier) => name_text(&system.task(earlier).name),
     }
 }
 
@@ -120,14 +121,14 @@ fn task_table(alloc: Global, system: &System, task: &Task) -> Result<Table, NoMe
     ensures { IfOk result (λ t. table_view t ≡ task_names_data system.now task.now) }
 {
     let mut entry = Table::new(alloc);
-    put_text(alloc, &mut entry, "name", task.name.bytes())?;
+    put_text(alloc, &mut entry, "name", name_text(&task.name))?;
     put_text(
         alloc,
         &mut entry,
         "on",
-        system.resource(task.res).name.bytes(),
+        name_text(&system.resource(task.res).name),
     )?;
-    put_text(alloc, &mut entry, "after", activator_bytes(system, task))?;
+    put_text(alloc, &mut entry, "after", activator_text(system, task))?;
     Ok(entry)
 }
 
@@ -170,7 +171,7 @@ fn name_values(alloc: Global, system: &System, tasks: &TaskList) -> Result<Vec<V
 {
     let mut values = Vec::new(alloc);
     for k in 0..tasks.len() {
-        values.push(text_value(alloc, system.task(tasks.get(k)).name.bytes())?)?;
+        values.push(text_value(alloc, name_text(&system.task(tasks.get(k)).name))?)?;
     }
     Ok(values)
 }
@@ -181,7 +182,7 @@ fn path_value(alloc: Global, system: &System, path: &Path) -> Result<Value, NoMe
     ensures { IfOk result (λ v. view v ≡ path_data system.now path.now) }
 {
     let mut entry = Table::new(alloc);
-    put_text(alloc, &mut entry, "name", path.name.bytes())?;
+    put_text(alloc, &mut entry, "name", name_text(&path.name))?;
     let names = name_values(alloc, system, &path.tasks)?;
     put(alloc, &mut entry, "tasks", Value::Array(names))?;
     put_deadline(alloc, &mut entry, path.deadline)?;

@@ -1,10 +1,13 @@
 -- What raising one bound does.
-use Rattle.std.proofs.Common.{◌≡◌, ℕ, ◌+◌, ◌<◌, ◌≤◌, length, set, List, refl, sym, ◌∙◌, inl, inr, subst, arith, get_or-set_same, get_or-set_other, length-set}
-use Rattle.std.proofs.lemmas.Bool.{cases_eq, cases_lt}
+use Rattle.std.proofs.Common.{◌≡◌, ℕ, ◌+◌, ◌<◌, ◌≤◌, length, set, List, get_or, refl, sym, ap, ◌∙◌, inl, inr, subst, arith, get_or-set_same, get_or-set_other, length-set}
+use Rattle.std.proofs.lemmas.Bool.{cases_eq}
 use Rattle.cpa_units.specs.declared.bound.Bound.{Bound}
 use Rattle.cpa_units.specs.declared.bound.Bound.TheVariants.{Within}
 use Rattle.cpa_units.specs.Bounds.{IsAtMost, IsNowhereAbove, bound_of, bound_max}
-use Rattle.cpa_model.specs.SystemLists.{SystemLists, task_at}
+use Rattle.cpa_units.specs.declared.places.TaskId.{TaskId}
+use Rattle.cpa_model.specs.SystemLists.{SystemLists, task_at, places_of, tasks_on}
+use Rattle.cpa_model.proofs.SystemLaws.{no_id}
+use Rattle.cpa_model.proofs.RosterLaws.{on-each, on-found}
 use Rattle.cpa_model.specs.Rules.{IsSystem}
 use Rattle.cpa_local.specs.Local.{response}
 use Rattle.cpa_units.specs.declared.limits.TheConstants.{MAX_LIMIT}
@@ -54,65 +57,59 @@ risen-set s x i rules h vector below =
       ];
     }
 
--- so far the first tasks
-pub record IsRaisedTo (s : SystemLists) (r : ℕ) (old new : List Bound) (before after : Marks) (count : ℕ) : Type 0 where
+-- so far the first tasks of the resource
+pub record IsRaisedTo (s : SystemLists) (r : ℕ) (tasks : List TaskId) (old new : List Bound) (before after : Marks) (count : ℕ) : Type 0 where
   pub risen : IsRisen s old new
   pub others : AgreeOutside s r new old
-  pub answered : (i : ℕ) → i < count → (task_at s i).res.0 ≡ r → IsAtMost (response s old i) (bound_of new i)
+  pub answered : (k : ℕ) → k < count → IsAtMost (response s old (get_or tasks k no_id).0) (bound_of new (get_or tasks k no_id).0)
   pub kept : IsKept before after
   pub fresh : NewMarksAre before after (TasksOn s (λ q. q ≡ r))
-  pub marked : (i : ℕ) → i < count → (task_at s i).res.0 ≡ r → IsMarked after i
+  pub marked : (k : ℕ) → k < count → IsMarked after (get_or tasks k no_id).0
 
-pub raised-whole : (s : SystemLists) (r : ℕ) (old new : List Bound) (before after : Marks) (count : ℕ) → length s.tasks ≤ count → IsRaisedTo s r old new before after count → IsRaised s r old new before after
-raised-whole s r old new before after count all h =
+pub raised-whole : (s : SystemLists) (r : ℕ) (tasks : List TaskId) (old new : List Bound) (before after : Marks) (count : ℕ) → places_of tasks ≡ tasks_on s r → length tasks ≤ count
+    → IsRaisedTo s r tasks old new before after count → IsRaised s r old new before after
+raised-whole s r tasks old new before after count are all h =
     record {
       risen = h.risen;
       others = h.others;
-      answered = λ i less on. h.answered i (omega arith) on;
+      answered = λ i less on.
+        let at = on-found s r tasks are i no_id less on in
+        subst (λ (j : ℕ). IsAtMost (response s old j) (bound_of new j)) at.2 (h.answered at.0 (omega (arith, at.1)));
       kept = h.kept;
       fresh = h.fresh;
-      marked = λ i on. h.marked i (let less = on.0 in omega arith) on.1;
-    }
-
-pub raise-skip : (s : SystemLists) (r : ℕ) (old new : List Bound) (before after : Marks) (task : ℕ) → ((task_at s task).res.0 ≡ r → ⊥) → IsRaisedTo s r old new before after task → IsRaisedTo s r old new before after (task + 1)
-raise-skip s r old new before after task off h =
-    record {
-      risen = h.risen;
-      others = h.others;
-      answered = λ i lt on. elim (cases_lt i task) [
-        | inl under ↦ h.answered i under on
-        | inr ge ↦ let here : i ≡ task = omega arith in absurd (off (subst (λ (k : ℕ). (task_at s k).res.0 ≡ r) here on))
-      ];
-      kept = h.kept;
-      fresh = h.fresh;
-      marked = λ i lt on. elim (cases_lt i task) [
-        | inl under ↦ h.marked i under on
-        | inr ge ↦ let here : i ≡ task = omega arith in absurd (off (subst (λ (k : ℕ). (task_at s k).res.0 ≡ r) here on))
-      ];
+      marked = λ i on.
+        let at = on-found s r tasks are i no_id on.0 on.1 in
+        subst (λ (j : ℕ). IsMarked after j) at.2 (h.marked at.0 (omega (arith, at.1)));
     }
 
 -- a task is analysed at the vector as it has risen by then, where its bound is no smaller than before
-pub raise-task : (s : SystemLists) (r : ℕ) (old new : List Bound) (before after marked : Marks) (task : ℕ) → IsSystem s → task < length s.tasks → (task_at s task).res.0 ≡ r → IsKept after marked → NewMarksAre after marked (λ i. i ≡ task) → AreMarked marked (λ i. i ≡ task) → IsRaisedTo s r old new before after task → IsRaisedTo s r old (set new task (bound_max (response s new task) (bound_of new task))) before marked (task + 1)
-raise-task s r old new before after marked task rules h on kept fresh mark raised =
+pub raise-task : (s : SystemLists) (r : ℕ) (tasks : List TaskId) (old new : List Bound) (before after marked : Marks) (k : ℕ) → IsSystem s → places_of tasks ≡ tasks_on s r → k < length tasks
+    → (get_or tasks k no_id).0 < length s.tasks → IsKept after marked → NewMarksAre after marked (λ i. i ≡ (get_or tasks k no_id).0) → AreMarked marked (λ i. i ≡ (get_or tasks k no_id).0) → IsRaisedTo s r tasks old new before after k
+    → IsRaisedTo s r tasks old (set new (get_or tasks k no_id).0 (bound_max (response s new (get_or tasks k no_id).0) (bound_of new (get_or tasks k no_id).0))) before marked (k + 1)
+raise-task s r tasks old new before after marked k rules are within h kept fresh mark raised =
+    let task = (get_or tasks k no_id).0 in
+    let on : (task_at s task).res.0 ≡ r = on-each s r tasks are k no_id within in
     let b = bound_max (response s new task) (bound_of new task) in
     let here : task < length new = rw raised.risen.vector.long h in
     let step = risen-set s new task rules h raised.risen.vector raised.risen.below in
     record {
       risen = IsRisen_trans s old new (set new task b) raised.risen step;
       others = λ i off. elim (cases_eq i task) [
-        | inl same ↦ absurd (off (subst (λ (k : ℕ). (task_at s k).res.0 ≡ r) (sym same) on))
+        | inl same ↦ absurd (off (subst (λ (j : ℕ). (task_at s j).res.0 ≡ r) (sym same) on))
         | inr other ↦ bound_of-set_other new task i b other ∙ raised.others i off
       ];
-      answered = λ i lt on_i. elim (cases_eq i task) [
+      answered = λ m lt. elim (cases_eq m k) [
         | inl same ↦
             rw (same, bound_of-set_same new task b here)
             (IsAtMost_trans (response s old task) (response s new task) b (response-mono s old new raised.risen.up task) (le-bound_max_left (response s new task) (bound_of new task)))
-        | inr other ↦ IsAtMost_trans (response s old i) (bound_of new i) (bound_of (set new task b) i) (raised.answered i (omega arith) on_i) (step.up i)
+        | inr other ↦
+            let i = (get_or tasks m no_id).0 in
+            IsAtMost_trans (response s old i) (bound_of new i) (bound_of (set new task b) i) (raised.answered m (omega arith)) (step.up i)
       ];
       kept = IsKept_trans before after marked raised.kept kept;
       fresh = NewMarks_trans before after marked (TasksOn s (λ q. q ≡ r)) raised.fresh (NewMarks-weaker after marked (λ i. i ≡ task) (TasksOn s (λ q. q ≡ r)) (λ i same. rw same (h, on)) fresh);
-      marked = λ i lt on_i. elim (cases_eq i task) [
-        | inl same ↦ mark i same
-        | inr other ↦ kept.marks i (raised.marked i (omega arith) on_i)
+      marked = λ m lt. elim (cases_eq m k) [
+        | inl same ↦ mark (get_or tasks m no_id).0 (ap (λ (n : ℕ). (get_or tasks n no_id).0) same)
+        | inr other ↦ kept.marks (get_or tasks m no_id).0 (raised.marked m (omega arith))
       ];
     }

@@ -8,6 +8,14 @@ use Rattle.cpa_depend.specs.Cone.{Reads}
 use Rattle.cpa_fix.specs.declared.readings.Reading.{Reading}
 use Rattle.cpa_fix.specs.Readings.{reading_of, HasCleanReading}
 
+-- two vectors differ for some task on q
+abbrev pub DiffersOn : SystemLists → ℕ → List Bound → List Bound → Type 0
+DiffersOn s q x y = (j : ℕ) × (j < length s.tasks) × ((task_at s j).res.0 ≡ q) × (bound_of x j ≢ bound_of y j)
+
+-- two vectors have the same for each task on q
+abbrev pub AgreeOn : SystemLists → ℕ → List Bound → List Bound → Type 0
+AgreeOn s q x y = (j : ℕ) → j < length s.tasks → (task_at s j).res.0 ≡ q → bound_of x j ≡ bound_of y j
+
 -- two vectors differ for some task on a resource that r reads
 abbrev pub Differs : SystemLists → ℕ → List Bound → List Bound → Type 0
 Differs s r x y = (j : ℕ) × (j < length s.tasks) × Reads s r (task_at s j).res.0 × (bound_of x j ≢ bound_of y j)

@@ -2,7 +2,7 @@
 
 ghost use Rattle.std.specs.Prelude.{◌<◌, ◌≤◌, ◌≡◌, length};
 ghost use Rattle.std.specs.Bool.{OnFalse};
-ghost use Rattle.cpa_units.specs.Bounds.{bound_max, IsNowhereAbove};
+ghost use Rattle.cpa_units.specs.Bounds.{IsNowhereAbove};
 ghost use Rattle.cpa_local.specs.Solution.{IsVector};
 ghost use Rattle.cpa_fix.specs.Readings.{IsSound};
 ghost use Rattle.cpa_fix.specs.Rounds.{IsRisen, IsRaised, AgreeOutside, HasNoFeedback};
@@ -10,7 +10,7 @@ ghost use Rattle.cpa_fix.specs.Rounds.{IsRisen, IsRaised, AgreeOutside, HasNoFee
 use cpa_depend::leads_back;
 use cpa_local::{Trail, respond};
 use cpa_model::{Kind, System};
-use cpa_units::{Bound, ResId, TaskId, Vector};
+use cpa_units::{ResId, Vector};
 
 /// Analyses a resource at a vector of the system nowhere above the least solution: raises the bounds
 /// on it in `x`, none above the least solution, and marks its tasks. `seen` is that vector too, and is
@@ -32,28 +32,15 @@ pub fn analyse(system: &System, res: ResId, seen: &mut Vector, x: &mut Vector, t
 
 /// Raises the bounds on a resource by its analysis, task after task, each at the vector as it is by then.
 fn raise(system: &System, res: ResId, x: &mut Vector, trail: &mut Trail)
+    requires in_range { res.0 < length system.now.resources }
     requires start { IsRisen system.now x.old x.old }
     requires room { length system.now.tasks ≤ trail.old.room }
     ensures { IsRaised system.now res.0 x.old x.new trail.old trail.new }
 {
-    let count = system.tasks();
-    for task in 0..count {
-        let task = TaskId(task);
-        if system.task(task).res.0 == res.0 {
-            let bound = respond(system, task, x, trail);
-            let raised = greater(bound, x.get(task));
-            x.set(task, raised);
-        }
-    }
-}
-
-/// The greater of two bounds.
-fn greater(a: Bound, b: Bound) -> Bound
-    ensures { result ≡ bound_max a b }
-{
-    match (a, b) {
-        (Bound::Within(m), Bound::Within(n)) => Bound::Within(m.max(n)),
-        _ => Bound::Overload,
+    for task in system.tasks_on(res) {
+        let bound = respond(system, *task, x, trail);
+        let raised = bound.max(x.get(*task));
+        x.set(*task, raised);
     }
 }
 
@@ -69,7 +56,7 @@ fn bring_up(system: &System, res: ResId, seen: &mut Vector, x: &Vector)
     ensures outside { AgreeOutside system.now res.0 seen.new x.now }
 {
     if !has_feedback(system, res) {
-        copy_entries(seen, x);
+        seen.assign(x);
     }
 }
 
@@ -81,15 +68,5 @@ fn has_feedback(system: &System, res: ResId) -> bool
     match system.resource(res).kind {
         Kind::RoundRobin => true,
         _ => leads_back(system, res),
-    }
-}
-
-/// Gives one vector the entries of another of the same length.
-fn copy_entries(to: &mut Vector, from: &Vector)
-    requires { length to.old ≡ length from.now }
-    ensures { to.new ≡ from.now }
-{
-    for k in 0..from.len() {
-        to.set(TaskId(k), from.get(TaskId(k)));
     }
 }

@@ -10,14 +10,14 @@ ghost use Rattle.cpa_local.specs.Trails.{IsKept, NewMarksAre, AreMarked};
 ghost use Rattle.cpa_depend.specs.Cone.{Reads, InCone, AreReads};
 ghost use Rattle.cpa_fix.specs.Readings.{AgreeOnReads, AreSound, HasCleanReading, IsDirty, IsSolved};
 ghost use Rattle.cpa_fix.specs.Rounds.{MayStart, TasksOn};
-ghost use Rattle.cpa_fix.specs.Stale.{Differs, IsStale, AreStale};
+ghost use Rattle.cpa_fix.specs.Stale.{Differs, DiffersOn, AgreeOn, IsStale, AreStale};
 
 use crate::readings::Readings;
 use crate::rounds::Round;
 use cpa_depend::reads_of_all;
 use cpa_local::Trail;
 use cpa_model::System;
-use cpa_units::{Bound, NoMemory, ResId, ResSet, TaskId, Vector};
+use cpa_units::{Bound, NoMemory, ResId, ResSet, Vector};
 use std::alloc::Global;
 use std::thread::Threads;
 
@@ -113,9 +113,26 @@ fn differs(system: &System, res: ResId, read: ResSet, seen: &Vector, x: &Vector)
     ensures yes { OnTrue result (Differs system.now res.0 seen.now x.now) }
     ensures no { OnFalse result (AgreeOnReads system.now res.0 seen.now x.now) }
 {
-    for place in 0..system.tasks() {
-        let task = TaskId(place);
-        if read.has(system.task(task).res) && !is_same(seen.get(task), x.get(task)) {
+    let count = system.resources();
+    for place in 0..count {
+        let other = ResId(place);
+        if read.has(other) && differs_on(system, other, seen, x) {
+            return true;
+        }
+    }
+    false
+}
+
+/// Whether two vectors differ for a task on a resource.
+fn differs_on(system: &System, res: ResId, seen: &Vector, x: &Vector) -> bool
+    requires in_range { res.0 < length system.now.resources }
+    requires seen { IsVector system.now seen.now }
+    requires vector { IsVector system.now x.now }
+    ensures yes { OnTrue result (DiffersOn system.now res.0 seen.now x.now) }
+    ensures no { OnFalse result (AgreeOn system.now res.0 seen.now x.now) }
+{
+    for task in system.tasks_on(res) {
+        if !is_same(seen.get(*task), x.get(*task)) {
             return true;
         }
     }

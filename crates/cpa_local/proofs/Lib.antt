@@ -6,3 +6,6 @@ pub mod SolutionLaws
 pub mod TrailLaws
 pub mod VectorLaws
 pub mod WorkedCases
+pub mod PlaceLists
+pub mod RaisingLaws
+pub mod RaisedLaws

@@ -5,6 +5,7 @@ use Rattle.cpa_units.specs.Bounds.{IsNowhereAbove}
 use Rattle.cpa_model.specs.SystemLists.{SystemLists}
 use Rattle.cpa_model.specs.Rules.{IsSystem}
 use Rattle.cpa_local.specs.Local.{responses}
+use Rattle.cpa_local.specs.Raising.{IsRaising}
 use Rattle.cpa_local.specs.Solution.{IsVector, IsClosed, IsLeast, least_of}
 
 -- where a vector rises, no bound falls
@@ -28,3 +29,7 @@ LeastIsFixed = (s : SystemLists) → responses s (least_of s) ≡ least_of s
 abbrev pub ClosedBelowIsLeast : Type 0
 ClosedBelowIsLeast =
     (s : SystemLists) (x : List Bound) → IsSystem s → IsVector s x → IsNowhereAbove x (least_of s) → IsClosed s x → x ≡ least_of s
+
+-- where each task asks for at least as much, the least solution is nowhere lower
+abbrev pub RaisingLiftsLeast : Type 0
+RaisingLiftsLeast = (s t : SystemLists) → IsSystem s → IsRaising s t → IsNowhereAbove (least_of s) (least_of t)

@@ -3,3 +3,4 @@ pub mod Laws
 pub mod Local
 pub mod Solution
 pub mod Trails
+pub mod Raising

@@ -1,6 +1,6 @@
 //! What holds of bounds and of least solutions, for whoever builds on this crate.
 
-ghost use Rattle.cpa_local.specs.Laws.{ResponsesAreMonotone, LeastExists, LeastIsUnique, LeastIsFixed, ClosedBelowIsLeast};
+ghost use Rattle.cpa_local.specs.Laws.{ResponsesAreMonotone, LeastExists, LeastIsUnique, LeastIsFixed, ClosedBelowIsLeast, RaisingLiftsLeast};
 
 /// Where a vector rises, no bound falls, whatever the kinds of the resources (Richter's thesis, 2005).
 pub fn responses_are_monotone()
@@ -13,4 +13,5 @@ pub fn least_solutions_have_laws()
     ensures unique { LeastIsUnique }
     ensures fixed { LeastIsFixed }
     ensures closed_below { ClosedBelowIsLeast }
+    ensures raising { RaisingLiftsLeast }
 {}

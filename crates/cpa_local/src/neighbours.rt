@@ -77,9 +77,9 @@ pub(crate) fn gather_higher(system: &System, task: TaskId, x: &Vector, rivals: &
     ensures room { vec_capacity rivals.new ≡ vec_capacity rivals.old }
 {
     rivals.clear();
-    for k in 0..system.tasks() {
-        if is_higher(system, task, TaskId(k)) {
-            rivals.push_reserved(rival(system, TaskId(k), x));
+    for other in system.tasks_on(system.task(task).res) {
+        if is_higher(system, task, *other) {
+            rivals.push_reserved(rival(system, *other, x));
         }
     }
 }
@@ -94,9 +94,9 @@ pub(crate) fn gather_others(system: &System, task: TaskId, x: &Vector, rivals: &
     ensures room { vec_capacity rivals.new ≡ vec_capacity rivals.old }
 {
     rivals.clear();
-    for k in 0..system.tasks() {
-        if is_other(system, task, TaskId(k)) {
-            rivals.push_reserved(rival(system, TaskId(k), x));
+    for other in system.tasks_on(system.task(task).res) {
+        if is_other(system, task, *other) {
+            rivals.push_reserved(rival(system, *other, x));
         }
     }
 }
@@ -109,9 +109,9 @@ pub(crate) fn blocking(system: &System, task: TaskId) -> u64
     ensures in_range { result ≤ MAX_EXECUTION }
 {
     let mut most: u64 = 0;
-    for k in 0..system.tasks() {
-        if is_higher(system, TaskId(k), task) {
-            most = most.max(system.task(TaskId(k)).worst);
+    for other in system.tasks_on(system.task(task).res) {
+        if is_higher(system, *other, task) {
+            most = most.max(system.task(*other).worst);
         }
     }
     most

@@ -3,7 +3,7 @@ use Rattle.std.proofs.Common.{◌≡◌, ◌≢◌, ℕ, zero, suc, ◌+◌, ◌
 use Rattle.std.specs.Prelude.{filter}
 use Rattle.std.specs.List.{range_with_len, remove, sum_by}
 use Rattle.std.proofs.Math.Seq.{get_or-append_seam}
-use Rattle.std.proofs.lemmas.Bool.{cases_lt, cases_eq, lt-ltb, le-ltb, eq-eqb, ne_eqb}
+use Rattle.std.proofs.lemmas.Bool.{cases_lt, cases_eq, lt-ltb, le-ltb, eq-eqb, eqb-true, ne_eqb}
 use Rattle.std.proofs.lemmas.List.{take_all, length-append, length-set, length-map, get_or-map, get_or_append_left, map-append, append-nil, get_or-replicate, length-replicate, get_or_default}
 use Rattle.std.proofs.lemmas.List.Edits.{length-remove, get_or-remove_below, get_or-remove_above}
 use Rattle.std.proofs.lemmas.List.Elements.{filter-append, All-append}
@@ -15,7 +15,7 @@ use Rattle.cpa_units.specs.declared.places.TaskId.{TaskId}
 use Rattle.cpa_units.proofs.PlaceLaws.{places, places-more}
 use Rattle.cpa_model.specs.declared.entries.Task.{Task}
 use Rattle.cpa_model.specs.Changes.{place_without, id_without, ids_without, task_without}
-use Rattle.cpa_model.specs.SystemLists.{no_task, place_of, places_of}
+use Rattle.cpa_model.specs.SystemLists.{SystemLists, task_at, is_on, tasks_on, no_task, place_of, places_of}
 use Rattle.cpa_model.specs.Rosters.{roster_at, with_enrolled, is_placed_on, AreRosters}
 
 -- a place, where it passes
@@ -239,3 +239,59 @@ pub slots-all : (f : ℕ → ℕ) (tasks : List TaskId) (places : List ℕ) (k c
     → cycle ≡ sum_by f places + gap
 slots-all f tasks places k cycle gap end are sum =
     sum ∙ ap (λ ts. sum_by (λ (t : TaskId). f t.0) ts + gap) (take_all k tasks end) ∙ ap (λ n. n + gap) (sym (sum_by-places f tasks)) ∙ ap (λ js. sum_by f js + gap) are
+
+-- ---- the members of a roster
+
+one-passes : (p : ℕ → Bool) (k : ℕ) (b : Bool) → p k ≡ b → All (λ j. p j ≡ true) (cond b (k ∷ []) [])
+one-passes p k true e zero d h = e
+one-passes p k true e (suc i) d h = absurd (let f : ⊥ = omega arith in f)
+one-passes p k false e i d h = absurd (let f : ⊥ = omega arith in f)
+
+all-passing : (p : ℕ → Bool) (n : ℕ) → All (λ j. p j ≡ true) (filter p (places n))
+all-passing p zero = none
+  where
+    none : All (λ j. p j ≡ true) []
+    none i d h = absurd (let f : ⊥ = omega arith in f)
+all-passing p (suc n) =
+    let more : suc n ≡ n + 1 = omega arith in
+    subst (λ m. All (λ j. p j ≡ true) (filter p (places m))) (sym more)
+    (rw (filter-places_more p n) (All-append (λ j. p j ≡ true) (filter p (places n)) (if_passing p n) (all-passing p n) (one-passes p n (p n) refl)))
+
+-- the place in a list at which a number stands
+abbrev StandsIn : List ℕ → ℕ → Type 0
+StandsIn js i = (k : ℕ) × (k < length js) × (get_or js k 0 ≡ i)
+
+stands-before : (js ks : List ℕ) (i : ℕ) → StandsIn js i → StandsIn (js ++ ks) i
+stands-before js ks i at = (at.0, omega (arith, at.1, length-append js ks), get_or_append_left js ks 0 at.0 at.1 ∙ at.2)
+
+stands-last : (js : List ℕ) (i : ℕ) → StandsIn (js ++ i ∷ []) i
+stands-last js i = (length js, omega (arith, length-append js (i ∷ [])), get_or-append_seam js i [] 0)
+
+passing-stands : (p : ℕ → Bool) (n i : ℕ) → i < n → p i ≡ true → StandsIn (filter p (places n)) i
+passing-stands p zero i less passes = absurd (let f : ⊥ = omega arith in f)
+passing-stands p (suc n) i less passes =
+    let more : suc n ≡ n + 1 = omega arith in
+    subst (λ m. StandsIn (filter p (places m)) i) (sym more)
+    (rw (filter-places_more p n)
+    (elim (cases_eq i n) [
+      | inl same ↦
+          let last : if_passing p n ≡ i ∷ [] = rw (← same, passes) refl in
+          rw last (stands-last (filter p (places n)) i)
+      | inr other ↦ stands-before (filter p (places n)) (if_passing p n) i (passing-stands p n i (omega arith) passes)
+    ]))
+
+-- each task of a roster is on its resource
+pub on-each : (s : SystemLists) (r : ℕ) (tasks : List TaskId) → places_of tasks ≡ tasks_on s r → (k : ℕ) (d : TaskId) → k < length tasks → (task_at s (get_or tasks k d).0).res.0 ≡ r
+on-each s r tasks are k d less =
+    let passes : All (λ j. is_on s r j ≡ true) (places_of tasks) = rw are (all-passing (is_on s r) (length s.tasks)) in
+    let same : get_or (places_of tasks) k 0 ≡ (get_or tasks k d).0 = get_or-map place_of tasks k d 0 less in
+    let here : is_on s r (get_or (places_of tasks) k 0) ≡ true = passes k 0 (rw (length-map tasks place_of) less) in
+    eqb-true (task_at s (get_or tasks k d).0).res.0 r (rw same at here)
+
+-- and each task on the resource stands in its roster
+pub on-found : (s : SystemLists) (r : ℕ) (tasks : List TaskId) → places_of tasks ≡ tasks_on s r → (i : ℕ) (d : TaskId) → i < length s.tasks → (task_at s i).res.0 ≡ r
+    → (k : ℕ) × (k < length tasks) × ((get_or tasks k d).0 ≡ i)
+on-found s r tasks are i d less on =
+    let at : StandsIn (places_of tasks) i = rw are (passing-stands (is_on s r) (length s.tasks) i less (eq-eqb (task_at s i).res.0 r on)) in
+    let within : at.0 < length tasks = omega (arith, at.1, length-map tasks place_of) in
+    (at.0, within, sym (get_or-map place_of tasks at.0 d 0 within) ∙ at.2)

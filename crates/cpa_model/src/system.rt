@@ -134,6 +134,7 @@ impl System {
         requires { res.0 < length self.now.resources }
         ensures places { places_of result.now ≡ tasks_on self.now res.0 }
         ensures there { All (λ (t : TaskId). t.0 < length self.now.tasks) result.now }
+        ensures rules { IsSystem self.now }
     {
         self.rosters[res.0 as usize].tasks()
     }

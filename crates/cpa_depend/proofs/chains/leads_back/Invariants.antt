@@ -1,7 +1,7 @@
-use Rattle.std.proofs.Common.{◌≡◌, ℕ, ◌<◌}
-use Rattle.cpa_model.specs.SystemLists.{task_at}
+use Rattle.std.proofs.Common.{ℕ, ◌<◌, get_or}
+use Rattle.cpa_model.proofs.SystemLaws.{no_id}
 use Rattle.cpa_depend.specs.Cone.{HasEarlierOn}
 use Rattle.cpa_depend.proofs.chains.leads_back.Given as goal
 
-abbrev pub invariant-loop-k : goal.invariant-loop-k
-invariant-loop-k l = (i : ℕ) → i < l.k → (task_at l.system i).res.0 ≡ l.fn.res.0 → HasEarlierOn l.system i l.fn.res.0 → ⊥
+abbrev pub invariant-loop-task : goal.invariant-loop-task
+invariant-loop-task l = (k : ℕ) → k < l.task-index → HasEarlierOn l.system (get_or l.task-items k no_id).0 l.fn.res.0 → ⊥

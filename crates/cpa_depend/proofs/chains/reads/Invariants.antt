@@ -1,5 +1,5 @@
 use Rattle.cpa_depend.proofs.ChainLaws.{IsReadTo}
 use Rattle.cpa_depend.proofs.chains.reads.Given as goal
 
-abbrev pub invariant-loop-k : goal.invariant-loop-k
-invariant-loop-k l = IsReadTo l.system l.res.0 l.set l.k
+abbrev pub invariant-loop-task : goal.invariant-loop-task
+invariant-loop-task l = IsReadTo l.system l.fn.res.0 l.tasks l.set l.task-index

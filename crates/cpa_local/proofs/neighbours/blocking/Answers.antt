@@ -1,28 +1,41 @@
-use Rattle.std.proofs.Common.{◌≡◌, ◌∙◌, ◌≤◌, true, false, sym, ap, arith}
+use Rattle.std.proofs.Common.{◌∙◌, ◌≤◌, take, get_or, sym, ap, arith}
+use Rattle.std.specs.Prelude.{filter}
 use Rattle.cpa_units.specs.declared.limits.TheConstants.{MAX_EXECUTION}
 use Rattle.cpa_model.specs.declared.entries.Task.{Task}
-use Rattle.cpa_model.specs.SystemLists.{task_at, is_higher}
-use Rattle.cpa_local.proofs.BlockingLaws.{greatest-passing, greatest-failing}
+use Rattle.cpa_model.specs.SystemLists.{task_at, tasks_on, places_of, is_higher}
+use Rattle.cpa_model.proofs.SystemLaws.{no_id}
+use Rattle.cpa_local.proofs.BlockingLaws.{greatest_in, greatest-push}
+use Rattle.cpa_local.proofs.RivalLaws.{lower-on, passing-more, failing-more, found-all}
 use Rattle.cpa_local.proofs.neighbours.blocking.Goals as goal
 use Rattle.cpa_local.proofs.neighbours.blocking.Goals.{then-is_higher, else-is_higher}
 
-pub loop-k-preserved : goal.loop-k-preserved
-loop-k-preserved c =
+pub loop-other-preserved : goal.loop-other-preserved
+loop-other-preserved c =
+    let s = c.args.system.now in
+    let ids = c.tasks_on-other-items.result.now in
+    let k = c.loop-other.other-index in
     elim c.if-is_higher.branch [
       | then-is_higher w ↦
-          let lower : is_higher c.args.system.now c.loop-k.k c.args.task.0 ≡ true = sym c.is_higher.ensures ∙ w.if-is_higher.true in
-          let worst : w.task.result.now.worst ≡ (task_at c.args.system.now c.loop-k.k).worst = ap (λ (t : Task). t.worst) w.task.ensures.value in
-          let short : w.task.result.now.worst ≤ MAX_EXECUTION = w.task.ensures.rules.worst in
+          let lower = sym c.is_higher.ensures ∙ w.if-is_higher.true in
+          let worst = ap (λ (t : Task). t.worst) w.task-then-is_higher.ensures.value in
+          let short : w.task-then-is_higher.result.now.worst ≤ MAX_EXECUTION = w.task-then-is_higher.ensures.rules.worst in
           record {
-            found = rw (w.most-is, w.max-most.ensures, worst, c.loop-k.invariant.found)
-                (sym (greatest-passing (λ j. (task_at c.args.system.now j).worst) (λ j. is_higher c.args.system.now j c.args.task.0) c.loop-k.k lower));
-            small = omega (arith, w.most-is, w.max-most.ensures, short, c.loop-k.invariant.small);
+            found = rw (w.most-is, w.max-most.ensures, worst, c.loop-other.invariant.found, passing-more (λ j. is_higher s j c.args.task.0) ids k no_id c.loop-other-test.true lower)
+                (sym (greatest-push (λ j. (task_at s j).worst) (filter (λ j. is_higher s j c.args.task.0) (places_of (take k ids))) (get_or ids k no_id).0));
+            small = omega (arith, w.most-is, w.max-most.ensures, short, c.loop-other.invariant.small);
           }
       | else-is_higher w ↦
-          let higher : is_higher c.args.system.now c.loop-k.k c.args.task.0 ≡ false = sym c.is_higher.ensures ∙ w.if-is_higher.false in
+          let higher = sym c.is_higher.ensures ∙ w.if-is_higher.false in
           record {
-            found = rw (w.most-is, c.loop-k.invariant.found)
-                (sym (greatest-failing (λ j. (task_at c.args.system.now j).worst) (λ j. is_higher c.args.system.now j c.args.task.0) c.loop-k.k higher));
-            small = rw w.most-is c.loop-k.invariant.small;
+            found = rw (w.most-is, c.loop-other.invariant.found) (ap (greatest_in (λ j. (task_at s j).worst)) (sym (failing-more (λ j. is_higher s j c.args.task.0) ids k no_id c.loop-other-test.true higher)));
+            small = rw w.most-is c.loop-other.invariant.small;
           }
     ]
+
+pub returns-clause-value : goal.returns-clause-value
+returns-clause-value c =
+    let s = c.args.system.now in
+    let on = ap (λ (t : Task). t.res.0) c.task.ensures.value in
+    c.loop-other.invariant.found
+    ∙ ap (greatest_in (λ j. (task_at s j).worst))
+      (found-all s (task_at s c.args.task.0).res.0 (λ j. is_higher s j c.args.task.0) c.tasks_on-other-items.result.now c.loop-other.other-index (lower-on s c.args.task.0) (c.tasks_on-other-items.ensures.places ∙ ap (tasks_on s) on) c.loop-other-test.false)

@@ -1,32 +1,65 @@
-use Rattle.std.proofs.Common.{◌≡◌, ◌∙◌, true, false, sym}
+use Rattle.std.proofs.Common.{length, map, ap, sym, ◌∙◌, arith}
+use Rattle.std.specs.Prelude.{filter}
+use Rattle.std.proofs.lemmas.List.{map-append, length-map}
 use Rattle.std.proofs.lemmas.List.Elements.{All-push}
-use Rattle.cpa_units.proofs.PlaceLaws.{passing-places_more, failing-places_more}
 use Rattle.cpa_window.specs.Rivals.{IsRival}
-use Rattle.cpa_model.specs.SystemLists.{is_other}
+use Rattle.cpa_model.specs.declared.entries.Task.{Task}
+use Rattle.cpa_model.specs.SystemLists.{is_on, task_at, task_places, tasks_on, is_other}
+use Rattle.cpa_model.proofs.SystemLaws.{no_id}
+use Rattle.cpa_model.proofs.RosterLaws.{roster-few}
 use Rattle.cpa_local.specs.Local.{rival_of}
-use Rattle.cpa_local.proofs.RivalLaws.{other-other, few-found, few-left}
+use Rattle.cpa_local.proofs.RivalLaws.{other-on, others-few, passing-more, failing-more, found-all}
 use Rattle.cpa_local.proofs.neighbours.gather_others.Goals as goal
 use Rattle.cpa_local.proofs.neighbours.gather_others.Goals.{then-is_other, else-is_other}
 
-pub loop-k-preserved : goal.loop-k-preserved
-loop-k-preserved c =
+pub push_reserved-requires : goal.push_reserved-requires
+push_reserved-requires c =
+    let few = roster-few (is_on c.args.system.now c.task.result.now.res.0) (length c.args.system.now.tasks) c.tasks_on-other-items.result.now c.tasks_on-other-items.ensures.places in
+    omega (arith, c.loop-other.invariant.few, c.loop-other.invariant.room, c.loop-other-test.true, c.requires.room)
+
+pub loop-other-preserved : goal.loop-other-preserved
+loop-other-preserved c =
+    let s = c.args.system.now in
+    let ids = c.tasks_on-other-items.result.now in
+    let k = c.loop-other.other-index in
     elim c.if-is_other.branch [
       | then-is_other w ↦
-          let chosen : is_other c.args.system.now c.args.task.0 c.loop-k.k ≡ true = sym c.is_other.ensures ∙ w.if-is_other.true in
+          let chosen = sym c.is_other.ensures ∙ w.if-is_other.true in
+          let more = passing-more (is_other s c.args.task.0) ids k no_id c.loop-other-test.true chosen in
           record {
-            found = rw (w.rivals-is, w.push_reserved.ensures.items, c.loop-k.invariant.found, w.rival.ensures.value)
-                (sym (passing-places_more (rival_of c.args.system.now c.args.x.now) (is_other c.args.system.now c.args.task.0) c.loop-k.k chosen));
-            few = rw (w.rivals-is, w.push_reserved.ensures.len) (few-found _ c.args.task.0 c.loop-k.k (other-other c.args.system.now c.args.task.0 c.loop-k.k chosen) c.loop-k.invariant.few);
-            each = rw (w.rivals-is, w.push_reserved.ensures.items) (All-push IsRival c.loop-k.rivals.items w.rival.result c.loop-k.invariant.each w.rival.ensures.in_range);
-            room = rw (w.rivals-is, w.push_reserved.ensures.capacity) c.loop-k.invariant.room;
+            found = rw (w.rivals-is, w.push_reserved.ensures.items, c.loop-other.invariant.found, w.rival.ensures.value, more)
+                (sym (map-append (rival_of s c.args.x.now) _ _));
+            few = rw (w.rivals-is, w.push_reserved.ensures.len) (let few = c.loop-other.invariant.few in omega arith);
+            each = rw (w.rivals-is, w.push_reserved.ensures.items) (All-push IsRival c.loop-other.rivals.items w.rival.result c.loop-other.invariant.each w.rival.ensures.in_range);
+            room = rw (w.rivals-is, w.push_reserved.ensures.capacity) c.loop-other.invariant.room;
           }
       | else-is_other w ↦
-          let left : is_other c.args.system.now c.args.task.0 c.loop-k.k ≡ false = sym c.is_other.ensures ∙ w.if-is_other.false in
+          let left = sym c.is_other.ensures ∙ w.if-is_other.false in
           record {
-            found = rw (w.rivals-is, c.loop-k.invariant.found)
-                (sym (failing-places_more (rival_of c.args.system.now c.args.x.now) (is_other c.args.system.now c.args.task.0) c.loop-k.k left));
-            few = rw w.rivals-is (few-left _ c.args.task.0 c.loop-k.k c.loop-k.invariant.few);
-            each = rw w.rivals-is c.loop-k.invariant.each;
-            room = rw w.rivals-is c.loop-k.invariant.room;
+            found = rw (w.rivals-is, c.loop-other.invariant.found) (ap (map (rival_of s c.args.x.now)) (sym (failing-more (is_other s c.args.task.0) ids k no_id c.loop-other-test.true left)));
+            few = rw w.rivals-is (let few = c.loop-other.invariant.few in omega arith);
+            each = rw w.rivals-is c.loop-other.invariant.each;
+            room = rw w.rivals-is c.loop-other.invariant.room;
           }
     ]
+
+pub returns-clause-value : goal.returns-clause-value
+returns-clause-value c =
+    let s = c.args.system.now in
+    let on = ap (λ (t : Task). t.res.0) c.task.ensures.value in
+    c.loop-other.invariant.found
+    ∙ ap (map (rival_of s c.args.x.now))
+      (found-all s (task_at s c.args.task.0).res.0 (is_other s c.args.task.0) c.tasks_on-other-items.result.now c.loop-other.other-index (other-on s c.args.task.0) (c.tasks_on-other-items.ensures.places ∙ ap (tasks_on s) on) c.loop-other-test.false)
+
+pub returns-clause-in_range : goal.returns-clause-in_range
+returns-clause-in_range c =
+    let s = c.args.system.now in
+    let on = ap (λ (t : Task). t.res.0) c.task.ensures.value in
+    let found = c.loop-other.invariant.found
+      ∙ ap (map (rival_of s c.args.x.now))
+        (found-all s (task_at s c.args.task.0).res.0 (is_other s c.args.task.0) c.tasks_on-other-items.result.now c.loop-other.other-index (other-on s c.args.task.0) (c.tasks_on-other-items.ensures.places ∙ ap (tasks_on s) on) c.loop-other-test.false) in
+    let long = ap length found ∙ length-map (filter (is_other s c.args.task.0) (task_places s)) (rival_of s c.args.x.now) in
+    record {
+      few = omega (arith, others-few s c.args.task.0 c.requires.there, c.tasks_on-other-items.ensures.rules.few_tasks);
+      each = c.loop-other.invariant.each;
+    }

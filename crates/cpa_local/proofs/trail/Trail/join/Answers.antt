@@ -1,4 +1,4 @@
-use Rattle.std.proofs.Common.{◌≡◌, ◌<◌, ◌≤◌, ℕ, subst, arith, vec_capacity}
+use Rattle.std.proofs.Common.{ℕ, subst, arith}
 use Rattle.cpa_local.specs.Trails.{Marks, IsMarked, IsKept}
 use Rattle.cpa_local.proofs.TrailLaws.{marked-in_range}
 use Rattle.cpa_local.specs.contracts.trail.Trail.{the_view}

@@ -1,0 +1,28 @@
+-- A system that asks for at least as much as another: no task has a shorter execution range, no source is sparser.
+use Rattle.std.specs.Prelude.{ℕ, ◌≡◌, ◌<◌, ◌≤◌, length}
+use Rattle.cpa_events.specs.Events.{IsNoDenser}
+use Rattle.cpa_model.specs.declared.entries.Activator.{Activator}
+use Rattle.cpa_model.specs.declared.entries.Activator.TheVariants.{Source as FromSource, Task as FromTask}
+use Rattle.cpa_model.specs.SystemLists.{SystemLists, task_at}
+use Rattle.cpa_model.specs.Streams.{source_model}
+
+-- a source that may send at least as densely, or the same task
+abbrev pub IsDenserActivator : SystemLists → SystemLists → Activator → Activator → Type 0
+IsDenserActivator s t (FromSource k) (FromSource m) = IsNoDenser (source_model s k.0) (source_model t m.0)
+IsDenserActivator s t (FromTask j) (FromTask m) = j.0 ≡ m.0
+IsDenserActivator s t (FromSource k) (FromTask m) = ⊥
+IsDenserActivator s t (FromTask j) (FromSource m) = ⊥
+
+-- task i asks for at least as much as before
+pub record IsRaisedTask (s t : SystemLists) (i : ℕ) : Type 0 where
+  pub res : (task_at s i).res.0 ≡ (task_at t i).res.0
+  pub after : IsDenserActivator s t (task_at s i).after (task_at t i).after
+  pub best : (task_at t i).best ≤ (task_at s i).best
+  pub worst : (task_at s i).worst ≤ (task_at t i).worst
+  pub turn : (task_at s i).turn ≡ (task_at t i).turn
+
+-- each task of s asks for at least as much in t, which may have more tasks at its end
+pub record IsRaising (s t : SystemLists) : Type 0 where
+  pub resources : s.resources ≡ t.resources
+  pub more : length s.tasks ≤ length t.tasks
+  pub tasks : (i : ℕ) → i < length s.tasks → IsRaisedTask s t i
