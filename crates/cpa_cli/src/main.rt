@@ -3,6 +3,8 @@
 
 mod analysis;
 #[cfg(test)]
+mod car;
+#[cfg(test)]
 mod cases;
 mod command;
 mod lines;

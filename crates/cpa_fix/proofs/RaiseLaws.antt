@@ -73,13 +73,13 @@ raised-whole s r tasks old new before after count are all h =
       risen = h.risen;
       others = h.others;
       answered = λ i less on.
-        let at = on-found s r tasks are i no_id less on in
-        subst (λ (j : ℕ). IsAtMost (response s old j) (bound_of new j)) at.2 (h.answered at.0 (omega (arith, at.1)));
+          let at = on-found s r tasks are i no_id less on in
+          subst (λ (j : ℕ). IsAtMost (response s old j) (bound_of new j)) at.2 (h.answered at.0 (omega (arith, at.1)));
       kept = h.kept;
       fresh = h.fresh;
       marked = λ i on.
-        let at = on-found s r tasks are i no_id on.0 on.1 in
-        subst (λ (j : ℕ). IsMarked after j) at.2 (h.marked at.0 (omega (arith, at.1)));
+          let at = on-found s r tasks are i no_id on.0 on.1 in
+          subst (λ (j : ℕ). IsMarked after j) at.2 (h.marked at.0 (omega (arith, at.1)));
     }
 
 -- a task is analysed at the vector as it has risen by then, where its bound is no smaller than before

@@ -83,10 +83,13 @@ found-few q i (suc n) fails =
   where
     step : (found : ℕ) → n ≢ i → found + cond (nat_lt i n) 1 0 ≤ n → found + 1 + cond (nat_lt i (n + 1)) 1 0 ≤ n + 1
     step found other few = grind (arith, nat_tests)
+
     left : (found : ℕ) → found + cond (nat_lt i n) 1 0 ≤ n → found + cond (nat_lt i (n + 1)) 1 0 ≤ n + 1
     left found few = grind (arith, nat_tests)
+
     grown : filter q (places (n + 1)) ≡ filter q (places n) ++ filter q (n ∷ [])
     grown = ap (filter q) (places-more n) ∙ filter-append q (places n) (n ∷ [])
+
     next : (b : Bool) → q n ≡ b → length (filter q (places n)) + cond (nat_lt i n) 1 0 ≤ n → length (filter q (places (n + 1))) + cond (nat_lt i (n + 1)) 1 0 ≤ n + 1
     next true e few =
         let one : filter q (n ∷ []) ≡ n ∷ [] = rw e refl in

@@ -1,10 +1,10 @@
 -- The tasks of each resource, as tasks come, change and go.
-use Rattle.std.proofs.Common.{◌≡◌, ◌≢◌, ℕ, zero, suc, ◌+◌, ◌-◌, ◌<◌, ◌≤◌, ◌==◌, nat_lt, not, Bool, true, false, cond, List, [], ◌∷◌, ◌++◌, All, length, map, take, set, replicate, slice_index_or, get_or, refl, sym, ap, ◌∙◌, inl, inr, arith, subst, get_or-set_same, get_or-set_other}
+use Rattle.std.proofs.Common.{◌≡◌, ◌≢◌, ℕ, zero, suc, ◌+◌, ◌-◌, ◌<◌, ◌≤◌, ◌==◌, not, Bool, true, false, cond, List, [], ◌∷◌, ◌++◌, All, length, map, take, set, replicate, slice_index_or, get_or, refl, sym, ap, ◌∙◌, inl, inr, arith, subst, get_or-set_same, get_or-set_other}
 use Rattle.std.specs.Prelude.{filter}
-use Rattle.std.specs.List.{range_with_len, remove, sum_by}
+use Rattle.std.specs.List.{remove, sum_by}
 use Rattle.std.proofs.Math.Seq.{get_or-append_seam}
-use Rattle.std.proofs.lemmas.Bool.{cases_lt, cases_eq, lt-ltb, le-ltb, eq-eqb, eqb-true, ne_eqb}
-use Rattle.std.proofs.lemmas.List.{take_all, length-append, length-set, length-map, get_or-map, get_or_append_left, map-append, append-nil, get_or-replicate, length-replicate, get_or_default}
+use Rattle.std.proofs.lemmas.Bool.{cases_eq, lt-ltb, le-ltb, eq-eqb, eqb-true, ne_eqb}
+use Rattle.std.proofs.lemmas.List.{take_all, length-append, length-set, length-map, get_or-map, get_or_append_left, map-append, append-nil, get_or-replicate, length-replicate}
 use Rattle.std.proofs.lemmas.List.Edits.{length-remove, get_or-remove_below, get_or-remove_above}
 use Rattle.std.proofs.lemmas.List.Elements.{filter-append, All-append}
 use Rattle.std.proofs.lemmas.List.Sums.{sum_by-cons, sum_by_more}
@@ -14,7 +14,7 @@ use Rattle.cpa_draft.proofs.ListLaws.{get_or-any}
 use Rattle.cpa_units.specs.declared.places.TaskId.{TaskId}
 use Rattle.cpa_units.proofs.PlaceLaws.{places, places-more}
 use Rattle.cpa_model.specs.declared.entries.Task.{Task}
-use Rattle.cpa_model.specs.Changes.{place_without, id_without, ids_without, task_without}
+use Rattle.cpa_model.specs.Changes.{place_without, ids_without, task_without}
 use Rattle.cpa_model.specs.SystemLists.{SystemLists, task_at, is_on, tasks_on, no_task, place_of, places_of}
 use Rattle.cpa_model.specs.Rosters.{roster_at, with_enrolled, is_placed_on, AreRosters}
 

@@ -1,5 +1,5 @@
 -- What the rules of a system give to those who read it.
-use Rattle.std.proofs.Common.{◌≡◌, ℕ, zero, suc, ◌+◌, ◌-◌, ◌<◌, ◌≤◌, List, [], ◌∷◌, length, Option, Some, None, IsSome, option_map, unwrap_or, slice_index_or, get_or, refl, sym, ap, ◌∙◌, arith, true, false, ◌==◌, Bool, cond, ◌++◌, add-zero}
+use Rattle.std.proofs.Common.{◌≡◌, ℕ, zero, suc, ◌+◌, ◌-◌, ◌<◌, ◌≤◌, List, [], ◌∷◌, length, Option, Some, None, IsSome, option_map, unwrap_or, slice_index_or, get_or, refl, sym, ap, ◌∙◌, arith, true, false, Bool, cond, ◌++◌, add-zero}
 use Rattle.std.specs.List.{range_with_len, sum_by, filter}
 use Rattle.std.proofs.lemmas.Bool.{false≢true}
 use Rattle.std.proofs.lemmas.List.Elements.{filter-append}

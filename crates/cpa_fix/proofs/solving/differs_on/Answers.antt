@@ -8,8 +8,7 @@ use Rattle.cpa_fix.proofs.solving.differs_on.Goals as goal
 pub returns-then-not-is_same-clause-yes : goal.returns-then-not-is_same-clause-yes
 returns-then-not-is_same-clause-yes c =
     let k = c.loop-task.task-index in
-    let ids = c.tasks_on-task-items.result.now in
-    (
+    let ids = c.tasks_on-task-items.result.now in (
       (get_or ids k no_id).0,
       c.tasks_on-task-items.ensures.there k no_id c.loop-task-test.true,
       on-each c.args.system.now c.args.res.0 ids c.tasks_on-task-items.ensures.places k no_id c.loop-task-test.true,

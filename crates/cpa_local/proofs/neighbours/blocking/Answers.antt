@@ -38,4 +38,4 @@ returns-clause-value c =
     let on = ap (λ (t : Task). t.res.0) c.task.ensures.value in
     c.loop-other.invariant.found
     ∙ ap (greatest_in (λ j. (task_at s j).worst))
-      (found-all s (task_at s c.args.task.0).res.0 (λ j. is_higher s j c.args.task.0) c.tasks_on-other-items.result.now c.loop-other.other-index (lower-on s c.args.task.0) (c.tasks_on-other-items.ensures.places ∙ ap (tasks_on s) on) c.loop-other-test.false)
+    (found-all s (task_at s c.args.task.0).res.0 (λ j. is_higher s j c.args.task.0) c.tasks_on-other-items.result.now c.loop-other.other-index (lower-on s c.args.task.0) (c.tasks_on-other-items.ensures.places ∙ ap (tasks_on s) on) c.loop-other-test.false)

@@ -49,15 +49,15 @@ returns-clause-value c =
     let on = ap (λ (t : Task). t.res.0) c.task.ensures.value in
     c.loop-other.invariant.found
     ∙ ap (map (rival_of s c.args.x.now))
-      (found-all s (task_at s c.args.task.0).res.0 (is_higher s c.args.task.0) c.tasks_on-other-items.result.now c.loop-other.other-index (higher-on s c.args.task.0) (c.tasks_on-other-items.ensures.places ∙ ap (tasks_on s) on) c.loop-other-test.false)
+    (found-all s (task_at s c.args.task.0).res.0 (is_higher s c.args.task.0) c.tasks_on-other-items.result.now c.loop-other.other-index (higher-on s c.args.task.0) (c.tasks_on-other-items.ensures.places ∙ ap (tasks_on s) on) c.loop-other-test.false)
 
 pub returns-clause-in_range : goal.returns-clause-in_range
 returns-clause-in_range c =
     let s = c.args.system.now in
     let on = ap (λ (t : Task). t.res.0) c.task.ensures.value in
     let found = c.loop-other.invariant.found
-      ∙ ap (map (rival_of s c.args.x.now))
-        (found-all s (task_at s c.args.task.0).res.0 (is_higher s c.args.task.0) c.tasks_on-other-items.result.now c.loop-other.other-index (higher-on s c.args.task.0) (c.tasks_on-other-items.ensures.places ∙ ap (tasks_on s) on) c.loop-other-test.false) in
+    ∙ ap (map (rival_of s c.args.x.now))
+    (found-all s (task_at s c.args.task.0).res.0 (is_higher s c.args.task.0) c.tasks_on-other-items.result.now c.loop-other.other-index (higher-on s c.args.task.0) (c.tasks_on-other-items.ensures.places ∙ ap (tasks_on s) on) c.loop-other-test.false) in
     let long = ap length found ∙ length-map (filter (is_higher s c.args.task.0) (task_places s)) (rival_of s c.args.x.now) in
     record {
       few = omega (arith, higher-few s c.args.task.0 c.requires.there, c.tasks_on-other-items.ensures.rules.few_tasks);

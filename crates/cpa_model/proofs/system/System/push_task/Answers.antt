@@ -1,10 +1,5 @@
-use Rattle.std.proofs.Common.{◌≡◌, ◌<◌, ◌++◌, ◌∷◌, [], length, refl, ap, sym, ◌∙◌, subst, arith}
-use Rattle.std.proofs.lemmas.List.{length-append}
-use Rattle.std.proofs.Math.Seq.{get_or-append_seam}
-use Rattle.cpa_model.specs.declared.entries.Task.{Task as Entry}
+use Rattle.std.proofs.Common.{◌++◌, ◌∷◌, [], refl, ap, ◌∙◌, arith}
 use Rattle.cpa_model.specs.Changes.{with_task}
-use Rattle.cpa_model.specs.SystemLists.{SystemLists, no_task}
-use Rattle.cpa_model.specs.Rules.{IsSystem}
 use Rattle.cpa_model.proofs.RosterLaws.{rosters-push, rosters-by}
 use Rattle.cpa_model.proofs.ChangedLaws.{pushed-placed}
 use Rattle.cpa_model.proofs.system.System.push_task.Goals as goal
