@@ -4,7 +4,7 @@
 Makes a system of 512 tasks after 128 sources, all with names of 64 bytes, and traces over it: one of 16,777,216 bytes
 with 200,000 rows, which names all sources and tasks, one of 16,777,216 bytes in one row, and traces with up to 200,000
 events of one source, of which one breaks the rule at the last two events alone. `cpa_trace_bench` loads each alone,
-reads it, and judges it. Prints a line a file and way: the least time of five calls, and the peak memory of a call.
+reads it, and judges it once or a hundred times. Prints a line a file and way: the least time of five calls, and the peak memory of a call.
 
     python3 bench/time_traces.py [FOLDER for the files]
 """
@@ -84,7 +84,7 @@ def main():
         path = os.path.join(folder, which + ".csv")
         with open(path, "w") as file:
             file.write(text)
-        for way in ("load", "read", "judge"):
+        for way in ("load", "read", "judge", "judge-100-times"):
             runs = [call([reader, way, described, path]) for _ in range(5)]
             print(f"{which} {len(text)} bytes, {way}: {min(run[0] for run in runs):.4f} s, {runs[0][1]} KiB, {runs[0][2][:60]}")
 
