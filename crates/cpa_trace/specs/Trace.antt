@@ -2,11 +2,10 @@
 use Rattle.std.specs.Prelude.{◌≡◌, ℕ, ◌+◌, ◌-◌, ◌<◌, ◌≤◌, List, [], ◌∷◌, ◌++◌, length, replicate, slice_set, slice_index_or}
 use Rattle.cpa_units.specs.declared.limits.TheConstants.{MAX_TRACE_TIME, MAX_PHASE}
 use Rattle.cpa_units.specs.Numbers.{IsExecution}
-use Rattle.cpa_events.specs.declared.Model.{Model}
 use Rattle.cpa_events.specs.Events.{delta_minus}
 use Rattle.cpa_model.specs.declared.entries.Kind.TheVariants.{Tdma}
 use Rattle.cpa_model.specs.Streams.{source_model}
-use Rattle.cpa_model.specs.SystemLists.{SystemLists, source_at, task_at, resource_of, cycle_of}
+use Rattle.cpa_model.specs.SystemLists.{SystemLists, task_at, resource_of, cycle_of}
 
 -- per source the times of its events, per task the executions of its jobs, per resource a phase
 pub record TraceLists : Type 0 where

@@ -9,7 +9,7 @@ ghost use Rattle.cpa_trace.specs.Breaches.{first_some, has_tasks, is_tdma, first
 
 use crate::trace::Trace;
 use cpa_events::Model;
-use cpa_model::{Kind, Source, System, Task};
+use cpa_model::{Kind, System, Task};
 use cpa_units::{ResId, SourceId, TaskId};
 
 /// Why a trace doesn't obey a system.
@@ -30,20 +30,6 @@ pub enum Breach {
     Phase {
         res: ResId,
     },
-}
-
-/// The event model of a source.
-fn model_of(system: &System, source: SourceId) -> Model
-    requires { source.0 < length system.now.sources }
-    ensures value { result ≡ source_model system.now source.0 }
-    ensures in_range { IsModelInRange result }
-{
-    let entry = system.source(source);
-    Model {
-        period: entry.period,
-        jitter: entry.jitter,
-        distance: entry.distance,
-    }
 }
 
 /// Whether so many gaps want more time than has passed.
@@ -93,7 +79,7 @@ fn close_breach(system: &System, trace: &Trace, source: SourceId) -> Option<Brea
     requires fits { FitsSystem system.now trace.now }
     ensures { result ≡ close_breach system.now trace.now source.0 }
 {
-    let model = model_of(system, source);
+    let model = system.source(source).model();
     let times = trace.times(source);
     let n = first_too_soon(&model, times)?;
     let i = first_before(&model, times, n)?;

@@ -1,0 +1,15 @@
+use Rattle.std.proofs.Common.{◌∙◌, arith}
+use Rattle.cpa_model.specs.SystemLists.{no_resource}
+use Rattle.cpa_model.specs.declared.entries.Resource.{Resource}
+use Rattle.cpa_trace.proofs.NameLaws.{is-new, next-name}
+use Rattle.cpa_trace.proofs.index.resource_names.Goals as goal
+
+pub add-requires : goal.add-requires
+add-requires c =
+    rw (c.loop-k.invariant, c.bytes.ensures.value, c.resource.ensures.value)
+    (is-new (λ (r : Resource). r.name) c.args.system.now.resources c.loop-k.k no_resource (c.resources-k-end.ensures.rules.resource_names) (omega arith))
+
+pub loop-k-preserved : goal.loop-k-preserved
+loop-k-preserved c =
+    c.in_ok-add.ensures
+    ∙ rw (c.loop-k.invariant, c.bytes.ensures.value, c.resource.ensures.value) (next-name (λ (r : Resource). r.name) c.args.system.now.resources c.loop-k.k no_resource (omega arith))
