@@ -2,7 +2,7 @@ use Rattle.std.proofs.Common.{◌≡◌, ◌<◌, true, length, get_or, sym, ◌
 use Rattle.std.proofs.lemmas.List.{get_or_read, get_or-map, length-map}
 use Rattle.std.proofs.lemmas.List.Folds.{list_any_at}
 use Rattle.cpa_units.specs.declared.places.TaskId.{TaskId}
-use Rattle.cpa_sched.specs.Members.{place_of, places_of}
+use Rattle.cpa_model.specs.SystemLists.{place_of, places_of}
 use Rattle.cpa_sim.specs.Lines.{LineLists, no_line}
 use Rattle.cpa_sim.specs.Run.{waits}
 use Rattle.cpa_sim.specs.Simulation.{waiting}

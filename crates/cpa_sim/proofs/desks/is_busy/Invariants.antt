@@ -1,6 +1,6 @@
 use Rattle.std.proofs.Common.{◌≡◌, false, take}
 use Rattle.std.specs.List.{list_any}
-use Rattle.cpa_sched.specs.Members.{places_of}
+use Rattle.cpa_model.specs.SystemLists.{places_of}
 use Rattle.cpa_sim.specs.Simulation.{waiting}
 use Rattle.cpa_sim.proofs.desks.is_busy.Given as goal
 
