@@ -1,6 +1,7 @@
 -- What a change writes over an entry that it read.
-use Rattle.std.proofs.Common.{◌≡◌, ℕ, ◌<◌, List, length, slice_index_or, slice_set, refl, ap, ◌∙◌}
-use Rattle.std.proofs.lemmas.List.{length-set}
+use Rattle.std.proofs.Common.{◌≡◌, ℕ, ◌<◌, List, [], ◌∷◌, ◌++◌, length, slice_index_or, slice_set, refl, ap, ◌∙◌, arith}
+use Rattle.std.proofs.Math.Seq.{get_or-append_seam}
+use Rattle.std.proofs.lemmas.List.{length-set, length-append}
 use Rattle.cpa_draft.proofs.ListLaws.{get_or-any}
 use Rattle.cpa_model.specs.declared.entries.Resource.{Resource}
 use Rattle.cpa_model.specs.declared.entries.Source.{Source}
@@ -9,7 +10,7 @@ use Rattle.cpa_model.specs.declared.entries.Path.{Path}
 use Rattle.cpa_model.specs.declared.entries.Turn.{Turn}
 use Rattle.cpa_model.specs.Rules.{IsSystem}
 use Rattle.cpa_model.specs.SystemLists.{SystemLists, no_task, no_source}
-use Rattle.cpa_model.specs.Changes.{with_task_at, with_exec, with_turn, with_swapped, with_source}
+use Rattle.cpa_model.specs.Changes.{with_task_at, with_exec, with_turn, with_swapped, with_source, with_task}
 
 pub exec-written : (s : SystemLists) (i best worst : ℕ) (t : Task) → i < length s.tasks → t ≡ slice_index_or s.tasks i t
     → with_task_at s i (record t { best = best; worst = worst }) ≡ with_exec s i best worst
@@ -46,3 +47,12 @@ swap-written s i j first second entry other at_i at_j is_first is_second is_entr
 pub lists-same : (rs : List Resource) (ss : List Source) (ts us : List Task) (ps qs : List Path) → ts ≡ us → ps ≡ qs
     → ◌≡◌ {A = SystemLists} (record { resources = rs; sources = ss; tasks = ts; paths = ps }) (record { resources = rs; sources = ss; tasks = us; paths = qs })
 lists-same rs ss ts us ps qs a b = rw (a, b) refl
+
+-- a task that is added is on a resource of the system
+pub pushed-placed : (rs : List Resource) (ss : List Source) (ts : List Task) (ps : List Path) (t : Task) → IsSystem (with_task (record { resources = rs; sources = ss; tasks = ts; paths = ps }) t) → t.res.0 < length rs
+unfolding with_task
+pushed-placed rs ss ts ps t rules =
+    let last : slice_index_or (ts ++ t ∷ []) (length ts) no_task ≡ t = get_or-append_seam ts t [] no_task in
+    let within : length ts < length (ts ++ t ∷ []) = rw (length-append ts (t ∷ [])) (omega arith) in
+    let placed : (slice_index_or (ts ++ t ∷ []) (length ts) no_task).res.0 < length rs = (rules.tasks (length ts) no_task within).placed in
+    rw last at placed

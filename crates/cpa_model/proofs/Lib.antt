@@ -9,3 +9,4 @@ pub mod RedraftRanks
 pub mod RedraftUnrefused
 pub mod SystemLaws
 pub mod ChangedLaws
+pub mod RosterLaws

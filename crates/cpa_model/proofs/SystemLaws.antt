@@ -189,19 +189,3 @@ gap-small (kind.Can bit) h = omega arith
 pub cond-small : (b : Bool) (n most : ℕ) → n ≤ most → cond b n 0 ≤ most
 cond-small true n most h = h
 cond-small false n most h = omega arith
-
-abbrev pub slots_to : SystemLists → ℕ → ℕ → ℕ
-slots_to s r i = sum_by (λ i. slot_of (task_at s i).turn) (filter (λ i. (task_at s i).res.0 == r) (range_with_len 0 i))
-
-pub cycle-more : (s : SystemLists) (i r cycle gap x : ℕ) (t : Entry) → t ≡ task_at s i → cycle ≡ slots_to s r i + gap → x ≡ cond (t.res.0 == r) (slot_of t.turn) 0
-    → cycle + x ≡ slots_to s r (i + 1) + gap
-cycle-more s i r cycle gap x t at sum e =
-    let f = λ (i : ℕ). slot_of (task_at s i).turn in
-    let p = λ (i : ℕ). (task_at s i).res.0 == r in
-    let is : x ≡ cond (p i) (f i) 0 = e ∙ ap (λ (u : Entry). cond (u.res.0 == r) (slot_of u.turn) 0) at in
-    omega (arith, slots-more f p i)
-
-pub cycle-small : (s : SystemLists) → IsSystem s → (i r x : ℕ) (t : Entry) → i < length s.tasks → t ≡ task_at s i → x ≡ cond (t.res.0 == r) (slot_of t.turn) 0 → x ≤ 1000000
-cycle-small s rules i r x t h at e =
-    let small : slot_of t.turn ≤ 1000000 = rw at (slot-small _ _ (rules.tasks i no_task h).turn_fits) in
-    rw e (cond-small (t.res.0 == r) (slot_of t.turn) 1000000 small)

@@ -1,5 +1,5 @@
 -- What the changing calls make of a system's lists: each changes what it names, and nothing else.
-use Rattle.std.specs.Prelude.{ℕ, ◌-◌, nat_lt, if◌then◌else◌, [], ◌∷◌, ◌++◌, map, slice_set}
+use Rattle.std.specs.Prelude.{ℕ, ◌-◌, nat_lt, if◌then◌else◌, ◌==◌, not, List, [], ◌∷◌, ◌++◌, map, filter, slice_set}
 use Rattle.std.specs.List.{remove}
 use Rattle.cpa_units.specs.declared.places.TaskId.{TaskId}
 use Rattle.cpa_model.specs.declared.entries.Task.{Task}
@@ -40,6 +40,10 @@ place_without i j = if nat_lt i j then j - 1 else j
 
 abbrev pub id_without : ℕ → TaskId → TaskId
 id_without i j = record { 0 = place_without i j.0 }
+
+-- the tasks of a list without task i
+abbrev pub ids_without : ℕ → List TaskId → List TaskId
+ids_without i tasks = map (id_without i) (filter (λ (t : TaskId). not (t.0 == i)) tasks)
 
 abbrev pub activator_without : ℕ → Activator → Activator
 activator_without i (activator.Source k) = activator.Source k

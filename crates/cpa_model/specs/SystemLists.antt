@@ -1,5 +1,5 @@
 -- A system: its resources, sources, tasks and paths, as in the system graphs of SymTA/S.
-use Rattle.std.specs.Prelude.{ℕ, ◌+◌, ◌==◌, ◌&&◌, nat_lt, not, max, Bool, List, [], filter, sum_by, fold, length, slice_index_or, None, Option, option_map, position, unwrap_or}
+use Rattle.std.specs.Prelude.{ℕ, ◌+◌, ◌==◌, ◌&&◌, nat_lt, not, max, Bool, List, [], filter, map, sum_by, fold, length, slice_index_or, None, Option, option_map, position, unwrap_or}
 use Rattle.std.specs.List.{range_with_len}
 use Rattle.std.specs.Str.{bytes_eq}
 use Rattle.cpa_units.specs.declared.limits.TheConstants.{MAX_CHAIN}
@@ -54,6 +54,21 @@ path_at s k = slice_index_or s.paths k no_path
 abbrev pub task_places : SystemLists → List ℕ
 task_places s = range_with_len 0 (length s.tasks)
 
+-- whether a task is on a resource
+abbrev pub is_on : SystemLists → ℕ → ℕ → Bool
+is_on s r i = (task_at s i).res.0 == r
+
+-- the places of a resource's tasks, in their order
+abbrev pub tasks_on : SystemLists → ℕ → List ℕ
+tasks_on s r = filter (is_on s r) (task_places s)
+
+-- the place of a task
+abbrev pub place_of : TaskId → ℕ
+place_of task = task.0
+
+abbrev pub places_of : List TaskId → List ℕ
+places_of tasks = map place_of tasks
+
 -- the resource that a task is on
 abbrev pub resource_of : SystemLists → ℕ → Resource
 resource_of s i = resource_at s (task_at s i).res.0
@@ -97,7 +112,7 @@ gap_of _ = 0
 
 -- the cycle of a TDMA resource: the slots of its tasks, and its gap
 abbrev pub cycle_of : SystemLists → ℕ → ℕ
-cycle_of s r = sum_by (λ i. slot_of (task_at s i).turn) (filter (λ i. (task_at s i).res.0 == r) (task_places s)) + gap_of (resource_at s r).kind
+cycle_of s r = sum_by (λ i. slot_of (task_at s i).turn) (tasks_on s r) + gap_of (resource_at s r).kind
 
 -- the number of tasks in a task's chain up to and with itself
 abbrev pub depth_of : SystemLists → ℕ → ℕ

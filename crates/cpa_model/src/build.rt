@@ -1,23 +1,26 @@
 //! From a draft to the system that it stands for.
 
 ghost use Rattle.std.specs.Prelude.{◌≡◌, ◌<◌, ◌≤◌, ◌^◌, All, map, length, option_map, unwrap_or, Some, None, true, false, not, IfOk, IfErr};
-ghost use Rattle.cpa_units.specs.declared.limits.TheConstants.{MAX_PAYLOAD, MAX_BIT};
+ghost use Rattle.cpa_units.specs.declared.limits.TheConstants.{MAX_PAYLOAD, MAX_BIT, MAX_TASKS};
 ghost use Rattle.cpa_draft.specs.Numbers.{nat_of, nat_or};
 ghost use Rattle.cpa_draft.specs.Names.{AreTables, kind_of};
 ghost use Rattle.cpa_draft.specs.Judged.{Judges};
 ghost use Rattle.cpa_draft.specs.Refusals.{by_priority, first_refusal};
 ghost use Rattle.cpa_draft.specs.declared.refusal.BuildFault.TheVariants.{Memory};
+ghost use Rattle.cpa_model.specs.declared.entries.Task.{Task};
+ghost use Rattle.cpa_model.specs.Rosters.{AreRosters};
 ghost use Rattle.cpa_model.specs.Built.{built_kind, built_resource, built_source, built_task, built_path, built_turn, built_activator, resource_place, activity_place, bit_time, task_named, least_execution, greatest_execution, has_executions, TaskFitsTypes, PathFitsTypes, system_of};
 ghost use Rattle.cpa_model.specs.Redraft.{OwnDraftsAreAccepted, OwnDraftsStand};
 
 use crate::entries::{Activator, Kind, Path, Resource, Source, Task, TaskList, Turn};
+use crate::rosters::{Roster, gather};
 use crate::system::System;
 use cpa_draft::{
     BuildFault, Draft, DraftPath, DraftResource, DraftSource, DraftTask, KindWord, Raw, Tables,
     is_by_priority, judge, natural, natural_or,
 };
 use cpa_units::limits::DEFAULT_LIMIT;
-use cpa_units::{Name, ResId, SourceId, TaskId, frame_bits};
+use cpa_units::{Name, NoMemory, ResId, SourceId, TaskId, frame_bits};
 use std::alloc::Global;
 
 fn build_name(alloc: Global, raw: &Raw) -> Result<Name, BuildFault>
@@ -269,6 +272,23 @@ fn build_paths(
     Ok(built)
 }
 
+/// The tasks of each resource.
+fn build_rosters(
+    alloc: Global,
+    resources: &[Resource],
+    tasks: &[Task],
+) -> Result<Vec<Roster>, BuildFault>
+    requires few { length tasks.now ≤ MAX_TASKS }
+    requires placed { All (λ (t : Task). t.res.0 < length resources.now) tasks.now }
+    ensures ok { IfOk result (λ v. AreRosters (length resources.now) tasks.now (length tasks.now) v.items) }
+    ensures err { IfErr result (λ e. e ≡ Memory) }
+{
+    match gather(alloc, resources, tasks) {
+        Ok(rosters) => Ok(rosters),
+        Err(NoMemory) => Err(BuildFault::Memory),
+    }
+}
+
 impl System {
     /// The system that a draft stands for. It is refused exactly where one of reasons 2 to 12 applies, with the first of
     /// them and its first place.
@@ -282,11 +302,13 @@ impl System {
         let sources = build_sources(alloc, draft.source_entries())?;
         let tasks = build_tasks(alloc, &draft, &tables, draft.task_entries())?;
         let paths = build_paths(alloc, &draft, &tables, draft.path_entries())?;
+        let rosters = build_rosters(alloc, resources.as_slice(), tasks.as_slice())?;
         Ok(System {
             resources,
             sources,
             tasks,
             paths,
+            rosters,
         })
     }
 }

@@ -5,6 +5,7 @@ ghost use Rattle.cpa_model.specs.Rules.{IsSystem};
 ghost use Rattle.cpa_model.specs.Changes.{with_exec, with_turn, with_swapped, with_source, with_task, without_task, id_without, activator_without, task_without, path_without};
 
 use crate::entries::{Activator, Path, Resource, Source, Task, TaskList, Turn};
+use crate::rosters::{copy_rosters, enrol, strike};
 use crate::system::System;
 use cpa_units::{Name, NoMemory, SourceId, TaskId};
 use std::alloc::Global;
@@ -140,11 +141,13 @@ impl System {
         let sources = copy_sources(alloc, self.sources.as_slice())?;
         let tasks = copy_tasks(alloc, self.tasks.as_slice())?;
         let paths = copy_paths(alloc, self.paths.as_slice())?;
+        let rosters = copy_rosters(alloc, self.rosters.as_slice())?;
         Ok(System {
             resources,
             sources,
             tasks,
             paths,
+            rosters,
         })
     }
 
@@ -204,6 +207,8 @@ impl System {
         ensures unchanged { OnErr result (self.new ≡ self.old) }
     {
         let place = TaskId(self.tasks.len() as u32);
+        self.tasks.reserve(1)?;
+        enrol(&mut self.rosters, task.res, place)?;
         self.tasks.push(task)?;
         Ok(place)
     }
@@ -217,5 +222,6 @@ impl System {
         let _removed = self.tasks.remove(task.0 as usize);
         close_up_tasks(self.tasks.as_mut_slice(), task);
         close_up_paths(self.paths.as_mut_slice(), task);
+        strike(self.rosters.as_mut_slice(), task);
     }
 }

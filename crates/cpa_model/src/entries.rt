@@ -1,6 +1,6 @@
 //! The entries of a system. Times are in ticks.
 
-ghost use Rattle.std.specs.Prelude.{◌≡◌, ◌<◌, ◌^◌, length, map, slice_get, Some, IfSome, IfOk, position, ◌==◌, if◌then◌else◌};
+ghost use Rattle.std.specs.Prelude.{◌≡◌, ◌<◌, ◌^◌, length, map, slice_get, Some, IfSome, IfOk, position};
 ghost use Rattle.std.specs.Str.{bytes_eq};
 ghost use Rattle.cpa_units.specs.declared.limits.TheConstants.{MAX_JITTER};
 ghost use Rattle.cpa_events.specs.Events.{IsModelInRange, HasJitterUpTo};
@@ -100,7 +100,8 @@ pub struct TaskList {
     tasks: Vec<TaskId>,
 }
 
-fn close_up_ids(tasks: &mut [TaskId], removed: TaskId)
+/// What the places of tasks are once a task is gone.
+pub(crate) fn close_up_ids(tasks: &mut [TaskId], removed: TaskId)
     ensures { tasks.new ≡ map (id_without removed.0) tasks.old }
 {
     for task in tasks.iter_mut() {
@@ -217,22 +218,11 @@ pub(crate) fn gap_of(kind: Kind) -> u64
 }
 
 /// The slot of a turn, 0 where it has a priority.
-fn slot_of(turn: Turn) -> u64
+pub(crate) fn slot_of(turn: Turn) -> u64
     ensures { result ≡ slot_of turn }
 {
     match turn {
         Turn::Priority(_) => 0,
         Turn::Slot(ticks) => ticks,
-    }
-}
-
-/// The slot of a task on a resource, 0 where it is on another.
-pub(crate) fn slot_on(task: &Task, res: ResId) -> u64
-    ensures { result ≡ (if task.now.res.0 == res.0 then slot_of task.now.turn else 0) }
-{
-    if task.res.0 == res.0 {
-        slot_of(task.turn)
-    } else {
-        0
     }
 }

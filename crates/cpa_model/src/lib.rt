@@ -7,6 +7,7 @@ pub mod build;
 mod chains;
 mod changes;
 pub mod entries;
+mod rosters;
 pub mod system;
 #[cfg(test)]
 mod tests;

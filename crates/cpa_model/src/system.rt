@@ -1,34 +1,40 @@
 //! A system that keeps its rules.
 
-ghost use Rattle.std.specs.Prelude.{◌≡◌, ◌<◌, length};
+ghost use Rattle.std.specs.Prelude.{◌≡◌, ◌<◌, length, All, IfOk};
+ghost use Rattle.cpa_units.specs.declared.places.TaskId.{TaskId};
 
 use crate::chains::{chain_depth, chain_root};
-use crate::entries::{Path, Resource, Source, Task, first_with_name, gap_of, slot_on};
-use cpa_units::{PathId, ResId, SourceId, TaskId};
+use crate::entries::{Path, Resource, Source, Task, first_with_name, gap_of, slot_of};
+use crate::rosters::{Roster, gather};
+use cpa_units::{NoMemory, PathId, ResId, SourceId, TaskId};
+use std::alloc::Global;
 use std::marker::Model;
 
-/// A system, which keeps its rules.
+/// A system, which keeps its rules. Beside its lists it knows the tasks of each resource.
 #[derive(Debug, Drop)]
 pub struct System {
     pub(crate) resources: Vec<Resource>,
     pub(crate) sources: Vec<Source>,
     pub(crate) tasks: Vec<Task>,
     pub(crate) paths: Vec<Path>,
+    pub(crate) rosters: Vec<Roster>,
 }
 
 impl Model for System {
     ghost use Rattle.cpa_model.specs.SystemLists.{SystemLists};
+    ghost use Rattle.std.specs.Prelude.{length};
     ghost use Rattle.cpa_model.specs.Rules.{IsSystem};
+    ghost use Rattle.cpa_model.specs.Rosters.{AreRosters};
 
     ghost Value = { SystemLists };
 
     ghost view = { λ s. record { resources = s.resources.items; sources = s.sources.items; tasks = s.tasks.items; paths = s.paths.items } };
 
-    ghost invariant = { λ s. IsSystem (record { resources = s.resources.items; sources = s.sources.items; tasks = s.tasks.items; paths = s.paths.items }) };
+    ghost invariant = { λ s. IsSystem (record { resources = s.resources.items; sources = s.sources.items; tasks = s.tasks.items; paths = s.paths.items }) × AreRosters (length s.resources.items) s.tasks.items (length s.tasks.items) s.rosters.items };
 }
 
 impl System {
-    ghost use Rattle.cpa_model.specs.SystemLists.{resource_at, source_at, task_at, path_at, resource_named, source_named, task_named, root_of, depth_of, cycle_of};
+    ghost use Rattle.cpa_model.specs.SystemLists.{resource_at, source_at, task_at, path_at, places_of, tasks_on, resource_named, source_named, task_named, root_of, depth_of, cycle_of};
     ghost use Rattle.cpa_model.specs.Rules.{IsSystem, IsResource, IsSource, IsTask, IsPath};
 
     /// A system keeps its rules. The call does nothing.
@@ -40,20 +46,23 @@ impl System {
 
     /// The system of four lists that keep the rules.
     pub fn of_lists(
+        alloc: Global,
         resources: Vec<Resource>,
         sources: Vec<Source>,
         tasks: Vec<Task>,
         paths: Vec<Path>,
-    ) -> System
+    ) -> Result<System, NoMemory>
         requires { IsSystem (record { resources = resources.items; sources = sources.items; tasks = tasks.items; paths = paths.items }) }
-        ensures { result ≡ record { resources = resources.items; sources = sources.items; tasks = tasks.items; paths = paths.items } }
+        ensures { IfOk result (λ s. s ≡ record { resources = resources.items; sources = sources.items; tasks = tasks.items; paths = paths.items }) }
     {
-        System {
+        let rosters = gather(alloc, resources.as_slice(), tasks.as_slice())?;
+        Ok(System {
             resources,
             sources,
             tasks,
             paths,
-        }
+            rosters,
+        })
     }
 
     /// The number of resources.
@@ -120,6 +129,15 @@ impl System {
         &self.paths[path.0 as usize]
     }
 
+    /// The tasks of a resource, in their order.
+    pub fn tasks_on(&self, res: ResId) -> &[TaskId]
+        requires { res.0 < length self.now.resources }
+        ensures places { places_of result.now ≡ tasks_on self.now res.0 }
+        ensures there { All (λ (t : TaskId). t.0 < length self.now.tasks) result.now }
+    {
+        self.rosters[res.0 as usize].tasks()
+    }
+
     /// The resource with a name.
     pub fn find_resource(&self, name: &[u8]) -> Option<ResId>
         ensures { result ≡ resource_named self.now name.now }
@@ -173,8 +191,8 @@ impl System {
         ensures { result ≡ cycle_of self.now res.0 }
     {
         let mut cycle = gap_of(self.resources[res.0 as usize].kind);
-        for task in &self.tasks {
-            cycle += slot_on(task, res);
+        for task in self.tasks_on(res) {
+            cycle += slot_of(self.task(*task).turn);
         }
         cycle
     }

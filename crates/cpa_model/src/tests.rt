@@ -221,12 +221,15 @@ fn builds_a_system(rt: HostRuntime) -> Result<(), Fail> {
     }
     assert!(rt; 2 < system.resources());
     assert_eq!(rt; system.cycle(ResId(2)), 47);
+    assert_eq!(rt; system.tasks_on(ResId(2)), &[TaskId(4), TaskId(5)]);
     assert!(rt; 0 < system.paths());
     let path = system.path(PathId(0));
     assert_eq!(rt; path.deadline, Some(40));
     assert_eq!(rt; path.tasks.len(), 3);
     assert!(rt; 2 < path.tasks.len());
     assert_eq!(rt; path.tasks.get(2), TaskId(2));
+    let copy = system.copy(alloc)?;
+    assert_eq!(rt; copy.find_task("y".as_bytes()), Some(TaskId(5)));
     Ok(())
 }
 

@@ -1,6 +1,7 @@
 //! A bound on a response time.
 
 ghost use Rattle.std.specs.Prelude.{◌≡◌};
+ghost use Rattle.cpa_units.specs.Bounds.{bound_max};
 ghost use Rattle.cpa_units.specs.Words.{IsWordable, word_of, bound_of_word, WordsComeBack, WordsKeepOrder};
 
 /// A number of ticks, or no bound, which is above every number.
@@ -11,6 +12,16 @@ pub enum Bound {
 }
 
 impl Bound {
+    /// The greater of two bounds.
+    pub fn max(self, other: Bound) -> Bound
+        ensures { result ≡ bound_max self other }
+    {
+        match (self, other) {
+            (Bound::Within(a), Bound::Within(b)) => Bound::Within(a.max(b)),
+            _ => Bound::Overload,
+        }
+    }
+
     /// The bound as a word: its number, or the greatest word for an overload.
     pub fn word(self) -> u64
         requires { IsWordable self }

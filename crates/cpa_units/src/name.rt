@@ -74,10 +74,8 @@ impl Name {
     pub fn copy(&self, alloc: Global) -> Result<Name, NoMemory>
         ensures { IfOk result (λ copy. copy ≡ self.now) }
     {
-        match Name::read(alloc, self.bytes()) {
-            Ok(copy) => Ok(copy),
-            Err(_) => Err(NoMemory),
-        }
+        let bytes = Vec::from_slice(alloc, self.bytes.as_slice())?;
+        Ok(Name { bytes })
     }
 
     pub fn bytes(&self) -> &[u8]

@@ -62,4 +62,14 @@ impl Vector {
     {
         self.bounds[task.0 as usize] = value;
     }
+
+    /// Takes over all entries of a vector of the same length.
+    pub fn assign(&mut self, other: &Vector)
+        requires { length other.now ≡ length self.old }
+        ensures { self.new ≡ other.now }
+    {
+        self.bounds
+            .as_mut_slice()
+            .copy_from_slice(other.bounds.as_slice());
+    }
 }

@@ -11,20 +11,42 @@ pub build_paths-requires-clause-fits : goal.build_paths-requires-clause-fits
 build_paths-requires-clause-fits c =
     rw (c.path_entries.ensures) (paths-fit-types c.args.draft (unrefused c.args.draft c.in_ok-tables.ensures.refusal) c.requires.executions)
 
+pub build_rosters-requires-clause-few : goal.build_rosters-requires-clause-few
+unfolding system_of
+build_rosters-requires-clause-few c =
+    rw (c.as_slice-2.ensures.value, c.in_ok-tasks.ensures.ok, c.task_entries.ensures)
+    (system-kept c.args.draft (unrefused c.args.draft c.in_ok-tables.ensures.refusal) c.requires.executions).few_tasks
+
+pub build_rosters-requires-clause-placed : goal.build_rosters-requires-clause-placed
+unfolding system_of
+build_rosters-requires-clause-placed c =
+    let kept = system-kept c.args.draft (unrefused c.args.draft c.in_ok-tables.ensures.refusal) c.requires.executions in
+    rw (
+      c.as_slice.ensures.value,
+      c.as_slice-2.ensures.value,
+      c.in_ok-resources.ensures.ok,
+      c.in_ok-tasks.ensures.ok,
+      c.resource_entries.ensures,
+      c.task_entries.ensures,
+    )
+    (λ i d h. (kept.tasks i d h).placed)
+
 pub invariant_of-result : goal.invariant_of-result
 unfolding system_of
-invariant_of-result c =
-    rw (
-      c.in_ok-resources.ensures.ok,
-      c.in_ok-sources.ensures.ok,
-      c.in_ok-tasks.ensures.ok,
-      c.in_ok-paths.ensures.ok,
-      c.resource_entries.ensures,
-      c.source_entries.ensures,
-      c.task_entries.ensures,
-      c.path_entries.ensures,
-    )
-    (system-kept c.args.draft (unrefused c.args.draft c.in_ok-tables.ensures.refusal) c.requires.executions)
+invariant_of-result c = (
+  rw (
+    c.in_ok-resources.ensures.ok,
+    c.in_ok-sources.ensures.ok,
+    c.in_ok-tasks.ensures.ok,
+    c.in_ok-paths.ensures.ok,
+    c.resource_entries.ensures,
+    c.source_entries.ensures,
+    c.task_entries.ensures,
+    c.path_entries.ensures,
+  )
+      (system-kept c.args.draft (unrefused c.args.draft c.in_ok-tables.ensures.refusal) c.requires.executions),
+  rw (c.as_slice.ensures.value, c.as_slice-2.ensures.value) at c.in_ok-rosters.ensures.ok,
+)
 
 pub returns-clause-ok : goal.returns-clause-ok
 unfolding system_of
