@@ -1,4 +1,4 @@
-use Rattle.std.proofs.Common.{◌∙◌, ap, arith, sym}
+use Rattle.std.proofs.Common.{◌∙◌, ap, arith}
 use Rattle.cpa_sched.specs.Steps.{owner_at}
 use Rattle.cpa_sched.specs.Stretches.{ticks_to_end}
 use Rattle.cpa_sched.proofs.StretchLaws.{slots_of, cycle-is}
