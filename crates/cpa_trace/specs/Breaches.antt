@@ -1,5 +1,5 @@
 -- The first breach of a trace that doesn't obey.
-use Rattle.std.specs.Prelude.{ℕ, ◌+◌, ◌-◌, Bool, true, false, not, ◌&&◌, ◌==◌, nat_lt, nat_le, List, length, slice_index_or, Option, Some, None, is_some, option_map, option_and_then, if◌then◌else◌}
+use Rattle.std.specs.Prelude.{◌<◌, ℕ, ◌+◌, ◌-◌, Bool, true, false, not, ◌&&◌, ◌==◌, nat_lt, nat_le, List, length, slice_index_or, Option, Some, None, is_some, option_map, option_and_then, if◌then◌else◌}
 use Rattle.std.specs.List.{list_any}
 use Rattle.cpa_units.specs.Search.{least_from}
 use Rattle.cpa_events.specs.declared.Model.{Model}
@@ -80,3 +80,9 @@ abbrev pub first_breach : SystemLists → TraceLists → Option Breach
 first_breach s tr =
     or_else (first_some (close_breach s tr) (length s.sources))
     (or_else (first_some (execution_breach s tr) (length s.tasks)) (first_some (phase_breach s tr) (length s.resources)))
+
+-- the source, task or resource of a breach is there
+abbrev pub IsBreachOf : SystemLists → Breach → Type 0
+IsBreachOf s (Close k first second) = k.0 < length s.sources
+IsBreachOf s (Exec i job) = i.0 < length s.tasks
+IsBreachOf s (Phase r) = r.0 < length s.resources

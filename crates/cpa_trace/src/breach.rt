@@ -1,11 +1,11 @@
 //! Whether a trace obeys a system, and its first breach where it doesn't.
 
-ghost use Rattle.std.specs.Prelude.{◌≡◌, ℕ, ◌+◌, ◌-◌, ◌<◌, ◌≤◌, ◌↔◌, length, None, true, Some, is_some, nat_lt};
+ghost use Rattle.std.specs.Prelude.{◌≡◌, ℕ, ◌+◌, ◌-◌, ◌<◌, ◌≤◌, ◌↔◌, length, None, true, Some, IfSome, is_some, nat_lt};
 ghost use Rattle.cpa_events.specs.Events.{delta_minus, IsModelInRange};
 ghost use Rattle.cpa_model.specs.SystemLists.{task_at};
 ghost use Rattle.cpa_model.specs.Streams.{source_model};
 ghost use Rattle.cpa_trace.specs.Trace.{times_of, executions_of, IsOrdered, FitsSystem, Obeys};
-ghost use Rattle.cpa_trace.specs.Breaches.{first_some, has_tasks, is_tdma, first_before, first_too_soon, close_breach, execution_breach, phase_breach, first_breach, first_below, is_out_of_range};
+ghost use Rattle.cpa_trace.specs.Breaches.{first_some, has_tasks, is_tdma, first_before, first_too_soon, close_breach, execution_breach, phase_breach, first_breach, first_below, is_out_of_range, IsBreachOf};
 
 use crate::trace::Trace;
 use cpa_events::Model;
@@ -211,6 +211,7 @@ pub fn obeys(system: &System, trace: &Trace) -> Option<Breach>
     requires { FitsSystem system.now trace.now }
     ensures first { result ≡ first_breach system.now trace.now }
     ensures obeys { (result ≡ None) ↔ Obeys system.now trace.now }
+    ensures there { IfSome result (IsBreachOf system.now) }
 {
     first_breach(system, trace)
 }
