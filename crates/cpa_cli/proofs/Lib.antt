@@ -1,1 +1,4 @@
 pub mod OutputLaws
+pub mod PlanLaws
+pub mod ReportLaws
+pub mod SendLaws

@@ -1,112 +1,89 @@
--- The output of a call, and the parts of it that were sent.
-use Rattle.std.proofs.Common.{◌≡◌, ℕ, ◌≤◌, ◌<◌, Bool, true, false, nat_lt, List, [], length, Option, Some, None, MatchBool, IsSomeAnd, refl, sym, ap, ◌∙◌, arith, inl, inr}
-use Rattle.std.proofs.lemmas.Bool.{le-ltb, lt-ltb, cases_Bool}
-use Rattle.std.proofs.lemmas.List.{append-nil}
-use Rattle.cpa_units.specs.declared.limits.TheConstants.{MAX_SYSTEM_FILE}
-use Rattle.cpa_io.specs.Causes.{SentPart}
+-- There is an output of each call, and one only.
+use Rattle.std.proofs.Common.{◌≡◌, ℕ, Bool, true, false, nat_lt, if◌then◌else◌, List, [], length, Option, Some, None, Ok, Err, refl, sym, ◌∙◌}
+use Rattle.std.specs.Prelude.{Result}
 use Rattle.cpa_model.specs.SystemLists.{SystemLists}
-use Rattle.cpa_cli.specs.Words.{Command, Analyse, accepted, system_file}
-use Rattle.cpa_cli.specs.Lines.{words_refused, too_long, not_toml, system_refused}
+use Rattle.cpa_model.specs.Rules.{IsSystem}
 use Rattle.cpa_file.specs.Reading.{Reading, NotToml, Refused, Accepted, reading_of}
 use Rattle.cpa_file.proofs.ReadingLaws.{accepted-is_system}
-use Rattle.cpa_report.specs.Report.{report_text, verdict}
-use Rattle.cpa_local.specs.Solution.{least_of}
-use Rattle.cpa_cli.specs.Output.{Answer, reply, IsReport, IsAnswerOf, IsAnswerTo, IsAnswerAt, IsAnswerBy, IsOutput, SendsPart}
-use Rattle.cpa_local.proofs.VectorLaws.{least-one}
-use Rattle.cpa_local.proofs.SolutionLaws.{least_of-is_least}
-use Rattle.cpa_model.specs.Rules.{IsSystem}
+use Rattle.cpa_trace.specs.declared.breach.Breach.{Breach}
+use Rattle.cpa_trace.specs.declared.fault.TraceFault.{TraceFault}
+use Rattle.cpa_trace.specs.Trace.{TraceLists}
+use Rattle.cpa_trace.specs.Reading.{trace_of}
+use Rattle.cpa_trace.specs.Breaches.{first_breach}
+use Rattle.cpa_units.specs.declared.limits.TheConstants.{MAX_SYSTEM_FILE, MAX_TRACE_FILE}
+use Rattle.cpa_sim.specs.Outcome.{outcome_of}
+use Rattle.cpa_sim.specs.SimText.{sim_text}
+use Rattle.cpa_cli.specs.declared.work.Work.{Work}
+use Rattle.cpa_cli.specs.declared.work.Work.TheVariants as work
+use Rattle.cpa_cli.specs.Words.{Asked, Analyse, Simulate, accepted}
+use Rattle.cpa_cli.specs.Lines.{words_refused, too_long, not_toml, system_refused, trace_refused, trace_disobeys}
+use Rattle.cpa_cli.specs.Answers.{Answer, reply}
+use Rattle.cpa_cli.specs.Plan.{Held, Plan, Do, Refuse, Missing, with_content, with_reading, with_system, unless_breach, with_entries, with_trace, plan_for, plan_by, plan_of}
+use Rattle.cpa_cli.specs.Work.{IsDone}
+use Rattle.cpa_cli.specs.Output.{IsAnswerTo, IsOutput}
+use Rattle.cpa_cli.proofs.ReportLaws.{some-report, one-report}
 
-abbrev pub Words : Type 0
-Words = List (List ℕ)
+abbrev HasAnswer : Plan → Type 0
+HasAnswer plan = (answer : Answer) × IsAnswerTo plan answer
 
-abbrev pub Held : Type 0
-Held = List ℕ → Option (List ℕ)
+-- ---- there is one: a plan has an answer where each plan that it may go on with has
 
-pub output-refused : (words : Words) (held : Held) (text : List ℕ) → accepted words ≡ None → text ≡ words_refused → IsOutput words held (reply 10 text)
-unfolding IsOutput
-output-refused words held text none is = rw none (ap (reply 10) is)
+some-content : (file : List ℕ) (most : ℕ) (content : Option (List ℕ)) (next : List ℕ → Plan) → ((bytes : List ℕ) → HasAnswer (next bytes)) → HasAnswer (with_content file most content next)
+some-content file most None next each = (record { status = None; text = [] }, refl)
+some-content file most (Some bytes) next each = by (nat_lt most (length bytes)) (each bytes)
+  where
+    by : (b : Bool) → HasAnswer (next bytes) → HasAnswer (if b then Refuse 12 (too_long file) else next bytes)
+    by true here = (reply 12 (too_long file), refl)
+    by false here = here
 
-pub output-at : (words : Words) (held : Held) (command : Command) (answer : Answer) → accepted words ≡ Some command → IsAnswerAt command (held (system_file command)) answer → IsOutput words held answer
-unfolding IsOutput
-output-at words held command answer some at = rw some at
+some-reading : (file : List ℕ) (reading : Reading) (next : SystemLists → Plan) → ((s : SystemLists) → reading ≡ Accepted s → IsSystem s) → ((s : SystemLists) → IsSystem s → HasAnswer (next s))
+    → HasAnswer (with_reading file reading next)
+some-reading file NotToml next rules each = (reply 13 (not_toml file), refl)
+some-reading file (Refused r) next rules each = (reply 14 (system_refused r), refl)
+some-reading file (Accepted s) next rules each = each s (rules s refl)
 
-pub answer-held : (command : Command) (content : Option (List ℕ)) (bytes : List ℕ) (answer : Answer) → content ≡ Some bytes → length bytes ≤ MAX_SYSTEM_FILE → IsAnswerTo command (reading_of bytes) answer → IsAnswerAt command content answer
-answer-held command content bytes answer is short to = rw (is, le-ltb MAX_SYSTEM_FILE (length bytes) short) to
+some-unless : (s : SystemLists) (o : Option Breach) (next : Plan) → HasAnswer next → HasAnswer (unless_breach s o next)
+some-unless s None next here = here
+some-unless s (Some b) next here = (reply 17 (trace_disobeys s b), refl)
 
-pub answer-long : (command : Command) (content : Option (List ℕ)) (text : List ℕ) → IsSomeAnd content (λ bytes. MAX_SYSTEM_FILE < length bytes) → text ≡ too_long (system_file command) → IsAnswerAt command content (reply 12 text)
-answer-long command None text never is = absurd never
-answer-long command (Some bytes) text more is = rw (lt-ltb MAX_SYSTEM_FILE (length bytes) more) (ap (reply 12) is)
+some-entries : (s : SystemLists) (r : Result TraceLists TraceFault) (next : TraceLists → Plan) → ((tr : TraceLists) → HasAnswer (next tr)) → HasAnswer (with_entries s r next)
+some-entries s (Ok tr) next each = some-unless s (first_breach s tr) (next tr) (each tr)
+some-entries s (Err fault) next each = (reply 16 (trace_refused fault), refl)
 
--- there is an output
+some-trace : (held : Held) (s : SystemLists) (file : List ℕ) (next : TraceLists → Plan) → ((tr : TraceLists) → HasAnswer (next tr)) → HasAnswer (with_trace held s file next)
+some-trace held s file next each =
+    some-content file MAX_TRACE_FILE (held file) (λ bytes. with_entries s (trace_of s bytes) next) (λ bytes. some-entries s (trace_of s bytes) next each)
 
-some-report : (s : SystemLists) → IsSystem s → (answer : Answer) × IsReport s answer
-some-report s rules =
-    let x = least_of s in
-    (reply (verdict s x) (report_text s x), record { bounds = x; least = least_of-is_least s rules; status_is = refl; text_is = refl })
+some-system : (held : Held) (file : List ℕ) (next : SystemLists → Plan) → ((s : SystemLists) → IsSystem s → HasAnswer (next s)) → HasAnswer (with_system held file next)
+some-system held file next each =
+    some-content file MAX_SYSTEM_FILE (held file) (λ bytes. with_reading file (reading_of bytes) next) (λ bytes. some-reading file (reading_of bytes) next (accepted-is_system bytes) each)
 
-some-command : (command : Command) (s : SystemLists) → IsSystem s → (answer : Answer) × IsAnswerOf command s answer
-some-command (Analyse file) s a = some-report s a
+some-run : (s : SystemLists) (tr : TraceLists) → HasAnswer (Do (work.Simulate s tr))
+some-run s tr = (reply 0 (sim_text s (outcome_of s tr)), refl)
 
-some-reading : (command : Command) (reading : Reading) → ((s : SystemLists) → reading ≡ Accepted s → IsSystem s) → (answer : Answer) × IsAnswerTo command reading answer
-some-reading command NotToml a = (reply 13 (not_toml (system_file command)), refl)
-some-reading command (Refused r) a = (reply 14 (system_refused r), refl)
-some-reading command (Accepted s) a = some-command command s (a s refl)
+some-for : (held : Held) (asked : Asked) → HasAnswer (plan_for held asked)
+some-for held (Analyse file) = some-system held file (λ s. Do (work.Analyse s)) some-report
+some-for held (Simulate file trace) =
+    some-system held file (λ s. with_trace held s trace (λ tr. Do (work.Simulate s tr))) (λ s rules. some-trace held s trace (λ tr. Do (work.Simulate s tr)) (some-run s))
 
-some-content : (command : Command) (content : Option (List ℕ)) → (answer : Answer) × IsAnswerAt command content answer
-some-content command None = (record { status = None; text = [] }, refl)
-some-content command (Some bytes) =
-    elim (cases_Bool (nat_lt MAX_SYSTEM_FILE (length bytes))) [
-      | inl long ↦ (reply 12 (too_long (system_file command)), rw long refl)
-      | inr short ↦ let some = some-reading command (reading_of bytes) (accepted-is_system bytes) in (some.0, rw short some.1)
-    ]
+some-by : (held : Held) (o : Option Asked) → HasAnswer (plan_by held o)
+some-by held None = (reply 10 words_refused, refl)
+some-by held (Some asked) = some-for held asked
 
-some-words : (held : Held) (words : Option Command) → (answer : Answer) × IsAnswerBy held words answer
-some-words held None = (reply 10 words_refused, refl)
-some-words held (Some command) = some-content command (held (system_file command))
+pub some-output : (words : List (List ℕ)) (held : Held) → (answer : Answer) × IsOutput words held answer
+unfolding plan_of
+some-output words held = some-by held (accepted words)
 
-pub some-output : (words : Words) (held : Held) → (answer : Answer) × IsOutput words held answer
-unfolding IsOutput
-some-output words held = some-words held (accepted words)
+-- ---- and only one
 
--- and only one
+one-done : (it : Work) (a b : Answer) → IsDone it a → IsDone it b → a ≡ b
+one-done (work.Analyse s) a b h k = one-report s a b h k
+one-done (work.Simulate s tr) a b h k = h ∙ sym k
 
-one-report : (s : SystemLists) (a b : Answer) → IsReport s a → IsReport s b → a ≡ b
-one-report s a b h k =
-    let same = least-one s h.bounds k.bounds h.least k.least in
-    let status : a.status ≡ b.status = h.status_is ∙ ap (λ x. Some (verdict s x)) same ∙ sym k.status_is in
-    let text : a.text ≡ b.text = h.text_is ∙ ap (report_text s) same ∙ sym k.text_is in
-    λ i. record { status = status i; text = text i }
+one-answer : (plan : Plan) (a b : Answer) → IsAnswerTo plan a → IsAnswerTo plan b → a ≡ b
+one-answer (Do it) a b h k = one-done it a b h k
+one-answer (Refuse status line) a b h k = h ∙ sym k
+one-answer Missing a b h k = h ∙ sym k
 
-one-command : (command : Command) (s : SystemLists) (a b : Answer) → IsAnswerOf command s a → IsAnswerOf command s b → a ≡ b
-one-command (Analyse file) s a b h k = one-report s a b h k
-
-one-reading : (command : Command) (reading : Reading) (a b : Answer) → IsAnswerTo command reading a → IsAnswerTo command reading b → a ≡ b
-one-reading command NotToml a b h k = h ∙ sym k
-one-reading command (Refused r) a b h k = h ∙ sym k
-one-reading command (Accepted s) a b h k = one-command command s a b h k
-
-one-choice : (test : Bool) (P Q : Answer → Type 0) → ((a b : Answer) → P a → P b → a ≡ b) → ((a b : Answer) → Q a → Q b → a ≡ b) → (a b : Answer) → MatchBool test (P a) (Q a) → MatchBool test (P b) (Q b) → a ≡ b
-one-choice true P Q p q a b h k = p a b h k
-one-choice false P Q p q a b h k = q a b h k
-
-one-content : (command : Command) (content : Option (List ℕ)) (a b : Answer) → IsAnswerAt command content a → IsAnswerAt command content b → a ≡ b
-one-content command None a b h k = h ∙ sym k
-one-content command (Some bytes) a b h k =
-    one-choice (nat_lt MAX_SYSTEM_FILE (length bytes)) (λ a. a ≡ reply 12 (too_long (system_file command))) (IsAnswerTo command (reading_of bytes))
-    (λ a b h k. h ∙ sym k) (one-reading command (reading_of bytes)) a b h k
-
-one-words : (held : Held) (words : Option Command) (a b : Answer) → IsAnswerBy held words a → IsAnswerBy held words b → a ≡ b
-one-words held None a b h k = h ∙ sym k
-one-words held (Some command) a b h k = one-content command (held (system_file command)) a b h k
-
-pub one-output : (words : Words) (held : Held) (a b : Answer) → IsOutput words held a → IsOutput words held b → a ≡ b
-unfolding IsOutput
-one-output words held a b h k = one-words held (accepted words) a b h k
-
--- nothing was sent
-sent-nothing : (sent : Option (List ℕ)) (text : List ℕ) → SentPart sent sent text
-sent-nothing None text = record { count = 0; within = omega arith; sent = refl }
-sent-nothing (Some before) text = record { count = 0; within = omega arith; sent = ap Some (sym (append-nil before)) }
-
-pub nothing-sent : (words : Words) (held : Held) (sent : Option (List ℕ)) → SendsPart (IsOutput words held) sent sent
-nothing-sent words held sent = let some = some-output words held in record { answer = some.0; is_output = some.1; part = sent-nothing sent some.0.text }
+pub one-output : (words : List (List ℕ)) (held : Held) (a b : Answer) → IsOutput words held a → IsOutput words held b → a ≡ b
+one-output words held = one-answer (plan_of words held)

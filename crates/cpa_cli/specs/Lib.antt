@@ -1,3 +1,7 @@
+pub mod Answers
+pub mod Ends
 pub mod Lines
 pub mod Output
+pub mod Plan
 pub mod Words
+pub mod Work

@@ -1,53 +1,20 @@
 -- What the program answers, and what it has sent when it ends.
-use Rattle.std.specs.Prelude.{◌≡◌, ◌≢◌, ℕ, nat_lt, MatchBool, List, [], length, Option, Some, None, Contains}
-use Rattle.cpa_units.specs.declared.bound.Bound.{Bound}
-use Rattle.cpa_units.specs.declared.limits.TheConstants.{MAX_SYSTEM_FILE}
+use Rattle.std.specs.Prelude.{◌≡◌, ◌≢◌, ◌⊎◌, ℕ, Bool, true, List, [], Option, Some, None}
 use Rattle.cpa_io.specs.Causes.{grown, Rose, SentPart}
-use Rattle.cpa_model.specs.SystemLists.{SystemLists}
-use Rattle.cpa_cli.specs.Words.{Command, Analyse, accepted, system_file, named_files}
-use Rattle.cpa_cli.specs.Lines.{words_refused, too_long, not_toml, system_refused}
-use Rattle.cpa_file.specs.Reading.{Reading, NotToml, Refused, Accepted, reading_of}
-use Rattle.cpa_report.specs.Report.{report_text, verdict}
-use Rattle.cpa_local.specs.Solution.{IsLeast}
+use Rattle.cpa_cli.specs.Words.{Asked, accepted, Analyse, Simulate}
+use Rattle.cpa_cli.specs.Plan.{Held, Plan, Do, Refuse, Missing, plan_of, IsAccepted}
+use Rattle.cpa_cli.specs.Answers.{Answer, reply}
+use Rattle.cpa_cli.specs.Work.{IsDone}
 
--- a status, where there is one, and a text
-pub record Answer : Type 0 where
-  pub status : Option ℕ
-  pub text : List ℕ
-
-abbrev pub reply : ℕ → List ℕ → Answer
-reply status text = record { status = Some status; text = text }
-
--- the report of a system, at its least solution
-pub record IsReport (s : SystemLists) (answer : Answer) : Type 0 where
-  pub bounds : List Bound
-  pub least : IsLeast s bounds
-  pub status_is : answer.status ≡ Some (verdict s bounds)
-  pub text_is : answer.text ≡ report_text s bounds
-
--- a command's answer, where all that it reads is accepted
-abbrev pub IsAnswerOf : Command → SystemLists → Answer → Type 0
-IsAnswerOf (Analyse file) s answer = IsReport s answer
-
--- by what the system file stands for
-abbrev pub IsAnswerTo : Command → Reading → Answer → Type 0
-IsAnswerTo command NotToml answer = answer ≡ reply 13 (not_toml (system_file command))
-IsAnswerTo command (Refused r) answer = answer ≡ reply 14 (system_refused r)
-IsAnswerTo command (Accepted s) answer = IsAnswerOf command s answer
-
--- by the bytes that are held under the system file's name; where none are, there is no answer but a fault
-abbrev pub IsAnswerAt : Command → Option (List ℕ) → Answer → Type 0
-IsAnswerAt command None answer = answer ≡ record { status = None; text = [] }
-IsAnswerAt command (Some bytes) answer =
-    MatchBool (nat_lt MAX_SYSTEM_FILE (length bytes)) (answer ≡ reply 12 (too_long (system_file command))) (IsAnswerTo command (reading_of bytes) answer)
-
-abbrev pub IsAnswerBy : (List ℕ → Option (List ℕ)) → Option Command → Answer → Type 0
-IsAnswerBy held None answer = answer ≡ reply 10 words_refused
-IsAnswerBy held (Some command) answer = IsAnswerAt command (held (system_file command)) answer
+-- a refusal is its status and its line; where a file in turn isn't held, there is no answer but a fault
+abbrev pub IsAnswerTo : Plan → Answer → Type 0
+IsAnswerTo (Do work) answer = IsDone work answer
+IsAnswerTo (Refuse status line) answer = answer ≡ reply status line
+IsAnswerTo Missing answer = answer ≡ record { status = None; text = [] }
 
 -- the output: the answer to these words, over files that hold these bytes
-unfoldable pub IsOutput : List (List ℕ) → (List ℕ → Option (List ℕ)) → Answer → Type 0
-IsOutput words held answer = IsAnswerBy held (accepted words) answer
+abbrev pub IsOutput : List (List ℕ) → Held → Answer → Type 0
+IsOutput words held answer = IsAnswerTo (plan_of words held) answer
 
 -- a status that the output decides: neither a fault nor want of memory
 abbrev pub IsOfOutput : ℕ → Type 0
@@ -68,14 +35,23 @@ pub record SendsPart (output : Answer → Type 0) (before now : Option (List ℕ
 
 -- each call has an output, and it has one only
 abbrev pub OutputsExist : Type 0
-OutputsExist = (words : List (List ℕ)) (held : List ℕ → Option (List ℕ)) → (answer : Answer) × IsOutput words held answer
+OutputsExist = (words : List (List ℕ)) (held : Held) → (answer : Answer) × IsOutput words held answer
 
 abbrev pub OutputsAreOne : Type 0
-OutputsAreOne = (words : List (List ℕ)) (held : List ℕ → Option (List ℕ)) (a b : Answer) → IsOutput words held a → IsOutput words held b → a ≡ b
+OutputsAreOne = (words : List (List ℕ)) (held : Held) (a b : Answer) → IsOutput words held a → IsOutput words held b → a ≡ b
+
+-- a second file is loaded once the system file is accepted
+abbrev pub IsSecond : Bool → Held → List ℕ → List ℕ → List ℕ → Type 0
+IsSecond told held file second last = (last ≡ file) ⊎ ((last ≡ second) × (told ≡ true → IsAccepted held file))
+
+-- the file whose load may have been the last that failed
+abbrev pub IsNamed : Bool → Held → Asked → List ℕ → Type 0
+IsNamed told held (Analyse file) last = last ≡ file
+IsNamed told held (Simulate file trace) last = IsSecond told held file trace last
 
 -- a file that the words name is the one whose load failed last, and the count of faults rose
-pub record IsUnread (words : List (List ℕ)) (before now : ℕ) (last : List ℕ) : Type 0 where
-  pub command : Command
-  pub accepted : accepted words ≡ Some command
-  pub named : Contains (named_files command) last
+pub record IsUnread (words : List (List ℕ)) (told : Bool) (held : Held) (before now : ℕ) (last : List ℕ) : Type 0 where
+  pub asked : Asked
+  pub accepted : accepted words ≡ Some asked
+  pub named : IsNamed told held asked last
   pub rose : Rose before now

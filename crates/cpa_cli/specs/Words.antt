@@ -1,26 +1,29 @@
--- The words that the program accepts.
+-- The words that the program accepts, and what they ask for.
 use Rattle.std.specs.Prelude.{ℕ, codes, Bool, not, false, ◌&&◌, ◌==◌, if◌then◌else◌, List, [], ◌∷◌, Option, Some, None}
 use Rattle.std.specs.Str.{bytes_eq}
+use Rattle.cpa_cli.specs.declared.words.Command.{Command}
+use Rattle.cpa_cli.specs.declared.words.Command.TheVariants as command
 
 -- what accepted words ask for
-pub data Command : Type 0 where
+pub data Asked : Type 0 where
   -- the report of the system in a file
-  Analyse : List ℕ → Command
+  Analyse : List ℕ → Asked
+  -- what is observed of the system in a file, under the trace in another
+  Simulate : List ℕ → List ℕ → Asked
 
 -- a word that isn't empty and doesn't begin with a dash
 abbrev pub is_file_word : List ℕ → Bool
 is_file_word [] = false
 is_file_word (first ∷ rest) = not (first == 45)
 
--- the command that the words give, where they are accepted
-abbrev pub accepted : List (List ℕ) → Option Command
+-- what the words ask for, where they are accepted
+abbrev pub accepted : List (List ℕ) → Option Asked
 accepted (verb ∷ file ∷ []) = if bytes_eq verb (codes "analyse") && is_file_word file then Some (Analyse file) else None
+accepted (verb ∷ file ∷ trace ∷ []) =
+    if bytes_eq verb (codes "simulate") && is_file_word file && is_file_word trace then Some (Simulate file trace) else None
 accepted _ = None
 
--- the system file of a command
-abbrev pub system_file : Command → List ℕ
-system_file (Analyse file) = file
-
--- the files that a command names, in the order in which they are loaded
-abbrev pub named_files : Command → List (List ℕ)
-named_files (Analyse file) = file ∷ []
+-- what a command of the code asks for
+abbrev pub asked : Command → Asked
+asked (command.Analyse file) = Analyse file.now
+asked (command.Simulate file trace) = Simulate file.now trace.now

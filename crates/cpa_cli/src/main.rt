@@ -1,4 +1,4 @@
-//! Analyses a system of tasks, and prints a bound for each.
+//! Analyses a system of tasks and prints a bound for each, or replays a trace of it and prints what is observed.
 #![tactic(auto)]
 
 mod analysis;
@@ -7,12 +7,17 @@ mod car;
 #[cfg(test)]
 mod cases;
 mod command;
+mod ended;
 mod lines;
+mod loading;
+mod performing;
 #[cfg(test)]
 mod rounds;
+mod sending;
 #[cfg(test)]
 mod tests;
 mod words;
+mod work;
 
 use cpa_io::{RealFiles, RealSink};
 use std::alloc::Global;

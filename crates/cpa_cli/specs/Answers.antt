@@ -1,0 +1,20 @@
+-- Answers: a status, where there is one, and a text.
+use Rattle.std.specs.Prelude.{◌≡◌, ℕ, List, Option, Some}
+use Rattle.cpa_units.specs.declared.bound.Bound.{Bound}
+use Rattle.cpa_model.specs.SystemLists.{SystemLists}
+use Rattle.cpa_report.specs.Report.{report_text, verdict}
+use Rattle.cpa_local.specs.Solution.{IsLeast}
+
+pub record Answer : Type 0 where
+  pub status : Option ℕ
+  pub text : List ℕ
+
+abbrev pub reply : ℕ → List ℕ → Answer
+reply status text = record { status = Some status; text = text }
+
+-- the report of a system, at its least solution
+pub record IsReport (s : SystemLists) (answer : Answer) : Type 0 where
+  pub bounds : List Bound
+  pub least : IsLeast s bounds
+  pub status_is : answer.status ≡ Some (verdict s bounds)
+  pub text_is : answer.text ≡ report_text s bounds

@@ -1,0 +1,72 @@
+-- What a call has to do, by its words and the files that they name, or why it is refused: the order of refusals.
+use Rattle.std.specs.Prelude.{◌≡◌, ℕ, ◌≤◌, nat_lt, if◌then◌else◌, List, length, Option, Some, None, Result, Ok, Err}
+use Rattle.cpa_units.specs.declared.limits.TheConstants.{MAX_SYSTEM_FILE, MAX_TRACE_FILE}
+use Rattle.cpa_model.specs.SystemLists.{SystemLists}
+use Rattle.cpa_file.specs.Reading.{Reading, NotToml, Refused, Accepted, reading_of}
+use Rattle.cpa_trace.specs.declared.breach.Breach.{Breach}
+use Rattle.cpa_trace.specs.declared.fault.TraceFault.{TraceFault}
+use Rattle.cpa_trace.specs.Trace.{TraceLists}
+use Rattle.cpa_trace.specs.Reading.{trace_of}
+use Rattle.cpa_trace.specs.Breaches.{first_breach}
+use Rattle.cpa_cli.specs.Words.{Asked, accepted, Analyse, Simulate}
+use Rattle.cpa_cli.specs.Lines.{words_refused, too_long, not_toml, system_refused, trace_refused, trace_disobeys}
+use Rattle.cpa_cli.specs.declared.work.Work.{Work}
+use Rattle.cpa_cli.specs.declared.work.Work.TheVariants as work
+
+-- files, as the bytes that are held under each name
+abbrev pub Held : Type 0
+Held = List ℕ → Option (List ℕ)
+
+pub data Plan : Type 0 where
+  -- all that is read is accepted
+  Do : Work → Plan
+  -- the first refusal: its status and its line
+  Refuse : ℕ → List ℕ → Plan
+  -- a file in turn isn't held: no status, but for a fault
+  Missing : Plan
+
+-- a file of at most so many bytes, and what comes of them
+abbrev pub with_content : List ℕ → ℕ → Option (List ℕ) → (List ℕ → Plan) → Plan
+with_content file most None next = Missing
+with_content file most (Some bytes) next = if nat_lt most (length bytes) then Refuse 12 (too_long file) else next bytes
+
+-- the system that a file stands for
+abbrev pub with_reading : List ℕ → Reading → (SystemLists → Plan) → Plan
+with_reading file NotToml next = Refuse 13 (not_toml file)
+with_reading file (Refused r) next = Refuse 14 (system_refused r)
+with_reading file (Accepted s) next = next s
+
+abbrev pub with_system : Held → List ℕ → (SystemLists → Plan) → Plan
+with_system held file next = with_content file MAX_SYSTEM_FILE (held file) (λ bytes. with_reading file (reading_of bytes) next)
+
+-- the trace that a file is, where it obeys the system
+abbrev pub unless_breach : SystemLists → Option Breach → Plan → Plan
+unless_breach s None next = next
+unless_breach s (Some breach) next = Refuse 17 (trace_disobeys s breach)
+
+abbrev pub with_entries : SystemLists → Result TraceLists TraceFault → (TraceLists → Plan) → Plan
+with_entries s (Ok tr) next = unless_breach s (first_breach s tr) (next tr)
+with_entries s (Err fault) next = Refuse 16 (trace_refused fault)
+
+abbrev pub with_trace : Held → SystemLists → List ℕ → (TraceLists → Plan) → Plan
+with_trace held s file next = with_content file MAX_TRACE_FILE (held file) (λ bytes. with_entries s (trace_of s bytes) next)
+
+-- what accepted words ask for: the system file is read first
+abbrev pub plan_for : Held → Asked → Plan
+plan_for held (Analyse file) = with_system held file (λ s. Do (work.Analyse s))
+plan_for held (Simulate file trace) = with_system held file (λ s. with_trace held s trace (λ tr. Do (work.Simulate s tr)))
+
+abbrev pub plan_by : Held → Option Asked → Plan
+plan_by held None = Refuse 10 words_refused
+plan_by held (Some asked) = plan_for held asked
+
+unfoldable pub plan_of : List (List ℕ) → Held → Plan
+plan_of words held = plan_by held (accepted words)
+
+-- a file that is held stands for a system
+pub record IsAccepted (held : Held) (file : List ℕ) : Type 0 where
+  pub bytes : List ℕ
+  pub system : SystemLists
+  pub content : held file ≡ Some bytes
+  pub short : length bytes ≤ MAX_SYSTEM_FILE
+  pub reading : reading_of bytes ≡ Accepted system

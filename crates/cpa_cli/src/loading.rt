@@ -1,0 +1,179 @@
+//! What the words ask for, with the files that they name.
+
+ghost use Rattle.std.specs.Prelude.{◌≡◌, ◌≤◌, ℕ, true, List, map, string_bytes, length, Some, IfOk, IfErr};
+ghost use Rattle.cpa_units.specs.declared.limits.TheConstants.{MAX_TRACE_FILE};
+ghost use Rattle.cpa_file.specs.Reading.{Accepted, reading_of};
+ghost use Rattle.cpa_trace.specs.Reading.{trace_of};
+ghost use Rattle.cpa_model.specs.SystemLists.{SystemLists};
+ghost use Rattle.cpa_trace.specs.Trace.{TraceLists};
+ghost use Rattle.cpa_sim.specs.Outcome.{CanReplay};
+ghost use Rattle.cpa_cli.specs.Words.{Analyse, Simulate, asked};
+ghost use Rattle.cpa_cli.specs.Plan.{Plan, Do, with_content, with_reading, with_system, with_entries, with_trace, plan_for, plan_of, IsAccepted};
+ghost use Rattle.cpa_cli.specs.Work.{IsWithinLimits};
+ghost use Rattle.cpa_cli.specs.Output.{IsNamed, IsSecond};
+ghost use Rattle.cpa_cli.specs.Ends.{IsEndOf, HasStatus, IsUnreadFile, IsNoUnread, IsUnreadCall};
+
+use crate::ended::Ended;
+use crate::lines::{breach_line, file_line, refusal_line, trace_line, words_line};
+use crate::words::{Command, accept};
+use crate::work::Work;
+use cpa_file::{FileRefusal, read_system};
+use cpa_io::{Files, LoadFault};
+use cpa_model::System;
+use cpa_trace::{Trace, TraceFault, obeys, read_trace};
+use cpa_units::limits::{MAX_SYSTEM_FILE, MAX_TRACE_FILE};
+use std::alloc::Global;
+
+/// The bytes of a file of at most so many.
+fn load_file<F: Files>(
+    alloc: Global,
+    files: &mut F,
+    file: &str,
+    most: u64,
+) -> Result<Vec<u8>, Ended>
+    requires { most ≤ MAX_TRACE_FILE }
+    ensures planned { F.told files.old ≡ true → (next : List ℕ → Plan) → IfOk result (λ v. with_content file.now most (F.held files.old file.now) next ≡ next v.items) }
+    ensures content { F.told files.old ≡ true → IfOk result (λ v. F.held files.old file.now ≡ Some v.items) }
+    ensures within { IfOk result (λ v. length v.items ≤ most) }
+    ensures ended { F.told files.old ≡ true → (next : List ℕ → Plan) → IfErr result (IsEndOf (with_content file.now most (F.held files.old file.now) next)) }
+    ensures status { IfErr result HasStatus }
+    ensures unread { IfErr result (IsUnreadFile (λ last. last ≡ file.now) (F.faults files.old) (F.faults files.new) (F.last_failed files.new)) }
+    ensures told { F.told files.new ≡ F.told files.old }
+    ensures held { F.held files.new ≡ F.held files.old }
+    ensures rises { F.faults files.old ≤ F.faults files.new }
+{
+    match files.load(alloc, file, most) {
+        Ok(bytes) => Ok(bytes),
+        Err(LoadFault::Failed) => Err(Ended::Unread(file_line(alloc, b"cannot read ", file)?)),
+        Err(LoadFault::TooLong) => Err(Ended::Refused(12, file_line(alloc, b"too long ", file)?)),
+        Err(LoadFault::Memory) => Err(Ended::Memory),
+    }
+}
+
+/// The system that the bytes of a file stand for.
+fn read_system_file(alloc: Global, file: &str, bytes: &[u8]) -> Result<System, Ended>
+    ensures planned { (next : SystemLists → Plan) → IfOk result (λ s. with_reading file.now (reading_of bytes.now) next ≡ next s) }
+    ensures reading { IfOk result (λ s. reading_of bytes.now ≡ Accepted s) }
+    ensures ended { (next : SystemLists → Plan) → IfErr result (IsEndOf (with_reading file.now (reading_of bytes.now) next)) }
+    ensures status { IfErr result HasStatus }
+    ensures unread { IfErr result IsNoUnread }
+{
+    match read_system(alloc, bytes) {
+        Ok(system) => Ok(system),
+        Err(FileRefusal::NotToml) => Err(Ended::Refused(13, file_line(alloc, b"not TOML ", file)?)),
+        Err(FileRefusal::Refused(refusal)) => {
+            Err(Ended::Refused(14, refusal_line(alloc, refusal)?))
+        }
+        Err(FileRefusal::Memory) => Err(Ended::Memory),
+    }
+}
+
+/// The system that a file stands for.
+fn load_system<F: Files>(alloc: Global, files: &mut F, file: &str) -> Result<System, Ended>
+    ensures planned { F.told files.old ≡ true → (next : SystemLists → Plan) → IfOk result (λ s. with_system (F.held files.old) file.now next ≡ next s) }
+    ensures accepted { F.told files.old ≡ true → IfOk result (λ s. IsAccepted (F.held files.old) file.now) }
+    ensures ended { F.told files.old ≡ true → (next : SystemLists → Plan) → IfErr result (IsEndOf (with_system (F.held files.old) file.now next)) }
+    ensures status { IfErr result HasStatus }
+    ensures unread { IfErr result (IsUnreadFile (λ last. last ≡ file.now) (F.faults files.old) (F.faults files.new) (F.last_failed files.new)) }
+    ensures told { F.told files.new ≡ F.told files.old }
+    ensures held { F.held files.new ≡ F.held files.old }
+    ensures rises { F.faults files.old ≤ F.faults files.new }
+{
+    let bytes = load_file(alloc, files, file, MAX_SYSTEM_FILE)?;
+    read_system_file(alloc, file, bytes.as_slice())
+}
+
+/// The trace that the bytes of a file are, where it obeys the system.
+fn read_trace_file(alloc: Global, system: &System, bytes: &[u8]) -> Result<Trace, Ended>
+    ensures planned { (next : TraceLists → Plan) → IfOk result (λ tr. with_entries system.now (trace_of system.now bytes.now) next ≡ next tr) }
+    ensures replay { IfOk result (CanReplay system.now) }
+    ensures ended { (next : TraceLists → Plan) → IfErr result (IsEndOf (with_entries system.now (trace_of system.now bytes.now) next)) }
+    ensures status { IfErr result HasStatus }
+    ensures unread { IfErr result IsNoUnread }
+{
+    let trace = match read_trace(alloc, system, bytes) {
+        Ok(trace) => trace,
+        Err(TraceFault::Memory) => return Err(Ended::Memory),
+        Err(fault) => return Err(Ended::Refused(16, trace_line(alloc, fault)?)),
+    };
+    match obeys(system, &trace) {
+        None => Ok(trace),
+        Some(breach) => Err(Ended::Refused(17, breach_line(alloc, system, breach)?)),
+    }
+}
+
+/// The trace that a file is, where it obeys the system.
+fn load_trace<F: Files>(
+    alloc: Global,
+    files: &mut F,
+    system: &System,
+    file: &str,
+) -> Result<Trace, Ended>
+    ensures planned { F.told files.old ≡ true → (next : TraceLists → Plan) → IfOk result (λ tr. with_trace (F.held files.old) system.now file.now next ≡ next tr) }
+    ensures replay { IfOk result (CanReplay system.now) }
+    ensures ended { F.told files.old ≡ true → (next : TraceLists → Plan) → IfErr result (IsEndOf (with_trace (F.held files.old) system.now file.now next)) }
+    ensures status { IfErr result HasStatus }
+    ensures unread { IfErr result (IsUnreadFile (λ last. last ≡ file.now) (F.faults files.old) (F.faults files.new) (F.last_failed files.new)) }
+    ensures rises { F.faults files.old ≤ F.faults files.new }
+{
+    let bytes = load_file(alloc, files, file, MAX_TRACE_FILE)?;
+    read_trace_file(alloc, system, bytes.as_slice())
+}
+
+/// A simulation's work.
+fn plan_simulation<F: Files>(
+    alloc: Global,
+    files: &mut F,
+    file: &str,
+    trace: &str,
+) -> Result<Work, Ended>
+    ensures planned { F.told files.old ≡ true → IfOk result (λ work. plan_for (F.held files.old) (Simulate file.now trace.now) ≡ Do work) }
+    ensures limits { IfOk result IsWithinLimits }
+    ensures ended { F.told files.old ≡ true → IfErr result (IsEndOf (plan_for (F.held files.old) (Simulate file.now trace.now))) }
+    ensures status { IfErr result HasStatus }
+    ensures unread { IfErr result (IsUnreadFile (IsSecond (F.told files.old) (F.held files.old) file.now trace.now) (F.faults files.old) (F.faults files.new) (F.last_failed files.new)) }
+{
+    let system = load_system(alloc, files, file)?;
+    let trace = load_trace(alloc, files, &system, trace)?;
+    Ok(Work::Simulate { system, trace })
+}
+
+/// An analysis's work.
+fn plan_analysis<F: Files>(alloc: Global, files: &mut F, file: &str) -> Result<Work, Ended>
+    ensures planned { F.told files.old ≡ true → IfOk result (λ work. plan_for (F.held files.old) (Analyse file.now) ≡ Do work) }
+    ensures limits { IfOk result IsWithinLimits }
+    ensures ended { F.told files.old ≡ true → IfErr result (IsEndOf (plan_for (F.held files.old) (Analyse file.now))) }
+    ensures status { IfErr result HasStatus }
+    ensures unread { IfErr result (IsUnreadFile (λ last. last ≡ file.now) (F.faults files.old) (F.faults files.new) (F.last_failed files.new)) }
+{
+    let system = load_system(alloc, files, file)?;
+    Ok(Work::Analyse { system })
+}
+
+/// What a command asks for.
+fn plan_command<F: Files>(alloc: Global, files: &mut F, command: Command) -> Result<Work, Ended>
+    ensures planned { F.told files.old ≡ true → IfOk result (λ work. plan_for (F.held files.old) (asked command.entry) ≡ Do work) }
+    ensures limits { IfOk result IsWithinLimits }
+    ensures ended { F.told files.old ≡ true → IfErr result (IsEndOf (plan_for (F.held files.old) (asked command.entry))) }
+    ensures status { IfErr result HasStatus }
+    ensures unread { IfErr result (IsUnreadFile (IsNamed (F.told files.old) (F.held files.old) (asked command.entry)) (F.faults files.old) (F.faults files.new) (F.last_failed files.new)) }
+{
+    match command {
+        Command::Analyse { file } => plan_analysis(alloc, files, file),
+        Command::Simulate { file, trace } => plan_simulation(alloc, files, file, trace),
+    }
+}
+
+/// What the words ask for, with the files that they name.
+pub fn plan<F: Files>(alloc: Global, words: &[String], files: &mut F) -> Result<Work, Ended>
+    ensures planned { F.told files.old ≡ true → IfOk result (λ work. plan_of (map string_bytes words.now) (F.held files.old) ≡ Do work) }
+    ensures limits { IfOk result IsWithinLimits }
+    ensures ended { F.told files.old ≡ true → IfErr result (IsEndOf (plan_of (map string_bytes words.now) (F.held files.old))) }
+    ensures status { IfErr result HasStatus }
+    ensures unread { IfErr result (IsUnreadCall (map string_bytes words.now) (F.told files.old) (F.held files.old) (F.faults files.old) (F.faults files.new) (F.last_failed files.new)) }
+{
+    match accept(words) {
+        Some(command) => plan_command(alloc, files, command),
+        None => Err(Ended::Refused(10, words_line(alloc)?)),
+    }
+}

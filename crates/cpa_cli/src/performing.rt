@@ -1,0 +1,78 @@
+//! The work of the commands.
+
+ghost use Rattle.std.specs.Prelude.{◌≡◌, ◌≤◌, Err, IfOk, OnErr};
+ghost use Rattle.cpa_io.specs.Causes.{Rose};
+ghost use Rattle.cpa_sim.specs.Outcome.{CanReplay, outcome_of};
+ghost use Rattle.cpa_sim.specs.SimText.{sim_text};
+ghost use Rattle.cpa_cli.specs.declared.ended.Stopped.TheVariants as stopped;
+ghost use Rattle.cpa_cli.specs.Answers.{reply, IsReport};
+ghost use Rattle.cpa_cli.specs.Work.{IsDone, IsWithinLimits};
+ghost use Rattle.cpa_cli.specs.Output.{IsOfOutput, Sends, SendsPart};
+
+use crate::analysis::least_bounds;
+use crate::ended::Stopped;
+use crate::sending::{send, send_report};
+use crate::work::Work;
+use cpa_io::Sink;
+use cpa_model::System;
+use cpa_sim::{replay, sim_text};
+use cpa_trace::Trace;
+use std::alloc::Global;
+use std::thread::Threads;
+
+/// Sends the report of a system.
+fn analyse<H: Threads + Sync, K: Sink>(
+    rt: &H,
+    alloc: Global,
+    system: &System,
+    sink: &mut K,
+) -> Result<u8, Stopped>
+    ensures sends { IfOk result (λ status. Sends (IsReport system.now) status (K.sent sink.old) (K.sent sink.new)) }
+    ensures status { IfOk result IsOfOutput }
+    ensures part { OnErr result (SendsPart (IsReport system.now) (K.sent sink.old) (K.sent sink.new)) }
+    ensures rises { K.faults sink.old ≤ K.faults sink.new }
+    ensures failed { result ≡ Err stopped.Sink → Rose (K.faults sink.old) (K.faults sink.new) }
+{
+    system.has_rules();
+    let bounds = least_bounds(rt, alloc, system)?;
+    send_report(alloc, system, &bounds, sink)
+}
+
+/// Sends what is observed of a system under a trace.
+fn simulate<K: Sink>(
+    alloc: Global,
+    system: &System,
+    trace: &Trace,
+    sink: &mut K,
+) -> Result<u8, Stopped>
+    requires { CanReplay system.now trace.now }
+    ensures sends { IfOk result (λ status. Sends (λ a. a ≡ reply 0 (sim_text system.now (outcome_of system.now trace.now))) status (K.sent sink.old) (K.sent sink.new)) }
+    ensures status { IfOk result IsOfOutput }
+    ensures part { OnErr result (SendsPart (λ a. a ≡ reply 0 (sim_text system.now (outcome_of system.now trace.now))) (K.sent sink.old) (K.sent sink.new)) }
+    ensures rises { K.faults sink.old ≤ K.faults sink.new }
+    ensures failed { result ≡ Err stopped.Sink → Rose (K.faults sink.old) (K.faults sink.new) }
+{
+    let outcome = replay(alloc, system, trace)?;
+    let text = sim_text(alloc, system, &outcome)?;
+    send(sink, 0, text.as_slice())
+}
+
+/// Does the work, and sends what comes of it.
+pub fn perform<H: Threads + Sync, K: Sink>(
+    rt: &H,
+    alloc: Global,
+    work: Work,
+    sink: &mut K,
+) -> Result<u8, Stopped>
+    requires { IsWithinLimits work }
+    ensures sends { IfOk result (λ status. Sends (IsDone work) status (K.sent sink.old) (K.sent sink.new)) }
+    ensures status { IfOk result IsOfOutput }
+    ensures part { OnErr result (SendsPart (IsDone work) (K.sent sink.old) (K.sent sink.new)) }
+    ensures rises { K.faults sink.old ≤ K.faults sink.new }
+    ensures failed { result ≡ Err stopped.Sink → Rose (K.faults sink.old) (K.faults sink.new) }
+{
+    match work {
+        Work::Analyse { system } => analyse(rt, alloc, &system, sink),
+        Work::Simulate { system, trace } => simulate(alloc, &system, &trace, sink),
+    }
+}

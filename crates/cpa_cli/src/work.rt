@@ -1,0 +1,13 @@
+//! What a call has to do.
+
+use cpa_model::System;
+use cpa_trace::Trace;
+
+/// What a call has to do, once all that it reads is accepted.
+#[derive(Drop)]
+pub enum Work {
+    /// The report of a system.
+    Analyse { system: System },
+    /// What is observed of a system under a trace.
+    Simulate { system: System, trace: Trace },
+}
