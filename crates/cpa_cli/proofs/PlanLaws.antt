@@ -1,13 +1,35 @@
--- Answers to plans.
-use Rattle.std.proofs.Common.{◌≡◌, ℕ, List, Option, refl, sym, ap, subst}
-use Rattle.cpa_cli.specs.declared.work.Work.{Work}
-use Rattle.cpa_cli.specs.Plan.{Held, Plan, Do, Refuse, plan_of}
-use Rattle.cpa_cli.specs.Answers.{Answer, reply}
-use Rattle.cpa_cli.specs.Work.{IsDone}
-use Rattle.cpa_cli.specs.Output.{IsAnswerTo, IsOutput, SendsPart}
+-- What plans answer.
+use Rattle.std.proofs.Common.{◌≡◌, ℕ, Bool, List, Option, Some, None, Ok, Err, OnOk, IfOk, refl, sym, ap, ◌∙◌, subst}
+use Rattle.std.specs.Prelude.{Result}
+use Rattle.cpa_io.specs.Causes.{grown}
+use Rattle.cpa_cli.specs.declared.ended.Ended.{Ended}
+use Rattle.cpa_cli.specs.declared.ended.Ended.TheVariants.{Refused, Unread}
+use Rattle.cpa_cli.specs.Lines.{words_refused, cannot_read}
+use Rattle.cpa_cli.specs.Words.{Asked, accepted}
+use Rattle.cpa_cli.specs.Plan.{Held, Refuse, plan_for, plan_of}
+use Rattle.cpa_cli.specs.Answers.{reply}
+use Rattle.cpa_cli.specs.Output.{IsAnswerTo, IsOutput}
+use Rattle.cpa_cli.specs.Ends.{IsEndOf, IsUnreadCall}
 
-pub refused-answer : (words : List (List ℕ)) (held : Held) (status : ℕ) (line text : List ℕ) → plan_of words held ≡ Refuse status line → text ≡ line → IsOutput words held (reply status text)
-refused-answer words held status line text is same = subst (λ p. IsAnswerTo p (reply status text)) (sym is) (ap (reply status) same)
+pub plan-some : (words : List (List ℕ)) (held : Held) (asked : Asked) → Some asked ≡ accepted words → plan_of words held ≡ plan_for held asked
+unfolding plan_of
+plan-some words held asked e = rw (← e) refl
 
-pub done-part : (words : List (List ℕ)) (held : Held) (work : Work) (before now : Option (List ℕ)) → plan_of words held ≡ Do work → SendsPart (IsDone work) before now → SendsPart (IsOutput words held) before now
-done-part words held work before now is h = record { answer = h.answer; is_output = subst (λ p. IsAnswerTo p h.answer) (sym is) h.is_output; part = h.part }
+pub plan-none : (words : List (List ℕ)) (held : Held) → None ≡ accepted words → plan_of words held ≡ Refuse 10 words_refused
+unfolding plan_of
+plan-none words held e = rw (← e) refl
+
+-- the line of a refusal is the output
+pub refused-answer : (words : List (List ℕ)) (held : Held) (e : Ended) (status : ℕ) (line : _) (text : List ℕ) → IsEndOf (plan_of words held) e → e ≡ Refused status line → text ≡ line.items
+    → IsOutput words held (reply status text)
+refused-answer words held e status line text end is same =
+    let plan : plan_of words held ≡ Refuse status line.items = subst (IsEndOf (plan_of words held)) is end in
+    subst (λ p. IsAnswerTo p (reply status text)) (sym plan) (ap (reply status) same)
+
+-- the line of a file that couldn't be read is sent
+pub unread-text : (words : List (List ℕ)) (told : Bool) (held : Held) (before now : ℕ) (last : List ℕ) (e : Ended) (line : _) → IsUnreadCall words told held before now last e → e ≡ Unread line → line.items ≡ cannot_read last
+unread-text words told held before now last e line h is = (subst (IsUnreadCall words told held before now last) is h).1
+
+pub unread-sent : {E : Type 0} (r : Result ℕ E) (before now : Option (List ℕ)) (text line : List ℕ) → OnOk r (now ≡ grown before text) → text ≡ line → IfOk r (λ status. status ≡ 11 → now ≡ grown before line)
+unread-sent (Ok status) before now text line sent same = λ eleven. sent ∙ ap (grown before) same
+unread-sent (Err e) before now text line sent same = sent

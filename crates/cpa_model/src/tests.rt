@@ -221,7 +221,7 @@ fn builds_a_system(rt: HostRuntime) -> Result<(), Fail> {
     }
     assert!(rt; 2 < system.resources());
     assert_eq!(rt; system.cycle(ResId(2)), 47);
-    assert_eq!(rt; system.tasks_on(ResId(2)), &[TaskId(4), TaskId(5)]);
+    assert!(rt; system.tasks_on(ResId(2)) == [TaskId(4), TaskId(5)].as_slice());
     assert!(rt; 0 < system.paths());
     let path = system.path(PathId(0));
     assert_eq!(rt; path.deadline, Some(40));
