@@ -2,6 +2,7 @@
 use Rattle.std.proofs.Common.{◌≡◌, ℕ, Bool, List, Option, Some, None, Ok, Err, OnOk, IfOk, refl, sym, ap, ◌∙◌, subst}
 use Rattle.std.specs.Prelude.{Result}
 use Rattle.cpa_io.specs.Causes.{grown}
+use Rattle.cpa_cli.specs.declared.ended.Reply.{Reply}
 use Rattle.cpa_cli.specs.declared.ended.Ended.{Ended}
 use Rattle.cpa_cli.specs.declared.ended.Ended.TheVariants.{Refused, Unread}
 use Rattle.cpa_cli.specs.Lines.{words_refused, cannot_read}
@@ -20,11 +21,10 @@ unfolding plan_of
 plan-none words held e = rw (← e) refl
 
 -- the line of a refusal is the output
-pub refused-answer : (words : List (List ℕ)) (held : Held) (e : Ended) (status : ℕ) (line : _) (text : List ℕ) → IsEndOf (plan_of words held) e → e ≡ Refused status line → text ≡ line.items
-    → IsOutput words held (reply status text)
-refused-answer words held e status line text end is same =
-    let plan : plan_of words held ≡ Refuse status line.items = subst (IsEndOf (plan_of words held)) is end in
-    subst (λ p. IsAnswerTo p (reply status text)) (sym plan) (ap (reply status) same)
+pub refused-answer : (words : List (List ℕ)) (held : Held) (e : Ended) (r : Reply) (text : List ℕ) → IsEndOf (plan_of words held) e → e ≡ Refused r → text ≡ r.text.items → IsOutput words held (reply r.status text)
+refused-answer words held e r text end is same =
+    let plan : plan_of words held ≡ Refuse r.status r.text.items = subst (IsEndOf (plan_of words held)) is end in
+    subst (λ p. IsAnswerTo p (reply r.status text)) (sym plan) (ap (reply r.status) same)
 
 -- the line of a file that couldn't be read is sent
 pub unread-text : (words : List (List ℕ)) (told : Bool) (held : Held) (before now : ℕ) (last : List ℕ) (e : Ended) (line : _) → IsUnreadCall words told held before now last e → e ≡ Unread line → line.items ≡ cannot_read last

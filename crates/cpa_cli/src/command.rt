@@ -32,7 +32,7 @@ fn answer<H: Threads + Sync, F: Files, K: Sink>(
 {
     match plan(alloc, words, files) {
         Ok(work) => perform(rt, alloc, work, sink),
-        Err(Ended::Refused(status, line)) => send(sink, status, line.as_slice()),
+        Err(Ended::Refused(reply)) => send(sink, reply.status, reply.text.as_slice()),
         Err(Ended::Unread(line)) => send(sink, 11, line.as_slice()),
         Err(Ended::Memory) => Err(Stopped::Memory),
     }

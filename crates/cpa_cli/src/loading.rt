@@ -13,7 +13,7 @@ ghost use Rattle.cpa_cli.specs.Work.{IsWithinLimits};
 ghost use Rattle.cpa_cli.specs.Output.{IsNamed, IsSecond};
 ghost use Rattle.cpa_cli.specs.Ends.{IsEndOf, HasStatus, IsUnreadFile, IsNoUnread, IsUnreadCall};
 
-use crate::ended::Ended;
+use crate::ended::{Ended, Reply};
 use crate::lines::{breach_line, file_line, refusal_line, trace_line, words_line};
 use crate::words::{Command, accept};
 use crate::work::Work;
@@ -45,7 +45,10 @@ fn load_file<F: Files>(
     match files.load(alloc, file, most) {
         Ok(bytes) => Ok(bytes),
         Err(LoadFault::Failed) => Err(Ended::Unread(file_line(alloc, b"cannot read ", file)?)),
-        Err(LoadFault::TooLong) => Err(Ended::Refused(12, file_line(alloc, b"too long ", file)?)),
+        Err(LoadFault::TooLong) => Err(Ended::Refused(Reply {
+            status: 12,
+            text: file_line(alloc, b"too long ", file)?,
+        })),
         Err(LoadFault::Memory) => Err(Ended::Memory),
     }
 }
@@ -60,9 +63,15 @@ fn read_system_file(alloc: Global, file: &str, bytes: &[u8]) -> Result<System, E
 {
     match read_system(alloc, bytes) {
         Ok(system) => Ok(system),
-        Err(FileRefusal::NotToml) => Err(Ended::Refused(13, file_line(alloc, b"not TOML ", file)?)),
+        Err(FileRefusal::NotToml) => Err(Ended::Refused(Reply {
+            status: 13,
+            text: file_line(alloc, b"not TOML ", file)?,
+        })),
         Err(FileRefusal::Refused(refusal)) => {
-            Err(Ended::Refused(14, refusal_line(alloc, refusal)?))
+            Err(Ended::Refused(Reply {
+                status: 14,
+                text: refusal_line(alloc, refusal)?,
+            }))
         }
         Err(FileRefusal::Memory) => Err(Ended::Memory),
     }
@@ -94,11 +103,17 @@ fn read_trace_file(alloc: Global, system: &System, bytes: &[u8]) -> Result<Trace
     let trace = match read_trace(alloc, system, bytes) {
         Ok(trace) => trace,
         Err(TraceFault::Memory) => return Err(Ended::Memory),
-        Err(fault) => return Err(Ended::Refused(16, trace_line(alloc, fault)?)),
+        Err(fault) => return Err(Ended::Refused(Reply {
+            status: 16,
+            text: trace_line(alloc, fault)?,
+        })),
     };
     match obeys(system, &trace) {
         None => Ok(trace),
-        Some(breach) => Err(Ended::Refused(17, breach_line(alloc, system, breach)?)),
+        Some(breach) => Err(Ended::Refused(Reply {
+            status: 17,
+            text: breach_line(alloc, system, breach)?,
+        })),
     }
 }
 
@@ -174,6 +189,9 @@ pub fn plan<F: Files>(alloc: Global, words: &[String], files: &mut F) -> Result<
 {
     match accept(words) {
         Some(command) => plan_command(alloc, files, command),
-        None => Err(Ended::Refused(10, words_line(alloc)?)),
+        None => Err(Ended::Refused(Reply {
+            status: 10,
+            text: words_line(alloc)?,
+        })),
     }
 }

@@ -1,5 +1,6 @@
-use Rattle.std.proofs.Common.{◌≡◌, ◌∙◌, ap, map, string_bytes, inl}
+use Rattle.std.proofs.Common.{◌≡◌, ◌∙◌, ap, map, string_bytes, inl, subst, IfOk}
 use Rattle.std.proofs.lemmas.Result.{IfOk-weaker, on_err_weaker}
+use Rattle.cpa_cli.specs.declared.ended.Reply.{Reply}
 use Rattle.cpa_cli.specs.Lines.{cannot_read}
 use Rattle.cpa_cli.specs.Output.{IsOutput}
 use Rattle.cpa_cli.proofs.SendLaws.{nothing-sent, sends-by, part-reply}
@@ -12,23 +13,23 @@ returns-in-Err-Refused-clause-answered g c = λ told.
     let words = map string_bytes c.args.words.now in
     let held = g.F.Files.held c.args.files.now in
     let value = c.as_slice.ensures.value in
-    let line = c.in-Err-Refused.line-is in
-    let text : c.as_slice.result.now ≡ c.in-Err-Refused.line.items = cc in
+    let is = c.in-Err-Refused.reply-is in
+    let text : c.as_slice.result.now ≡ c.in-Err-Refused.reply.text.items = value ∙ ap (λ (r : Reply). r.text.items) is in
     IfOk-weaker c.send.result _ _ (λ status said ne. said)
-    (sends-by (IsOutput words held) c.in-Err-Refused.status c.as_slice.result.now (g.K.Sink.sent c.args.sink.now) (g.K.Sink.sent c.send.new.sink) c.send.result
-    (refused-answer words held c.in-Err-Refused.field-0 c.in-Err-Refused.status c.in-Err-Refused.line c.as_slice.result.now (c.in-Err-Refused.ensures.ended told) c.in-Err-Refused.field-0-is text)
-    c.send.ensures.sent c.send.ensures.status)
+    (sends-by (IsOutput words held) c.in-Err-Refused.reply.status c.as_slice.result.now (g.K.Sink.sent c.args.sink.now) (g.K.Sink.sent c.send.new.sink) c.send.result
+    (refused-answer words held c.in-Err-Refused.field-0 c.in-Err-Refused.reply c.as_slice.result.now (c.in-Err-Refused.ensures.ended told) c.in-Err-Refused.field-0-is text)
+    c.send.ensures.sent (subst (λ (r : Reply). IfOk c.send.result (λ told. told ≡ r.status)) is c.send.ensures.status))
 
 pub returns-in-Err-Refused-clause-part : goal.returns-in-Err-Refused-clause-part
 returns-in-Err-Refused-clause-part g c = λ told.
     let words = map string_bytes c.args.words.now in
     let held = g.F.Files.held c.args.files.now in
     let value = c.as_slice.ensures.value in
-    let line = c.in-Err-Refused.line-is in
-    let text : c.as_slice.result.now ≡ c.in-Err-Refused.line.items = cc in
+    let is = c.in-Err-Refused.reply-is in
+    let text : c.as_slice.result.now ≡ c.in-Err-Refused.reply.text.items = value ∙ ap (λ (r : Reply). r.text.items) is in
     on_err_weaker c.send.result
-    (λ part. inl (part-reply (IsOutput words held) c.in-Err-Refused.status c.as_slice.result.now (g.K.Sink.sent c.args.sink.now) (g.K.Sink.sent c.send.new.sink)
-    (refused-answer words held c.in-Err-Refused.field-0 c.in-Err-Refused.status c.in-Err-Refused.line c.as_slice.result.now (c.in-Err-Refused.ensures.ended told) c.in-Err-Refused.field-0-is text) part))
+    (λ part. inl (part-reply (IsOutput words held) c.in-Err-Refused.reply.status c.as_slice.result.now (g.K.Sink.sent c.args.sink.now) (g.K.Sink.sent c.send.new.sink)
+    (refused-answer words held c.in-Err-Refused.field-0 c.in-Err-Refused.reply c.as_slice.result.now (c.in-Err-Refused.ensures.ended told) c.in-Err-Refused.field-0-is text) part))
     c.send.ensures.part
 
 pub returns-in-Err-Unread-clause-unread_line : goal.returns-in-Err-Unread-clause-unread_line
