@@ -13,6 +13,8 @@ mod loading;
 mod performing;
 #[cfg(test)]
 mod rounds;
+#[cfg(test)]
+mod runs;
 mod sending;
 #[cfg(test)]
 mod tests;
