@@ -1,13 +1,20 @@
 #!/usr/bin/env bash
-# Analyses each system of this folder, and compares its report with the one that stands beside it.
+# Analyses each system of this folder and replays each trace beside one, and compares what is printed with what stands beside it.
 cd "$(dirname "$0")" || exit 1
 status=0
-for system in *.toml; do
-  if ../lokwurmi analyse "$system" | cmp -s - "${system%.toml}.report.txt"; then
-    echo "$system: as told"
+tell() {
+  if cmp -s - "$2"; then
+    echo "$1: as told"
   else
-    echo "$system: another report"
+    echo "$1: another text"
     status=1
   fi
+}
+for system in *.toml; do
+  tell "$system" "${system%.toml}.report.txt" < <(../lokwurmi analyse "$system")
+done
+for trace in *.trace.csv; do
+  name=${trace%.trace.csv}
+  tell "$trace" "$name.run.txt" < <(../lokwurmi simulate "$name.toml" "$trace")
 done
 exit "$status"
