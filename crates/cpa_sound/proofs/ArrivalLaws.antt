@@ -159,10 +159,6 @@ module _ (s : SystemLists) (tr : TraceLists) (i k : ℕ) (after : (task_at s i).
       let more = rw (after, e') at (length-suc s tr t i) in
       omega (arith, arrived-suc s tr (suc t) i, arrived-suc s tr t i, more, step, arrived-events (suc t))
 
-  -- no more jobs than events
-  pub arrived-le : (t : ℕ) → arrived_before s tr i t ≤ length (times_of tr k)
-  arrived-le t = omega (arith, arrived-events t, before-le (times_of tr k) t)
-
   -- a source's events keep apart as its model says, where the trace obeys
   pub source-apart : Obeys s tr → (t : ℕ) → KeepsApart (course_of s tr i) (Some (model_of (source_at s k))) t
   source-apart obeys t n gap a b first last before =

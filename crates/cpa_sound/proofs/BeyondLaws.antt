@@ -27,8 +27,8 @@ use Rattle.cpa_sound.specs.Laws.{NothingIsBeyond}
 use Rattle.cpa_sound.proofs.CourseLaws.{ended-mono}
 use Rattle.cpa_sound.proofs.KindRuns.{order}
 use Rattle.cpa_sound.proofs.Soundness.{hold-in, end-is, closed_of, closed-ended}
-use Rattle.cpa_sound.proofs.LocalBounds.{all_range}
-use Rattle.cpa_sound.proofs.StepLaws.{some-injective}
+use Rattle.cpa_sched.proofs.OptionLaws.{some-injective}
+use Rattle.cpa_sched.proofs.StepLaws.{all_range}
 
 -- ---- counting none
 

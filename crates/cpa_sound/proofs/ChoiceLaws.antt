@@ -6,13 +6,16 @@ use Rattle.cpa_model.specs.declared.entries.Kind.{Kind}
 use Rattle.cpa_model.specs.declared.entries.Kind.TheVariants.{Preemptive, RoundRobin, Tdma, Can}
 use Rattle.cpa_model.specs.SystemLists.{SystemLists, task_at, cycle_of, tasks_on}
 use Rattle.cpa_trace.specs.Trace.{TraceLists, phase_of}
-use Rattle.cpa_sched.specs.Steps.{ResourceState, Choice, most_urgent, owner_at, if_waiting, can_step, choose, first_state, kind_of, step}
-use Rattle.cpa_sim.specs.Run.{waits, is_chosen, choice_at, runs_in, ends_in, settled, advance, run}
+use Rattle.cpa_sched.specs.Steps.{ResourceState, Choice, most_urgent, owner_at, if_waiting, can_step, choose, kind_of, step}
+use Rattle.cpa_sim.specs.Run.{waits, is_chosen, choice_at, runs_in, ends_in, settled, run}
 use Rattle.cpa_sound.proofs.JobLaws.{waits-less, less-waits}
 use Rattle.cpa_sim.proofs.JobCount.{ended-suc, length-suc}
 use Rattle.cpa_sound.proofs.ArrivalLaws.{ends_in-is}
 use Rattle.cpa_sched.specs.States.{IsOn, IsWaiting}
-use Rattle.cpa_sound.proofs.StepLaws.{tasks_on-are, waiting-are, IsMostUrgent, urgent_is, owner_is, some-injective}
+use Rattle.cpa_sched.proofs.OptionLaws.{some-injective}
+use Rattle.cpa_sched.proofs.StepLaws.{tasks_on-are, waiting-are, owner_is, if_waiting-is}
+use Rattle.cpa_sim.proofs.RunLaws.{state-zero, state-suc}
+use Rattle.cpa_sound.proofs.StepLaws.{IsMostUrgent, urgent_is}
 
 pub chosen-some : (o : Option ℕ) (i : ℕ) → is_chosen o i ≡ true → o ≡ Some i
 chosen-some None i e = absurd (false≢true e)
@@ -20,14 +23,6 @@ chosen-some (Some j) i e = ap Some (eqb-true j i e)
 
 pub some-chosen : (o : Option ℕ) (i : ℕ) → o ≡ Some i → is_chosen o i ≡ true
 some-chosen o i e = rw e (eq-eqb i i refl)
-
-if_waiting-is : (w : ℕ → Bool) (o : Option ℕ) (j : ℕ) → if_waiting w o ≡ Some j → (o ≡ Some j) × (w j ≡ true)
-if_waiting-is w None j e = cc
-if_waiting-is w (Some k) j e =
-    elim (cases_Bool (w k)) [
-      | inl yes_waits ↦ let e' = rw yes_waits at e in (e', subst (λ l. w l ≡ true) (some-injective k j e') yes_waits)
-      | inr no_waits ↦ let e' = rw no_waits at e in cc
-    ]
 
 -- the next state of a CAN resource
 can-next_at : (bit : ℕ) (ends : ℕ → ℕ) (st : ResourceState) (o : Option ℕ) (j : ℕ) → st.holder ≡ o → (settled (Can bit) ends st o).holder ≡ Some j → (o ≡ Some j) × (ends j ≡ 0)
@@ -74,14 +69,6 @@ module _ (s : SystemLists) (tr : TraceLists) where
   unfolding choice_at step
   choice-by_kind t r k e = rw e refl
 
-  pub state-zero : (r : ℕ) → state_at 0 r ≡ first_state s r (kind_of s r)
-  unfolding run
-  state-zero r = refl
-
-  pub state-suc : (t r : ℕ) → state_at (suc t) r ≡ settled (kind_of s r) (ends_in s tr t (run s tr t)) (choice_at s tr t (run s tr t) r).state (choice_at s tr t (run s tr t) r).task
-  unfolding run advance
-  state-suc t r = refl
-
   pub runs-chosen : (t i : ℕ) → runs_in s tr t (run s tr t) i ≡ true → chosen_at t (task_at s i).res.0 ≡ Some i
   unfolding runs_in
   runs-chosen t i e = chosen-some (chosen_at t (task_at s i).res.0) i e
@@ -126,15 +113,15 @@ module _ (s : SystemLists) (tr : TraceLists) where
 
     pub can-next : (t j : ℕ) → (state_at (suc t) r).holder ≡ Some j → (chosen_at t r ≡ Some j) × (ends_in s tr t (run s tr t) j ≡ 0)
     can-next t j e =
-        let e' = rw (state-suc t r, kind) at e in
+        let e' = rw (state-suc s tr t r, kind) at e in
         can-next_at bit (ends_in s tr t (run s tr t)) (choice_at s tr t (run s tr t) r).state (chosen_at t r) j (can-holder t) e'
 
     pub can-kept : (t j : ℕ) → chosen_at t r ≡ Some j → ends_in s tr t (run s tr t) j ≡ 0 → (state_at (suc t) r).holder ≡ Some j
     can-kept t j e none =
-        rw (state-suc t r, kind, e) (can-kept_at bit (ends_in s tr t (run s tr t)) (choice_at s tr t (run s tr t) r).state j (can-holder t ∙ e) none)
+        rw (state-suc s tr t r, kind, e) (can-kept_at bit (ends_in s tr t (run s tr t)) (choice_at s tr t (run s tr t) r).state j (can-holder t ∙ e) none)
 
     pub can-first : (state_at 0 r).holder ≡ None
-    can-first = rw (state-zero r, kind) refl
+    can-first = rw (state-zero s tr r, kind) refl
 
     mutual_step : (t j : ℕ) → ((j : ℕ) → (state_at t r).holder ≡ Some j → IsWaiting s r (waiting_at t) j) → (o : Option ℕ) → (state_at t r).holder ≡ o → chosen_at t r ≡ Some j → IsWaiting s r (waiting_at t) j
     mutual_step t j held (Some h) same e = held j (same ∙ (sym (can-goes_on t h same) ∙ e))

@@ -24,7 +24,8 @@ use Rattle.cpa_sound.proofs.RunLaws.{open-is, arrived-one, received-runs, receiv
 use Rattle.cpa_sim.proofs.JobCount.{ended-suc}
 use Rattle.cpa_sound.proofs.ArrivalLaws.{need-least, need-greatest, ends_in-is}
 use Rattle.cpa_sched.specs.States.{IsOn, IsWaiting}
-use Rattle.cpa_sound.proofs.StepLaws.{all_at, in_waiting, some_urgent, some_first, in_ring_after, next-nearest, some-injective}
+use Rattle.cpa_sched.proofs.OptionLaws.{some-injective}
+use Rattle.cpa_sound.proofs.StepLaws.{all_at, in_waiting, some_urgent, some_first, in_ring_after, next-nearest}
 use Rattle.cpa_sound.proofs.ChoiceLaws.{waiting_at, state_at, chosen_at, runs-chosen, chosen-runs, preemptive-choice, urgent_waits, can-goes_on, can-starts, can-next, can-kept, can-first, can-held, can-waits, tdma-waits}
 use Rattle.cpa_sound.proofs.RingRuns.{ring-waits, held, ring_cases, next_on}
 

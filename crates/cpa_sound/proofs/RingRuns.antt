@@ -9,8 +9,11 @@ use Rattle.cpa_sched.specs.Steps.{ResourceState, Choice, first_of, last_of, ring
 use Rattle.cpa_sched.specs.Steps.{kind_of}
 use Rattle.cpa_sim.specs.Run.{choice_at, ends_in, run}
 use Rattle.cpa_sched.specs.States.{IsOn, IsWaiting}
-use Rattle.cpa_sound.proofs.StepLaws.{IsIn, tasks_on-are, in_tasks_on, waiting-are, first_is, last_is, ring_after-are, some-injective}
-use Rattle.cpa_sound.proofs.ChoiceLaws.{waiting_at, state_at, chosen_at, choice-by_kind, state-zero, state-suc, ring-next_at}
+use Rattle.cpa_sched.proofs.OptionLaws.{some-injective}
+use Rattle.cpa_sched.proofs.StepLaws.{tasks_on-are, waiting-are, ring_after-are, first_is, last_is}
+use Rattle.cpa_sound.proofs.StepLaws.{IsIn, in_tasks_on}
+use Rattle.cpa_sound.proofs.ChoiceLaws.{waiting_at, state_at, chosen_at, choice-by_kind, ring-next_at}
+use Rattle.cpa_sim.proofs.RunLaws.{state-zero, state-suc}
 
 some_last : (js : List ℕ) (j : ℕ) → IsIn j js → (k : ℕ) × (last_of js ≡ Some k)
 some_last [] j h = absurd h

@@ -15,7 +15,7 @@ use Rattle.cpa_sim.specs.Run.{is_chosen}
 use Rattle.cpa_sound.specs.RunCourse.{received_before, course_of}
 use Rattle.cpa_sound.proofs.KeepsLaws.{RunsBySlots}
 use Rattle.cpa_sound.proofs.CourseLaws.{work-zero, work-suc, work-one}
-use Rattle.cpa_sound.proofs.LocalBounds.{all_filter, all_range}
+use Rattle.cpa_sched.proofs.StepLaws.{all_filter, all_range}
 use Rattle.cpa_sound.proofs.RunLaws.{received-runs}
 use Rattle.cpa_sound.proofs.StepLaws.{owner-here, owner-later}
 use Rattle.cpa_sound.proofs.ChoiceLaws.{chosen-some, chosen-runs, owner, tdma-runs}

@@ -37,7 +37,7 @@ use Rattle.cpa_local.proofs.ResponseLaws.{input-is_input}
 use Rattle.cpa_sound.proofs.DistanceLaws.{within_from_apart}
 use Rattle.cpa_sound.proofs.LocalBounds.{IsKnownBefore, local_bound}
 use Rattle.cpa_sound.proofs.CausalLaws.{courses_hold, last_in_range}
-use Rattle.cpa_sound.proofs.StepLaws.{some-injective}
+use Rattle.cpa_sched.proofs.OptionLaws.{some-injective}
 
 -- ---- the laws of a run hold in every run
 

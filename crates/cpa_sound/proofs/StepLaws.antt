@@ -1,13 +1,14 @@
 -- Whom the step rules choose.
-use Rattle.std.proofs.Common.{◌≡◌, ℕ, zero, suc, ◌+◌, ◌-◌, ◌<◌, ◌≤◌, ◌++◌, length, List, [], ◌∷◌, Bool, true, Option, Some, None, refl, ◌∙◌, inl, inr, arith, subst}
+use Rattle.std.proofs.Common.{◌≡◌, ℕ, zero, suc, ◌+◌, ◌-◌, ◌<◌, ◌≤◌, ◌++◌, length, List, [], ◌∷◌, Bool, true, Option, Some, None, refl, inl, inr, arith, subst}
 use Rattle.std.specs.List.{AllByRecursion, filter, range_with_len}
 use Rattle.std.proofs.lemmas.Bool.{cases_lt, cases_Bool, lt-ltb, le-ltb, cond-true, cond-false}
 use Rattle.cpa_model.specs.SystemLists.{SystemLists, task_at, task_places, priority_of, slot_of, is_on, tasks_on}
 use Rattle.cpa_sound.proofs.Serving.{AnyOf}
 use Rattle.cpa_sound.proofs.Turns.{ahead}
-use Rattle.cpa_sched.specs.Steps.{first_of, last_of, more_urgent, most_urgent, owner_at, ring_after}
+use Rattle.cpa_sched.specs.Steps.{first_of, more_urgent, most_urgent, owner_at, ring_after}
 use Rattle.cpa_sched.specs.States.{IsOn, IsWaiting}
-use Rattle.cpa_sound.proofs.LocalBounds.{all_filter, all_range}
+use Rattle.cpa_sched.proofs.OptionLaws.{some-injective}
+use Rattle.cpa_sched.proofs.StepLaws.{all_filter, all_append, all_range}
 use Rattle.cpa_sound.proofs.RingLaws.{ahead-lt, ahead-ge}
 use Rattle.cpa_sound.proofs.LevelLaws.{all_map}
 
@@ -40,22 +41,10 @@ pub in_append_right : (js ks : List ℕ) (j : ℕ) → IsIn j ks → IsIn j (js 
 in_append_right [] ks j h = h
 in_append_right (k ∷ js) ks j h = inr (in_append_right js ks j h)
 
-pub all_append : (P : ℕ → Type 0) (js ks : List ℕ) → AllByRecursion P js → AllByRecursion P ks → AllByRecursion P (js ++ ks)
-all_append P [] ks a b = b
-all_append P (j ∷ js) ks a b = (a.0, all_append P js ks a.1 b)
-
 -- ---- the waiting tasks of a resource
-
-pub tasks_on-are : (s : SystemLists) (r : ℕ) → AllByRecursion (IsOn s r) (tasks_on s r)
-tasks_on-are s r =
-    all_filter (is_on s r) (λ j. j < length s.tasks) (IsOn s r) (λ j passes h. record { task = h; here = passes }) (task_places s)
-    (all_range (λ j. j < length s.tasks) 0 (length s.tasks) (λ j low high. omega arith))
 
 pub in_tasks_on : (s : SystemLists) (r j : ℕ) → IsOn s r j → IsIn j (tasks_on s r)
 in_tasks_on s r j on = in_filter (is_on s r) (task_places s) j on.here (in_range 0 (length s.tasks) j (omega arith) (omega (arith, on.task)))
-
-pub waiting-are : (s : SystemLists) (r : ℕ) (waits : ℕ → Bool) (js : List ℕ) → AllByRecursion (IsOn s r) js → AllByRecursion (IsWaiting s r waits) (filter waits js)
-waiting-are s r waits js all = all_filter waits (IsOn s r) (IsWaiting s r waits) (λ j passes on. record { on = on; waits_now = passes }) js all
 
 pub in_waiting : (s : SystemLists) (r : ℕ) (waits : ℕ → Bool) (j : ℕ) → IsWaiting s r waits j → IsIn j (filter waits (tasks_on s r))
 in_waiting s r waits j w = in_filter waits (tasks_on s r) j w.waits_now (in_tasks_on s r j w.on)
@@ -75,10 +64,6 @@ more_urgent-second s j k h = cond-false _ k j (le-ltb _ _ h)
 pub record IsMostUrgent (s : SystemLists) (P : ℕ → Type 0) (js : List ℕ) (k : ℕ) : Type 0 where
   pub one : P k
   pub first : AllByRecursion (λ j. priority_of (task_at s k).turn ≤ priority_of (task_at s j).turn) js
-
--- two that are there are the same
-pub some-injective : (a b : ℕ) → Some a ≡ Some b → a ≡ b
-some-injective a b e = cc
 
 none_urgent : (s : SystemLists) (js : List ℕ) → most_urgent s js ≡ None → js ≡ []
 none_urgent s [] e = refl
@@ -119,31 +104,11 @@ owner-here s j js place h = cond-true _ _ _ (lt-ltb place (slot_of (task_at s j)
 pub owner-later : (s : SystemLists) (j : ℕ) (js : List ℕ) (place : ℕ) → slot_of (task_at s j).turn ≤ place → owner_at s (j ∷ js) place ≡ owner_at s js (place - slot_of (task_at s j).turn)
 owner-later s j js place h = cond-false _ _ _ (le-ltb place (slot_of (task_at s j).turn) h)
 
-pub owner_is : (s : SystemLists) (P : ℕ → Type 0) (js : List ℕ) (place k : ℕ) → AllByRecursion P js → owner_at s js place ≡ Some k → P k
-owner_is s P [] place k all e = cc
-owner_is s P (j ∷ js) place k all e =
-    elim (cases_lt place (slot_of (task_at s j).turn)) [
-      | inl here ↦ let e' = rw (owner-here s j js place here) at e in subst P (some-injective j k e') all.0
-      | inr later ↦ let e' = rw (owner-later s j js place later) at e in owner_is s P js (place - slot_of (task_at s j).turn) k all.1 e'
-    ]
-
 -- ---- the first of a list
-
-pub first_is : (P : ℕ → Type 0) (js : List ℕ) (k : ℕ) → AllByRecursion P js → first_of js ≡ Some k → P k
-first_is P [] k all e = cc
-first_is P (j ∷ js) k all e = subst P (some-injective j k e) all.0
 
 pub some_first : (js : List ℕ) (j : ℕ) → IsIn j js → first_of js ≡ None → ⊥
 some_first [] j h e = h
 some_first (k ∷ js) j h e = cc
-
-pub last_is : (P : ℕ → Type 0) (js : List ℕ) (k : ℕ) → AllByRecursion P js → last_of js ≡ Some k → P k
-last_is P [] k all e = cc
-last_is P (j ∷ js) k all e = last_among P j js k all (last_of js) refl e (last_is P js k all.1)
-  where
-    last_among : (P : ℕ → Type 0) (j : ℕ) (js : List ℕ) (k : ℕ) → AllByRecursion P (j ∷ js) → (o : Option ℕ) → last_of js ≡ o → elim o [ None ↦ Some j | Some k ↦ Some k ] ≡ Some k → (last_of js ≡ Some k → P k) → P k
-    last_among P j js k all None same e rest = subst P (some-injective j k e) all.0
-    last_among P j js k all (Some l) same e rest = rest (same ∙ e)
 
 -- ---- the ring after a task
 
@@ -195,13 +160,6 @@ module _ (s : SystemLists) (r h : ℕ) (h_in : h < length s.tasks) where
         | inl after ↦ in_append_left (range_with_len (h + 1) (length s.tasks - (h + 1))) (range_with_len 0 (h + 1)) j (in_range (h + 1) (length s.tasks - (h + 1)) j (omega arith) (omega arith))
         | inr before ↦ in_append_right (range_with_len (h + 1) (length s.tasks - (h + 1))) (range_with_len 0 (h + 1)) j (in_range 0 (h + 1) j (omega arith) (omega arith))
       ]
-
-  pub ring_after-are : AllByRecursion (IsOn s r) (ring_after s r h)
-  ring_after-are =
-      all_filter (is_on s r) (λ j. j < length s.tasks) (IsOn s r) (λ j passes below. record { task = below; here = passes }) _
-      (all_append (λ j. j < length s.tasks) (range_with_len (h + 1) (length s.tasks - (h + 1))) (range_with_len 0 (h + 1))
-      (all_range (λ j. j < length s.tasks) (h + 1) (length s.tasks - (h + 1)) (λ j low high. omega arith))
-      (all_range (λ j. j < length s.tasks) 0 (h + 1) (λ j low high. omega arith)))
 
   pub in_ring_after : (waits : ℕ → Bool) (j : ℕ) → IsWaiting s r waits j → IsIn j (filter waits (ring_after s r h))
   unfolding ring
