@@ -1,0 +1,158 @@
+-- What is chosen in a run, kind by kind, and the next state of a resource.
+use Rattle.std.proofs.Common.{◌≡◌, ℕ, zero, suc, ◌+◌, ◌%◌, Bool, true, eqb, Option, Some, None, refl, sym, ◌∙◌, inl, inr, arith, subst, ap}
+use Rattle.std.specs.List.{filter}
+use Rattle.std.proofs.lemmas.Bool.{cases_Bool, eqb-true, eq-eqb, false≢true}
+use Rattle.cpa_model.specs.declared.entries.Kind.{Kind}
+use Rattle.cpa_model.specs.declared.entries.Kind.TheVariants.{Preemptive, RoundRobin, Tdma, Can}
+use Rattle.cpa_model.specs.SystemLists.{SystemLists, task_at, cycle_of, tasks_on}
+use Rattle.cpa_trace.specs.Trace.{TraceLists, phase_of}
+use Rattle.cpa_sched.specs.Steps.{ResourceState, Choice, most_urgent, owner_at, if_waiting, can_step, choose, kind_of, step}
+use Rattle.cpa_sim.specs.Run.{waits, is_chosen, choice_at, runs_in, ends_in, settled, run}
+use Rattle.cpa_sound.proofs.JobLaws.{waits-less, less-waits}
+use Rattle.cpa_sim.proofs.JobCount.{ended-suc, length-suc}
+use Rattle.cpa_sound.proofs.ArrivalLaws.{ends_in-is}
+use Rattle.cpa_sched.specs.States.{IsOn, IsWaiting}
+use Rattle.cpa_sched.proofs.OptionLaws.{some-injective}
+use Rattle.cpa_sched.proofs.StepLaws.{tasks_on-are, waiting-are, owner_is, if_waiting-is}
+use Rattle.cpa_sim.proofs.RunLaws.{state-zero, state-suc}
+use Rattle.cpa_sound.proofs.StepLaws.{IsMostUrgent, urgent_is}
+
+pub chosen-some : (o : Option ℕ) (i : ℕ) → is_chosen o i ≡ true → o ≡ Some i
+chosen-some None i e = absurd (false≢true e)
+chosen-some (Some j) i e = ap Some (eqb-true j i e)
+
+pub some-chosen : (o : Option ℕ) (i : ℕ) → o ≡ Some i → is_chosen o i ≡ true
+some-chosen o i e = rw e (eq-eqb i i refl)
+
+-- the next state of a CAN resource
+can-next_at : (bit : ℕ) (ends : ℕ → ℕ) (st : ResourceState) (o : Option ℕ) (j : ℕ) → st.holder ≡ o → (settled (Can bit) ends st o).holder ≡ Some j → (o ≡ Some j) × (ends j ≡ 0)
+can-next_at bit ends st None j same e = cc
+can-next_at bit ends st (Some i) j same e =
+    elim (cases_Bool (eqb (ends i) 0)) [
+      | inl none ↦
+          let e' = rw none at e in
+          let at_j : Some i ≡ Some j = sym same ∙ e' in
+          (at_j, subst (λ l. ends l ≡ 0) (some-injective i j at_j) (eqb-true (ends i) 0 none))
+      | inr some ↦ let e' = rw some at e in cc
+    ]
+
+can-kept_at : (bit : ℕ) (ends : ℕ → ℕ) (st : ResourceState) (j : ℕ) → st.holder ≡ Some j → ends j ≡ 0 → (settled (Can bit) ends st (Some j)).holder ≡ Some j
+can-kept_at bit ends st j same none = rw (eq-eqb (ends j) 0 none) same
+
+can_step-holder : (st : ResourceState) (o urgent : Option ℕ) → st.holder ≡ o → (can_step st o urgent).state.holder ≡ (can_step st o urgent).task
+can_step-holder st (Some h) urgent e = e
+can_step-holder st None urgent e = refl
+
+can_step-goes_on : (st : ResourceState) (o urgent : Option ℕ) (h : ℕ) → o ≡ Some h → (can_step st o urgent).task ≡ Some h
+can_step-goes_on st o urgent h e = rw e refl
+
+can_step-starts : (st : ResourceState) (o urgent : Option ℕ) → o ≡ None → (can_step st o urgent).task ≡ urgent
+can_step-starts st o urgent e = rw e refl
+
+-- nothing changes when a job is complete, but on CAN
+pub ring-next_at : (ends : ℕ → ℕ) (st : ResourceState) (o : Option ℕ) → settled RoundRobin ends st o ≡ st
+ring-next_at ends st None = refl
+ring-next_at ends st (Some i) = elim (cases_Bool (eqb (ends i) 0)) [ inl none ↦ rw none refl | inr some ↦ rw some refl ]
+
+module _ (s : SystemLists) (tr : TraceLists) where
+  abbrev pub waiting_at : ℕ → ℕ → Bool
+  waiting_at t i = waits ((run s tr t).jobs i)
+
+  abbrev pub state_at : ℕ → ℕ → ResourceState
+  state_at t r = (run s tr t).resources r
+
+  abbrev pub chosen_at : ℕ → ℕ → Option ℕ
+  chosen_at t r = (choice_at s tr t (run s tr t) r).task
+
+  -- the choice by the rule of the kind
+  pub choice-by_kind : (t r : ℕ) (k : Kind) → kind_of s r ≡ k → choice_at s tr t (run s tr t) r ≡ choose s r k (state_at t r) (waiting_at t) t (phase_of tr r)
+  unfolding choice_at step
+  choice-by_kind t r k e = rw e refl
+
+  pub runs-chosen : (t i : ℕ) → runs_in s tr t (run s tr t) i ≡ true → chosen_at t (task_at s i).res.0 ≡ Some i
+  unfolding runs_in
+  runs-chosen t i e = chosen-some (chosen_at t (task_at s i).res.0) i e
+
+  pub chosen-runs : (t r i : ℕ) → IsOn s r i → chosen_at t r ≡ Some i → runs_in s tr t (run s tr t) i ≡ true
+  unfolding runs_in
+  chosen-runs t r i on e =
+      let here = eqb-true (task_at s i).res.0 r on.here in
+      rw here (some-chosen (chosen_at t r) i e)
+
+  -- a task that waits and doesn't end goes on waiting
+  pub still_waits : (t i : ℕ) → waiting_at t i ≡ true → ends_in s tr t (run s tr t) i ≡ 0 → waiting_at (suc t) i ≡ true
+  still_waits t i w none =
+      less-waits ((run s tr (suc t)).jobs i)
+      (omega (arith, waits-less ((run s tr t).jobs i) w, ended-suc s tr t i, length-suc s tr t i, ends_in-is s tr t i))
+
+  -- ---- preemptive
+
+  pub preemptive-choice : (t r : ℕ) → kind_of s r ≡ Preemptive → chosen_at t r ≡ most_urgent s (filter (waiting_at t) (tasks_on s r))
+  preemptive-choice t r e = ap (λ (c : Choice). c.task) (choice-by_kind t r Preemptive e)
+
+  pub urgent_waits : (t r j : ℕ) → most_urgent s (filter (waiting_at t) (tasks_on s r)) ≡ Some j → IsMostUrgent s (IsWaiting s r (waiting_at t)) (filter (waiting_at t) (tasks_on s r)) j
+  urgent_waits t r j e =
+      urgent_is s (IsWaiting s r (waiting_at t)) (filter (waiting_at t) (tasks_on s r)) (waiting-are s r (waiting_at t) (tasks_on s r) (tasks_on-are s r)) j e
+
+  -- ---- CAN
+
+  module _ (r bit : ℕ) (kind : kind_of s r ≡ Can bit) where
+    can-choice : (t : ℕ) → choice_at s tr t (run s tr t) r ≡ can_step (state_at t r) (state_at t r).holder (most_urgent s (filter (waiting_at t) (tasks_on s r)))
+    can-choice t = choice-by_kind t r (Can bit) kind
+
+    pub can-goes_on : (t h : ℕ) → (state_at t r).holder ≡ Some h → chosen_at t r ≡ Some h
+    can-goes_on t h e = ap (λ (c : Choice). c.task) (can-choice t) ∙ can_step-goes_on (state_at t r) (state_at t r).holder (most_urgent s (filter (waiting_at t) (tasks_on s r))) h e
+
+    pub can-starts : (t : ℕ) → (state_at t r).holder ≡ None → chosen_at t r ≡ most_urgent s (filter (waiting_at t) (tasks_on s r))
+    can-starts t e = ap (λ (c : Choice). c.task) (can-choice t) ∙ can_step-starts (state_at t r) (state_at t r).holder (most_urgent s (filter (waiting_at t) (tasks_on s r))) e
+
+    can-holder : (t : ℕ) → (choice_at s tr t (run s tr t) r).state.holder ≡ chosen_at t r
+    can-holder t =
+        ap (λ (c : Choice). c.state.holder) (can-choice t)
+        ∙ (can_step-holder (state_at t r) (state_at t r).holder (most_urgent s (filter (waiting_at t) (tasks_on s r))) refl ∙ sym (ap (λ (c : Choice). c.task) (can-choice t)))
+
+    pub can-next : (t j : ℕ) → (state_at (suc t) r).holder ≡ Some j → (chosen_at t r ≡ Some j) × (ends_in s tr t (run s tr t) j ≡ 0)
+    can-next t j e =
+        let e' = rw (state-suc s tr t r, kind) at e in
+        can-next_at bit (ends_in s tr t (run s tr t)) (choice_at s tr t (run s tr t) r).state (chosen_at t r) j (can-holder t) e'
+
+    pub can-kept : (t j : ℕ) → chosen_at t r ≡ Some j → ends_in s tr t (run s tr t) j ≡ 0 → (state_at (suc t) r).holder ≡ Some j
+    can-kept t j e none =
+        rw (state-suc s tr t r, kind, e) (can-kept_at bit (ends_in s tr t (run s tr t)) (choice_at s tr t (run s tr t) r).state j (can-holder t ∙ e) none)
+
+    pub can-first : (state_at 0 r).holder ≡ None
+    can-first = rw (state-zero s tr r, kind) refl
+
+    mutual_step : (t j : ℕ) → ((j : ℕ) → (state_at t r).holder ≡ Some j → IsWaiting s r (waiting_at t) j) → (o : Option ℕ) → (state_at t r).holder ≡ o → chosen_at t r ≡ Some j → IsWaiting s r (waiting_at t) j
+    mutual_step t j held (Some h) same e = held j (same ∙ (sym (can-goes_on t h same) ∙ e))
+    mutual_step t j held None same e = (urgent_waits t r j (sym (can-starts t same) ∙ e)).one
+
+    -- a started frame waits
+    pub can-held : (t j : ℕ) → (state_at t r).holder ≡ Some j → IsWaiting s r (waiting_at t) j
+    can-held zero j e = let none = can-first in cc
+    can-held (suc t) j e =
+        let next = can-next t j e in
+        let w = mutual_step t j (can-held t) (state_at t r).holder refl next.0 in
+        record { on = w.on; waits_now = still_waits t j w.waits_now next.1 }
+
+    pub can-waits : (t j : ℕ) → chosen_at t r ≡ Some j → IsWaiting s r (waiting_at t) j
+    can-waits t j e = mutual_step t j (can-held t) (state_at t r).holder refl e
+
+  -- ---- TDMA
+
+  module _ (r gap : ℕ) (kind : kind_of s r ≡ Tdma gap) where
+    unfoldable pub owner : ℕ → Option ℕ
+    owner t = owner_at s (tasks_on s r) ((t + phase_of tr r) % cycle_of s r)
+
+    pub tdma-choice : (t : ℕ) → chosen_at t r ≡ if_waiting (waiting_at t) (owner t)
+    unfolding owner
+    tdma-choice t = ap (λ (c : Choice). c.task) (choice-by_kind t r (Tdma gap) kind)
+
+    pub tdma-waits : (t j : ℕ) → chosen_at t r ≡ Some j → IsWaiting s r (waiting_at t) j
+    unfolding owner
+    tdma-waits t j e =
+        let is = if_waiting-is (waiting_at t) (owner t) j (sym (tdma-choice t) ∙ e) in
+        record { on = owner_is s (IsOn s r) (tasks_on s r) ((t + phase_of tr r) % cycle_of s r) j (tasks_on-are s r) is.0; waits_now = is.1 }
+
+    pub tdma-runs : (t j : ℕ) → owner t ≡ Some j → waiting_at t j ≡ true → chosen_at t r ≡ Some j
+    tdma-runs t j e w = tdma-choice t ∙ rw (e, w) refl

@@ -1,0 +1,141 @@
+-- Worked runs, and a bound that is one too small and doesn't hold.
+use Rattle.std.proofs.Common.{◌≡◌, ℕ, zero, suc, ◌+◌, ◌<◌, ◌≤◌, length, map, get_or, List, [], ◌∷◌, Some, None, refl, sym, ◌∙◌, ap, arith}
+use Rattle.cpa_units.specs.declared.bound.Bound.TheVariants.{Within}
+use Rattle.cpa_units.specs.Search.{least_from, greatest_to}
+use Rattle.cpa_events.specs.declared.Model.{Model}
+use Rattle.cpa_events.specs.Events.{delta_minus, eta_plus}
+use Rattle.cpa_events.proofs.EventLaws.{delta_minus-one}
+use Rattle.cpa_window.specs.Windows.{window}
+use Rattle.cpa_window.specs.BusyWindow.{jobs_in_busy_window, busy_window_bound}
+use Rattle.cpa_model.specs.declared.entries.Kind.{Kind}
+use Rattle.cpa_model.specs.declared.entries.Kind.TheVariants.{Preemptive, RoundRobin, Tdma, Can}
+use Rattle.cpa_model.specs.declared.entries.Resource.{Resource}
+use Rattle.cpa_model.specs.declared.entries.Source.{Source}
+use Rattle.cpa_model.specs.declared.entries.Activator.{Activator}
+use Rattle.cpa_model.specs.declared.entries.Activator.TheVariants.{Source as FromSource, Task as FromTask}
+use Rattle.cpa_model.specs.declared.entries.Turn.{Turn}
+use Rattle.cpa_model.specs.declared.entries.Turn.TheVariants.{Priority, Slot}
+use Rattle.cpa_model.specs.declared.entries.Task.{Task}
+use Rattle.cpa_model.specs.SystemLists.{SystemLists, task_at, resource_of, cycle_of}
+use Rattle.cpa_local.specs.Inputs.{input}
+use Rattle.cpa_local.specs.Local.{response, responses}
+use Rattle.cpa_model.specs.Streams.{source_model}
+use Rattle.cpa_trace.specs.Trace.{TraceLists, times_of, time_of, phase_of, Obeys}
+use Rattle.cpa_sched.specs.Steps.{step}
+use Rattle.cpa_sim.specs.declared.jobs.Progress.{Progress}
+use Rattle.cpa_sim.specs.Run.{choice_at, runs_in, served, ends_in, advance, run}
+use Rattle.cpa_sound.specs.BoundsHold.{no_job, job_at, HasJob, BoundsHold}
+
+abbrev resource : Kind → Resource
+resource kind = record { name = []; kind = kind; limit = 1000000 }
+
+abbrev source : ℕ → Source
+source period = record { name = []; period = period; jitter = 0; distance = 0 }
+
+abbrev from_source : ℕ → Activator
+from_source k = FromSource (record { 0 = k })
+
+abbrev from_task : ℕ → Activator
+from_task j = FromTask (record { 0 = j })
+
+abbrev task : ℕ → Activator → ℕ → ℕ → Turn → Task
+task place after best worst turn = record { name = []; res = record { 0 = place }; after = after; best = best; worst = worst; turn = turn }
+
+abbrev system : List Kind → List ℕ → List Task → SystemLists
+system kinds periods tasks = record { resources = map resource kinds; sources = map source periods; tasks = tasks; paths = [] }
+
+-- the same events from two sources
+abbrev both_at : List ℕ → TraceLists
+both_at times = record { times = times ∷ times ∷ []; executions = []; phases = [] }
+
+-- a job that arrived and ended at these times
+abbrev done : ℕ → ℕ → Progress
+done arrival end = record { arrival = arrival; left = 0; end = Some end }
+
+-- ---- runs
+
+round_robin : SystemLists
+round_robin = system (RoundRobin ∷ []) (20 ∷ 20 ∷ []) (task 0 (from_source 0) 3 3 (Slot 2) ∷ task 0 (from_source 1) 1 1 (Slot 4) ∷ [])
+
+two_in_a_ring : (run round_robin (both_at (0 ∷ [])) 4).jobs 0 ≡ done 0 4 ∷ []
+unfolding run advance served ends_in runs_in choice_at step round_robin
+two_in_a_ring = refl
+
+-- a holder that was idle has slot left
+idle_holder : (run round_robin (both_at (0 ∷ 20 ∷ [])) 24).jobs 0 ≡ done 0 4 ∷ done 20 24 ∷ []
+unfolding run advance served ends_in runs_in choice_at step round_robin
+idle_holder = refl
+
+idle_holder-other : (run round_robin (both_at (0 ∷ 20 ∷ [])) 24).jobs 1 ≡ done 0 3 ∷ done 20 22 ∷ []
+unfolding run advance served ends_in runs_in choice_at step round_robin
+idle_holder-other = refl
+
+tdma : SystemLists
+tdma = system (Tdma 8 ∷ []) (40 ∷ []) (task 0 (from_source 0) 3 3 (Slot 2) ∷ [])
+
+in_a_slot : (run tdma (record { times = (2 ∷ []) ∷ []; executions = (3 ∷ []) ∷ []; phases = 0 ∷ [] }) 21).jobs 0 ≡ done 2 21 ∷ []
+unfolding run advance served ends_in runs_in choice_at step tdma
+in_a_slot = refl
+
+chains : SystemLists
+chains =
+    system (Preemptive ∷ Can 1 ∷ []) (100 ∷ 100 ∷ [])
+    (task 0 (from_source 0) 1 3 (Priority 2) ∷ task 1 (from_task 0) 1 2 (Priority 1) ∷ task 1 (from_source 1) 2 4 (Priority 2) ∷ task 0 (from_task 2) 1 2 (Priority 1) ∷ [])
+
+-- a frame that has started goes on while one of higher priority waits
+crossing : (run chains (both_at (0 ∷ [])) 8).jobs 1 ≡ done 3 6 ∷ []
+unfolding run advance served ends_in runs_in choice_at step chains
+crossing = refl
+
+crossing-other : (run chains (both_at (0 ∷ [])) 8).jobs 3 ≡ done 4 6 ∷ []
+unfolding run advance served ends_in runs_in choice_at step chains
+crossing-other = refl
+
+-- ---- 10 ticks bound the second of two tasks, and 9 don't
+
+two_tasks : SystemLists
+two_tasks = system (Preemptive ∷ []) (10 ∷ 20 ∷ []) (task 0 (from_source 0) 1 3 (Priority 1) ∷ task 0 (from_source 1) 2 7 (Priority 2) ∷ [])
+
+ten_is_closed : responses two_tasks (Within 3 ∷ Within 10 ∷ []) ≡ Within 3 ∷ Within 10 ∷ []
+unfolding two_tasks input response busy_window_bound jobs_in_busy_window window eta_plus delta_minus least_from greatest_to
+ten_is_closed = refl
+
+at_9 : (run two_tasks (both_at (0 ∷ [])) 9).jobs 1 ≡ record { arrival = 0; left = 1; end = None } ∷ []
+unfolding run advance served ends_in runs_in choice_at step two_tasks
+at_9 = refl
+
+at_10 : (run two_tasks (both_at (0 ∷ [])) 10).jobs 1 ≡ done 0 10 ∷ []
+unfolding run advance served ends_in runs_in choice_at step two_tasks
+at_10 = refl
+
+one_event : (m : Model) (n gap : ℕ) → n + gap < 1 → get_or (0 ∷ []) n 0 + delta_minus m (gap + 1) ≤ get_or (0 ∷ []) (n + gap) 0
+one_event m n gap h =
+    let none : n ≡ 0 = omega arith in
+    let no_gap : gap ≡ 0 = omega arith in
+    let one : 0 + 1 ≡ 1 = omega arith in
+    let first : 0 + delta_minus m (0 + 1) ≤ 0 = rw one (omega (arith, delta_minus-one m)) in
+    let zero_sum : 0 + 0 ≡ 0 = omega arith in
+    rw (none, no_gap, zero_sum) first
+
+both_obey : Obeys two_tasks (both_at (0 ∷ []))
+unfolding two_tasks
+both_obey = record { apart = apart; least = λ i k h past. absurd (omega arith); greatest = λ i k h past. absurd (omega arith); phase = phase }
+  where
+    apart : (k n gap : ℕ) → n + gap < length (times_of (both_at (0 ∷ [])) k) → time_of (both_at (0 ∷ [])) k n + delta_minus (source_model two_tasks k) (gap + 1) ≤ time_of (both_at (0 ∷ [])) k (n + gap)
+    apart zero n gap h = one_event (source_model two_tasks 0) n gap h
+    apart (suc zero) n gap h = one_event (source_model two_tasks 1) n gap h
+    apart (suc (suc k)) n gap h = absurd (omega arith)
+
+    phase : (i gap : ℕ) → i < 2 → (resource_of two_tasks i).kind ≡ Tdma gap → phase_of (both_at (0 ∷ [])) (task_at two_tasks i).res.0 < cycle_of two_tasks (task_at two_tasks i).res.0
+    phase zero gap h e = cc
+    phase (suc zero) gap h e = cc
+    phase (suc (suc i)) gap h e = absurd (omega arith)
+
+nine_is_too_few : ¬ BoundsHold two_tasks (Within 3 ∷ Within 9 ∷ [])
+nine_is_too_few holds =
+    let job : job_at two_tasks (both_at (0 ∷ [])) 9 1 0 ≡ record { arrival = 0; left = 1; end = None } = ap (λ js. get_or js 0 no_job) at_9 in
+    let has : HasJob two_tasks (both_at (0 ∷ [])) 9 1 0 = rw at_9 (omega arith) in
+    let arrived = ap (λ (j : Progress). j.arrival) job in
+    let done = (holds (both_at (0 ∷ [])) both_obey).in_time 1 9 0 9 (unfold two_tasks in omega arith) refl has (omega (arith, arrived)) in
+    let still = sym (ap (λ (j : Progress). j.end) job) ∙ done.is in
+    cc
