@@ -7,10 +7,11 @@ use Rattle.cpa_local.specs.Solution.{IsLeast, least_of}
 use Rattle.cpa_local.proofs.VectorLaws.{least-one}
 use Rattle.cpa_local.proofs.SolutionLaws.{least_of-is_least}
 use Rattle.cpa_report.specs.Report.{report_text, verdict}
+use Rattle.cpa_sound.proofs.Soundness.{least_solutions_bound_every_run}
 use Rattle.cpa_cli.specs.Answers.{Answer, reply, IsReport}
 
 pub report-at : (s : SystemLists) (x : List Bound) → IsSystem s → IsLeast s x → IsReport s (reply (verdict s x) (report_text s x))
-report-at s x rules least = record { bounds = x; least = least; status_is = refl; text_is = refl }
+report-at s x rules least = record { bounds = x; least = least; hold = least_solutions_bound_every_run s x rules least; status_is = refl; text_is = refl }
 
 pub some-report : (s : SystemLists) → IsSystem s → (answer : Answer) × IsReport s answer
 some-report s rules = (reply (verdict s (least_of s)) (report_text s (least_of s)), report-at s (least_of s) rules (least_of-is_least s rules))

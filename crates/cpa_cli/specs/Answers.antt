@@ -4,6 +4,7 @@ use Rattle.cpa_units.specs.declared.bound.Bound.{Bound}
 use Rattle.cpa_model.specs.SystemLists.{SystemLists}
 use Rattle.cpa_report.specs.Report.{report_text, verdict}
 use Rattle.cpa_local.specs.Solution.{IsLeast}
+use Rattle.cpa_sound.specs.BoundsHold.{BoundsHold}
 
 pub record Answer : Type 0 where
   pub status : Option ℕ
@@ -16,5 +17,7 @@ reply status text = record { status = Some status; text = text }
 pub record IsReport (s : SystemLists) (answer : Answer) : Type 0 where
   pub bounds : List Bound
   pub least : IsLeast s bounds
+  -- they bound the response times of all jobs and paths, in every run whose trace obeys
+  pub hold : BoundsHold s bounds
   pub status_is : answer.status ≡ Some (verdict s bounds)
   pub text_is : answer.text ≡ report_text s bounds
