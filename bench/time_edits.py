@@ -2,9 +2,9 @@
 """Measures how long large scripts take to read, and how long edits take to apply.
 
 Makes a system of 512 tasks after 128 sources with 128 paths, all with names of 64 bytes that differ at their ends alone,
-and scripts over it: of 1,048,576 bytes with 10,000 edits, of 1,048,576 bytes in one line of short words, and of 10,000
-edits of each sort. `cpa_edit_bench` loads each alone, reads it, and applies its edits. Prints a line a
-script and way: the least time of five calls, and the peak memory of a call.
+and scripts over it: of 1,048,576 bytes with 10,000 edits, of 1,048,576 bytes in one line of short words, and of many
+edits of one sort. `cpa_edit_bench` loads each alone, reads it, and applies its edits. Prints a line a script and way:
+the least time of five calls, and the peak memory of a call.
 
     python3 bench/time_edits.py [FOLDER for the files]
 """
@@ -58,15 +58,14 @@ def full():
 
 
 def edits(sort):
-    """So many edits of a sort; each `remove` is of a task in the middle of the list, and an `add` follows it."""
-    last = TASKS - CHAIN
-    moved = f'remove {name("t", last)}\nadd {name("t", last)} {name("r", last % 64)} {after(last)} 1 9 {last}\n'
+    """As many edits of a sort as a script can have. Each `remove` takes the task at place 480, and an `add` brings it back at the end."""
+    moved = [TASKS - CHAIN + k % CHAIN for k in range(3_500)]
     rows = {
         "exec": f'exec {name("t", TASKS - 1)} 1 9\n' * EDITS,
         "priority": f'priority {name("t", TASKS - 1)} {TASKS - 1}\n' * EDITS,
-        "swap": f'swap {name("t", TASKS - 1)} {name("t", TASKS - 65)}\n' * EDITS,
+        "swap": f'swap {name("t", TASKS - 1)} {name("t", TASKS - 65)}\n' * 7_500,
         "source": f'source {name("s", SOURCES - 1)} 1000 5 3\n' * EDITS,
-        "move": moved * (EDITS // 2),
+        "move": "".join(f'remove {name("t", i)}\nadd {name("t", i)} {name("r", i % 64)} {after(i)} 1 9 {i}\n' for i in moved),
     }
     return rows[sort]
 

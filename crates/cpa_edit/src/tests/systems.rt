@@ -3,9 +3,7 @@
 ghost use Rattle.std.specs.Prelude.{◌≡◌, All, IfOk, true};
 ghost use Rattle.cpa_model.specs.Built.{has_executions};
 
-use cpa_model::{
-    Draft, DraftPath, DraftResource, DraftSource, DraftTask, KindWord, Raw, RawList,
-};
+use cpa_model::{Draft, DraftPath, DraftResource, DraftSource, DraftTask, KindWord, Raw, RawList};
 use std::alloc::{AllocError, Global};
 
 fn raw(alloc: Global, text: &str) -> Result<Raw, AllocError> {
