@@ -1,0 +1,392 @@
+-- What each edit spares, and which can only raise bounds.
+use Rattle.std.proofs.Common.{◌≡◌, ℕ, zero, suc, ◌+◌, ◌-◌, ◌<◌, ◌≤◌, ◌&&◌, ◌==◌, nat_lt, length, Bool, true, false, List, [], ◌∷◌, ◌++◌, map, set, Some, None, refl, sym, ap, ◌∙◌, inl, inr, slice_index_or, arith, get_or-set_same, get_or-set_other}
+use Rattle.std.specs.Prelude.{filter, if◌then◌else◌}
+use Rattle.std.specs.List.{range_with_len, remove, list_any}
+use Rattle.std.proofs.lemmas.Bool.{cases_Bool, cases_lt, cases_eq, false≢true, lt-ltb, le-ltb, eq-eqb, and_from}
+use Rattle.std.proofs.lemmas.List.{length-set, set_past, map-id, get_or_append_left, length_push, get_or_push, get_or-map, length-map, append-nil}
+use Rattle.std.proofs.lemmas.List.Elements.{filter-append}
+use Rattle.std.proofs.lemmas.List.Edits.{length-remove, get_or-remove_below, get_or-remove_above}
+use Rattle.std.proofs.lemmas.List.Folds.{list_any_at}
+use Rattle.cpa_units.specs.Sets.{holds, Members}
+use Rattle.cpa_units.specs.declared.places.TaskId.{TaskId}
+use Rattle.cpa_units.proofs.PlaceLaws.{places, places-more}
+use Rattle.cpa_units.specs.declared.places.ResId.{ResId}
+use Rattle.cpa_events.specs.Events.{IsNoDenser}
+use Rattle.cpa_events.proofs.EventLaws.{IsNoDenser_refl}
+use Rattle.cpa_model.specs.declared.entries.Source.{Source}
+use Rattle.cpa_model.specs.declared.entries.Task.{Task}
+use Rattle.cpa_model.specs.declared.entries.Activator.{Activator}
+use Rattle.cpa_model.specs.declared.entries.Activator.TheVariants.{Source as FromSource, Task as FromTask}
+use Rattle.cpa_model.specs.SystemLists.{SystemLists, task_at, source_at, no_task, no_source}
+use Rattle.cpa_model.specs.Streams.{model_of}
+use Rattle.cpa_model.specs.Changes.{with_task_at, with_source, with_task, without_task, place_without, activator_without, task_without}
+use Rattle.cpa_edit.specs.Edited.{is_fed_by}
+use Rattle.cpa_local.specs.Raising.{IsDenserActivator, IsRaising}
+use Rattle.cpa_session.proofs.RaisingChanges.{raised-same}
+use Rattle.cpa_session.specs.Spared.{place_before, IsSameActivator, IsSpared}
+
+-- ---- lists of places
+
+filter-agree : (p q : ℕ → Bool) (a n : ℕ) → ((j : ℕ) → a ≤ j → j < a + n → p j ≡ q j) → filter p (range_with_len a n) ≡ filter q (range_with_len a n)
+filter-agree p q a zero h = refl
+filter-agree p q a (suc n) h =
+    let here = h a (omega arith) (omega arith) in
+    let rest = filter-agree p q (a + 1) n (λ j low high. h j (omega arith) (omega arith)) in
+    elim (cases_Bool (p a)) [
+      | inl on ↦ rw (← here, on) (ap (λ js. a ∷ js) rest)
+      | inr off ↦ rw (← here, off) rest
+    ]
+
+filter-one : (p : ℕ → Bool) (n : ℕ) → p n ≡ false → filter p (places (n + 1)) ≡ filter p (places n)
+filter-one p n off =
+    let none : filter p (n ∷ []) ≡ [] = rw off refl in
+    ap (filter p) (places-more n) ∙ filter-append p (places n) (n ∷ []) ∙ ap (λ js. filter p (places n) ++ js) none ∙ append-nil (filter p (places n))
+
+-- the places without one of them
+abbrev pub skip : ℕ → ℕ → ℕ
+skip gone i = if nat_lt i gone then i else i + 1
+
+skip-low : (gone i : ℕ) → i < gone → skip gone i ≡ i
+skip-low gone i low = rw (lt-ltb i gone low) refl
+
+skip-high : (gone i : ℕ) → gone ≤ i → skip gone i ≡ i + 1
+skip-high gone i high = rw (le-ltb i gone high) refl
+
+skip-apart : (gone i j : ℕ) → skip gone i ≡ skip gone j → i ≡ j
+skip-apart gone i j e =
+    elim (cases_lt i gone) [
+      | inl i_low ↦ elim (cases_lt j gone) [
+        | inl j_low ↦ omega (arith, skip-low gone i i_low, skip-low gone j j_low)
+        | inr j_high ↦ omega (arith, skip-low gone i i_low, skip-high gone j j_high)
+      ]
+      | inr i_high ↦ elim (cases_lt j gone) [
+        | inl j_low ↦ omega (arith, skip-high gone i i_high, skip-low gone j j_low)
+        | inr j_high ↦ omega (arith, skip-high gone i i_high, skip-high gone j j_high)
+      ]
+    ]
+
+-- behind it each place is one more
+filter-shift : (gone : ℕ) (p : ℕ → Bool) (a m : ℕ) → gone ≤ a → filter p (range_with_len (a + 1) m) ≡ map (skip gone) (filter (λ j. p (skip gone j)) (range_with_len a m))
+filter-shift gone p a zero h = refl
+filter-shift gone p a (suc m) h =
+    let rest = filter-shift gone p (a + 1) m (omega arith) in
+    let at : skip gone a ≡ a + 1 = skip-high gone a h in
+    elim (cases_Bool (p (a + 1))) [
+      | inl on ↦
+          let here : p (skip gone a) ≡ true = ap p at ∙ on in
+          rw (on, here) (ap (λ js. (a + 1) ∷ js) rest ∙ ap (λ j. j ∷ map (skip gone) (filter (λ j. p (skip gone j)) (range_with_len (a + 1) m))) (sym at))
+      | inr off ↦
+          let here : p (skip gone a) ≡ false = ap p at ∙ off in
+          rw (off, here) rest
+    ]
+
+filter-skip : (gone : ℕ) (p : ℕ → Bool) (a m : ℕ) → a ≤ gone → gone ≤ a + m → p gone ≡ false → filter p (range_with_len a (suc m)) ≡ map (skip gone) (filter (λ j. p (skip gone j)) (range_with_len a m))
+filter-skip gone p a zero low high off =
+    let same : a ≡ gone = omega arith in
+    rw (same, off) refl
+filter-skip gone p a (suc m) low high off =
+    elim (cases_lt a gone) [
+      | inl before ↦
+          let rest = filter-skip gone p (a + 1) m (omega arith) (omega arith) off in
+          let at : skip gone a ≡ a = skip-low gone a before in
+          elim (cases_Bool (p a)) [
+            | inl on ↦
+                let here : p (skip gone a) ≡ true = ap p at ∙ on in
+                rw (on, here) (ap (λ js. a ∷ js) rest ∙ ap (λ j. j ∷ map (skip gone) (filter (λ j. p (skip gone j)) (range_with_len (a + 1) m))) (sym at))
+            | inr out ↦
+                let here : p (skip gone a) ≡ false = ap p at ∙ out in
+                rw (out, here) rest
+          ]
+      | inr not_before ↦
+          let same : a ≡ gone = omega arith in
+          let here : p a ≡ false = ap p same ∙ off in
+          rw here (filter-shift gone p a (suc m) not_before)
+    ]
+
+-- ---- edits of entries at their places
+
+-- tasks stay where they are, on their resources, and only those on touched resources change
+pub record IsInPlace (s t : SystemLists) (touched : List Bool) : Type 0 where
+  pub resources : s.resources ≡ t.resources
+  pub count : length s.tasks ≡ length t.tasks
+  pub res : (i : ℕ) → (task_at s i).res.0 ≡ (task_at t i).res.0
+  pub same : (i : ℕ) → holds touched (task_at t i).res.0 ≡ false → task_at s i ≡ task_at t i
+
+-- what activates an untouched task sends the same
+abbrev pub SendSame : SystemLists → SystemLists → List Bool → Type 0
+SendSame s t touched = (i : ℕ) → i < length t.tasks → holds touched (task_at t i).res.0 ≡ false → IsSameActivator s t (place_before None) (task_at t i).after (task_at t i).after
+
+pub same-sources : (s t : SystemLists) (a : Activator) → s.sources ≡ t.sources → IsSameActivator s t (place_before None) a a
+same-sources s t (FromSource k) e = ap (λ (sources : List Source). model_of (slice_index_or sources k.0 no_source)) e
+same-sources s t (FromTask j) e = refl
+
+pub spared-in_place : (s t : SystemLists) (touched : List Bool) → IsInPlace s t touched → SendSame s t touched → IsSpared s t touched (place_before None)
+spared-in_place s t touched h sent =
+    record {
+      resources = h.resources;
+      apart = λ i j e. e;
+      same = λ i less off.
+          let it : task_at s i ≡ task_at t i = h.same i off in
+          record {
+            there = omega (arith, h.count);
+            res = h.res i;
+            after = rw it (sent i less off);
+            best = ap (λ (u : Task). u.best) it;
+            worst = ap (λ (u : Task). u.worst) it;
+            turn = ap (λ (u : Task). u.turn) it;
+          };
+      listed = λ old new tests.
+          let agree : (j : ℕ) → 0 ≤ j → j < 0 + length s.tasks → old j ≡ new j = λ j low high.
+          elim (cases_Bool (holds touched (task_at t j).res.0)) [
+            | inl on ↦ tests.none_old j (omega arith) (ap (holds touched) (h.res j) ∙ on) ∙ sym (tests.none_new j (omega (arith, h.count)) on)
+            | inr off ↦ sym (tests.same j (omega (arith, h.count)) off)
+          ] in
+          filter-agree old new 0 (length s.tasks) agree ∙ ap (λ n. filter new (places n)) h.count ∙ sym (map-id (filter new (places (length t.tasks))));
+    }
+
+-- another task at a place, on the same resource, which is touched
+pub in_place-set : (s : SystemLists) (p : ℕ) (u : Task) (touched : List Bool) → u.res ≡ (task_at s p).res → Members touched (task_at s p).res.0
+    → IsInPlace s (with_task_at s p u) touched
+in_place-set s p u touched res on =
+    record {
+      resources = refl;
+      count = sym (length-set s.tasks p u);
+      res = λ i. sym (res_at i);
+      same = λ i off. elim (cases_eq i p) [
+        | inl same ↦
+            let there : holds touched (task_at (with_task_at s p u) i).res.0 ≡ true = ap (holds touched) (res_at i) ∙ ap (λ j. holds touched (task_at s j).res.0) same ∙ on in
+            absurd (false≢true (sym off ∙ there))
+        | inr other ↦ sym (get_or-set_other s.tasks p i u no_task other)
+      ];
+    }
+  where
+    res_at : (i : ℕ) → (task_at (with_task_at s p u) i).res.0 ≡ (task_at s i).res.0
+    res_at i =
+        elim (cases_eq i p) [
+          | inl same ↦ elim (cases_lt p (length s.tasks)) [
+            | inl less ↦ rw same (ap (λ (v : Task). v.res.0) (get_or-set_same s.tasks p u no_task less) ∙ ap (λ (r : ResId). r.0) res)
+            | inr past ↦ ap (λ (us : List Task). (slice_index_or us i no_task).res.0) (set_past s.tasks p u past)
+          ]
+          | inr other ↦ ap (λ (v : Task). v.res.0) (get_or-set_other s.tasks p i u no_task other)
+        ]
+
+pub in_place-trans : (s t u : SystemLists) (touched : List Bool) → IsInPlace s t touched → IsInPlace t u touched → IsInPlace s u touched
+in_place-trans s t u touched first second =
+    record {
+      resources = first.resources ∙ second.resources;
+      count = first.count ∙ second.count;
+      res = λ i. first.res i ∙ second.res i;
+      same = λ i off. first.same i (ap (holds touched) (second.res i) ∙ off) ∙ second.same i off;
+    }
+
+-- a source changes, and touches what it feeds
+pub in_place-source : (s : SystemLists) (k period jitter distance : ℕ) (touched : List Bool) → IsInPlace s (with_source s k period jitter distance) touched
+unfolding with_source
+in_place-source s k period jitter distance touched =
+    record { resources = refl; count = refl; res = λ i. refl; same = λ i off. refl }
+
+module _ (s : SystemLists) (k period jitter distance : ℕ) (touched : List Bool) (feeds : (r : ℕ) → holds touched r ≡ list_any (λ (u : Task). is_fed_by k u.after && r == u.res.0) s.tasks) where
+  by_other : (i : ℕ) (a : Activator) → i < length s.tasks → (task_at s i).after ≡ a → holds touched (task_at s i).res.0 ≡ false → IsSameActivator s (with_source s k period jitter distance) (place_before None) a a
+  unfolding with_source
+  by_other i (FromTask j) less e off = refl
+  by_other i (FromSource m) less e off =
+      elim (cases_eq m.0 k) [
+        | inl same ↦
+            let fed : is_fed_by k (task_at s i).after ≡ true = rw e (eq-eqb m.0 k same) in
+            let on : list_any (λ (u : Task). is_fed_by k u.after && (task_at s i).res.0 == u.res.0) s.tasks ≡ true =
+            list_any_at (λ (u : Task). is_fed_by k u.after && (task_at s i).res.0 == u.res.0) s.tasks i no_task less
+            (and_from (is_fed_by k (task_at s i).after) ((task_at s i).res.0 == (task_at s i).res.0) fed (eq-eqb (task_at s i).res.0 (task_at s i).res.0 refl)) in
+            absurd (false≢true (sym off ∙ (feeds (task_at s i).res.0 ∙ on)))
+        | inr other ↦ ap model_of (sym (get_or-set_other s.sources k m.0 (record (source_at s k) { period = period; jitter = jitter; distance = distance }) no_source other))
+      ]
+
+  pub sent-source : SendSame s (with_source s k period jitter distance) touched
+  unfolding with_source
+  sent-source i less off = by_other i (task_at s i).after less refl off
+
+-- ---- a task more
+
+module _ (s : SystemLists) (u : Task) (touched : List Bool) (on : Members touched u.res.0) where
+  long-with_task : length (with_task s u).tasks ≡ length s.tasks + 1
+  unfolding with_task
+  long-with_task = length_push s.tasks u
+
+  old-with_task : (i : ℕ) → i < length s.tasks → task_at (with_task s u) i ≡ task_at s i
+  unfolding with_task
+  old-with_task i less = get_or_append_left s.tasks (u ∷ []) no_task i less
+
+  new-with_task : task_at (with_task s u) (length s.tasks) ≡ u
+  unfolding with_task
+  new-with_task = get_or_push s.tasks u no_task (length s.tasks) refl
+
+  sources-with_task : s.sources ≡ (with_task s u).sources
+  unfolding with_task
+  sources-with_task = refl
+
+  resources-with_task : s.resources ≡ (with_task s u).resources
+  unfolding with_task
+  resources-with_task = refl
+
+  -- an untouched task isn't the new one
+  old-place : (i : ℕ) → i < length (with_task s u).tasks → holds touched (task_at (with_task s u) i).res.0 ≡ false → i < length s.tasks
+  old-place i less off =
+      elim (cases_lt i (length s.tasks)) [
+        | inl it ↦ it
+        | inr past ↦
+            let same : i ≡ length s.tasks = omega (arith, long-with_task) in
+            let there : Members touched (task_at (with_task s u) i).res.0 = ap (λ (j : ℕ). holds touched (task_at (with_task s u) j).res.0) same ∙ ap (λ (v : Task). holds touched v.res.0) new-with_task ∙ on in
+            absurd (false≢true (sym off ∙ there))
+      ]
+
+  pub spared-with_task : IsSpared s (with_task s u) touched (place_before None)
+  spared-with_task =
+      record {
+        resources = resources-with_task;
+        apart = λ i j e. e;
+        same = λ i less off.
+            let before = old-place i less off in
+            let it : task_at s i ≡ task_at (with_task s u) i = sym (old-with_task i before) in
+            record {
+              there = before;
+              res = ap (λ (v : Task). v.res.0) it;
+              after = rw it (same-sources s (with_task s u) (task_at (with_task s u) i).after sources-with_task);
+              best = ap (λ (v : Task). v.best) it;
+              worst = ap (λ (v : Task). v.worst) it;
+              turn = ap (λ (v : Task). v.turn) it;
+            };
+        listed = λ old new tests.
+            let agree : (j : ℕ) → 0 ≤ j → j < 0 + length s.tasks → old j ≡ new j = λ j low high.
+            let before : j < length s.tasks = omega arith in
+            let same : (task_at (with_task s u) j).res.0 ≡ (task_at s j).res.0 = ap (λ (v : Task). v.res.0) (old-with_task j before) in
+            elim (cases_Bool (holds touched (task_at (with_task s u) j).res.0)) [
+              | inl here ↦ tests.none_old j before (ap (holds touched) (sym same) ∙ here) ∙ sym (tests.none_new j (omega (arith, long-with_task)) here)
+              | inr off ↦ sym (tests.same j (omega (arith, long-with_task)) off)
+            ] in
+            let last : new (length s.tasks) ≡ false = tests.none_new (length s.tasks) (omega (arith, long-with_task)) (ap (λ (v : Task). holds touched v.res.0) new-with_task ∙ on) in
+            filter-agree old new 0 (length s.tasks) agree
+            ∙ sym (filter-one new (length s.tasks) last)
+            ∙ ap (λ n. filter new (places n)) (sym long-with_task)
+            ∙ sym (map-id (filter new (places (length (with_task s u).tasks))));
+      }
+
+-- ---- a task less
+
+place-back : (gone j : ℕ) → (j ≡ gone → ⊥) → j ≡ skip gone (place_without gone j)
+place-back gone j other =
+    elim (cases_lt gone j) [
+      | inl behind ↦ rw (lt-ltb gone j behind) (let high : gone ≤ j - 1 = omega arith in omega (arith, skip-high gone (j - 1) high))
+      | inr not_behind ↦ rw (le-ltb gone j not_behind) (let low : j < gone = omega arith in sym (skip-low gone j low))
+    ]
+
+module _ (s : SystemLists) (gone : TaskId) (touched : List Bool) (there : gone.0 < length s.tasks) (on : Members touched (task_at s gone.0).res.0)
+    (free : (i : ℕ) (j : TaskId) → i < length s.tasks → (task_at s i).after ≡ FromTask j → j.0 ≡ gone.0 → ⊥) where
+  abbrev t : SystemLists
+  t = without_task s gone.0
+
+  long-without : length t.tasks + 1 ≡ length s.tasks
+  unfolding without_task
+  long-without = omega (arith, length-map (remove s.tasks gone.0) (task_without gone.0), length-remove s.tasks gone.0 there)
+
+  removed-at : (i : ℕ) → i < length t.tasks → slice_index_or (remove s.tasks gone.0) i no_task ≡ task_at s (skip gone.0 i)
+  removed-at i less =
+      elim (cases_lt i gone.0) [
+        | inl low ↦ get_or-remove_below s.tasks gone.0 no_task i low there ∙ ap (task_at s) (sym (skip-low gone.0 i low))
+        | inr high ↦ get_or-remove_above s.tasks gone.0 no_task i high there ∙ ap (task_at s) (sym (skip-high gone.0 i high))
+      ]
+
+  kept-at : (i : ℕ) → i < length t.tasks → task_at t i ≡ task_without gone.0 (task_at s (skip gone.0 i))
+  unfolding without_task
+  kept-at i less =
+      let in_it : i < length (remove s.tasks gone.0) = omega (arith, long-without, length-remove s.tasks gone.0 there) in
+      get_or-map (task_without gone.0) (remove s.tasks gone.0) i no_task no_task in_it ∙ ap (task_without gone.0) (removed-at i less)
+
+  skip-there : (i : ℕ) → i < length t.tasks → skip gone.0 i < length s.tasks
+  skip-there i less =
+      elim (cases_lt i gone.0) [
+        | inl low ↦ omega (arith, skip-low gone.0 i low, long-without)
+        | inr high ↦ omega (arith, skip-high gone.0 i high, long-without)
+      ]
+
+  sources-without : s.sources ≡ t.sources
+  unfolding without_task
+  sources-without = refl
+
+  resources-without : s.resources ≡ t.resources
+  unfolding without_task
+  resources-without = refl
+
+  moved : (i : ℕ) (a : Activator) → i < length s.tasks → (task_at s i).after ≡ a → IsSameActivator s t (place_before (Some gone)) a (activator_without gone.0 a)
+  moved i (FromSource k) less e = ap (λ (sources : List Source). model_of (slice_index_or sources k.0 no_source)) sources-without
+  moved i (FromTask j) less e = place-back gone.0 j.0 (free i j less e)
+
+  res-kept : (i : ℕ) → i < length t.tasks → (task_at t i).res.0 ≡ (task_at s (skip gone.0 i)).res.0
+  res-kept i less = ap (λ (v : Task). v.res.0) (kept-at i less)
+
+  pub spared-without : IsSpared s t touched (place_before (Some gone))
+  spared-without =
+      record {
+        resources = resources-without;
+        apart = λ i j e. skip-apart gone.0 i j e;
+        same = λ i less off.
+            let it = kept-at i less in
+            let before = skip-there i less in
+            record {
+              there = before;
+              res = sym (res-kept i less);
+              after = rw it (moved (skip gone.0 i) (task_at s (skip gone.0 i)).after before refl);
+              best = sym (ap (λ (v : Task). v.best) it);
+              worst = sym (ap (λ (v : Task). v.worst) it);
+              turn = sym (ap (λ (v : Task). v.turn) it);
+            };
+        listed = λ old new tests.
+            let one : length s.tasks ≡ suc (length t.tasks) = omega (arith, long-without) in
+            let agree : (j : ℕ) → 0 ≤ j → j < 0 + length t.tasks → old (skip gone.0 j) ≡ new j = λ j low high.
+            let less : j < length t.tasks = omega arith in
+            elim (cases_Bool (holds touched (task_at t j).res.0)) [
+              | inl here ↦ tests.none_old (skip gone.0 j) (skip-there j less) (ap (holds touched) (sym (res-kept j less)) ∙ here) ∙ sym (tests.none_new j less here)
+              | inr off ↦ sym (tests.same j less off)
+            ] in
+            ap (λ n. filter old (places n)) one
+            ∙ filter-skip gone.0 old 0 (length t.tasks) (omega arith) (omega (arith, long-without)) (tests.none_old gone.0 there on)
+            ∙ ap (map (skip gone.0)) (filter-agree (λ j. old (skip gone.0 j)) new 0 (length t.tasks) agree);
+      }
+
+-- ---- edits that can only raise bounds
+
+pub raising-source : (s : SystemLists) (k period jitter distance : ℕ) → period ≤ (source_at s k).period → (source_at s k).jitter ≤ jitter → distance ≤ (source_at s k).distance
+    → IsRaising s (with_source s k period jitter distance)
+unfolding with_source
+raising-source s k period jitter distance shorter wider closer =
+    record {
+      resources = refl;
+      more = omega arith;
+      tasks = λ i less. record { res = refl; after = by (task_at s i).after; best = omega arith; worst = omega arith; turn = refl };
+    }
+  where
+    given : Source
+    given = record (source_at s k) { period = period; jitter = jitter; distance = distance }
+
+    at : (m : ℕ) → IsNoDenser (model_of (source_at s m)) (model_of (slice_index_or (set s.sources k given) m no_source))
+    at m =
+        elim (cases_eq m k) [
+          | inl same ↦ elim (cases_lt k (length s.sources)) [
+            | inl less ↦
+                let it : slice_index_or (set s.sources k given) k no_source ≡ given = get_or-set_same s.sources k given no_source less in
+                rw (same, it) (record { period = shorter; jitter = wider; distance = closer })
+            | inr past ↦ rw (set_past s.sources k given past) (IsNoDenser_refl (model_of (source_at s m)))
+          ]
+          | inr other ↦ rw (get_or-set_other s.sources k m given no_source other) (IsNoDenser_refl (model_of (source_at s m)))
+        ]
+
+    by : (a : Activator) → IsDenserActivator s (record s { sources = set s.sources k given }) a a
+    by (FromSource m) = at m.0
+    by (FromTask j) = refl
+
+pub raising-add : (s : SystemLists) (u : Task) → IsRaising s (with_task s u)
+unfolding with_task
+raising-add s u =
+    record {
+      resources = refl;
+      more = omega (arith, length_push s.tasks u);
+      tasks = λ i less. raised-same s (with_task s u) i refl (sym (get_or_append_left s.tasks (u ∷ []) no_task i less));
+    }

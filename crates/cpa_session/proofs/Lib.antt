@@ -1,0 +1,9 @@
+pub mod CarriedLaws
+pub mod EditLaws
+pub mod EditedLaws
+pub mod KeepingLaws
+pub mod LeastLaws
+pub mod PassingPlaces
+pub mod RaisingChanges
+pub mod SearchLaws
+pub mod SparedLaws

@@ -1,0 +1,230 @@
+-- What can't be reached by an edit keeps its bounds: each task there asks what it asked before.
+use Rattle.std.proofs.Common.{◌≡◌, ℕ, zero, suc, ◌<◌, ◌==◌, length, Bool, true, false, List, map, Option, Some, None, refl, sym, ap, ◌∙◌, inl, inr, subst, slice_index_or, arith}
+use Rattle.std.specs.Prelude.{filter}
+use Rattle.std.specs.List.{sum_by}
+use Rattle.std.proofs.lemmas.Bool.{cases_Bool, false≢true, and_parts, and_left, eqb-true, ne_eqb, eq-eqb, cases_eq}
+use Rattle.cpa_units.specs.Sets.{holds, Members}
+use Rattle.cpa_units.specs.declared.places.TaskId.{TaskId}
+use Rattle.cpa_units.specs.declared.bound.Bound.{Bound}
+use Rattle.cpa_units.specs.declared.limits.TheConstants.{MAX_CHAIN}
+use Rattle.cpa_units.specs.Bounds.{bound_of}
+use Rattle.cpa_events.specs.declared.Model.{Model}
+use Rattle.cpa_model.specs.declared.entries.Resource.{Resource}
+use Rattle.cpa_model.specs.declared.entries.Kind.{Kind}
+use Rattle.cpa_model.specs.declared.entries.Kind.TheVariants.{Preemptive, RoundRobin, Tdma, Can}
+use Rattle.cpa_model.specs.declared.entries.Activator.{Activator}
+use Rattle.cpa_model.specs.declared.entries.Activator.TheVariants.{Source as FromSource, Task as FromTask}
+use Rattle.cpa_model.specs.SystemLists.{SystemLists, task_at, resource_at, resource_of, task_places, slot_of, gap_of, is_higher, is_other, higher_tasks, other_tasks, blocking_of, cycle_of, no_task, no_resource}
+use Rattle.cpa_model.specs.Rules.{IsSystem, IsTask, IsActivator}
+use Rattle.cpa_local.specs.Inputs.{sent_by, input_along, input}
+use Rattle.cpa_local.specs.Local.{rival_of, bound_by_kind, bound_at_input, response}
+use Rattle.cpa_depend.specs.Cone.{Activates, LeadsTo, directly, through, Reads, earlier, IsClosedUnder}
+use Rattle.cpa_session.specs.Spared.{IsSameActivator, IsSameTask, AreSameTests, IsSpared, AgreeApart}
+use Rattle.cpa_local.proofs.PlaceLists.{greatest_over}
+use Rattle.cpa_session.proofs.PassingPlaces.{map-passing, map-map, sum_by-map, sum_by-passing, greatest-map, greatest-passing}
+
+-- a set of resources that has those that were touched and, in the new system, every resource that reads a member
+pub record IsReach (s t : SystemLists) (touched reached : List Bool) (was : ℕ → ℕ) : Type 0 where
+  pub rules : IsSystem t
+  pub spared : IsSpared s t touched was
+  pub wider : (r : ℕ) → Members touched r → Members reached r
+  pub closed : IsClosedUnder t reached
+
+module _ (s t : SystemLists) (touched reached : List Bool) (was : ℕ → ℕ) (h : IsReach s t touched reached was) where
+  -- what can't be reached reads nothing that can
+  pub unread : (r q : ℕ) → Reads t r q → holds reached r ≡ false → holds reached q ≡ false
+  unread r q reads off =
+      elim (cases_Bool (holds reached q)) [
+        | inl on ↦ absurd (false≢true (sym off ∙ h.closed r q reads on))
+        | inr it ↦ it
+      ]
+
+  pub untouched : (r : ℕ) → holds reached r ≡ false → holds touched r ≡ false
+  untouched r off =
+      elim (cases_Bool (holds touched r)) [
+        | inl on ↦ absurd (false≢true (sym off ∙ h.wider r on))
+        | inr it ↦ it
+      ]
+
+  pub same_task : (i : ℕ) → i < length t.tasks → holds reached (task_at t i).res.0 ≡ false → IsSameTask s t was i
+  same_task i less off = h.spared.same i less (untouched (task_at t i).res.0 off)
+
+  before_task : (k : ℕ) (a b : Activator) → b ≡ FromTask (record { 0 = k }) → IsSameActivator s t was a b → a ≡ FromTask (record { 0 = was k })
+  before_task k (FromSource m) (FromSource n) e same = absurd (let f : ⊥ = cc in f)
+  before_task k (FromSource m) (FromTask n) e same = absurd same
+  before_task k (FromTask m) (FromSource n) e same = absurd same
+  before_task k (FromTask m) (FromTask n) e same =
+      let at : n ≡ record { 0 = k } = cc in
+      let at_k : n.0 ≡ k = ap (λ (id : TaskId). id.0) at in
+      let was_k : m.0 ≡ was k = same ∙ ap was at_k in
+      ap (λ (place : ℕ). FromTask (record { 0 = place })) was_k
+
+  -- what activates a task that can't be reached can't be reached either, and activated it before
+  activated_before : (j i : ℕ) → Activates t j i → i < length t.tasks → holds reached (task_at t i).res.0 ≡ false
+      → (j < length t.tasks) × (holds reached (task_at t j).res.0 ≡ false) × Activates s (was j) (was i)
+  activated_before j i e less off =
+      let entry : IsTask t (task_at t i) = h.rules.tasks i no_task less in (
+        subst (λ (a : Activator). IsActivator t a) e entry.activated,
+        unread (task_at t i).res.0 (task_at t j).res.0 (earlier (directly e)) off,
+        before_task j (task_at s (was i)).after (task_at t i).after e (same_task i less off).after,
+      )
+
+  -- what leads to a task that can't be reached led to it before
+  pub leads_before : (j i : ℕ) → LeadsTo t j i → i < length t.tasks → holds reached (task_at t i).res.0 ≡ false
+      → (j < length t.tasks) × (holds reached (task_at t j).res.0 ≡ false) × LeadsTo s (was j) (was i)
+  leads_before j i (directly e) less off =
+      let it = activated_before j i e less off in
+      (it.0, it.1, directly it.2)
+  leads_before j i (through {k = k} leads e) less off =
+      let last = activated_before k i e less off in
+      let it = leads_before j k leads last.0 last.1 in
+      (it.0, it.1, through it.2 last.2)
+
+  module _ (i : ℕ) (less : i < length t.tasks) (off : holds reached (task_at t i).res.0 ≡ false) where
+    own : IsSameTask s t was i
+    own = same_task i less off
+
+    off_touched : holds touched (task_at t i).res.0 ≡ false
+    off_touched = untouched (task_at t i).res.0 off
+
+    -- the resource of the task isn't one that was touched
+    not_there : (k : ℕ) → Members touched (task_at s k).res.0 → (task_at s (was i)).res.0 ≡ (task_at s k).res.0 → ⊥
+    not_there k on same =
+        let here : holds touched (task_at s k).res.0 ≡ false = ap (holds touched) (sym same ∙ own.res) ∙ off_touched in
+        false≢true (sym here ∙ on)
+
+    not_here : (j : ℕ) → Members touched (task_at t j).res.0 → (task_at t i).res.0 ≡ (task_at t j).res.0 → ⊥
+    not_here j on same =
+        let here : holds touched (task_at t j).res.0 ≡ false = ap (holds touched) (sym same) ∙ off_touched in
+        false≢true (sym here ∙ on)
+
+    higher_tests : AreSameTests s t touched was (is_higher s (was i)) (is_higher t i)
+    higher_tests =
+        record {
+          none_old = λ k k_less on. and_left _ _ (ne_eqb (task_at s (was i)).res.0 (task_at s k).res.0 (not_there k on));
+          none_new = λ j j_less on. and_left _ _ (ne_eqb (task_at t i).res.0 (task_at t j).res.0 (not_here j on));
+          same = λ j j_less j_off. let it = h.spared.same j j_less j_off in rw (own.res, own.turn, it.res, it.turn) refl;
+        }
+
+    lower_tests : AreSameTests s t touched was (λ k. is_higher s k (was i)) (λ j. is_higher t j i)
+    lower_tests =
+        record {
+          none_old = λ k k_less on. and_left _ _ (ne_eqb (task_at s k).res.0 (task_at s (was i)).res.0 (λ e. not_there k on (sym e)));
+          none_new = λ j j_less on. and_left _ _ (ne_eqb (task_at t j).res.0 (task_at t i).res.0 (λ e. not_here j on (sym e)));
+          same = λ j j_less j_off. let it = h.spared.same j j_less j_off in rw (own.res, own.turn, it.res, it.turn) refl;
+        }
+
+    apart_same : (j : ℕ) → (was j == was i) ≡ (j == i)
+    apart_same j =
+        elim (cases_eq j i) [
+          | inl same ↦ eq-eqb (was j) (was i) (ap was same) ∙ sym (eq-eqb j i same)
+          | inr other ↦ ne_eqb (was j) (was i) (λ e. other (h.spared.apart j i e)) ∙ sym (ne_eqb j i other)
+        ]
+
+    other_tests : AreSameTests s t touched was (is_other s (was i)) (is_other t i)
+    other_tests =
+        record {
+          none_old = λ k k_less on. and_left _ _ (ne_eqb (task_at s (was i)).res.0 (task_at s k).res.0 (not_there k on));
+          none_new = λ j j_less on. and_left _ _ (ne_eqb (task_at t i).res.0 (task_at t j).res.0 (not_here j on));
+          same = λ j j_less j_off. let it = h.spared.same j j_less j_off in rw (own.res, it.res, apart_same j) refl;
+        }
+
+    cycle_tests : AreSameTests s t touched was (λ k. (task_at s k).res.0 == (task_at s (was i)).res.0) (λ j. (task_at t j).res.0 == (task_at t i).res.0)
+    cycle_tests =
+        record {
+          none_old = λ k k_less on. ne_eqb (task_at s k).res.0 (task_at s (was i)).res.0 (λ e. not_there k on (sym e));
+          none_new = λ j j_less on. ne_eqb (task_at t j).res.0 (task_at t i).res.0 (λ e. not_here j on (sym e));
+          same = λ j j_less j_off. let it = h.spared.same j j_less j_off in rw (own.res, it.res) refl;
+        }
+
+    -- a task of the same resource can't be reached either
+    beside : (j : ℕ) → (task_at t i).res.0 ≡ (task_at t j).res.0 → holds reached (task_at t j).res.0 ≡ false
+    beside j same = ap (holds reached) (sym same) ∙ off
+
+    resource_same : resource_of s (was i) ≡ resource_of t i
+    resource_same =
+        ap (λ (rs : List Resource). slice_index_or rs (task_at s (was i)).res.0 no_resource) h.spared.resources
+        ∙ ap (λ (r : ℕ). resource_at t r) own.res
+
+    cycle_same : cycle_of s (task_at s (was i)).res.0 ≡ cycle_of t (task_at t i).res.0
+    cycle_same =
+        let slots : sum_by (λ k. slot_of (task_at s k).turn) (filter (λ k. (task_at s k).res.0 == (task_at s (was i)).res.0) (task_places s)) ≡ sum_by (λ j. slot_of (task_at t j).turn) (filter (λ j. (task_at t j).res.0 == (task_at t i).res.0) (task_places t)) =
+        ap (sum_by (λ k. slot_of (task_at s k).turn)) (h.spared.listed (λ k. (task_at s k).res.0 == (task_at s (was i)).res.0) (λ j. (task_at t j).res.0 == (task_at t i).res.0) cycle_tests)
+        ∙ sum_by-map (λ k. slot_of (task_at s k).turn) was (filter (λ j. (task_at t j).res.0 == (task_at t i).res.0) (task_places t))
+        ∙ sum_by-passing (λ j. (task_at t j).res.0 == (task_at t i).res.0) (λ j. slot_of (task_at s (was j)).turn) (λ j. slot_of (task_at t j).turn) 0 (length t.tasks)
+        (λ j low high passes. ap slot_of (same_task j (omega arith) (beside j (sym (eqb-true (task_at t j).res.0 (task_at t i).res.0 passes)))).turn) in
+        let gap : gap_of (resource_of s (was i)).kind ≡ gap_of (resource_of t i).kind = ap (λ (r : Resource). gap_of r.kind) resource_same in
+        omega arith
+
+    blocking_same : blocking_of s (was i) ≡ blocking_of t i
+    blocking_same =
+        ap (greatest_over (λ k. (task_at s k).worst) 0) (h.spared.listed (λ k. is_higher s k (was i)) (λ j. is_higher t j i) lower_tests)
+        ∙ greatest-map (λ k. (task_at s k).worst) was 0 (filter (λ j. is_higher t j i) (task_places t))
+        ∙ greatest-passing (λ j. is_higher t j i) (λ j. (task_at s (was j)).worst) (λ j. (task_at t j).worst) 0 0 (length t.tasks)
+        (λ j low high passes. (same_task j (omega arith) (beside j (sym (eqb-true (task_at t j).res.0 (task_at t i).res.0 (and_parts _ _ passes).0)))).worst)
+
+  -- ---- at vectors that agree
+
+  module _ (x y : List Bound) (agree : AgreeApart t reached was x y) where
+    sent_same : (chain i : ℕ) (a b : Activator) → i < length t.tasks → holds reached (task_at t i).res.0 ≡ false → (task_at t i).after ≡ b → IsActivator t b → IsSameActivator s t was a b
+        → ((j : ℕ) → j < length t.tasks → holds reached (task_at t j).res.0 ≡ false → input_along s x chain (was j) ≡ input_along t y chain j)
+        → sent_by s x (input_along s x chain) a ≡ sent_by t y (input_along t y chain) b
+    sent_same chain i (FromSource k) (FromSource m) less off e there same step = ap Some same
+    sent_same chain i (FromSource k) (FromTask m) less off e there same step = absurd same
+    sent_same chain i (FromTask j) (FromSource m) less off e there same step = absurd same
+    sent_same chain i (FromTask j) (FromTask m) less off e there same step =
+        let off_m : holds reached (task_at t m.0).res.0 ≡ false = unread (task_at t i).res.0 (task_at t m.0).res.0 (earlier (directly e)) off in
+        let it = same_task m.0 there off_m in
+        let bound : bound_of x (was m.0) ≡ bound_of y m.0 = agree m.0 there off_m in
+        let model : input_along s x chain (was m.0) ≡ input_along t y chain m.0 = step m.0 there off_m in
+        rw (same, it.best, bound, model) refl
+
+    along_same : (chain i : ℕ) → i < length t.tasks → holds reached (task_at t i).res.0 ≡ false → input_along s x chain (was i) ≡ input_along t y chain i
+    along_same zero i less off = refl
+    along_same (suc chain) i less off =
+        let entry : IsTask t (task_at t i) = h.rules.tasks i no_task less in
+        sent_same chain i (task_at s (was i)).after (task_at t i).after less off refl entry.activated (same_task i less off).after (along_same chain)
+
+    -- an input is what it was
+    pub input_same : (i : ℕ) → i < length t.tasks → holds reached (task_at t i).res.0 ≡ false → input s x (was i) ≡ input t y i
+    unfolding input
+    input_same i less off = along_same MAX_CHAIN i less off
+
+    rival_same : (j : ℕ) → j < length t.tasks → holds reached (task_at t j).res.0 ≡ false → rival_of s x (was j) ≡ rival_of t y j
+    rival_same j less off =
+        let it = same_task j less off in
+        let bound : bound_of x (was j) ≡ bound_of y j = agree j less off in
+        let model : input s x (was j) ≡ input t y j = input_same j less off in
+        rw (it.worst, it.turn, bound, model) refl
+
+    module _ (i : ℕ) (less : i < length t.tasks) (off : holds reached (task_at t i).res.0 ≡ false) where
+      rivals_same : (old new : ℕ → Bool) → AreSameTests s t touched was old new → ((j : ℕ) → new j ≡ true → (task_at t i).res.0 ≡ (task_at t j).res.0)
+          → map (rival_of s x) (filter old (task_places s)) ≡ map (rival_of t y) (filter new (task_places t))
+      rivals_same old new tests together =
+          ap (map (rival_of s x)) (h.spared.listed old new tests)
+          ∙ map-map (rival_of s x) was (filter new (task_places t))
+          ∙ map-passing new (λ j. rival_of s x (was j)) (rival_of t y) 0 (length t.tasks)
+          (λ j low high passes. rival_same j (omega arith) (beside i less off j (together j passes)))
+
+      higher_same : map (rival_of s x) (higher_tasks s (was i)) ≡ map (rival_of t y) (higher_tasks t i)
+      higher_same =
+          rivals_same (is_higher s (was i)) (is_higher t i) (higher_tests i less off) (λ j passes. eqb-true (task_at t i).res.0 (task_at t j).res.0 (and_parts _ _ passes).0)
+
+      others_same : map (rival_of s x) (other_tasks s (was i)) ≡ map (rival_of t y) (other_tasks t i)
+      others_same =
+          rivals_same (is_other s (was i)) (is_other t i) (other_tests i less off) (λ j passes. eqb-true (task_at t i).res.0 (task_at t j).res.0 (and_parts _ _ passes).0)
+
+      by_kind_same : (own : Model) (kind : Kind) → bound_by_kind s x (was i) own kind ≡ bound_by_kind t y i own kind
+      by_kind_same own Preemptive = rw (higher_same, (same_task i less off).worst, resource_same i less off) refl
+      by_kind_same own RoundRobin = rw (others_same, (same_task i less off).worst, (same_task i less off).turn, resource_same i less off) refl
+      by_kind_same own (Tdma gap) = rw (cycle_same i less off, (same_task i less off).worst, (same_task i less off).turn, resource_same i less off) refl
+      by_kind_same own (Can bit) = rw (higher_same, blocking_same i less off, (same_task i less off).worst, resource_same i less off) refl
+
+      at_input_same : (m : Option Model) → bound_at_input s x (was i) m ≡ bound_at_input t y i m
+      at_input_same (Some own) = ap (λ (r : Resource). bound_by_kind s x (was i) own r.kind) (resource_same i less off) ∙ by_kind_same own (resource_of t i).kind
+      at_input_same None = refl
+
+      -- and so is the bound
+      pub response_same : response s x (was i) ≡ response t y i
+      unfolding response
+      response_same = ap (bound_at_input s x (was i)) (input_same i less off) ∙ at_input_same (input t y i)
