@@ -2,3 +2,4 @@ pub mod OutputLaws
 pub mod PlanLaws
 pub mod ReportLaws
 pub mod SendLaws
+pub mod SessionLaws

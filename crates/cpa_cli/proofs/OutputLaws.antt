@@ -5,23 +5,27 @@ use Rattle.cpa_model.specs.SystemLists.{SystemLists}
 use Rattle.cpa_model.specs.Rules.{IsSystem}
 use Rattle.cpa_file.specs.Reading.{Reading, NotToml, Refused, Accepted, reading_of}
 use Rattle.cpa_file.proofs.ReadingLaws.{accepted-is_system}
+use Rattle.cpa_edit.specs.declared.script.Step.{Step}
+use Rattle.cpa_edit.specs.Script.{Read, script_of, AreNamed}
+use Rattle.cpa_edit.proofs.NameLaws.{scripts-are_named}
 use Rattle.cpa_trace.specs.declared.breach.Breach.{Breach}
 use Rattle.cpa_trace.specs.declared.fault.TraceFault.{TraceFault}
 use Rattle.cpa_trace.specs.Trace.{TraceLists}
 use Rattle.cpa_trace.specs.Reading.{trace_of}
 use Rattle.cpa_trace.specs.Breaches.{first_breach}
-use Rattle.cpa_units.specs.declared.limits.TheConstants.{MAX_SYSTEM_FILE, MAX_TRACE_FILE}
+use Rattle.cpa_units.specs.declared.limits.TheConstants.{MAX_SYSTEM_FILE, MAX_SCRIPT_FILE, MAX_TRACE_FILE}
 use Rattle.cpa_sim.specs.Outcome.{outcome_of}
 use Rattle.cpa_sim.specs.SimText.{sim_text}
 use Rattle.cpa_cli.specs.declared.work.Work.{Work}
 use Rattle.cpa_cli.specs.declared.work.Work.TheVariants as work
-use Rattle.cpa_cli.specs.Words.{Asked, Analyse, Simulate, accepted}
-use Rattle.cpa_cli.specs.Lines.{words_refused, too_long, not_toml, system_refused, trace_refused, trace_disobeys}
+use Rattle.cpa_cli.specs.Words.{Asked, Analyse, Session, Simulate, accepted}
+use Rattle.cpa_cli.specs.Lines.{words_refused, too_long, not_toml, system_refused, script_refused, trace_refused, trace_disobeys}
 use Rattle.cpa_cli.specs.Answers.{Answer, reply}
-use Rattle.cpa_cli.specs.Plan.{Held, Plan, Do, Refuse, Missing, with_content, with_reading, with_system, unless_breach, with_entries, with_trace, plan_for, plan_by, plan_of}
+use Rattle.cpa_cli.specs.Plan.{Held, Plan, Do, Refuse, Missing, with_content, with_reading, with_system, with_steps, with_script, unless_breach, with_entries, with_trace, plan_for, plan_by, plan_of}
 use Rattle.cpa_cli.specs.Work.{IsDone}
 use Rattle.cpa_cli.specs.Output.{IsAnswerTo, IsOutput}
 use Rattle.cpa_cli.proofs.ReportLaws.{some-report, one-report}
+use Rattle.cpa_cli.proofs.SessionLaws.{some-session, one-session}
 
 abbrev HasAnswer : Plan → Type 0
 HasAnswer plan = (answer : Answer) × IsAnswerTo plan answer
@@ -41,6 +45,14 @@ some-reading : (file : List ℕ) (reading : Reading) (next : SystemLists → Pla
 some-reading file NotToml next rules each = (reply 13 (not_toml file), refl)
 some-reading file (Refused r) next rules each = (reply 14 (system_refused r), refl)
 some-reading file (Accepted s) next rules each = each s (rules s refl)
+
+some-steps : (read : Read) (next : List (ℕ × Step) → Plan) → ((steps : List (ℕ × Step)) → read ≡ Ok steps → AreNamed steps) → ((steps : List (ℕ × Step)) → AreNamed steps → HasAnswer (next steps)) → HasAnswer (with_steps read next)
+some-steps (Ok steps) next named each = each steps (named steps refl)
+some-steps (Err fault) next named each = (reply 15 (script_refused fault), refl)
+
+some-script : (held : Held) (file : List ℕ) (next : List (ℕ × Step) → Plan) → ((steps : List (ℕ × Step)) → AreNamed steps → HasAnswer (next steps)) → HasAnswer (with_script held file next)
+some-script held file next each =
+    some-content file MAX_SCRIPT_FILE (held file) (λ bytes. with_steps (script_of bytes) next) (λ bytes. some-steps (script_of bytes) next (scripts-are_named bytes) each)
 
 some-unless : (s : SystemLists) (o : Option Breach) (next : Plan) → HasAnswer next → HasAnswer (unless_breach s o next)
 some-unless s None next here = here
@@ -63,6 +75,8 @@ some-run s tr = (reply 0 (sim_text s (outcome_of s tr)), refl)
 
 some-for : (held : Held) (asked : Asked) → HasAnswer (plan_for held asked)
 some-for held (Analyse file) = some-system held file (λ s. Do (work.Analyse s)) some-report
+some-for held (Session file script) =
+    some-system held file (λ s. with_script held script (λ steps. Do (work.Session s steps))) (λ s rules. some-script held script (λ steps. Do (work.Session s steps)) (λ steps named. some-session steps s rules named))
 some-for held (Simulate file trace) =
     some-system held file (λ s. with_trace held s trace (λ tr. Do (work.Simulate s tr))) (λ s rules. some-trace held s trace (λ tr. Do (work.Simulate s tr)) (some-run s))
 
@@ -78,6 +92,7 @@ some-output words held = some-by held (accepted words)
 
 one-done : (it : Work) (a b : Answer) → IsDone it a → IsDone it b → a ≡ b
 one-done (work.Analyse s) a b h k = one-report s a b h k
+one-done (work.Session s steps) a b h k = one-session steps s a b h k
 one-done (work.Simulate s tr) a b h k = h ∙ sym k
 
 one-answer : (plan : Plan) (a b : Answer) → IsAnswerTo plan a → IsAnswerTo plan b → a ≡ b

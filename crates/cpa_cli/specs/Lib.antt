@@ -3,5 +3,7 @@ pub mod Ends
 pub mod Lines
 pub mod Output
 pub mod Plan
+pub mod Session
+pub mod Steps
 pub mod Words
 pub mod Work

@@ -5,6 +5,9 @@ use Rattle.cpa_draft.specs.declared.refusal.Refusal.{Refusal}
 use Rattle.cpa_draft.specs.declared.refusal.Part.{Part}
 use Rattle.cpa_draft.specs.declared.refusal.Part.TheVariants.{File, Resource, Source, Task, Path}
 use Rattle.cpa_model.specs.SystemLists.{SystemLists, resource_at, source_at, task_at}
+use Rattle.cpa_edit.specs.declared.edit.EditRefusal.{EditRefusal}
+use Rattle.cpa_edit.specs.declared.script.ScriptFault.{ScriptFault}
+use Rattle.cpa_edit.specs.declared.script.ScriptFault.TheVariants as script
 use Rattle.cpa_trace.specs.declared.fault.TraceFault.{TraceFault}
 use Rattle.cpa_trace.specs.declared.fault.TraceFault.TheVariants as trace
 use Rattle.cpa_trace.specs.declared.breach.Breach.{Breach}
@@ -32,6 +35,12 @@ part_word Path = codes "path"
 abbrev pub system_refused : Refusal → List ℕ
 system_refused r = codes "system refused reason " ++ decimal r.reason ++ codes " " ++ part_word r.part ++ codes " " ++ decimal r.place ++ codes "\n"
 
+-- want of memory has no line
+abbrev pub script_refused : ScriptFault → List ℕ
+script_refused (script.BadLine line) = codes "script refused line " ++ decimal line ++ codes "\n"
+script_refused script.TooManyLines = codes "script refused too many lines\n"
+script_refused script.Memory = []
+
 abbrev pub row_refused : ℕ → List ℕ → List ℕ
 row_refused row why = codes "trace refused row " ++ decimal row ++ why
 
@@ -50,3 +59,7 @@ breach_text s (breach.Phase r) = codes "resource " ++ (resource_at s r.0).name
 
 abbrev pub trace_disobeys : SystemLists → Breach → List ℕ
 trace_disobeys s b = codes "trace disobeys " ++ breach_text s b ++ codes "\n"
+
+-- the line of a session that tells of a refused edit
+abbrev pub edit_refused : ℕ → EditRefusal → List ℕ
+edit_refused line number = codes "line " ++ decimal line ++ codes " refused " ++ decimal number.0 ++ codes "\n"

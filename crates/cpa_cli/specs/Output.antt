@@ -1,7 +1,7 @@
 -- What the program answers, and what it has sent when it ends.
 use Rattle.std.specs.Prelude.{◌≡◌, ◌≢◌, ◌⊎◌, ℕ, Bool, true, List, [], Option, Some, None}
 use Rattle.cpa_io.specs.Causes.{grown, Rose, SentPart}
-use Rattle.cpa_cli.specs.Words.{Asked, accepted, Analyse, Simulate}
+use Rattle.cpa_cli.specs.Words.{Asked, accepted, Analyse, Session, Simulate}
 use Rattle.cpa_cli.specs.Plan.{Held, Plan, Do, Refuse, Missing, plan_of, IsAccepted}
 use Rattle.cpa_cli.specs.Answers.{Answer, reply}
 use Rattle.cpa_cli.specs.Work.{IsDone}
@@ -47,6 +47,7 @@ IsSecond told held file second last = (last ≡ file) ⊎ ((last ≡ second) × 
 -- the file whose load may have been the last that failed
 abbrev pub IsNamed : Bool → Held → Asked → List ℕ → Type 0
 IsNamed told held (Analyse file) last = last ≡ file
+IsNamed told held (Session file script) last = IsSecond told held file script last
 IsNamed told held (Simulate file trace) last = IsSecond told held file trace last
 
 -- a file that the words name is the one whose load failed last, and the count of faults rose

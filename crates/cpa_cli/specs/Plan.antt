@@ -1,15 +1,17 @@
 -- What a call has to do, by its words and the files that they name, or why it is refused: the order of refusals.
 use Rattle.std.specs.Prelude.{◌≡◌, ℕ, ◌≤◌, nat_lt, if◌then◌else◌, List, length, Option, Some, None, Result, Ok, Err}
-use Rattle.cpa_units.specs.declared.limits.TheConstants.{MAX_SYSTEM_FILE, MAX_TRACE_FILE}
+use Rattle.cpa_units.specs.declared.limits.TheConstants.{MAX_SYSTEM_FILE, MAX_SCRIPT_FILE, MAX_TRACE_FILE}
 use Rattle.cpa_model.specs.SystemLists.{SystemLists}
 use Rattle.cpa_file.specs.Reading.{Reading, NotToml, Refused, Accepted, reading_of}
+use Rattle.cpa_edit.specs.declared.script.Step.{Step}
+use Rattle.cpa_edit.specs.Script.{Read, script_of}
 use Rattle.cpa_trace.specs.declared.breach.Breach.{Breach}
 use Rattle.cpa_trace.specs.declared.fault.TraceFault.{TraceFault}
 use Rattle.cpa_trace.specs.Trace.{TraceLists}
 use Rattle.cpa_trace.specs.Reading.{trace_of}
 use Rattle.cpa_trace.specs.Breaches.{first_breach}
-use Rattle.cpa_cli.specs.Words.{Asked, accepted, Analyse, Simulate}
-use Rattle.cpa_cli.specs.Lines.{words_refused, too_long, not_toml, system_refused, trace_refused, trace_disobeys}
+use Rattle.cpa_cli.specs.Words.{Asked, accepted, Analyse, Session, Simulate}
+use Rattle.cpa_cli.specs.Lines.{words_refused, too_long, not_toml, system_refused, script_refused, trace_refused, trace_disobeys}
 use Rattle.cpa_cli.specs.declared.work.Work.{Work}
 use Rattle.cpa_cli.specs.declared.work.Work.TheVariants as work
 
@@ -39,6 +41,14 @@ with_reading file (Accepted s) next = next s
 abbrev pub with_system : Held → List ℕ → (SystemLists → Plan) → Plan
 with_system held file next = with_content file MAX_SYSTEM_FILE (held file) (λ bytes. with_reading file (reading_of bytes) next)
 
+-- the script that a file is
+abbrev pub with_steps : Read → (List (ℕ × Step) → Plan) → Plan
+with_steps (Ok steps) next = next steps
+with_steps (Err fault) next = Refuse 15 (script_refused fault)
+
+abbrev pub with_script : Held → List ℕ → (List (ℕ × Step) → Plan) → Plan
+with_script held file next = with_content file MAX_SCRIPT_FILE (held file) (λ bytes. with_steps (script_of bytes) next)
+
 -- the trace that a file is, where it obeys the system
 abbrev pub unless_breach : SystemLists → Option Breach → Plan → Plan
 unless_breach s None next = next
@@ -54,6 +64,7 @@ with_trace held s file next = with_content file MAX_TRACE_FILE (held file) (λ b
 -- what accepted words ask for: the system file is read first
 abbrev pub plan_for : Held → Asked → Plan
 plan_for held (Analyse file) = with_system held file (λ s. Do (work.Analyse s))
+plan_for held (Session file script) = with_system held file (λ s. with_script held script (λ steps. Do (work.Session s steps)))
 plan_for held (Simulate file trace) = with_system held file (λ s. with_trace held s trace (λ tr. Do (work.Simulate s tr)))
 
 abbrev pub plan_by : Held → Option Asked → Plan

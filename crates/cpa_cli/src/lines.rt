@@ -2,8 +2,9 @@
 
 ghost use Rattle.std.specs.Prelude.{◌≡◌, ◌++◌, codes, IfOk, OnOk};
 ghost use Rattle.cpa_trace.specs.Breaches.{IsBreachOf};
-ghost use Rattle.cpa_cli.specs.Lines.{words_refused, part_word, system_refused, trace_refused, row_refused, breach_text, trace_disobeys};
+ghost use Rattle.cpa_cli.specs.Lines.{words_refused, part_word, system_refused, script_refused, trace_refused, row_refused, breach_text, trace_disobeys, edit_refused};
 
+use cpa_edit::{EditRefusal, ScriptFault};
 use cpa_model::{Part, Refusal, System};
 use cpa_text::Text;
 use cpa_trace::{Breach, TraceFault};
@@ -50,6 +51,22 @@ pub fn refusal_line(alloc: Global, refusal: Refusal) -> Result<Vec<u8>, NoMemory
     text.put(part_word(refusal.part))?;
     text.put_count(b" ", refusal.place)?;
     text.put(b"\n")?;
+    Ok(text.into_bytes())
+}
+
+/// The line of a script that is refused; want of memory has none.
+pub fn script_line(alloc: Global, fault: ScriptFault) -> Result<Vec<u8>, NoMemory>
+    ensures { IfOk result (λ v. v.items ≡ script_refused fault) }
+{
+    let mut text = Text::new(alloc);
+    match fault {
+        ScriptFault::BadLine(line) => {
+            text.put_count(b"script refused line ", u64::from(line))?;
+            text.put(b"\n")?;
+        }
+        ScriptFault::TooManyLines => text.put(b"script refused too many lines\n")?,
+        ScriptFault::Memory => {}
+    }
     Ok(text.into_bytes())
 }
 
@@ -111,6 +128,17 @@ pub fn breach_line(alloc: Global, system: &System, breach: Breach) -> Result<Vec
     let mut text = Text::new(alloc);
     text.put(b"trace disobeys ")?;
     put_breach(&mut text, system, breach)?;
+    text.put(b"\n")?;
+    Ok(text.into_bytes())
+}
+
+/// The line of a session that tells of a refused edit.
+pub fn edit_line(alloc: Global, line: u32, number: EditRefusal) -> Result<Vec<u8>, NoMemory>
+    ensures { IfOk result (λ v. v.items ≡ edit_refused line number) }
+{
+    let mut text = Text::new(alloc);
+    text.put_count(b"line ", u64::from(line))?;
+    text.put_count(b" refused ", u64::from(number.0))?;
     text.put(b"\n")?;
     Ok(text.into_bytes())
 }

@@ -3,25 +3,28 @@
 ghost use Rattle.std.specs.Prelude.{◌≡◌, ◌≤◌, ℕ, true, List, map, string_bytes, length, Some, IfOk, IfErr};
 ghost use Rattle.cpa_units.specs.declared.limits.TheConstants.{MAX_TRACE_FILE};
 ghost use Rattle.cpa_file.specs.Reading.{Accepted, reading_of};
+ghost use Rattle.cpa_edit.specs.declared.script.Step.{Step};
+ghost use Rattle.cpa_edit.specs.Script.{script_of, AreNamed};
 ghost use Rattle.cpa_trace.specs.Reading.{trace_of};
 ghost use Rattle.cpa_model.specs.SystemLists.{SystemLists};
 ghost use Rattle.cpa_trace.specs.Trace.{TraceLists};
 ghost use Rattle.cpa_sim.specs.Outcome.{CanReplay};
-ghost use Rattle.cpa_cli.specs.Words.{Analyse, Simulate, asked};
-ghost use Rattle.cpa_cli.specs.Plan.{Plan, Do, with_content, with_reading, with_system, with_entries, with_trace, plan_for, plan_of, IsAccepted};
+ghost use Rattle.cpa_cli.specs.Words.{Analyse, Session, Simulate, asked};
+ghost use Rattle.cpa_cli.specs.Plan.{Plan, Do, with_content, with_reading, with_system, with_steps, with_script, with_entries, with_trace, plan_for, plan_of, IsAccepted};
 ghost use Rattle.cpa_cli.specs.Work.{IsWithinLimits};
 ghost use Rattle.cpa_cli.specs.Output.{IsNamed, IsSecond};
 ghost use Rattle.cpa_cli.specs.Ends.{IsEndOf, HasStatus, IsUnreadFile, IsNoUnread, IsUnreadCall};
 
 use crate::ended::{Ended, Reply};
-use crate::lines::{breach_line, file_line, refusal_line, trace_line, words_line};
+use crate::lines::{breach_line, file_line, refusal_line, script_line, trace_line, words_line};
 use crate::words::{Command, accept};
 use crate::work::Work;
+use cpa_edit::{Script, ScriptFault, read_script};
 use cpa_file::{FileRefusal, read_system};
 use cpa_io::{Files, LoadFault};
 use cpa_model::System;
 use cpa_trace::{Trace, TraceFault, obeys, read_trace};
-use cpa_units::limits::{MAX_SYSTEM_FILE, MAX_TRACE_FILE};
+use cpa_units::limits::{MAX_SCRIPT_FILE, MAX_SYSTEM_FILE, MAX_TRACE_FILE};
 use std::alloc::Global;
 
 /// The bytes of a file of at most so many.
@@ -92,6 +95,37 @@ fn load_system<F: Files>(alloc: Global, files: &mut F, file: &str) -> Result<Sys
     read_system_file(alloc, file, bytes.as_slice())
 }
 
+/// The script that the bytes of a file are.
+fn read_script_file(alloc: Global, bytes: &[u8]) -> Result<Script, Ended>
+    ensures planned { (next : List (ℕ × Step) → Plan) → IfOk result (λ steps. with_steps (script_of bytes.now) next ≡ next steps) }
+    ensures named { IfOk result AreNamed }
+    ensures ended { (next : List (ℕ × Step) → Plan) → IfErr result (IsEndOf (with_steps (script_of bytes.now) next)) }
+    ensures status { IfErr result HasStatus }
+    ensures unread { IfErr result IsNoUnread }
+{
+    match read_script(alloc, bytes) {
+        Ok(script) => Ok(script),
+        Err(ScriptFault::Memory) => Err(Ended::Memory),
+        Err(fault) => Err(Ended::Refused(Reply {
+            status: 15,
+            text: script_line(alloc, fault)?,
+        })),
+    }
+}
+
+/// The script that a file is.
+fn load_script<F: Files>(alloc: Global, files: &mut F, file: &str) -> Result<Script, Ended>
+    ensures planned { F.told files.old ≡ true → (next : List (ℕ × Step) → Plan) → IfOk result (λ steps. with_script (F.held files.old) file.now next ≡ next steps) }
+    ensures named { IfOk result AreNamed }
+    ensures ended { F.told files.old ≡ true → (next : List (ℕ × Step) → Plan) → IfErr result (IsEndOf (with_script (F.held files.old) file.now next)) }
+    ensures status { IfErr result HasStatus }
+    ensures unread { IfErr result (IsUnreadFile (λ last. last ≡ file.now) (F.faults files.old) (F.faults files.new) (F.last_failed files.new)) }
+    ensures rises { F.faults files.old ≤ F.faults files.new }
+{
+    let bytes = load_file(alloc, files, file, MAX_SCRIPT_FILE)?;
+    read_script_file(alloc, bytes.as_slice())
+}
+
 /// The trace that the bytes of a file are, where it obeys the system.
 fn read_trace_file(alloc: Global, system: &System, bytes: &[u8]) -> Result<Trace, Ended>
     ensures planned { (next : TraceLists → Plan) → IfOk result (λ tr. with_entries system.now (trace_of system.now bytes.now) next ≡ next tr) }
@@ -135,6 +169,24 @@ fn load_trace<F: Files>(
     read_trace_file(alloc, system, bytes.as_slice())
 }
 
+/// A session's work.
+fn plan_session<F: Files>(
+    alloc: Global,
+    files: &mut F,
+    file: &str,
+    script: &str,
+) -> Result<Work, Ended>
+    ensures planned { F.told files.old ≡ true → IfOk result (λ work. plan_for (F.held files.old) (Session file.now script.now) ≡ Do work) }
+    ensures limits { IfOk result IsWithinLimits }
+    ensures ended { F.told files.old ≡ true → IfErr result (IsEndOf (plan_for (F.held files.old) (Session file.now script.now))) }
+    ensures status { IfErr result HasStatus }
+    ensures unread { IfErr result (IsUnreadFile (IsSecond (F.told files.old) (F.held files.old) file.now script.now) (F.faults files.old) (F.faults files.new) (F.last_failed files.new)) }
+{
+    let system = load_system(alloc, files, file)?;
+    let script = load_script(alloc, files, script)?;
+    Ok(Work::Session { system, script })
+}
+
 /// A simulation's work.
 fn plan_simulation<F: Files>(
     alloc: Global,
@@ -175,6 +227,7 @@ fn plan_command<F: Files>(alloc: Global, files: &mut F, command: Command) -> Res
 {
     match command {
         Command::Analyse { file } => plan_analysis(alloc, files, file),
+        Command::Session { file, script } => plan_session(alloc, files, file, script),
         Command::Simulate { file, trace } => plan_simulation(alloc, files, file, trace),
     }
 }

@@ -16,6 +16,7 @@ mod rounds;
 #[cfg(test)]
 mod runs;
 mod sending;
+mod session;
 #[cfg(test)]
 mod tests;
 mod words;

@@ -12,7 +12,9 @@ ghost use Rattle.cpa_cli.specs.Output.{IsOfOutput, Sends, SendsPart};
 use crate::analysis::least_bounds;
 use crate::ended::Stopped;
 use crate::sending::{send, send_report};
+use crate::session::run_session;
 use crate::work::Work;
+use cpa_fix::OneByOne;
 use cpa_io::Sink;
 use cpa_model::System;
 use cpa_sim::{replay, sim_text};
@@ -73,6 +75,9 @@ pub fn perform<H: Threads + Sync, K: Sink>(
 {
     match work {
         Work::Analyse { system } => analyse(rt, alloc, &system, sink),
+        Work::Session { system, script } => {
+            run_session(rt, alloc, system, &script, &mut OneByOne, sink)
+        }
         Work::Simulate { system, trace } => simulate(alloc, &system, &trace, sink),
     }
 }
