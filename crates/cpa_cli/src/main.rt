@@ -18,6 +18,8 @@ mod runs;
 mod sending;
 mod session;
 #[cfg(test)]
+mod sessions;
+#[cfg(test)]
 mod tests;
 mod words;
 mod work;
