@@ -1,5 +1,6 @@
 #!/usr/bin/env bash
-# Analyses each system of this folder and replays each trace beside one, and compares what is printed with what stands beside it.
+# Analyses each system of this folder, replays each trace and takes each script beside one, and compares what is printed
+# with what stands beside it.
 cd "$(dirname "$0")" || exit 1
 status=0
 tell() {
@@ -16,5 +17,9 @@ done
 for trace in *.trace.csv; do
   name=${trace%.trace.csv}
   tell "$trace" "$name.run.txt" < <(../lokwurmi simulate "$name.toml" "$trace")
+done
+for script in *.script.txt; do
+  name=${script%.script.txt}
+  tell "$script" "$name.session.txt" < <(../lokwurmi session "$name.toml" "$script")
 done
 exit "$status"
