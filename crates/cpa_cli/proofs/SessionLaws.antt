@@ -20,7 +20,6 @@ use Rattle.cpa_cli.specs.Output.{Sends, SendsPart}
 use Rattle.cpa_cli.proofs.SendLaws.{grown-none, grown-grown, part-after, part-first}
 use Rattle.cpa_cli.proofs.ReportLaws.{some-report, one-report}
 
-
 kept-rules : (s : SystemLists) → IsSystem s → (r : Result SystemLists EditRefusal) → ((t : SystemLists) → r ≡ Ok t → IsSystem t) → IsSystem (or_unchanged s r)
 kept-rules s rules (Ok t) keep = keep t refl
 kept-rules s rules (Err number) keep = rules

@@ -3,6 +3,8 @@
 
 mod analysis;
 #[cfg(test)]
+mod anew;
+#[cfg(test)]
 mod car;
 #[cfg(test)]
 mod cases;

@@ -62,7 +62,9 @@ pub const EDITS: [Edits; 16] = [
         system: TWO_TASKS,
         script: "exec a 1 13",
         status: 2,
-        texts: &["task a cpu period 10 jitter 0 distance 0 best 1 worst overload\ntask b cpu period 20 jitter 0 distance 0 best 2 worst overload\nsummary tasks 2 overload 2 missed 0\n"],
+        texts: &[
+            "task a cpu period 10 jitter 0 distance 0 best 1 worst overload\ntask b cpu period 20 jitter 0 distance 0 best 2 worst overload\nsummary tasks 2 overload 2 missed 0\n",
+        ],
     },
     // Reports alone.
     Edits {

@@ -1,0 +1,139 @@
+//! Sessions beside fresh analyses of the systems that their edits make.
+
+use crate::analysis::least_bounds;
+use crate::car::CAR_NETWORK;
+use cpa_edit::{Edit, EditFault, Step, read_script};
+use cpa_file::read_system;
+use cpa_fix::OneByOne;
+use cpa_local::Trail;
+use cpa_session::Session;
+use cpa_units::{Name, TaskId, Vector};
+use std::alloc::{AllocError, Global};
+use std::test::Fail;
+use std::thread::Threads;
+
+/// Three chains over resources of all four kinds, in a cycle, and a task that nothing reads.
+const FOUR_KINDS: &str = r#"format = 1
+resource = [
+  { name = "p", kind = "preemptive", limit = 3000 },
+  { name = "rr", kind = "round-robin", limit = 3000 },
+  { name = "ring", kind = "tdma", gap = 3, limit = 3000 },
+  { name = "bus", kind = "can", bit = 1, limit = 3000 },
+]
+source = [{ name = "sa", period = 300 }, { name = "sb", period = 400, jitter = 20 }, { name = "sc", period = 500 }]
+task = [
+  { name = "a1", on = "p", after = "sa", best = 5, worst = 20, priority = 2 },
+  { name = "a2", on = "bus", after = "a1", best = 60, worst = 70, priority = 1 },
+  { name = "a3", on = "rr", after = "a2", best = 5, worst = 20, slot = 5 },
+  { name = "b1", on = "bus", after = "sb", best = 60, worst = 70, priority = 2 },
+  { name = "b2", on = "p", after = "b1", best = 5, worst = 20, priority = 1 },
+  { name = "c1", on = "rr", after = "sc", best = 5, worst = 20, slot = 8 },
+  { name = "c2", on = "ring", after = "c1", best = 5, worst = 20, slot = 6 },
+  { name = "d", on = "ring", after = "sc", best = 5, worst = 20, slot = 7 },
+]
+"#;
+
+const NAMES: [&str; 8] = ["a1", "a2", "a3", "b1", "b2", "c1", "c2", "d"];
+
+/// An edit by a fixed rule; some are refused.
+fn line(alloc: Global, k: u64) -> Result<String, AllocError> {
+    let task = NAMES[(k.saturating_mul(5) % 8) as usize];
+    let number = k.saturating_mul(k) % 83;
+    match k % 7 {
+        0 => format!(in alloc; "source sa 300 {number} 1\n"),
+        1 => format!(in alloc; "slot {task} {}\n", number.saturating_add(1)),
+        2 => Ok(String::from_str(
+            alloc,
+            if k % 2 == 0 {
+                "swap a1 b2\n"
+            } else {
+                "swap a2 b1\n"
+            },
+        )?),
+        3 => format!(in alloc; "add e{k} ring sb 1 {} 2\n", number.saturating_add(1)),
+        4 => format!(in alloc; "remove e{}\n", k.saturating_sub(8)),
+        _ => format!(in alloc; "exec {task} 5 {}\n", number.saturating_add(5)),
+    }
+}
+
+fn are_equal(first: &Vector, second: &Vector) -> bool {
+    for place in 0..first.len().min(second.len()) {
+        let task = TaskId(place);
+        if first.get(task) != second.get(task) {
+            return false;
+        }
+    }
+    first.len() == second.len()
+}
+
+/// Makes an edit, and tells whether it was made and whether the bounds aren't those of a fresh analysis.
+fn edit_beside<H: Threads + Sync>(
+    rt: &H,
+    alloc: Global,
+    session: &mut Session,
+    edit: &Edit,
+) -> Result<(bool, bool), Fail> {
+    let mut trail = Trail::with_room(alloc, 512)?;
+    let made = match session.edit(rt, alloc, edit, &mut OneByOne, &mut trail) {
+        Ok(()) => true,
+        Err(EditFault::Refused(_)) => false,
+        Err(EditFault::Memory) => return Err(Fail::from(AllocError)),
+    };
+    let fresh = least_bounds(rt, alloc, session.system())?;
+    Ok((made, !are_equal(&fresh, session.bounds())))
+}
+
+#[test]
+fn bounds_are_those_of_fresh_analyses(rt: HostRuntime) -> Result<(), Fail> {
+    let alloc = rt.alloc();
+    let mut text = String::new(alloc);
+    for k in 0..280 {
+        text.push_str(line(alloc, k)?.as_str())?;
+    }
+    let script = read_script(alloc, text.as_bytes())?;
+    let system = read_system(alloc, FOUR_KINDS.as_bytes())?;
+    let mut trail = Trail::with_room(alloc, 512)?;
+    let mut session = Session::start(&rt, alloc, system, &mut OneByOne, &mut trail)?;
+    let (mut edits, mut others) = (0u64, 0u64);
+    for k in 0..script.len() {
+        if let Step::Change(edit) = script.step(k) {
+            let (made, other) = edit_beside(&rt, alloc, &mut session, edit)?;
+            edits = edits.saturating_add(u64::from(made));
+            others = others.saturating_add(u64::from(other));
+        }
+    }
+    assert_eq!(rt; (edits, others), (259, 0));
+    Ok(())
+}
+
+/// Makes an edit, and counts the tasks that it marks.
+fn marks_of<H: Threads + Sync>(
+    rt: &H,
+    alloc: Global,
+    session: &mut Session,
+    edit: &Edit,
+) -> Result<u64, Fail> {
+    let mut trail = Trail::with_room(alloc, 512)?;
+    session.edit(rt, alloc, edit, &mut OneByOne, &mut trail)?;
+    let mut marks = 0u64;
+    for place in 0..512 {
+        marks = marks.saturating_add(u64::from(trail.marked(TaskId(place))));
+    }
+    Ok(marks)
+}
+
+/// Each resource of the network of a car reads `ecu3`, directly or through others.
+#[test]
+fn marks_everywhere(rt: HostRuntime) -> Result<(), Fail> {
+    let alloc = rt.alloc();
+    let system = read_system(alloc, CAR_NETWORK.as_bytes())?;
+    let mut trail = Trail::with_room(alloc, 512)?;
+    let mut session = Session::start(&rt, alloc, system, &mut OneByOne, &mut trail)?;
+    let edit = Edit::Exec {
+        task: Name::read(alloc, b"act0")?,
+        best: 100,
+        worst: 250,
+    };
+    assert_eq!(rt; marks_of(&rt, alloc, &mut session, &edit)?, 90);
+    Ok(())
+}
