@@ -36,52 +36,88 @@ fn source(alloc: Global, name: &str, period: i64, jitter: i64) -> Result<DraftSo
     })
 }
 
-/// A task with its least and greatest execution and its priority.
-fn task(
-    alloc: Global,
-    name: &str,
-    on: &str,
-    after: &str,
+/// A task of the test system.
+#[derive(Clone, Copy)]
+struct Row {
+    name: &'static str,
+    on: &'static str,
+    after: &'static str,
+    /// The least and the greatest.
     executions: (i64, i64),
     priority: i64,
-) -> Result<DraftTask, AllocError>
+}
+
+/// The words are the task's name, its resource and what activates it.
+fn ranked(words: [&'static str; 3], executions: (i64, i64), priority: i64) -> Row {
+    Row {
+        name: words[0],
+        on: words[1],
+        after: words[2],
+        executions,
+        priority,
+    }
+}
+
+fn task(alloc: Global, row: &Row) -> Result<DraftTask, AllocError>
     ensures { IfOk result (λ t. has_executions t ≡ true) }
 {
     Ok(DraftTask {
-        name: raw(alloc, name)?,
-        on: raw(alloc, on)?,
-        after: raw(alloc, after)?,
-        best: Some(executions.0),
-        worst: Some(executions.1),
+        name: raw(alloc, row.name)?,
+        on: raw(alloc, row.on)?,
+        after: raw(alloc, row.after)?,
+        best: Some(row.executions.0),
+        worst: Some(row.executions.1),
         payload: None,
         extended: None,
-        priority: Some(priority),
+        priority: Some(row.priority),
         slot: None,
     })
+}
+
+fn resources(alloc: Global) -> Result<Vec<DraftResource>, AllocError> {
+    let mut resources = Vec::new(alloc);
+    for name in ["p", "q", "r"] {
+        resources.push(resource(alloc, name)?)?;
+    }
+    Ok(resources)
+}
+
+fn sources(alloc: Global) -> Result<Vec<DraftSource>, AllocError> {
+    let mut sources = Vec::new(alloc);
+    for (name, period, jitter) in [("sa", 100, 0), ("sb", 100, 0), ("sc", 50, 5)] {
+        sources.push(source(alloc, name, period, jitter)?)?;
+    }
+    Ok(sources)
+}
+
+fn tasks(alloc: Global, rows: &[Row]) -> Result<Vec<DraftTask>, AllocError>
+    ensures { IfOk result (λ v. All (λ t. has_executions t ≡ true) v.items) }
+{
+    let mut tasks = Vec::new(alloc);
+    for row in rows {
+        tasks.push(task(alloc, row)?)?;
+    }
+    Ok(tasks)
 }
 
 /// Two chains that cross on `p` and `q`, and a task alone on `r`.
 pub(crate) fn crossing(alloc: Global, executions: Executions) -> Result<Draft, AllocError>
     ensures { IfOk result (λ d. All (λ t. has_executions t ≡ true) d.tasks) }
 {
+    let rows = [
+        ranked(["a1", "p", "sa"], executions.first, 2),
+        ranked(["a2", "q", "a1"], executions.second, 1),
+        ranked(["b1", "q", "sb"], executions.first, 2),
+        ranked(["b2", "p", "b1"], executions.second, 1),
+        ranked(["c", "r", "sc"], (2, 4), 1),
+    ];
+    let resources = resources(alloc)?;
+    let sources = sources(alloc)?;
+    let tasks = tasks(alloc, &rows)?;
     Ok(Draft {
-        resources: vec![in alloc;
-            resource(alloc, "p")?,
-            resource(alloc, "q")?,
-            resource(alloc, "r")?,
-        ]?,
-        sources: vec![in alloc;
-            source(alloc, "sa", 100, 0)?,
-            source(alloc, "sb", 100, 0)?,
-            source(alloc, "sc", 50, 5)?,
-        ]?,
-        tasks: vec![in alloc;
-            task(alloc, "a1", "p", "sa", executions.first, 2)?,
-            task(alloc, "a2", "q", "a1", executions.second, 1)?,
-            task(alloc, "b1", "q", "sb", executions.first, 2)?,
-            task(alloc, "b2", "p", "b1", executions.second, 1)?,
-            task(alloc, "c", "r", "sc", (2, 4), 1)?,
-        ]?,
+        resources,
+        sources,
+        tasks,
         paths: Vec::new(alloc),
     })
 }
