@@ -5,9 +5,9 @@ Prints a line a case: the least time of some calls, the peak memory, the last li
 
 - car network: 10,000 edits of the greatest execution of a task on the network of a car, each of which reaches all eight
   resources, and 100 reports;
-- one of 64: the largest system, 512 tasks on 64 processors that don't depend on each other, with long busy windows. What one edit costs,
-  as the difference between a session of 1,000 edits and one of none, in parts of what a session of none spends beyond the
-  reading of the same system with executions of one tick.
+- one of 64: 512 tasks on 64 processors, 63 of which depend on each other by chains; edits of the last one. What an edit
+  costs is the difference between a session of 1,000 edits and one of none, divided by them; what an analysis costs is a
+  session of none less the reading of the same system's file with a fault at its end.
 
     python3 bench/time_sessions.py
 """
@@ -34,14 +34,15 @@ def car():
 
 
 def largest(worst):
-    """64 processors with 8 tasks each, whose periods have few common multiples."""
+    """Chains of 32 tasks over 63 processors, which all depend on each other, and 8 tasks on a processor beside them."""
     text = ["format = 1"]
     text += [f'[[resource]]\nname = "r{r}"\nkind = "preemptive"' for r in range(64)]
     text += [f'[[source]]\nname = "s{k}"\nperiod = {9973 + 2 * k}' for k in range(128)]
-    text += [
-        f'[[task]]\nname = "t{i}"\non = "r{i % 64}"\nafter = "s{i % 128}"\nbest = 1\nworst = {worst}\npriority = {i // 64}'
-        for i in range(512)
-    ]
+    for i in range(504):
+        after = f"t{i - 1}" if i % 32 else f"s{i // 32}"
+        text.append(f'[[task]]\nname = "t{i}"\non = "r{i % 63}"\nafter = "{after}"\nbest = 1\nworst = {worst}\npriority = {i // 63}')
+    for i in range(8):
+        text.append(f'[[task]]\nname = "u{i}"\non = "r63"\nafter = "s{100 + i}"\nbest = 1\nworst = {worst}\npriority = {i}')
     return "\n".join(text) + "\n"
 
 
@@ -72,13 +73,13 @@ def timed(system, script, calls=5):
 def main():
     least, peak, last = timed(*car())
     print(f"car network  {least:.3f} s {peak:6.1f} MB  {last}")
-    worst = 1_246
-    small, _, _ = timed(largest(1), "")
-    none, _, last = timed(largest(worst), "")
-    rows = "\n".join(f"exec t64 1 {worst - 1 - k % 2}" for k in range(EDITS)) + "\n"
-    many, _, _ = timed(largest(worst), rows)
-    analysis, edit = none - small, (many - none) / EDITS
-    print(f"one of 64    {none:.3f} s of which the analysis {analysis:.3f} s; an edit {edit * 1e6:.0f} us, which is 1/{analysis / edit:.0f}  {last}")
+    system = largest(300)
+    reading, _, _ = timed(system + "[[path]]\n", "")
+    none, _, last = timed(system, "")
+    rows = "\n".join(f"exec u1 1 {299 - k % 2}" for k in range(EDITS)) + "\n"
+    many, _, _ = timed(system, rows)
+    analysis, edit = none - reading, (many - none) / EDITS
+    print(f"one of 64    analysis {analysis * 1e3:.1f} ms, edit {edit * 1e3:.3f} ms, which is 1/{analysis / edit:.0f}  {last}")
 
 
 if __name__ == "__main__":
