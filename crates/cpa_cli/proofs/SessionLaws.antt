@@ -1,5 +1,5 @@
 -- The text of a session, step by step.
-use Rattle.std.proofs.Common.{◌≡◌, ℕ, zero, suc, ◌+◌, ◌<◌, ◌≤◌, List, [], ◌∷◌, ◌++◌, length, drop, get_or, slice_get, All, Option, Some, None, Ok, Err, refl, sym, ap, subst, ◌∙◌, arith}
+use Rattle.std.proofs.Common.{◌≡◌, ℕ, zero, suc, ◌+◌, ◌≤◌, List, [], ◌∷◌, ◌++◌, length, drop, slice_get, Option, Some, None, Ok, Err, refl, sym, ap, subst, ◌∙◌, arith}
 use Rattle.std.specs.Prelude.{Result, option_map}
 use Rattle.std.proofs.lemmas.List.{append_assoc, drop_more, drop_all}
 use Rattle.std.proofs.lemmas.Option.{slice_get_within, get_or_from_slice_get}
@@ -13,7 +13,7 @@ use Rattle.cpa_edit.specs.declared.script.Step.TheVariants.{Report, Change}
 use Rattle.cpa_edit.specs.Edited.{edited, or_unchanged}
 use Rattle.cpa_edit.proofs.EditLaws.{edits-keep_rules}
 use Rattle.cpa_cli.specs.Answers.{Answer, IsReport}
-use Rattle.cpa_cli.specs.Session.{led_by, edit_text, system_after, IsStepText, IsSession, IsLed}
+use Rattle.cpa_cli.specs.Session.{led_by, edit_text, system_after, IsStepText, IsSession}
 use Rattle.cpa_cli.specs.Steps.{IsWritten, IsWrittenPart, IsUnderWay}
 use Rattle.cpa_edit.specs.Script.{AreNamed, IsNamedChange}
 use Rattle.cpa_cli.specs.Output.{Sends, SendsPart}

@@ -1,4 +1,4 @@
-use Rattle.std.proofs.Common.{◌≡◌, ℕ, List, ◌∙◌, sym, subst, IfErr}
+use Rattle.std.proofs.Common.{ℕ, List, ◌∙◌, sym, subst}
 use Rattle.cpa_trace.proofs.ReadingLaws.{if_err-same}
 use Rattle.cpa_edit.specs.declared.script.Step.{Step}
 use Rattle.cpa_cli.specs.declared.work.Work.TheVariants as work

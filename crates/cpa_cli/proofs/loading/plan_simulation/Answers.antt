@@ -1,4 +1,4 @@
-use Rattle.std.proofs.Common.{◌≡◌, ◌∙◌, sym, subst, IfErr}
+use Rattle.std.proofs.Common.{◌∙◌, sym, subst}
 use Rattle.cpa_trace.proofs.ReadingLaws.{if_err-same}
 use Rattle.cpa_trace.specs.Trace.{TraceLists}
 use Rattle.cpa_cli.specs.declared.work.Work.TheVariants as work

@@ -1,6 +1,4 @@
-use Rattle.std.proofs.Common.{ap, sym}
 use Rattle.std.proofs.lemmas.Result.{on_err_weaker}
-use Rattle.cpa_report.specs.Report.{report_text, verdict}
 use Rattle.cpa_cli.specs.Answers.{IsReport}
 use Rattle.cpa_cli.proofs.SendLaws.{nothing-sent, on-err-any, sends-by, part-reply}
 use Rattle.cpa_cli.proofs.ReportLaws.{some-report, report-at}
