@@ -12,7 +12,8 @@ import os
 import subprocess
 import sys
 import tempfile
-import time
+
+from calls import call
 
 MOST = 1_048_576
 EDITS = 10_000
@@ -68,13 +69,6 @@ def edits(sort):
         "move": "".join(f'remove {name("t", i)}\nadd {name("t", i)} {name("r", i % 64)} {after(i)} 1 9 {i}\n' for i in moved),
     }
     return rows[sort]
-
-
-def call(command):
-    start = time.perf_counter()
-    done = subprocess.run(["/usr/bin/time", "-f", "%M", *command], capture_output=True, check=False)
-    took = time.perf_counter() - start
-    return took, done.stderr.decode().split()[-1], done.stdout.decode().split("\n")[0]
 
 
 def main():

@@ -12,7 +12,8 @@ import os
 import subprocess
 import sys
 import tempfile
-import time
+
+from calls import call
 
 MOST = 1_048_576
 TOP = os.path.join(os.path.dirname(os.path.abspath(__file__)), "..")
@@ -67,13 +68,6 @@ def many():
             return "".join(lines) + "]\n"
         lines.append(line)
         size += len(line)
-
-
-def call(command):
-    start = time.perf_counter()
-    done = subprocess.run(["/usr/bin/time", "-f", "%M", *command], capture_output=True, check=False)
-    took = time.perf_counter() - start
-    return took, done.stderr.decode().split()[-1], done.stdout.decode().split("\n")[0]
 
 
 def main():

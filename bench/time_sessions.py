@@ -7,7 +7,8 @@ Prints a line a case: the least time of some calls, the peak memory, the last li
   resources, and 100 reports;
 - one of 64: 512 tasks on 64 processors, 63 of which depend on each other by chains; edits of the last one. What an edit
   costs is the difference between a session of 1,000 edits and one of none, divided by them; what an analysis costs is a
-  session of none less the reading of the same system's file with a fault at its end.
+  session of none less a call that refuses the same file with a fault at its end: so the making of the system and one report
+  count with the analysis.
 
     python3 bench/time_sessions.py
 """

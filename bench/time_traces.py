@@ -12,7 +12,8 @@ import os
 import subprocess
 import sys
 import tempfile
-import time
+
+from calls import call
 
 MOST = 16_777_216
 ROWS = 200_000
@@ -59,13 +60,6 @@ def events(count, last):
     """So many events of one source, and the time of the last."""
     source = name("s", SOURCES - 1)
     return "".join(f"event,{source},{50 * n}\n" for n in range(count - 1)) + f"event,{source},{last}\n"
-
-
-def call(command):
-    start = time.perf_counter()
-    done = subprocess.run(["/usr/bin/time", "-f", "%M", *command], capture_output=True, check=False)
-    took = time.perf_counter() - start
-    return took, done.stderr.decode().split()[-1], done.stdout.decode().split("\n")[0]
 
 
 def main():
