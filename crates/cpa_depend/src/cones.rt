@@ -45,9 +45,17 @@ pub fn cone(system: &System, from: ResSet) -> ResSet
     requires { (r : ℕ) → Members from r → r < length system.now.resources }
     ensures { (r : ℕ) → Members result r ↔ InCone system.now (Members from) r }
 {
-    let reads = reads_of_all(system);
+    cone_by(system, &reads_of_all(system), from)
+}
+
+/// The same, by a table of what each resource reads.
+pub fn cone_by(system: &System, reads: &[ResSet; 64], from: ResSet) -> ResSet
+    requires reads { AreReads system.now reads.now }
+    requires from { (r : ℕ) → Members from r → r < length system.now.resources }
+    ensures { (r : ℕ) → Members result r ↔ InCone system.now (Members from) r }
+{
     let mut set = from;
-    'passes: while let Some(wider) = widened(system, &reads, set) {
+    'passes: while let Some(wider) = widened(system, reads, set) {
         set = wider;
     }
     set

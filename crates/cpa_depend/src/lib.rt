@@ -11,4 +11,4 @@ mod cones;
 mod tests;
 
 pub use chains::{leads_back, reads, reads_of_all};
-pub use cones::cone;
+pub use cones::{cone, cone_by};

@@ -1,7 +1,7 @@
 -- A search over dirty resources: what its rounds keep, why it ends, and what it leaves.
-use Rattle.std.proofs.Common.{◌≡◌, ℕ, zero, suc, replicate, ◌+◌, ◌-◌, ◌*◌, ◌<◌, ◌≤◌, ◌⊎◌, ◌==◌, ◌||◌, length, Bool, true, false, List, Option, Some, None, refl, sym, ap, ◌∙◌, inl, inr, subst, arith}
+use Rattle.std.proofs.Common.{◌≡◌, nat_lt, ℕ, zero, suc, replicate, ◌+◌, ◌-◌, ◌*◌, ◌<◌, ◌≤◌, ◌⊎◌, ◌==◌, ◌||◌, length, Bool, true, false, List, Option, Some, None, refl, sym, ap, ◌∙◌, inl, inr, subst, arith}
 use Rattle.std.specs.Bool.{OnFalse}
-use Rattle.std.proofs.lemmas.Bool.{cases_lt, cases_eq, cases_Bool, eq-eqb, ne_eqb, false≢true}
+use Rattle.std.proofs.lemmas.Bool.{cases_lt, cases_eq, cases_Bool, eq-eqb, ne_eqb, false≢true, lt-ltb, ltb-true}
 use Rattle.std.proofs.lemmas.List.Sums.{sum_by-le}
 use Rattle.std.proofs.lemmas.List.Elements.{All-from_get_or}
 use Rattle.cpa_units.specs.declared.bound.Bound.{Bound}
@@ -10,7 +10,9 @@ use Rattle.cpa_units.specs.Bounds.{IsNowhereAbove, RespectsLimit, bound_of}
 use Rattle.cpa_model.specs.SystemLists.{SystemLists, task_at}
 use Rattle.cpa_units.specs.declared.limits.TheConstants.{MAX_LIMIT}
 use Rattle.cpa_local.specs.Solution.{IsVector}
-use Rattle.std.proofs.lemmas.List.{length-replicate}
+use Rattle.std.proofs.lemmas.List.{length-replicate, get_or_past}
+use Rattle.cpa_depend.proofs.ConeLaws.{InCone-least}
+use Rattle.cpa_depend.proofs.ChainLaws.{Reads-there}
 use Rattle.cpa_fix.specs.Readings.{AgreeOnReads}
 use Rattle.cpa_fix.proofs.DependLaws.{clean_is_least}
 use Rattle.cpa_fix.proofs.ReadingLaws.{risen, risen-same, clean_from_still}
@@ -19,9 +21,9 @@ use Rattle.cpa_units.specs.Sets.{holds, Members}
 use Rattle.cpa_model.specs.Rules.{IsSystem}
 use Rattle.cpa_local.specs.Trails.{Marks, IsMarked, IsKept, NewMarksAre, AreMarked}
 use Rattle.cpa_local.proofs.TrailLaws.{IsKept_refl, IsKept_trans, NewMarks_trans, NewMarks-weaker}
-use Rattle.cpa_depend.specs.Cone.{InCone, start, reader}
+use Rattle.cpa_depend.specs.Cone.{InCone, start, reader, IsClosedUnder}
 use Rattle.cpa_fix.specs.declared.readings.Reading.{Reading}
-use Rattle.cpa_fix.specs.Readings.{reading_of, AreSound, HasCleanReading, IsDirty, IsSolved}
+use Rattle.cpa_fix.specs.Readings.{reading_of, AreSound, HasCleanReading, AreCleanBeyond, IsDirty, IsSolved}
 use Rattle.cpa_fix.specs.Rounds.{TasksOn, MayStart, IsRisen, IsRound}
 use Rattle.cpa_fix.specs.Stale.{IsStale, IsStaleSet, AreStale}
 use Rattle.cpa_fix.proofs.RoundLaws.{MayStart-next}
@@ -247,6 +249,56 @@ search-solved s start_at kept old x readings trail h =
       sound = h.now.sound;
       clean = h.stale;
     }
+
+-- ---- the resources beyond a reach
+
+not-both : (set wider : List Bool) (r : ℕ) → (Members set r → Members wider r) → holds wider r ≡ false → holds set r ≡ false
+not-both set wider r up off =
+    elim (cases_Bool (holds set r)) [
+      | inl on ↦ absurd (let both : true ≡ false = sym (up on) ∙ off in let f : ⊥ = cc in f)
+      | inr none ↦ none
+    ]
+
+-- what can only be reached by what is dirty at the start stays within the reach
+pub pending-within : (s : SystemLists) (start_at : List Bound) (kept : List (Option Reading)) (reach : List Bool) → AreCleanBeyond s kept start_at reach → IsClosedUnder s reach → (r : ℕ) → InCone s (IsDirty s kept start_at) r → Members reach r
+pending-within s start_at kept reach beyond closed r cone =
+    InCone-least s (IsDirty s kept start_at) (Members reach)
+    (λ q dirty. elim (cases_Bool (holds reach q)) [
+      | inl on ↦ on
+      | inr off ↦ absurd (dirty.1 (beyond q dirty.0 off))
+    ])
+    closed cone
+
+-- a round over members leaves all others clean
+pub beyond-round : (s : SystemLists) (reach set : List Bool) (x y : List Bound) (a b : List (Option Reading)) → IsClosedUnder s reach → ((r : ℕ) → Members set r → Members reach r) → IsVector s x → IsRisen s x y
+    → ((q : ℕ) → q < length s.resources → holds set q ≡ false → HasCleanReading s a x q) → IsRound s (holds set) x y a b → AreCleanBeyond s b y reach
+beyond-round s reach set x y a b closed within vector up clean round r in_range off =
+    let set_off : holds set r ≡ false = not-both set reach r (within r) off in
+    let before = clean r in_range set_off in
+    let kept : reading_of b r ≡ Some before.0 = round.same r set_off ∙ before.1 in
+    (before.0, kept, record {
+      sound = round.sound.sound r before.0 kept;
+      current = λ j reads. before.2.current j reads ∙ elim (cases_lt j (length s.tasks)) [
+        | inl less ↦ sym (round.others j less (not-both set reach (task_at s j).res.0 (within (task_at s j).res.0)
+            (elim (cases_Bool (holds reach (task_at s j).res.0)) [
+              | inl on ↦ absurd (let both : true ≡ false = sym (closed r (task_at s j).res.0 reads on) ∙ off in let f : ⊥ = cc in f)
+              | inr none ↦ none
+            ])))
+        | inr past ↦ get_or_past x j (Within 0) (omega (arith, vector.long)) ∙ sym (get_or_past y j (Within 0) (omega (arith, up.vector.long)))
+      ];
+    })
+
+-- all resources are a reach
+pub all-closed : (s : SystemLists) (all : List Bool) → IsSystem s → ((r : ℕ) → holds all r ≡ nat_lt r (length s.resources)) → IsClosedUnder s all
+all-closed s all rules is r q reads on =
+    is r ∙ lt-ltb r (length s.resources) (elim (Reads-there s r q rules reads) [
+      | inl same ↦ subst (λ (k : ℕ). k < length s.resources) (sym same) (ltb-true q (length s.resources) (sym (is q) ∙ on))
+      | inr both ↦ both.0
+    ])
+
+pub none-beyond : (s : SystemLists) (kept : List (Option Reading)) (x : List Bound) (all : List Bool) → ((r : ℕ) → holds all r ≡ nat_lt r (length s.resources)) → AreCleanBeyond s kept x all
+none-beyond s kept x all is r in_range off =
+    absurd (false≢true (sym off ∙ (is r ∙ lt-ltb r (length s.resources) in_range)))
 
 -- readings of no resource are sound at each vector
 pub none-sound : (s : SystemLists) (x : List Bound) → AreSound s (replicate (length s.resources) None) x

@@ -1,8 +1,9 @@
 -- Readings: the vectors at which resources were analysed, and what is clean by them. A resource needs no further analysis
 -- until something that it reads rises, as in the global iteration of SymTA/S and pyCPA.
-use Rattle.std.specs.Prelude.{ℕ, ◌≡◌, ◌<◌, List, Option, Some, None, length, slice_index_or}
+use Rattle.std.specs.Prelude.{ℕ, ◌≡◌, ◌<◌, Bool, false, List, Option, Some, None, length, slice_index_or}
 use Rattle.cpa_units.specs.declared.bound.Bound.{Bound}
 use Rattle.cpa_units.specs.Bounds.{IsAtMost, IsNowhereAbove, bound_of}
+use Rattle.cpa_units.specs.Sets.{holds}
 use Rattle.cpa_model.specs.SystemLists.{SystemLists, task_at}
 use Rattle.cpa_local.specs.Local.{response}
 use Rattle.cpa_local.specs.Solution.{IsVector, least_of}
@@ -38,6 +39,10 @@ pub record AreSound (s : SystemLists) (kept : List (Option Reading)) (x : List B
 abbrev pub HasCleanReading : SystemLists → List (Option Reading) → List Bound → ℕ → Type 0
 HasCleanReading s kept x r =
     (reading : Reading) × (reading_of kept r ≡ Some reading) × IsClean s r reading.seen x
+
+-- all resources that aren't members are clean at x
+abbrev pub AreCleanBeyond : SystemLists → List (Option Reading) → List Bound → List Bool → Type 0
+AreCleanBeyond s kept x reach = (r : ℕ) → r < length s.resources → holds reach r ≡ false → HasCleanReading s kept x r
 
 -- r is a resource that is dirty at x
 abbrev pub IsDirty : SystemLists → List (Option Reading) → List Bound → ℕ → Type 0

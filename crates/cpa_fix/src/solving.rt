@@ -7,8 +7,8 @@ ghost use Rattle.cpa_units.specs.Sets.{Members};
 ghost use Rattle.cpa_model.specs.Rules.{IsSystem};
 ghost use Rattle.cpa_local.specs.Solution.{IsVector, IsLeast};
 ghost use Rattle.cpa_local.specs.Trails.{IsKept, NewMarksAre, AreMarked};
-ghost use Rattle.cpa_depend.specs.Cone.{Reads, InCone, AreReads};
-ghost use Rattle.cpa_fix.specs.Readings.{AgreeOnReads, AreSound, HasCleanReading, IsDirty, IsSolved};
+ghost use Rattle.cpa_depend.specs.Cone.{Reads, InCone, AreReads, IsClosedUnder};
+ghost use Rattle.cpa_fix.specs.Readings.{AgreeOnReads, AreSound, HasCleanReading, AreCleanBeyond, IsDirty, IsSolved};
 ghost use Rattle.cpa_fix.specs.Rounds.{MayStart, TasksOn};
 ghost use Rattle.cpa_fix.specs.Stale.{Differs, DiffersOn, AgreeOn, IsStale, AreStale};
 
@@ -51,12 +51,39 @@ pub fn solve<H: Threads + Sync, R: Round>(
     ensures marked { OnOk result (AreMarked trail.new (TasksOn system.now (IsDirty system.now kept start))) }
 {
     let reads = reads_of_all(system);
+    let all = ResSet::first(system.resources());
+    solve_within(rt, alloc, system, &reads, all, start, kept, round, trail)
+}
+
+/// The same, where resources beyond `reach` are known to be clean at the start, and `reach` has every
+/// resource that reads a member: only members are looked at. The table tells what each resource reads.
+pub fn solve_within<H: Threads + Sync, R: Round>(
+    rt: &H,
+    alloc: Global,
+    system: &System,
+    reads: &[ResSet; 64],
+    reach: ResSet,
+    start: Vector,
+    kept: Readings,
+    round: &mut R,
+    trail: &mut Trail,
+) -> Result<Solution, NoMemory>
+    requires start { MayStart system.now start kept trail.old }
+    requires reads { AreReads system.now reads.now }
+    requires beyond { AreCleanBeyond system.now kept start reach }
+    requires closed { IsClosedUnder system.now reach }
+    ensures least { IfOk result (λ it. IsLeast system.now it.bounds) }
+    ensures solved { IfOk result (λ it. IsSolved system.now it.bounds it.readings) }
+    ensures kept { IsKept trail.old trail.new }
+    ensures fresh { NewMarksAre trail.old trail.new (TasksOn system.now (InCone system.now (IsDirty system.now kept start))) }
+    ensures marked { OnOk result (AreMarked trail.new (TasksOn system.now (IsDirty system.now kept start))) }
+{
     let mut x = start;
     let mut readings = kept;
-    let mut dirty = dirty_resources(system, &reads, &x, &readings);
+    let mut dirty = dirty_resources(system, reads, reach, &x, &readings);
     'rounds: while let Some(set) = dirty {
         round.round(rt, alloc, system, &mut x, set, &mut readings, trail)?;
-        dirty = dirty_resources(system, &reads, &x, &readings);
+        dirty = dirty_resources(system, reads, reach, &x, &readings);
     }
     Ok(Solution {
         bounds: x,
@@ -64,16 +91,19 @@ pub fn solve<H: Threads + Sync, R: Round>(
     })
 }
 
-/// The resources that aren't clean, where the table tells what each reads; none where all are.
+/// The resources that aren't clean, where the table tells what each reads and those beyond `reach` are
+/// clean; none where all are.
 fn dirty_resources(
     system: &System,
     reads: &[ResSet; 64],
+    reach: ResSet,
     x: &Vector,
     readings: &Readings,
 ) -> Option<ResSet>
     requires reads { AreReads system.now reads.now }
     requires vector { IsVector system.now x.now }
     requires sound { AreSound system.now readings.now x.now }
+    requires beyond { AreCleanBeyond system.now readings.now x.now reach }
     ensures stale { AreStale system.now readings.now x.now result }
     ensures rules { IsSystem system.now }
 {
@@ -82,7 +112,7 @@ fn dirty_resources(
     let mut found = false;
     for place in 0..count {
         let res = ResId(place);
-        if is_stale(system, res, reads[place as usize], x, readings) {
+        if reach.has(res) && is_stale(system, res, reads[place as usize], x, readings) {
             dirty = dirty.with(res);
             found = true;
         }

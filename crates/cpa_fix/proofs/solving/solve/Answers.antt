@@ -1,42 +1,10 @@
-use Rattle.std.proofs.Common.{Option, Some, List, Bool, subst}
-use Rattle.cpa_fix.proofs.SolveLaws.{IsSearch, search-start, search-next, search-solved, round-smaller}
-use Rattle.cpa_local.proofs.SolutionLaws.{least_of-is_least}
+use Rattle.cpa_fix.proofs.SolveLaws.{none-beyond, all-closed}
 use Rattle.cpa_fix.proofs.solving.solve.Goals as goal
 
-pub rounds-init : goal.rounds-init
-rounds-init g c =
-    search-start c.args.system.now c.args.start c.args.kept c.args.trail.now c.dirty_resources-dirty.result
-    c.dirty_resources-dirty.ensures.rules c.requires c.dirty_resources-dirty.ensures.stale
+pub solve_within-requires-clause-beyond : goal.solve_within-requires-clause-beyond
+solve_within-requires-clause-beyond g c κs within =
+    none-beyond c.args.system.now c.args.kept c.args.start c.first-all.result (λ r. rw (← c.resources.ensures.count) (c.first-all.ensures r))
 
-pub rounds-smaller : goal.rounds-smaller
-rounds-smaller g c =
-    let s = c.args.system.now in
-    let h : IsSearch s c.args.start c.args.kept c.args.trail.now c.rounds.x c.rounds.readings (Some c.in-Some.set) c.rounds.trail =
-    subst (λ (d : Option (List Bool)). IsSearch s c.args.start c.args.kept c.args.trail.now c.rounds.x c.rounds.readings d c.rounds.trail) c.in-Some.is c.rounds.invariant in
-    let did = c.in_ok-round.ensures in
-    let next = c.dirty_resources-dirty-in-Some in
-    rw c.in-Some.is
-    (round-smaller s c.in-Some.set c.rounds.x c.round.new.x c.rounds.readings c.round.new.readings next.result h.now.vector did.risen h.stale did.done next.ensures.stale)
-
-pub rounds-preserved : goal.rounds-preserved
-rounds-preserved g c =
-    let s = c.args.system.now in
-    let h : IsSearch s c.args.start c.args.kept c.args.trail.now c.rounds.x c.rounds.readings (Some c.in-Some.set) c.rounds.trail =
-    subst (λ (d : Option (List Bool)). IsSearch s c.args.start c.args.kept c.args.trail.now c.rounds.x c.rounds.readings d c.rounds.trail) c.in-Some.is c.rounds.invariant in
-    let did = c.in_ok-round.ensures in
-    let next = c.dirty_resources-dirty-in-Some in
-    search-next s c.args.start c.args.kept c.args.trail.now c.rounds.x c.round.new.x c.rounds.readings c.round.new.readings c.in-Some.set next.result c.rounds.trail c.round.new.trail
-    h did.risen did.kept did.fresh did.done did.marked next.ensures.stale
-
-pub returns-clause-solved : goal.returns-clause-solved
-returns-clause-solved g c =
-    let s = c.args.system.now in
-    search-solved s c.args.start c.args.kept c.args.trail.now c.rounds.x c.rounds.readings c.rounds.trail
-    (subst (λ (d : Option (List Bool)). IsSearch s c.args.start c.args.kept c.args.trail.now c.rounds.x c.rounds.readings d c.rounds.trail) c.in_default.is c.rounds.invariant)
-
-pub returns-clause-least : goal.returns-clause-least
-returns-clause-least g c =
-    let s = c.args.system.now in
-    let solved = search-solved s c.args.start c.args.kept c.args.trail.now c.rounds.x c.rounds.readings c.rounds.trail
-    (subst (λ (d : Option (List Bool)). IsSearch s c.args.start c.args.kept c.args.trail.now c.rounds.x c.rounds.readings d c.rounds.trail) c.in_default.is c.rounds.invariant) in
-    rw solved.least (least_of-is_least s c.dirty_resources-dirty.ensures.rules)
+pub solve_within-requires-clause-closed : goal.solve_within-requires-clause-closed
+solve_within-requires-clause-closed g c κs within =
+    all-closed c.args.system.now c.first-all.result c.resources.ensures.rules (λ r. rw (← c.resources.ensures.count) (c.first-all.ensures r))

@@ -1,6 +1,6 @@
 use Rattle.cpa_depend.proofs.ConeLaws.{grown-more, cone-is, missing-wider}
 use Rattle.cpa_depend.specs.Cone.{start}
-use Rattle.cpa_depend.proofs.cones.cone.Goals as goal
+use Rattle.cpa_depend.proofs.cones.cone_by.Goals as goal
 
 pub passes-init : goal.passes-init
 passes-init c = record { all = λ r m. m; within = λ r m. start m }

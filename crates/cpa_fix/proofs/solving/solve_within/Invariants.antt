@@ -1,6 +1,6 @@
 use Rattle.std.proofs.Common.{◌+◌, ◌*◌}
 use Rattle.cpa_fix.proofs.SolveLaws.{IsSearch, room, pending}
-use Rattle.cpa_fix.proofs.solving.solve.Given as goal
+use Rattle.cpa_fix.proofs.solving.solve_within.Given as goal
 
 abbrev pub invariant-rounds : goal.invariant-rounds
 invariant-rounds g l = IsSearch l.system l.fn.start l.fn.kept l.initial.trail l.x l.readings l.dirty l.trail
