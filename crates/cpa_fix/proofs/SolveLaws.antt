@@ -275,18 +275,21 @@ pub beyond-round : (s : SystemLists) (reach set : List Bool) (x y : List Bound) 
 beyond-round s reach set x y a b closed within vector up clean round r in_range off =
     let set_off : holds set r ≡ false = not-both set reach r (within r) off in
     let before = clean r in_range set_off in
-    let kept : reading_of b r ≡ Some before.0 = round.same r set_off ∙ before.1 in
-    (before.0, kept, record {
-      sound = round.sound.sound r before.0 kept;
-      current = λ j reads. before.2.current j reads ∙ elim (cases_lt j (length s.tasks)) [
-        | inl less ↦ sym (round.others j less (not-both set reach (task_at s j).res.0 (within (task_at s j).res.0)
-            (elim (cases_Bool (holds reach (task_at s j).res.0)) [
-              | inl on ↦ absurd (let both : true ≡ false = sym (closed r (task_at s j).res.0 reads on) ∙ off in let f : ⊥ = cc in f)
-              | inr none ↦ none
-            ])))
-        | inr past ↦ get_or_past x j (Within 0) (omega (arith, vector.long)) ∙ sym (get_or_past y j (Within 0) (omega (arith, up.vector.long)))
-      ];
-    })
+    let kept : reading_of b r ≡ Some before.0 = round.same r set_off ∙ before.1 in (
+      before.0,
+      kept,
+      record {
+        sound = round.sound.sound r before.0 kept;
+        current = λ j reads. before.2.current j reads ∙ elim (cases_lt j (length s.tasks)) [
+          | inl less ↦ sym (round.others j less (not-both set reach (task_at s j).res.0 (within (task_at s j).res.0)
+              (elim (cases_Bool (holds reach (task_at s j).res.0)) [
+                | inl on ↦ absurd (let both : true ≡ false = sym (closed r (task_at s j).res.0 reads on) ∙ off in let f : ⊥ = cc in f)
+                | inr none ↦ none
+              ])))
+          | inr past ↦ get_or_past x j (Within 0) (omega (arith, vector.long)) ∙ sym (get_or_past y j (Within 0) (omega (arith, up.vector.long)))
+        ];
+      },
+    )
 
 -- all resources are a reach
 pub all-closed : (s : SystemLists) (all : List Bool) → IsSystem s → ((r : ℕ) → holds all r ≡ nat_lt r (length s.resources)) → IsClosedUnder s all

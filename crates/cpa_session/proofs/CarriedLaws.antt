@@ -33,21 +33,21 @@ use Rattle.cpa_session.proofs.LeastLaws.{least_same}
 
 -- ---- vectors
 
-long-carried : (t : SystemLists) (was : ℕ → ℕ) (reset : List Bool) (x : List Bound) → length (carried t was reset x) ≡ length t.tasks
+pub long-carried : (t : SystemLists) (was : ℕ → ℕ) (reset : List Bool) (x : List Bound) → length (carried t was reset x) ≡ length t.tasks
 long-carried t was reset x = length-map-range_with_len (carried_bound t was reset x) 0 (length t.tasks)
 
 past-carried : (t : SystemLists) (was : ℕ → ℕ) (reset : List Bool) (x : List Bound) (i : ℕ) → length t.tasks ≤ i → bound_of (carried t was reset x) i ≡ Within 0
 past-carried t was reset x i past = get_or_past (carried t was reset x) i (Within 0) (omega (arith, long-carried t was reset x))
 
 -- a task that begins with its least execution
-carried-floor : (t : SystemLists) (was : ℕ → ℕ) (reset : List Bool) (x : List Bound) (i : ℕ) → i < length t.tasks → Members reset (task_at t i).res.0 ⊎ (length x ≤ was i)
+pub carried-floor : (t : SystemLists) (was : ℕ → ℕ) (reset : List Bool) (x : List Bound) (i : ℕ) → i < length t.tasks → Members reset (task_at t i).res.0 ⊎ (length x ≤ was i)
     → bound_of (carried t was reset x) i ≡ Within (task_at t i).best
 carried-floor t was reset x i less (inl on) = bound_of-places t (carried_bound t was reset x) i less ∙ rw on refl
 carried-floor t was reset x i less (inr past) =
     bound_of-places t (carried_bound t was reset x) i less ∙ rw (le-ltb (was i) (length x) past, or_right (holds reset (task_at t i).res.0) true refl) refl
 
 -- and one that keeps its bound
-carried-kept : (t : SystemLists) (was : ℕ → ℕ) (reset : List Bool) (x : List Bound) (i : ℕ) → i < length t.tasks → holds reset (task_at t i).res.0 ≡ false → was i < length x
+pub carried-kept : (t : SystemLists) (was : ℕ → ℕ) (reset : List Bool) (x : List Bound) (i : ℕ) → i < length t.tasks → holds reset (task_at t i).res.0 ≡ false → was i < length x
     → bound_of (carried t was reset x) i ≡ bound_of x (was i)
 carried-kept t was reset x i less off there =
     bound_of-places t (carried_bound t was reset x) i less ∙ rw (off, lt-ltb (was i) (length x) there) refl
@@ -263,7 +263,7 @@ module _ (s t : SystemLists) (touched reached : List Bool) (was : ℕ → ℕ) (
   none-at r less on = kept.each r (omega (arith, many)) ∙ ap (λ (b : Bool). carried_reading t was reached b (reading_of old r)) on
 
   -- what can't be reached is clean
-  clean-at : (r : ℕ) → r < length t.resources → holds reached r ≡ false → HasCleanReading t new begin r
+  pub clean-at : (r : ℕ) → r < length t.resources → holds reached r ≡ false → HasCleanReading t new begin r
   clean-at r less off =
       let there : r < length s.resources = omega (arith, ap length h.spared.resources) in
       let before = solved.clean r there in

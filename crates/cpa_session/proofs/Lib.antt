@@ -1,3 +1,4 @@
+pub mod AnewLaws
 pub mod CarriedLaws
 pub mod EditLaws
 pub mod EditedLaws
