@@ -1,0 +1,13 @@
+pub mod DrawLaws
+pub mod ListLaws
+pub mod ChainLaws
+pub mod MadeNumbers
+pub mod Names
+pub mod MadeRules
+pub mod TimeLaws
+pub mod ApartLaws
+pub mod ObeyLaws
+pub mod ShiftLaws
+pub mod ReplayLaws
+pub mod SeenLaws
+pub mod TaskLaws

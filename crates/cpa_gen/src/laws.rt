@@ -1,0 +1,16 @@
+//! What holds of all made systems and made traces. The calls do nothing.
+
+ghost use Rattle.cpa_gen.specs.Laws.{EventsAreInTime, MadeSystemsKeepRules, MadeTracesObey, MadeTracesReplay};
+
+/// A made system keeps the rules of systems.
+pub fn made_systems_have_laws()
+    ensures { MadeSystemsKeepRules }
+{}
+
+/// A source has the events whose number is below 100 and that come, with the jitter, by the last time of a trace; a made
+/// trace obeys its system, and can be replayed.
+pub fn made_traces_have_laws()
+    ensures events { EventsAreInTime }
+    ensures obey { MadeTracesObey }
+    ensures replay { MadeTracesReplay }
+{}

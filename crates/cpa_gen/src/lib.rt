@@ -1,0 +1,20 @@
+//! Made systems, made traces, and what is observed of a system under many of them.
+#![tactic(auto)]
+
+mod chains;
+mod draws;
+mod hammering;
+mod laws;
+mod seen;
+mod systems;
+#[cfg(test)]
+mod tests;
+mod texts;
+mod traces;
+
+pub use hammering::hammer;
+pub use laws::{made_systems_have_laws, made_traces_have_laws};
+pub use seen::{Seen, Tally};
+pub use systems::make_system;
+pub use texts::{hammer_text, load_text};
+pub use traces::make_trace;

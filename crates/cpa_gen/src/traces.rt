@@ -1,0 +1,242 @@
+//! Made traces.
+
+ghost use Rattle.std.specs.Prelude.{◌≡◌, if◌then◌else◌, ◌<◌, ◌≤◌, ◌+◌, ◌*◌, [], map, max, length, replicate, IfOk, OnOk};
+ghost use Rattle.std.specs.List.{range_with_len};
+ghost use Rattle.cpa_model.specs.Rules.{IsSource, IsSystem, IsTask};
+ghost use Rattle.cpa_model.specs.SystemLists.{cycle_of, source_at, task_at};
+ghost use Rattle.rand_pcg.specs.Lcg.{Lcg};
+ghost use Rattle.cpa_gen.specs.Draws.{after_draws, draw};
+ghost use Rattle.cpa_trace.specs.Breaches.{has_tasks, is_tdma};
+ghost use Rattle.cpa_trace.specs.Trace.{Obeys};
+ghost use Rattle.cpa_sim.specs.Outcome.{CanReplay};
+ghost use Rattle.cpa_gen.specs.MadeTraces.{before_resource, before_source, before_task, drawn_trace, events_made, executions_drawn, has_phase, jobs_made, late_drawn, late_first, made_trace, phase_drawn, times_made, worst_trace};
+
+use crate::draws::{draw, generator};
+use cpa_model::{Kind, Source, System, Task};
+use cpa_trace::Trace;
+use cpa_units::limits::MAX_TRACE_TIME;
+use cpa_units::{NoMemory, ResId, SourceId, TaskId};
+use rand_pcg::Pcg32;
+use std::alloc::Global;
+use std::cmp::min;
+
+/// The most events of a source in a made trace.
+const MADE_EVENTS: u64 = 100;
+
+/// How many events a source has in a made trace.
+fn events_made(source: &Source) -> u64
+    requires { IsSource source.now }
+    ensures value { result ≡ events_made source.now }
+    ensures few { result ≤ 100 }
+{
+    if source.jitter <= MAX_TRACE_TIME {
+        min(
+            MADE_EVENTS,
+            (MAX_TRACE_TIME - source.jitter) / source.period + 1,
+        )
+    } else {
+        0
+    }
+}
+
+fn later(time: u64, other: u64) -> u64
+    ensures { result ≡ max time other }
+{
+    if time < other { other } else { time }
+}
+
+/// How late event `m` is where the first one is as late as may be, and no other.
+fn late_first(source: &Source, m: u64) -> u64
+    ensures { result ≡ late_first source.now m }
+{
+    if m == 0 { source.jitter } else { 0 }
+}
+
+/// The times of a source whose first event is as late as may be, and no other.
+fn worst_times(alloc: Global, source: &Source) -> Result<Vec<u64>, NoMemory>
+    requires { IsSource source.now }
+    ensures { IfOk result (λ v. v.items ≡ times_made source.now (late_first source.now)) }
+{
+    let mut times = Vec::new(alloc);
+    let mut earliest = 0;
+    for m in 0..events_made(source) {
+        let time = later(earliest, m * source.period + late_first(source, m));
+        times.push(time)?;
+        earliest = time + source.distance;
+    }
+    Ok(times)
+}
+
+/// The times of a source whose events are drawn.
+fn drawn_times(alloc: Global, rng: &mut Pcg32, source: &Source) -> Result<Vec<u64>, NoMemory>
+    requires { IsSource source.now }
+    ensures times { IfOk result (λ v. v.items ≡ times_made source.now (late_drawn rng.old 0 source.now)) }
+    ensures taken { OnOk result (rng.new ≡ after_draws rng.old (events_made source.now)) }
+{
+    let mut times = Vec::new(alloc);
+    let mut earliest = 0;
+    for m in 0..events_made(source) {
+        let late = draw(rng, source.jitter + 1);
+        let time = later(earliest, m * source.period + late);
+        times.push(time)?;
+        earliest = time + source.distance;
+    }
+    Ok(times)
+}
+
+/// The drawn executions of so many jobs of a task.
+fn drawn_executions(
+    alloc: Global,
+    rng: &mut Pcg32,
+    task: &Task,
+    jobs: u64,
+) -> Result<Vec<u64>, NoMemory>
+    requires ordered { task.now.best ≤ task.now.worst }
+    requires worst { task.now.worst ≤ 1000000 }
+    ensures executions { IfOk result (λ v. v.items ≡ executions_drawn rng.old 0 task.now jobs) }
+    ensures taken { OnOk result (rng.new ≡ after_draws rng.old jobs) }
+{
+    let mut executions = Vec::new(alloc);
+    for _ in 0..jobs {
+        executions.push(task.best + draw(rng, task.worst - task.best + 1))?;
+    }
+    Ok(executions)
+}
+
+/// The times of all sources, each of whose first events is as late as may be.
+fn all_worst_times(alloc: Global, system: &System) -> Result<Vec<Vec<u64>>, NoMemory>
+    ensures times { IfOk result (λ v. map (λ w. w.items) v.items ≡ map (λ j. times_made (source_at system.now j) (late_first (source_at system.now j))) (range_with_len 0 (length system.now.sources))) }
+    ensures rules { IsSystem system.now }
+{
+    let mut times = Vec::new(alloc);
+    for j in 0..system.sources() {
+        times.push(worst_times(alloc, system.source(SourceId(j)))?)?;
+    }
+    Ok(times)
+}
+
+/// No executions for each of so many tasks.
+fn no_executions(alloc: Global, tasks: u32) -> Result<Vec<Vec<u64>>, NoMemory>
+    ensures { IfOk result (λ v. map (λ w. w.items) v.items ≡ replicate tasks []) }
+{
+    let mut executions = Vec::new(alloc);
+    for _ in 0..tasks {
+        executions.push(Vec::new(alloc))?;
+    }
+    Ok(executions)
+}
+
+/// The trace of even places.
+fn worst_trace(alloc: Global, system: &System) -> Result<Trace, NoMemory>
+    ensures value { IfOk result (λ tr. tr ≡ worst_trace system.now) }
+    ensures rules { IsSystem system.now }
+{
+    let times = all_worst_times(alloc, system)?;
+    let executions = no_executions(alloc, system.tasks())?;
+    let phases = vec![in alloc; 0; system.resources() as usize]?;
+    Ok(Trace::of_lists(times, executions, phases))
+}
+
+/// The times of all sources, drawn one source after the other.
+fn draw_all_times(alloc: Global, rng: &mut Pcg32, system: &System) -> Result<Vec<Vec<u64>>, NoMemory>
+    ensures times { IfOk result (λ v. map (λ w. w.items) v.items ≡ map (λ j. times_made (source_at system.now j) (late_drawn rng.old (before_source system.now j) (source_at system.now j))) (range_with_len 0 (length system.now.sources))) }
+    ensures taken { OnOk result (rng.new ≡ after_draws rng.old (before_source system.now (length system.now.sources))) }
+    ensures rules { IsSystem system.now }
+{
+    let mut times = Vec::new(alloc);
+    for j in 0..system.sources() {
+        times.push(drawn_times(alloc, rng, system.source(SourceId(j)))?)?;
+    }
+    Ok(times)
+}
+
+/// The executions of all tasks, drawn one task after the other.
+fn draw_all_executions(
+    alloc: Global,
+    rng: &mut Pcg32,
+    system: &System,
+) -> Result<Vec<Vec<u64>>, NoMemory>
+    ensures executions { (g : Lcg) → rng.old ≡ after_draws g (before_task system.now 0) → IfOk result (λ v. map (λ w. w.items) v.items ≡ map (λ i. executions_drawn g (before_task system.now i) (task_at system.now i) (jobs_made system.now i)) (range_with_len 0 (length system.now.tasks))) }
+    ensures taken { (g : Lcg) → rng.old ≡ after_draws g (before_task system.now 0) → OnOk result (rng.new ≡ after_draws g (before_task system.now (length system.now.tasks))) }
+{
+    let mut executions = Vec::new(alloc);
+    for i in 0..system.tasks() {
+        let task = TaskId(i);
+        let jobs = events_made(system.source(system.root(task)));
+        executions.push(drawn_executions(alloc, rng, system.task(task), jobs)?)?;
+    }
+    Ok(executions)
+}
+
+/// Whether a task is on a resource.
+fn has_tasks(system: &System, res: ResId) -> bool
+    requires { res.0 < length system.now.resources }
+    ensures { result ≡ has_tasks system.now res.0 }
+{
+    !system.tasks_on(res).is_empty()
+}
+
+fn is_tdma(kind: Kind) -> bool
+    ensures { result ≡ is_tdma kind }
+{
+    matches!(kind, Kind::Tdma { .. })
+}
+
+/// Whether a phase is drawn for a resource.
+fn has_phase(system: &System, res: ResId) -> bool
+    requires { res.0 < length system.now.resources }
+    ensures { result ≡ has_phase system.now res.0 }
+{
+    is_tdma(system.resource(res).kind) && has_tasks(system, res)
+}
+
+/// The phase of a resource, drawn where it is TDMA and has a task.
+fn draw_phase(rng: &mut Pcg32, system: &System, res: ResId) -> u64
+    requires there { res.0 < length system.now.resources }
+    requires rules { IsSystem system.now }
+    ensures value { result ≡ (if has_phase system.now res.0 then draw rng.old 0 (cycle_of system.now res.0) else 0) }
+    ensures taken { rng.new ≡ after_draws rng.old (if has_phase system.now res.0 then 1 else 0) }
+{
+    if has_phase(system, res) {
+        draw(rng, system.cycle(res))
+    } else {
+        0
+    }
+}
+
+/// The phases, drawn for each TDMA resource that has a task.
+fn draw_all_phases(alloc: Global, rng: &mut Pcg32, system: &System) -> Result<Vec<u64>, NoMemory>
+    ensures { (g : Lcg) → rng.old ≡ after_draws g (before_resource system.now 0) → IfOk result (λ v. v.items ≡ map (phase_drawn system.now g) (range_with_len 0 (length system.now.resources))) }
+{
+    let mut phases = Vec::new(alloc);
+    for r in 0..system.resources() {
+        phases.push(draw_phase(rng, system, ResId(r)))?;
+    }
+    Ok(phases)
+}
+
+/// The trace of odd places.
+fn drawn_trace(alloc: Global, mut rng: Pcg32, system: &System) -> Result<Trace, NoMemory>
+    ensures value { IfOk result (λ tr. tr ≡ drawn_trace system.now rng) }
+    ensures rules { IsSystem system.now }
+{
+    let times = draw_all_times(alloc, &mut rng, system)?;
+    let executions = draw_all_executions(alloc, &mut rng, system)?;
+    let phases = draw_all_phases(alloc, &mut rng, system)?;
+    Ok(Trace::of_lists(times, executions, phases))
+}
+
+/// Trace `k` that is made for a system from a number. Each source has at most 100 events, by 10,000,000 ticks. Where `k`
+/// is even, its first event is as late as may be, and each execution is the greatest; else all is drawn by PCG32 (O'Neill
+/// 2014), from the stream `k`. The trace obeys the system, and can be replayed. The only error is want of memory.
+pub fn make_trace(alloc: Global, system: &System, number: u64, k: u64) -> Result<Trace, NoMemory>
+    ensures value { IfOk result (λ tr. tr ≡ made_trace system.now number k) }
+    ensures obeys { IfOk result (λ tr. Obeys system.now tr) }
+    ensures replays { IfOk result (λ tr. CanReplay system.now tr) }
+{
+    if k % 2 == 0 {
+        worst_trace(alloc, system)
+    } else {
+        drawn_trace(alloc, generator(number, k), system)
+    }
+}

@@ -1,0 +1,4 @@
+pub mod Turns
+pub mod ReadWords
+pub mod SortedLaws
+pub mod WithinLaws
