@@ -1,3 +1,4 @@
+pub mod MadeLaws
 pub mod OutputLaws
 pub mod PlanLaws
 pub mod ReportLaws

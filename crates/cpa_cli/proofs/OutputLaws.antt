@@ -1,6 +1,6 @@
 -- There is an output of each call, and one only.
-use Rattle.std.proofs.Common.{◌≡◌, ℕ, Bool, true, false, nat_lt, if◌then◌else◌, List, [], length, Option, Some, None, Ok, Err, refl, sym, ◌∙◌}
-use Rattle.std.specs.Prelude.{Result}
+use Rattle.std.proofs.Common.{◌≡◌, ℕ, Bool, true, false, nat_lt, if◌then◌else◌, List, [], length, Option, Some, None, Ok, Err, refl, sym, ◌∙◌, inl}
+use Rattle.std.specs.Prelude.{Result, IfSome}
 use Rattle.cpa_model.specs.SystemLists.{SystemLists}
 use Rattle.cpa_model.specs.Rules.{IsSystem}
 use Rattle.cpa_file.specs.Reading.{Reading, NotToml, Refused, Accepted, reading_of}
@@ -16,19 +16,18 @@ use Rattle.cpa_trace.specs.Breaches.{first_breach}
 use Rattle.cpa_units.specs.declared.limits.TheConstants.{MAX_SYSTEM_FILE, MAX_SCRIPT_FILE, MAX_TRACE_FILE}
 use Rattle.cpa_sim.specs.Outcome.{outcome_of}
 use Rattle.cpa_sim.specs.SimText.{sim_text}
-use Rattle.cpa_cli.specs.declared.work.Work.{Work}
 use Rattle.cpa_cli.specs.declared.work.Work.TheVariants as work
-use Rattle.cpa_cli.specs.Words.{Asked, Analyse, Session, Simulate, accepted}
+use Rattle.cpa_words.specs.Words.{Asked, Analyse, Session, Simulate, Generate, Load, Hammer, IsWithin, accepted}
+use Rattle.cpa_words.proofs.WithinLaws.{accepted_within}
+use Rattle.cpa_gen.specs.MadeSystems.{made_system}
 use Rattle.cpa_cli.specs.Lines.{words_refused, too_long, not_toml, system_refused, script_refused, trace_refused, trace_disobeys}
 use Rattle.cpa_cli.specs.Answers.{Answer, reply}
 use Rattle.cpa_cli.specs.Plan.{Held, Plan, Do, Refuse, Missing, with_content, with_reading, with_system, with_steps, with_script, unless_breach, with_entries, with_trace, plan_for, plan_by, plan_of}
-use Rattle.cpa_cli.specs.Work.{IsDone}
-use Rattle.cpa_cli.specs.Output.{IsAnswerTo, IsOutput}
+use Rattle.cpa_cli.specs.Output.{IsAnswerTo, IsOutput, HasAnswer, AreAlike, SendsSome}
+use Rattle.cpa_cli.proofs.SendLaws.{nothing-sent}
+use Rattle.cpa_cli.proofs.MadeLaws.{some-summary, one-summary, some-hammered, one-hammered}
 use Rattle.cpa_cli.proofs.ReportLaws.{some-report, one-report}
 use Rattle.cpa_cli.proofs.SessionLaws.{some-session, one-session}
-
-abbrev HasAnswer : Plan → Type 0
-HasAnswer plan = (answer : Answer) × IsAnswerTo plan answer
 
 -- ---- there is one: a plan has an answer where each plan that it may go on with has
 
@@ -73,32 +72,50 @@ some-system held file next each =
 some-run : (s : SystemLists) (tr : TraceLists) → HasAnswer (Do (work.Simulate s tr))
 some-run s tr = (reply 0 (sim_text s (outcome_of s tr)), refl)
 
-some-for : (held : Held) (asked : Asked) → HasAnswer (plan_for held asked)
-some-for held (Analyse file) = some-system held file (λ s. Do (work.Analyse s)) some-report
-some-for held (Session file script) =
-    some-system held file (λ s. with_script held script (λ steps. Do (work.Session s steps))) (λ s rules. some-script held script (λ steps. Do (work.Session s steps)) (λ steps named. some-session steps s rules named))
-some-for held (Simulate file trace) =
+some-for : (held : Held) (asked : Asked) → IsWithin asked → HasAnswer (plan_for held asked)
+some-for held (Analyse file workers) within = some-system held file (λ s. Do (work.Analyse s workers)) some-report
+some-for held (Session file script workers) within =
+    some-system held file (λ s. with_script held script (λ steps. Do (work.Session s steps workers)))
+    (λ s rules. some-script held script (λ steps. Do (work.Session s steps workers)) (λ steps named. some-session steps s rules named))
+some-for held (Simulate file trace) within =
     some-system held file (λ s. with_trace held s trace (λ tr. Do (work.Simulate s tr))) (λ s rules. some-trace held s trace (λ tr. Do (work.Simulate s tr)) (some-run s))
+some-for held (Generate number size) within = tt
+some-for held (Load number size workers) within = some-summary number size within.1
+some-for held (Hammer file number traces) within = some-system held file (λ s. Do (work.Hammer s number traces)) (λ s rules. some-hammered s number traces rules)
 
-some-by : (held : Held) (o : Option Asked) → HasAnswer (plan_by held o)
-some-by held None = (reply 10 words_refused, refl)
-some-by held (Some asked) = some-for held asked
+some-by : (held : Held) (o : Option Asked) → IfSome o IsWithin → HasAnswer (plan_by held o)
+some-by held None within = (reply 10 words_refused, refl)
+some-by held (Some asked) within = some-for held asked within
 
-pub some-output : (words : List (List ℕ)) (held : Held) → (answer : Answer) × IsOutput words held answer
+pub some-output : (words : List (List ℕ)) (held : Held) → HasAnswer (plan_of words held)
 unfolding plan_of
-some-output words held = some-by held (accepted words)
+some-output words held = some-by held (accepted words) (accepted_within words)
+
+-- where nothing was sent yet
+nothing-of : (plan : Plan) (sent : Option (List ℕ)) → HasAnswer plan → SendsSome plan sent sent
+nothing-of (Do (work.Generate number size)) sent some = inl refl
+nothing-of (Do (work.Analyse s workers)) sent some = nothing-sent (IsAnswerTo (Do (work.Analyse s workers))) some sent
+nothing-of (Do (work.Session s steps workers)) sent some = nothing-sent (IsAnswerTo (Do (work.Session s steps workers))) some sent
+nothing-of (Do (work.Simulate s tr)) sent some = nothing-sent (IsAnswerTo (Do (work.Simulate s tr))) some sent
+nothing-of (Do (work.Load number size workers)) sent some = nothing-sent (IsAnswerTo (Do (work.Load number size workers))) some sent
+nothing-of (Do (work.Hammer s number traces)) sent some = nothing-sent (IsAnswerTo (Do (work.Hammer s number traces))) some sent
+nothing-of (Refuse status line) sent some = nothing-sent (IsAnswerTo (Refuse status line)) some sent
+nothing-of Missing sent some = nothing-sent (IsAnswerTo Missing) some sent
+
+pub nothing-yet : (words : List (List ℕ)) (held : Held) (sent : Option (List ℕ)) → SendsSome (plan_of words held) sent sent
+nothing-yet words held sent = nothing-of (plan_of words held) sent (some-output words held)
 
 -- ---- and only one
 
-one-done : (it : Work) (a b : Answer) → IsDone it a → IsDone it b → a ≡ b
-one-done (work.Analyse s) a b h k = one-report s a b h k
-one-done (work.Session s steps) a b h k = one-session steps s a b h k
-one-done (work.Simulate s tr) a b h k = h ∙ sym k
-
-one-answer : (plan : Plan) (a b : Answer) → IsAnswerTo plan a → IsAnswerTo plan b → a ≡ b
-one-answer (Do it) a b h k = one-done it a b h k
+one-answer : (plan : Plan) (a b : Answer) → IsAnswerTo plan a → IsAnswerTo plan b → AreAlike plan a b
+one-answer (Do (work.Analyse s workers)) a b h k = one-report s a b h k
+one-answer (Do (work.Session s steps workers)) a b h k = one-session steps s a b h k
+one-answer (Do (work.Simulate s tr)) a b h k = h ∙ sym k
+one-answer (Do (work.Generate number size)) a b h k = (h.status_is ∙ sym k.status_is, h.stands ∙ sym k.stands)
+one-answer (Do (work.Load number size workers)) a b h k = one-summary number size (made_system number size) a b h k
+one-answer (Do (work.Hammer s number traces)) a b h k = one-hammered s number traces a b h k
 one-answer (Refuse status line) a b h k = h ∙ sym k
 one-answer Missing a b h k = h ∙ sym k
 
-pub one-output : (words : List (List ℕ)) (held : Held) (a b : Answer) → IsOutput words held a → IsOutput words held b → a ≡ b
+pub one-output : (words : List (List ℕ)) (held : Held) (a b : Answer) → IsOutput words held a → IsOutput words held b → AreAlike (plan_of words held) a b
 one-output words held = one-answer (plan_of words held)

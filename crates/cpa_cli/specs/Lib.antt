@@ -5,5 +5,4 @@ pub mod Output
 pub mod Plan
 pub mod Session
 pub mod Steps
-pub mod Words
 pub mod Work

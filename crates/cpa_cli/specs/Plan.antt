@@ -10,7 +10,7 @@ use Rattle.cpa_trace.specs.declared.fault.TraceFault.{TraceFault}
 use Rattle.cpa_trace.specs.Trace.{TraceLists}
 use Rattle.cpa_trace.specs.Reading.{trace_of}
 use Rattle.cpa_trace.specs.Breaches.{first_breach}
-use Rattle.cpa_cli.specs.Words.{Asked, accepted, Analyse, Session, Simulate}
+use Rattle.cpa_words.specs.Words.{Asked, accepted, Analyse, Session, Simulate, Generate, Load, Hammer}
 use Rattle.cpa_cli.specs.Lines.{words_refused, too_long, not_toml, system_refused, script_refused, trace_refused, trace_disobeys}
 use Rattle.cpa_cli.specs.declared.work.Work.{Work}
 use Rattle.cpa_cli.specs.declared.work.Work.TheVariants as work
@@ -61,11 +61,14 @@ with_entries s (Err fault) next = Refuse 16 (trace_refused fault)
 abbrev pub with_trace : Held → SystemLists → List ℕ → (TraceLists → Plan) → Plan
 with_trace held s file next = with_content file MAX_TRACE_FILE (held file) (λ bytes. with_entries s (trace_of s bytes) next)
 
--- what accepted words ask for: the system file is read first
+-- what accepted words ask for: the system file is read first, and a made system needs none
 abbrev pub plan_for : Held → Asked → Plan
-plan_for held (Analyse file) = with_system held file (λ s. Do (work.Analyse s))
-plan_for held (Session file script) = with_system held file (λ s. with_script held script (λ steps. Do (work.Session s steps)))
+plan_for held (Analyse file workers) = with_system held file (λ s. Do (work.Analyse s workers))
+plan_for held (Session file script workers) = with_system held file (λ s. with_script held script (λ steps. Do (work.Session s steps workers)))
 plan_for held (Simulate file trace) = with_system held file (λ s. with_trace held s trace (λ tr. Do (work.Simulate s tr)))
+plan_for held (Generate number size) = Do (work.Generate number size)
+plan_for held (Load number size workers) = Do (work.Load number size workers)
+plan_for held (Hammer file number traces) = with_system held file (λ s. Do (work.Hammer s number traces))
 
 abbrev pub plan_by : Held → Option Asked → Plan
 plan_by held None = Refuse 10 words_refused

@@ -1,20 +1,62 @@
 -- What comes of the work that a call has to do.
-use Rattle.std.specs.Prelude.{◌≡◌}
+use Rattle.std.specs.Prelude.{◌≡◌, ℕ, List, Some}
+use Rattle.std.specs.List.{range_with_len}
+use Rattle.cpa_units.specs.declared.bound.Bound.{Bound}
+use Rattle.cpa_model.specs.SystemLists.{SystemLists}
+use Rattle.cpa_local.specs.Solution.{IsLeast}
+use Rattle.cpa_file.specs.Reading.{Accepted, reading_of}
 use Rattle.cpa_edit.specs.Script.{AreNamed}
+use Rattle.cpa_report.specs.Report.{verdict}
 use Rattle.cpa_sim.specs.Outcome.{CanReplay, outcome_of}
 use Rattle.cpa_sim.specs.SimText.{sim_text}
+use Rattle.cpa_sound.specs.BoundsHold.{BoundsHold}
+use Rattle.cpa_words.specs.Words.{AreWorkers, AreTraces, IsSize}
+use Rattle.cpa_gen.specs.MadeSystems.{made_system}
+use Rattle.cpa_gen.specs.Seen.{seen_over}
+use Rattle.cpa_gen.specs.Texts.{load_text, hammer_text}
 use Rattle.cpa_cli.specs.declared.work.Work.{Work}
-use Rattle.cpa_cli.specs.declared.work.Work.TheVariants.{Analyse, Session, Simulate}
+use Rattle.cpa_cli.specs.declared.work.Work.TheVariants.{Analyse, Session, Simulate, Generate, Load, Hammer}
 use Rattle.cpa_cli.specs.Answers.{Answer, reply, IsReport}
 use Rattle.cpa_cli.specs.Session.{IsSession}
 
+-- a file that stands for a system, in any layout
+pub record IsFileOf (s : SystemLists) (answer : Answer) : Type 0 where
+  pub status_is : answer.status ≡ Some 0
+  pub stands : reading_of answer.text ≡ Accepted s
+
+-- the summary of a made system, at its least solution
+pub record IsSummary (number size : ℕ) (s : SystemLists) (answer : Answer) : Type 0 where
+  pub bounds : List Bound
+  pub least : IsLeast s bounds
+  -- they bound the response times of all jobs and paths, in every run whose trace obeys
+  pub hold : BoundsHold s bounds
+  pub status_is : answer.status ≡ Some (verdict s bounds)
+  pub text_is : answer.text ≡ load_text number size s bounds
+
+-- what is seen of a system under its made traces 0, 1, 2 and so on, beside its least solution
+pub record IsHammered (s : SystemLists) (number traces : ℕ) (answer : Answer) : Type 0 where
+  pub bounds : List Bound
+  pub least : IsLeast s bounds
+  pub hold : BoundsHold s bounds
+  -- so no job is seen beyond its bound
+  pub none_beyond : (seen_over s bounds number (range_with_len 0 traces)).beyond ≡ 0
+  pub status_is : answer.status ≡ Some 0
+  pub text_is : answer.text ≡ hammer_text s bounds (seen_over s bounds number (range_with_len 0 traces))
+
+-- the number of workers is in no answer
 abbrev pub IsDone : Work → Answer → Type 0
-IsDone (Analyse s) answer = IsReport s answer
-IsDone (Session s steps) answer = IsSession s steps answer
+IsDone (Analyse s workers) answer = IsReport s answer
+IsDone (Session s steps workers) answer = IsSession s steps answer
 IsDone (Simulate s tr) answer = answer ≡ reply 0 (sim_text s (outcome_of s tr))
+IsDone (Generate number size) answer = IsFileOf (made_system number size) answer
+IsDone (Load number size workers) answer = IsSummary number size (made_system number size) answer
+IsDone (Hammer s number traces) answer = IsHammered s number traces answer
 
 -- its numbers are within the limits, and its names are names
 abbrev pub IsWithinLimits : Work → Type 0
-IsWithinLimits (Analyse s) = Unit {0}
-IsWithinLimits (Session s steps) = AreNamed steps
+IsWithinLimits (Analyse s workers) = AreWorkers workers
+IsWithinLimits (Session s steps workers) = AreNamed steps × AreWorkers workers
 IsWithinLimits (Simulate s tr) = CanReplay s tr
+IsWithinLimits (Generate number size) = IsSize size
+IsWithinLimits (Load number size workers) = IsSize size × AreWorkers workers
+IsWithinLimits (Hammer s number traces) = AreTraces traces

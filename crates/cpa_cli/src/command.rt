@@ -4,7 +4,8 @@ ghost use Rattle.std.specs.Prelude.{◌≡◌, ◌≢◌, ◌⊎◌, ◌≤◌, 
 ghost use Rattle.cpa_io.specs.Causes.{grown, Rose, SentPart};
 ghost use Rattle.cpa_cli.specs.declared.ended.Stopped.TheVariants as stopped;
 ghost use Rattle.cpa_cli.specs.Lines.{cannot_read};
-ghost use Rattle.cpa_cli.specs.Output.{IsOutput, IsOfOutput, Sends, SendsPart, IsUnread, OutputsExist, OutputsAreOne};
+ghost use Rattle.cpa_cli.specs.Plan.{plan_of};
+ghost use Rattle.cpa_cli.specs.Output.{IsOutput, IsOfOutput, Sends, SendsSome, IsUnread, OutputsExist, OutputsAreOne};
 
 use crate::ended::{Ended, Stopped};
 use crate::loading::plan;
@@ -26,7 +27,7 @@ fn answer<H: Threads + Sync, F: Files, K: Sink>(
     ensures status { IfOk result (λ status. (status ≢ 20) × (status ≢ 30)) }
     ensures unread { IfOk result (λ status. status ≡ 11 → IsUnread (map string_bytes words.now) (F.told files.old) (F.held files.old) (F.faults files.old) (F.faults files.new) (F.last_failed files.new)) }
     ensures unread_line { IfOk result (λ status. status ≡ 11 → K.sent sink.new ≡ grown (K.sent sink.old) (cannot_read (F.last_failed files.new))) }
-    ensures part { F.told files.old ≡ true → OnErr result (SendsPart (IsOutput (map string_bytes words.now) (F.held files.old)) (K.sent sink.old) (K.sent sink.new) ⊎ (IsUnread (map string_bytes words.now) (F.told files.old) (F.held files.old) (F.faults files.old) (F.faults files.new) (F.last_failed files.new) × SentPart (K.sent sink.old) (K.sent sink.new) (cannot_read (F.last_failed files.new)))) }
+    ensures part { F.told files.old ≡ true → OnErr result (SendsSome (plan_of (map string_bytes words.now) (F.held files.old)) (K.sent sink.old) (K.sent sink.new) ⊎ (IsUnread (map string_bytes words.now) (F.told files.old) (F.held files.old) (F.faults files.old) (F.faults files.new) (F.last_failed files.new) × SentPart (K.sent sink.old) (K.sent sink.new) (cannot_read (F.last_failed files.new)))) }
     ensures rises { K.faults sink.old ≤ K.faults sink.new }
     ensures failed { result ≡ Err stopped.Sink → Rose (K.faults sink.old) (K.faults sink.new) }
 {
@@ -40,8 +41,8 @@ fn answer<H: Threads + Sync, F: Files, K: Sink>(
 
 /// Does what the words ask for, and answers the status.
 ///
-/// The words are those after the program's name. The statuses: 0 to 2 the verdict of a report, 0 besides for what has
-/// none; 10, 12 to 14, 16 and 17 a refusal, 11 a file that couldn't be read, each with its line sent; 20 a fault of the
+/// The words are those after the program's name. The statuses: 0 to 2 the verdict of a report or a summary, 0 besides for
+/// what has none; 10 and 12 to 17 a refusal, 11 a file that couldn't be read, each with its line sent; 20 a fault of the
 /// sink; 30 want of memory.
 pub fn run<H: Threads + Sync, F: Files, K: Sink>(
     rt: &H,
@@ -64,7 +65,7 @@ pub fn run<H: Threads + Sync, F: Files, K: Sink>(
     ensures unsent { result ≡ 20 → Rose (K.faults sink.old) (K.faults sink.new) }
 
     // At a fault of the sink and at want of memory a prefix of the output was sent, or of the line of a file that couldn't be loaded.
-    ensures part { F.told files.old ≡ true → (result ≡ 20) ⊎ (result ≡ 30) → SendsPart (IsOutput (map string_bytes words.now) (F.held files.old)) (K.sent sink.old) (K.sent sink.new) ⊎ (IsUnread (map string_bytes words.now) (F.told files.old) (F.held files.old) (F.faults files.old) (F.faults files.new) (F.last_failed files.new) × SentPart (K.sent sink.old) (K.sent sink.new) (cannot_read (F.last_failed files.new))) }
+    ensures part { F.told files.old ≡ true → (result ≡ 20) ⊎ (result ≡ 30) → SendsSome (plan_of (map string_bytes words.now) (F.held files.old)) (K.sent sink.old) (K.sent sink.new) ⊎ (IsUnread (map string_bytes words.now) (F.told files.old) (F.held files.old) (F.faults files.old) (F.faults files.new) (F.last_failed files.new) × SentPart (K.sent sink.old) (K.sent sink.new) (cannot_read (F.last_failed files.new))) }
 {
     match answer(rt, alloc, words, files, sink) {
         Ok(status) => status,

@@ -9,7 +9,8 @@ ghost use Rattle.cpa_trace.specs.Reading.{trace_of};
 ghost use Rattle.cpa_model.specs.SystemLists.{SystemLists};
 ghost use Rattle.cpa_trace.specs.Trace.{TraceLists};
 ghost use Rattle.cpa_sim.specs.Outcome.{CanReplay};
-ghost use Rattle.cpa_cli.specs.Words.{Analyse, Session, Simulate, asked};
+ghost use Rattle.cpa_words.specs.Words.{Analyse, Session, Simulate, Hammer, AreWorkers, AreTraces, IsWithin};
+ghost use Rattle.cpa_words.specs.Commands.{asked};
 ghost use Rattle.cpa_cli.specs.Plan.{Plan, Do, with_content, with_reading, with_system, with_steps, with_script, with_entries, with_trace, plan_for, plan_of, IsAccepted};
 ghost use Rattle.cpa_cli.specs.Work.{IsWithinLimits};
 ghost use Rattle.cpa_cli.specs.Output.{IsNamed, IsSecond};
@@ -17,7 +18,6 @@ ghost use Rattle.cpa_cli.specs.Ends.{IsEndOf, HasStatus, IsUnreadFile, IsNoUnrea
 
 use crate::ended::{Ended, Reply};
 use crate::lines::{breach_line, file_line, refusal_line, script_line, trace_line, words_line};
-use crate::words::{Command, accept};
 use crate::work::Work;
 use cpa_edit::{Script, ScriptFault, read_script};
 use cpa_file::{FileRefusal, read_system};
@@ -25,6 +25,7 @@ use cpa_io::{Files, LoadFault};
 use cpa_model::System;
 use cpa_trace::{Trace, TraceFault, obeys, read_trace};
 use cpa_units::limits::{MAX_SCRIPT_FILE, MAX_SYSTEM_FILE, MAX_TRACE_FILE};
+use cpa_words::{Command, accept};
 use std::alloc::Global;
 
 /// The bytes of a file of at most so many.
@@ -175,16 +176,22 @@ fn plan_session<F: Files>(
     files: &mut F,
     file: &str,
     script: &str,
+    workers: u32,
 ) -> Result<Work, Ended>
-    ensures planned { F.told files.old ≡ true → IfOk result (λ work. plan_for (F.held files.old) (Session file.now script.now) ≡ Do work) }
+    requires { AreWorkers workers }
+    ensures planned { F.told files.old ≡ true → IfOk result (λ work. plan_for (F.held files.old) (Session file.now script.now workers) ≡ Do work) }
     ensures limits { IfOk result IsWithinLimits }
-    ensures ended { F.told files.old ≡ true → IfErr result (IsEndOf (plan_for (F.held files.old) (Session file.now script.now))) }
+    ensures ended { F.told files.old ≡ true → IfErr result (IsEndOf (plan_for (F.held files.old) (Session file.now script.now workers))) }
     ensures status { IfErr result HasStatus }
     ensures unread { IfErr result (IsUnreadFile (IsSecond (F.told files.old) (F.held files.old) file.now script.now) (F.faults files.old) (F.faults files.new) (F.last_failed files.new)) }
 {
     let system = load_system(alloc, files, file)?;
     let script = load_script(alloc, files, script)?;
-    Ok(Work::Session { system, script })
+    Ok(Work::Session {
+        system,
+        script,
+        workers,
+    })
 }
 
 /// A simulation's work.
@@ -206,19 +213,49 @@ fn plan_simulation<F: Files>(
 }
 
 /// An analysis's work.
-fn plan_analysis<F: Files>(alloc: Global, files: &mut F, file: &str) -> Result<Work, Ended>
-    ensures planned { F.told files.old ≡ true → IfOk result (λ work. plan_for (F.held files.old) (Analyse file.now) ≡ Do work) }
+fn plan_analysis<F: Files>(
+    alloc: Global,
+    files: &mut F,
+    file: &str,
+    workers: u32,
+) -> Result<Work, Ended>
+    requires { AreWorkers workers }
+    ensures planned { F.told files.old ≡ true → IfOk result (λ work. plan_for (F.held files.old) (Analyse file.now workers) ≡ Do work) }
     ensures limits { IfOk result IsWithinLimits }
-    ensures ended { F.told files.old ≡ true → IfErr result (IsEndOf (plan_for (F.held files.old) (Analyse file.now))) }
+    ensures ended { F.told files.old ≡ true → IfErr result (IsEndOf (plan_for (F.held files.old) (Analyse file.now workers))) }
     ensures status { IfErr result HasStatus }
     ensures unread { IfErr result (IsUnreadFile (λ last. last ≡ file.now) (F.faults files.old) (F.faults files.new) (F.last_failed files.new)) }
 {
     let system = load_system(alloc, files, file)?;
-    Ok(Work::Analyse { system })
+    Ok(Work::Analyse { system, workers })
+}
+
+/// A hammering's work.
+fn plan_hammering<F: Files>(
+    alloc: Global,
+    files: &mut F,
+    file: &str,
+    number: u64,
+    traces: u64,
+) -> Result<Work, Ended>
+    requires { AreTraces traces }
+    ensures planned { F.told files.old ≡ true → IfOk result (λ work. plan_for (F.held files.old) (Hammer file.now number traces) ≡ Do work) }
+    ensures limits { IfOk result IsWithinLimits }
+    ensures ended { F.told files.old ≡ true → IfErr result (IsEndOf (plan_for (F.held files.old) (Hammer file.now number traces))) }
+    ensures status { IfErr result HasStatus }
+    ensures unread { IfErr result (IsUnreadFile (λ last. last ≡ file.now) (F.faults files.old) (F.faults files.new) (F.last_failed files.new)) }
+{
+    let system = load_system(alloc, files, file)?;
+    Ok(Work::Hammer {
+        system,
+        number,
+        traces,
+    })
 }
 
 /// What a command asks for.
 fn plan_command<F: Files>(alloc: Global, files: &mut F, command: Command) -> Result<Work, Ended>
+    requires { IsWithin (asked command) }
     ensures planned { F.told files.old ≡ true → IfOk result (λ work. plan_for (F.held files.old) (asked command.entry) ≡ Do work) }
     ensures limits { IfOk result IsWithinLimits }
     ensures ended { F.told files.old ≡ true → IfErr result (IsEndOf (plan_for (F.held files.old) (asked command.entry))) }
@@ -226,9 +263,28 @@ fn plan_command<F: Files>(alloc: Global, files: &mut F, command: Command) -> Res
     ensures unread { IfErr result (IsUnreadFile (IsNamed (F.told files.old) (F.held files.old) (asked command.entry)) (F.faults files.old) (F.faults files.new) (F.last_failed files.new)) }
 {
     match command {
-        Command::Analyse { file } => plan_analysis(alloc, files, file),
-        Command::Session { file, script } => plan_session(alloc, files, file, script),
+        Command::Analyse { file, workers } => plan_analysis(alloc, files, file, workers),
+        Command::Session {
+            file,
+            script,
+            workers,
+        } => plan_session(alloc, files, file, script, workers),
         Command::Simulate { file, trace } => plan_simulation(alloc, files, file, trace),
+        Command::Generate { number, size } => Ok(Work::Generate { number, size }),
+        Command::Load {
+            number,
+            size,
+            workers,
+        } => Ok(Work::Load {
+            number,
+            size,
+            workers,
+        }),
+        Command::Hammer {
+            file,
+            number,
+            traces,
+        } => plan_hammering(alloc, files, file, number, traces),
     }
 }
 
@@ -240,7 +296,7 @@ pub fn plan<F: Files>(alloc: Global, words: &[String], files: &mut F) -> Result<
     ensures status { IfErr result HasStatus }
     ensures unread { IfErr result (IsUnreadCall (map string_bytes words.now) (F.told files.old) (F.held files.old) (F.faults files.old) (F.faults files.new) (F.last_failed files.new)) }
 {
-    match accept(words) {
+    match accept(alloc, words)? {
         Some(command) => plan_command(alloc, files, command),
         None => Err(Ended::Refused(Reply {
             status: 10,

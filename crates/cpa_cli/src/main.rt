@@ -23,7 +23,6 @@ mod session;
 mod sessions;
 #[cfg(test)]
 mod tests;
-mod words;
 mod work;
 
 use cpa_io::{RealFiles, RealSink};

@@ -7,10 +7,37 @@ use cpa_trace::Trace;
 /// What a call has to do, once all that it reads is accepted.
 #[derive(Drop)]
 pub enum Work {
-    /// The report of a system.
-    Analyse { system: System },
-    /// The reports of a system under a script.
-    Session { system: System, script: Script },
+    /// The report of a system, by 1 to 64 workers.
+    Analyse {
+        system: System,
+        workers: u32,
+    },
+    /// The reports of a system under a script, by 1 to 64 workers.
+    Session {
+        system: System,
+        script: Script,
+        workers: u32,
+    },
     /// What is observed of a system under a trace.
-    Simulate { system: System, trace: Trace },
+    Simulate {
+        system: System,
+        trace: Trace,
+    },
+    /// The file of the system that is made from a number below 2^32 and a size of at most 128.
+    Generate {
+        number: u64,
+        size: u32,
+    },
+    /// The summary of such a system's analysis, by 1 to 64 workers.
+    Load {
+        number: u64,
+        size: u32,
+        workers: u32,
+    },
+    /// What is observed of a system under 1 to 10,000 traces that are made from a number below 2^32.
+    Hammer {
+        system: System,
+        number: u64,
+        traces: u64,
+    },
 }

@@ -1,11 +1,11 @@
-use Rattle.std.proofs.Common.{◌≡◌, ◌∙◌, ap, map, string_bytes, inl, subst, IfOk}
+use Rattle.std.proofs.Common.{◌≡◌, ◌∙◌, ap, map, string_bytes, inl, inr, subst, IfOk}
 use Rattle.std.proofs.lemmas.Result.{IfOk-weaker, on_err_weaker}
 use Rattle.cpa_cli.specs.declared.ended.Reply.{Reply}
 use Rattle.cpa_cli.specs.Lines.{cannot_read}
 use Rattle.cpa_cli.specs.Output.{IsOutput}
-use Rattle.cpa_cli.proofs.SendLaws.{nothing-sent, sends-by, part-reply}
-use Rattle.cpa_cli.proofs.OutputLaws.{some-output}
-use Rattle.cpa_cli.proofs.PlanLaws.{refused-answer, unread-text, unread-sent}
+use Rattle.cpa_cli.proofs.SendLaws.{sends-by}
+use Rattle.cpa_cli.proofs.OutputLaws.{nothing-yet}
+use Rattle.cpa_cli.proofs.PlanLaws.{refused-answer, refused-part, unread-text, unread-part, unread-sent}
 use Rattle.cpa_cli.proofs.command.answer.Goals as goal
 
 pub returns-in-Err-Refused-clause-answered : goal.returns-in-Err-Refused-clause-answered
@@ -28,8 +28,8 @@ returns-in-Err-Refused-clause-part g c = λ told.
     let is = c.in-Err-Refused.reply-is in
     let text : c.as_slice.result.now ≡ c.in-Err-Refused.reply.text.items = value ∙ ap (λ (r : Reply). r.text.items) is in
     on_err_weaker c.send.result
-    (λ part. inl (part-reply (IsOutput words held) c.in-Err-Refused.reply.status c.as_slice.result.now (g.K.Sink.sent c.args.sink.now) (g.K.Sink.sent c.send.new.sink)
-    (refused-answer words held c.in-Err-Refused.field-0 c.in-Err-Refused.reply c.as_slice.result.now (c.in-Err-Refused.ensures.ended told) c.in-Err-Refused.field-0-is text) part))
+    (λ part. inl (refused-part words held c.in-Err-Refused.field-0 c.in-Err-Refused.reply c.as_slice.result.now (g.K.Sink.sent c.args.sink.now) (g.K.Sink.sent c.send.new.sink)
+    (c.in-Err-Refused.ensures.ended told) c.in-Err-Refused.field-0-is text part))
     c.send.ensures.part
 
 pub returns-in-Err-Unread-clause-unread_line : goal.returns-in-Err-Unread-clause-unread_line
@@ -43,4 +43,15 @@ returns-in-Err-Unread-clause-unread_line g c =
 
 pub returns-in-Err-Memory-clause-part : goal.returns-in-Err-Memory-clause-part
 returns-in-Err-Memory-clause-part g c = λ told.
-    inl (nothing-sent (IsOutput (map string_bytes c.args.words.now) (g.F.Files.held c.args.files.now)) (some-output (map string_bytes c.args.words.now) (g.F.Files.held c.args.files.now)) (g.K.Sink.sent c.args.sink.now))
+    inl (nothing-yet (map string_bytes c.args.words.now) (g.F.Files.held c.args.files.now) (g.K.Sink.sent c.args.sink.now))
+
+pub returns-in-Err-Unread-clause-part : goal.returns-in-Err-Unread-clause-part
+returns-in-Err-Unread-clause-part g c = λ told.
+    let value = c.as_slice-in-Err-Unread.ensures.value in
+    let line = c.in-Err-Unread.line-is in
+    let text : c.as_slice-in-Err-Unread.result.now ≡ c.in-Err-Unread.line.items = cc in
+    on_err_weaker c.send-in-Err-Unread.result
+    (λ part. inr (unread-part (map string_bytes c.args.words.now) (g.F.Files.told c.args.files.now) (g.F.Files.held c.args.files.now) (g.F.Files.faults c.args.files.now) (g.F.Files.faults c.plan.new.files)
+    (g.F.Files.last_failed c.plan.new.files) c.in-Err-Unread.field-0 c.in-Err-Unread.line c.as_slice-in-Err-Unread.result.now (g.K.Sink.sent c.args.sink.now) (g.K.Sink.sent c.send-in-Err-Unread.new.sink)
+    c.in-Err-Unread.ensures.unread c.in-Err-Unread.field-0-is text part))
+    c.send-in-Err-Unread.ensures.part

@@ -1,11 +1,11 @@
 use Rattle.cpa_trace.proofs.ReadingLaws.{if_err-same}
 use Rattle.cpa_cli.specs.declared.work.Work.TheVariants as work
-use Rattle.cpa_cli.specs.Words.{Analyse}
+use Rattle.cpa_words.specs.Words.{Analyse}
 use Rattle.cpa_cli.specs.Plan.{Do, plan_for}
 use Rattle.cpa_cli.specs.Ends.{IsEndOf}
 use Rattle.cpa_cli.proofs.loading.plan_analysis.Goals as goal
 
 pub returns-in_err-system-clause-ended : goal.returns-in_err-system-clause-ended
 returns-in_err-system-clause-ended g c = λ told.
-    if_err-same c.from_residual.result (IsEndOf (plan_for (g.F.Files.held c.args.files.now) (Analyse c.args.file.now))) c.in_err-system.field-0.0 c.from_residual.ensures.1
-    (c.in_err-system.ensures.ended told (λ s. Do (work.Analyse s)))
+    if_err-same c.from_residual.result (IsEndOf (plan_for (g.F.Files.held c.args.files.now) (Analyse c.args.file.now c.args.workers))) c.in_err-system.field-0.0 c.from_residual.ensures.1
+    (c.in_err-system.ensures.ended told (λ s. Do (work.Analyse s c.args.workers)))

@@ -2,7 +2,7 @@ use Rattle.std.proofs.Common.{◌∙◌, sym, subst}
 use Rattle.cpa_trace.proofs.ReadingLaws.{if_err-same}
 use Rattle.cpa_trace.specs.Trace.{TraceLists}
 use Rattle.cpa_cli.specs.declared.work.Work.TheVariants as work
-use Rattle.cpa_cli.specs.Words.{Simulate}
+use Rattle.cpa_words.specs.Words.{Simulate}
 use Rattle.cpa_cli.specs.Plan.{Held, Do, with_trace, plan_for}
 use Rattle.cpa_cli.specs.Ends.{IsEndOf}
 use Rattle.cpa_cli.proofs.loading.plan_simulation.Goals as goal
