@@ -12,6 +12,8 @@ mod command;
 mod ended;
 mod lines;
 mod loading;
+#[cfg(test)]
+mod made;
 mod performing;
 #[cfg(test)]
 mod rounds;
