@@ -1,6 +1,6 @@
 mod systems;
 
-ghost use Rattle.std.specs.Prelude.{length};
+ghost use Rattle.std.specs.Prelude.{◌≡◌, ◌≤◌, IfOk, length};
 ghost use Rattle.cpa_sim.specs.Outcome.{CanReplay};
 
 use crate::{hammer, hammer_text, load_text, make_system, make_trace};

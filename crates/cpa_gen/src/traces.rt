@@ -138,7 +138,11 @@ fn worst_trace(alloc: Global, system: &System) -> Result<Trace, NoMemory>
 }
 
 /// The times of all sources, drawn one source after the other.
-fn draw_all_times(alloc: Global, rng: &mut Pcg32, system: &System) -> Result<Vec<Vec<u64>>, NoMemory>
+fn draw_all_times(
+    alloc: Global,
+    rng: &mut Pcg32,
+    system: &System,
+) -> Result<Vec<Vec<u64>>, NoMemory>
     ensures times { IfOk result (λ v. map (λ w. w.items) v.items ≡ map (λ j. times_made (source_at system.now j) (late_drawn rng.old (before_source system.now j) (source_at system.now j))) (range_with_len 0 (length system.now.sources))) }
     ensures taken { OnOk result (rng.new ≡ after_draws rng.old (before_source system.now (length system.now.sources))) }
     ensures rules { IsSystem system.now }
