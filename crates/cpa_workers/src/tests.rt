@@ -99,7 +99,16 @@ fn workers_agree(rt: HostRuntime) -> Result<(), Fail> {
         bounds(&rt, alloc, &system, &mut Shared::new(3, NoGate))?,
         bounds(&rt, alloc, &system, &mut found)?,
     ];
-    assert!(rt; alone == [Some(Overload), Some(Overload), Some(Overload), Some(Overload), Some(Within(4))]);
+    assert!(rt;
+        alone
+            == [
+                Some(Overload),
+                Some(Overload),
+                Some(Overload),
+                Some(Overload),
+                Some(Within(4))
+            ]
+    );
     assert!(rt; found == [alone; 4]);
     Ok(())
 }
