@@ -79,7 +79,7 @@ fn edit_beside<H: Threads + Sync>(
         Err(EditFault::Refused(_)) => false,
         Err(EditFault::Memory) => return Err(Fail::from(AllocError)),
     };
-    let fresh = least_bounds(rt, alloc, session.system())?;
+    let fresh = least_bounds(rt, alloc, session.system(), &mut OneByOne)?;
     Ok((made, !are_equal(&fresh, session.bounds())))
 }
 

@@ -18,21 +18,23 @@ use crate::sending::{send, send_report};
 use crate::session::run_session;
 use crate::work::Work;
 use cpa_file::print_system;
-use cpa_fix::OneByOne;
+use cpa_fix::{OneByOne, Round};
 use cpa_gen::{hammer_text, load_text, make_system};
 use cpa_io::Sink;
 use cpa_model::System;
 use cpa_report::verdict;
 use cpa_sim::{replay, sim_text};
 use cpa_trace::Trace;
+use cpa_workers::{Gate, Shared};
 use std::alloc::Global;
 use std::thread::Threads;
 
 /// Sends the report of a system.
-fn analyse<H: Threads + Sync, K: Sink>(
+fn analyse<H: Threads + Sync, R: Round, K: Sink>(
     rt: &H,
     alloc: Global,
     system: &System,
+    round: &mut R,
     sink: &mut K,
 ) -> Result<u8, Stopped>
     ensures sends { IfOk result (λ status. Sends (IsReport system.now) status (K.sent sink.old) (K.sent sink.new)) }
@@ -42,7 +44,7 @@ fn analyse<H: Threads + Sync, K: Sink>(
     ensures failed { result ≡ Err stopped.Sink → Rose (K.faults sink.old) (K.faults sink.new) }
 {
     system.has_rules();
-    let bounds = least_bounds(rt, alloc, system)?;
+    let bounds = least_bounds(rt, alloc, system, round)?;
     send_report(alloc, system, &bounds, sink)
 }
 
@@ -80,11 +82,12 @@ fn generate<K: Sink>(alloc: Global, number: u64, size: u32, sink: &mut K) -> Res
 }
 
 /// Sends the summary of a made system's analysis.
-fn load<H: Threads + Sync, K: Sink>(
+fn load<H: Threads + Sync, R: Round, K: Sink>(
     rt: &H,
     alloc: Global,
     number: u64,
     size: u32,
+    round: &mut R,
     sink: &mut K,
 ) -> Result<u8, Stopped>
     requires { IsSize size }
@@ -95,7 +98,7 @@ fn load<H: Threads + Sync, K: Sink>(
     ensures failed { result ≡ Err stopped.Sink → Rose (K.faults sink.old) (K.faults sink.new) }
 {
     let system = make_system(alloc, number, size)?;
-    let bounds = least_bounds(rt, alloc, &system)?;
+    let bounds = least_bounds(rt, alloc, &system, round)?;
     let text = load_text(alloc, number, size, &system, &bounds)?;
     send(sink, verdict(&system, &bounds), text.as_slice())
 }
@@ -117,19 +120,22 @@ fn hammer<H: Threads + Sync, K: Sink>(
     ensures failed { result ≡ Err stopped.Sink → Rose (K.faults sink.old) (K.faults sink.new) }
 {
     system.has_rules();
-    let bounds = least_bounds(rt, alloc, system)?;
+    let bounds = least_bounds(rt, alloc, system, &mut OneByOne)?;
     let seen = cpa_gen::hammer(rt, alloc, system, &bounds, number, traces)?;
     let text = hammer_text(alloc, system, &bounds, &seen)?;
     send(sink, 0, text.as_slice())
 }
 
-/// Does the work, and sends what comes of it.
-pub fn perform<H: Threads + Sync, K: Sink>(
+/// Does the work, and sends what comes of it. Workers pass the gate before each analysis.
+pub fn perform<H: Threads + Sync, K: Sink, G: Gate>(
     rt: &H,
     alloc: Global,
     work: Work,
     sink: &mut K,
+    gate: G,
 ) -> Result<u8, Stopped>
+where
+    Shared<G>: Round,
     requires { IsWithinLimits work }
     ensures sends { IfOk result (λ status. Sends (IsDone work) status (K.sent sink.old) (K.sent sink.new)) }
     ensures status { IfOk result IsOfOutput }
@@ -138,13 +144,28 @@ pub fn perform<H: Threads + Sync, K: Sink>(
     ensures failed { result ≡ Err stopped.Sink → Rose (K.faults sink.old) (K.faults sink.new) }
 {
     match work {
-        Work::Analyse { system, .. } => analyse(rt, alloc, &system, sink),
-        Work::Session { system, script, .. } => {
-            run_session(rt, alloc, system, &script, &mut OneByOne, sink)
+        Work::Analyse { system, workers } => {
+            let mut round = Shared::new(workers, gate);
+            analyse(rt, alloc, &system, &mut round, sink)
+        }
+        Work::Session {
+            system,
+            script,
+            workers,
+        } => {
+            let mut round = Shared::new(workers, gate);
+            run_session(rt, alloc, system, &script, &mut round, sink)
         }
         Work::Simulate { system, trace } => simulate(alloc, &system, &trace, sink),
         Work::Generate { number, size } => generate(alloc, number, size, sink),
-        Work::Load { number, size, .. } => load(rt, alloc, number, size, sink),
+        Work::Load {
+            number,
+            size,
+            workers,
+        } => {
+            let mut round = Shared::new(workers, gate);
+            load(rt, alloc, number, size, &mut round, sink)
+        }
         Work::Hammer {
             system,
             number,

@@ -41,8 +41,8 @@ returns-in-Err-Unread-clause-unread_line g c =
     unread-sent c.send-in-Err-Unread.result (g.K.Sink.sent c.args.sink.now) (g.K.Sink.sent c.send-in-Err-Unread.new.sink) c.as_slice-in-Err-Unread.result.now (cannot_read (g.F.Files.last_failed c.plan.new.files))
     c.send-in-Err-Unread.ensures.sent (text ∙ told)
 
-pub returns-in-Err-Memory-clause-part : goal.returns-in-Err-Memory-clause-part
-returns-in-Err-Memory-clause-part g c = λ told.
+pub returns-clause-part : goal.returns-clause-part
+returns-clause-part g c = λ told.
     inl (nothing-yet (map string_bytes c.args.words.now) (g.F.Files.held c.args.files.now) (g.K.Sink.sent c.args.sink.now))
 
 pub returns-in-Err-Unread-clause-part : goal.returns-in-Err-Unread-clause-part
