@@ -10,6 +10,8 @@ mod car;
 mod cases;
 mod command;
 mod ended;
+#[cfg(test)]
+mod gates;
 mod lines;
 mod loading;
 #[cfg(test)]

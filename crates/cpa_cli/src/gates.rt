@@ -1,0 +1,172 @@
+//! What workers pass, and what a gate sees of them: that analyses run beside each other, and which there are.
+
+use crate::cases::{CROSSING_CHAINS, CROSSING_CHAINS_REPORT, ENDLESS_JITTER};
+use crate::command::run_with;
+use cpa_edit::{Edit, EditFault};
+use cpa_file::read_system;
+use cpa_fix::OneByOne;
+use cpa_io::{MemoryFiles, MemorySink};
+use cpa_local::Trail;
+use cpa_session::Session;
+use cpa_units::{Name, ResId};
+use cpa_workers::{Gate, Shared};
+use std::alloc::Global;
+use std::sync::Arc;
+use std::sync::atomic::AtomicU64;
+use std::sync::atomic::Ordering::SeqCst;
+use std::test::Fail;
+use std::thread::Threads;
+
+/// Holds each analysis until that of another resource has begun, for so many turns at most, and counts those that it held
+/// in vain. The first resource is one side, all others are the other.
+#[derive(Drop)]
+struct Meet {
+    first: AtomicU64,
+    others: AtomicU64,
+    missed: Arc<AtomicU64>,
+}
+
+/// Whether a count was seen to be more than 0.
+fn await_one(count: &AtomicU64) -> bool {
+    for _ in 0..100_000_000u32 {
+        if count.load(SeqCst) != 0 {
+            return true;
+        }
+    }
+    false
+}
+
+impl Gate for Meet {
+    fn enter(&self, res: ResId) {
+        let (own, other) = if res.0 == 0 {
+            (&self.first, &self.others)
+        } else {
+            (&self.others, &self.first)
+        };
+        own.store(1, SeqCst);
+        if !await_one(other) {
+            self.missed.fetch_add(1, SeqCst);
+        }
+    }
+}
+
+/// Counts the analyses of each of three resources.
+#[derive(Drop)]
+struct Counts {
+    seen: [Arc<AtomicU64>; 3],
+}
+
+impl Gate for Counts {
+    fn enter(&self, res: ResId) {
+        if res.0 < 3 {
+            self.seen[res.0 as usize].fetch_add(1, SeqCst);
+        }
+    }
+}
+
+/// The status and the bytes sent of a call over a system held as `sys` and a script held as `scr`.
+fn call_with<R: AllocGlobal + Threads + Sync>(
+    rt: &R,
+    words: &[&str],
+    system: &str,
+    script: &str,
+    gate: Box<dyn Gate>,
+) -> Result<(u8, Vec<u8>), Fail> {
+    let alloc = rt.alloc();
+    let mut held = Vec::new(alloc);
+    for (name, text) in [("sys", system), ("scr", script)] {
+        held.push((
+            String::from_str(alloc, name)?,
+            Vec::from_slice(alloc, text.as_bytes())?,
+        ))?;
+    }
+    let mut files = MemoryFiles::new(alloc, held, Vec::new(alloc));
+    let mut sink = MemorySink::new(alloc, 4096, Vec::new(alloc));
+    let mut given = Vec::new(alloc);
+    for word in words {
+        given.push(String::from_str(alloc, word)?)?;
+    }
+    let status = run_with(rt, alloc, given.as_slice(), &mut files, &mut sink, gate);
+    Ok((status, Vec::from_slice(alloc, sink.sent())?))
+}
+
+fn counter(alloc: Global) -> Result<Arc<AtomicU64>, Fail> {
+    Ok(Arc::new(alloc, AtomicU64::new(0))?)
+}
+
+/// A gate at which two meet, and the count of those that it held in vain.
+fn meeting(alloc: Global) -> Result<(Box<dyn Gate>, Arc<AtomicU64>), Fail> {
+    let missed = counter(alloc)?;
+    let gate = Meet {
+        first: AtomicU64::new(0),
+        others: AtomicU64::new(0),
+        missed: Arc::try_clone(&missed)?,
+    };
+    Ok((Box::new(alloc, gate)?, missed))
+}
+
+/// The first analyses of two workers are under way at the same time.
+#[test]
+fn two_analyses_meet(rt: HostRuntime) -> Result<(), Fail> {
+    let (gate, missed) = meeting(rt.alloc())?;
+    let words: &[&str] = &["analyse", "sys", "--workers", "2"];
+    let answer = call_with(&rt, words, CROSSING_CHAINS, "", gate)?;
+    assert!(rt;
+        missed.load(SeqCst) == 0 && answer.1.as_slice() == CROSSING_CHAINS_REPORT.as_bytes()
+    );
+    Ok(())
+}
+
+/// An edit's analyses are those of the round that it is handed.
+#[test]
+fn edit_meets(rt: HostRuntime) -> Result<(), Fail> {
+    let alloc = rt.alloc();
+    let system = read_system(alloc, CROSSING_CHAINS.as_bytes())?;
+    let mut trail = Trail::with_room(alloc, 512)?;
+    let mut session = Session::start(&rt, alloc, system, &mut OneByOne, &mut trail)?;
+    let (gate, missed) = meeting(alloc)?;
+    let mut round: Shared<Box<dyn Gate>> = Shared::new(2, gate);
+    let edit = Edit::Exec {
+        task: Name::read(alloc, b"a1")?,
+        best: 6,
+        worst: 10,
+    };
+    let made: Result<(), EditFault> = session.edit(&rt, alloc, &edit, &mut round, &mut trail);
+    assert!(rt; missed.load(SeqCst) == 0 && made.is_ok());
+    Ok(())
+}
+
+/// How often each of three resources is analysed in a call.
+fn count_calls<R: AllocGlobal + Threads + Sync>(
+    rt: &R,
+    words: &[&str],
+    script: &str,
+) -> Result<[u64; 3], Fail> {
+    let alloc = rt.alloc();
+    let seen = [counter(alloc)?, counter(alloc)?, counter(alloc)?];
+    let gate = Counts {
+        seen: [
+            Arc::try_clone(&seen[0])?,
+            Arc::try_clone(&seen[1])?,
+            Arc::try_clone(&seen[2])?,
+        ],
+    };
+    call_with(rt, words, ENDLESS_JITTER, script, Box::new(alloc, gate)?)?;
+    Ok([
+        seen[0].load(SeqCst),
+        seen[1].load(SeqCst),
+        seen[2].load(SeqCst),
+    ])
+}
+
+/// An edit of the task that stands alone has no other resource analysed again.
+#[test]
+fn edit_spares_rest(rt: HostRuntime) -> Result<(), Fail> {
+    let whole = count_calls(&rt, &["analyse", "sys", "--workers", "1"], "")?;
+    let words: &[&str] = &["session", "sys", "scr", "--workers", "1"];
+    let edited = count_calls(&rt, words, "exec c 2 5\n")?;
+    assert!(rt;
+        whole[0] > 0 && edited[0] == whole[0] && edited[1] == whole[1] && edited[2] > whole[2]
+    );
+    Ok(())
+}
