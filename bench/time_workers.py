@@ -114,7 +114,7 @@ def main():
             print(f"{name}: " + ", ".join(f"{workers} workers {found[workers] / 1000:.0f}" for workers in WORKERS)
                   + f"; 1 of none {found[1] / found[0]:.2f}, 2 as fast as 1 {found[1] / found[2]:.2f}", flush=True)
     if not counting:
-        print(f"board: {least(0, 1000, []) / 300:.1f} microseconds")
+        print(f"board: {least(0, 1000, []) / 1000:.1f} microseconds")
 
 
 if __name__ == "__main__":
