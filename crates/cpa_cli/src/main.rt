@@ -12,6 +12,8 @@ mod command;
 mod ended;
 #[cfg(test)]
 mod gates;
+#[cfg(test)]
+mod hostile;
 mod lines;
 mod loading;
 #[cfg(test)]
