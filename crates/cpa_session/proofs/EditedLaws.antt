@@ -43,7 +43,7 @@ none-broken rule later e =
     ]
 
 -- what an edit that isn't refused makes, and that no rule is broken
-unrefused : (s t : SystemLists) (e : Edit) → edited s e ≡ Ok t → (change s e ≡ t) × (refusal s e ≡ None)
+pub unrefused : (s t : SystemLists) (e : Edit) → edited s e ≡ Ok t → (change s e ≡ t) × (refusal s e ≡ None)
 unfolding edited
 unrefused s t e ok = by (refusal s e) ok
   where
@@ -251,3 +251,8 @@ unrefused-by s e r is other number = (
   λ same. absurd (other number same),
   λ made. absurd (let both : Ok (change s e) ≡ Err number = sym (rw is refl) ∙ made in let f : ⊥ = cc in f),
 )
+
+-- an edit that breaks no rule is refused with none
+pub never-refused : (s : SystemLists) (e : Edit) (number : EditRefusal) → refusal s e ≡ None → edited s e ≡ Err number → ⊥
+unfolding edited
+never-refused s e number is made = let both : Ok (change s e) ≡ Err number = sym (rw is refl) ∙ made in let f : ⊥ = cc in f

@@ -1,5 +1,6 @@
 pub mod AnewLaws
 pub mod CarriedLaws
+pub mod ChainsKept
 pub mod EditLaws
 pub mod EditedLaws
 pub mod KeepingLaws
