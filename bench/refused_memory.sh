@@ -1,20 +1,23 @@
 #!/usr/bin/env bash
-# Refuses each allocation of a call in turn, and looks at what it answers: the whole report with its status, or 30 and a
-# prefix of the report. Outside the gate: bash bench/refused_memory.sh [FILE], FILE being an accepted system.
+# Refuses each allocation of a call in turn, and looks at what it answers: the whole text with its status, or 30 and a prefix
+# of the text. Takes a case of each command, or the words that are given. Outside the gate:
+#   bash bench/refused_memory.sh [analyse FILE | session FILE SCRIPT | ..]
 top=$(cd "$(dirname "${BASH_SOURCE[0]}")/.." && pwd) || exit 1
-file=${1:-$top/examples/two_tasks.toml}
+program=$top/crates/cpa_cli/out/cpa_cli
 work=$(mktemp -d) || exit 1
 trap 'rm -rf "$work"' EXIT
 cat >"$work/refuse.c" <<'C'
 #define _GNU_SOURCE
 #include <dlfcn.h>
+#include <stdatomic.h>
 #include <stdlib.h>
-static long count, refused = -1;
+static atomic_long count;
+static long refused = -1;
 __attribute__((constructor)) static void begin(void) {
   const char *text = getenv("REFUSED");
   if (text) refused = atol(text);
 }
-static int refuses(void) { return refused >= 0 && count++ == refused; }
+static int refuses(void) { return refused >= 0 && atomic_fetch_add(&count, 1) == refused; }
 void *malloc(size_t size) {
   static void *(*real)(size_t);
   if (!real) real = (void *(*)(size_t))dlsym(RTLD_NEXT, "malloc");
@@ -27,29 +30,54 @@ void *realloc(void *old, size_t size) {
 }
 C
 cc -O1 -shared -fPIC -o "$work/refuse.so" "$work/refuse.c" -ldl || exit 1
-"$top/lokwurmi" analyse "$file" >"$work/whole"
-status=$?
-size=$(stat -c %s "$work/whole")
-wanting=0
-for ((n = 0; n < 100000; n++)); do
-  REFUSED=$n LD_PRELOAD=$work/refuse.so "$top/crates/cpa_cli/out/cpa_cli" analyse "$file" >"$work/part"
-  got=$?
-  sent=$(stat -c %s "$work/part")
-  if ((sent > size)) || ! cmp -s -n "$sent" "$work/whole" "$work/part"; then
-    echo "refused allocation $n: no prefix of the report"
-    exit 1
-  fi
-  if ((got == 30)); then
-    wanting=$((wanting + 1))
-  elif ((got == status && sent == size)); then
-    # The call made no such allocation, or did without it.
-    without=$((without + 1))
-    ((without == 20)) && break
-    continue
-  else
-    echo "refused allocation $n: status $got with $sent bytes"
-    exit 1
-  fi
-  without=0
-done
-echo "each refused allocation ended the call with 30 and a prefix, or with the whole report: $wanting with 30"
+[ -x "$program" ] || "$top/lokwurmi" analyse "$top/examples/two_tasks.toml" >"$work/first" || exit 1
+
+# Each allocation of a call in turn, at most so many, every so manieth.
+try() {
+  local most=$1 step=$2 status size n got sent wanting=0 without=0
+  shift 2
+  "$program" "$@" >"$work/whole"
+  status=$?
+  size=$(stat -c %s "$work/whole")
+  for ((n = 0; n < most * step; n += step)); do
+    REFUSED=$n LD_PRELOAD=$work/refuse.so "$program" "$@" >"$work/part"
+    got=$?
+    sent=$(stat -c %s "$work/part")
+    if ((sent > size)) || ! cmp -s -n "$sent" "$work/whole" "$work/part"; then
+      echo "$*: refused allocation $n: no prefix of the text"
+      exit 1
+    fi
+    if ((got == 30)); then
+      wanting=$((wanting + 1))
+      without=0
+    elif ((got == status && sent == size)); then
+      # The call made no such allocation, or did without it.
+      without=$((without + 1))
+      ((without == 20)) && break
+    else
+      echo "$*: refused allocation $n: status $got with $sent bytes"
+      exit 1
+    fi
+  done
+  echo "$*: $wanting refusals ended with 30 and a prefix, all others with status $status and the whole text"
+}
+
+if (($#)); then
+  try 100000 1 "$@"
+  exit
+fi
+cd "$top/examples" || exit 1
+printf 'report\nexec b 2 8\nreport\nexec b 2 7\nadd c cpu sb 1 2 3\nremove c\nreport\n' >"$work/script.txt"
+printf 'event,sa,0\nevent,sa,10\nevent,sb,0\nexec,b,5\n' >"$work/trace.csv"
+try 100000 1 analyse two_tasks.toml
+try 100000 1 analyse car_network.toml
+try 100000 1 analyse crossing_chains.toml --workers 2
+try 100000 1 session two_tasks.toml "$work/script.txt"
+try 100000 1 session crossing_chains.toml crossing_chains.script.txt
+try 100000 1 simulate two_tasks.toml "$work/trace.csv"
+try 100000 1 simulate crossing_chains.toml crossing_chains.trace.csv
+try 100000 1 generate 42 3
+try 100000 1 load 42 3
+try 100000 1 hammer two_tasks.toml 1 2
+try 1000 7 generate 1 128
+try 1000 7 load 1 128
