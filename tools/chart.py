@@ -58,9 +58,9 @@ def draw_paths(axes, paths):
     for place, it in enumerate(entries):
         if it["deadline"] is not None:
             axes.plot([it["deadline"]] * 2, [place - 0.42, place + 0.42], color="black", linewidth=1.6)
-    axes.set_title("Paths: from end to end, and deadlines", fontsize=9, loc="left")
+    axes.set_title("Paths from end to end, and deadlines", fontsize=9, loc="left")
     legend = [Patch(color=GREATEST), Patch(color=MISSED), Patch(facecolor="white", edgecolor=NONE, hatch="////"), Line2D([], [], color="black", marker="|", linestyle="none", markersize=9)]
-    axes.legend(legend, ["in time, or no deadline", "deadline missed", "no bound", "deadline"], fontsize=7, ncols=4, loc="upper left", bbox_to_anchor=(0, -0.6 / max(1.2, len(entries) * 0.16)), frameon=False)
+    axes.legend(legend, ["in time, or no deadline", "deadline missed", "no bound", "deadline"], fontsize=7, ncols=4, loc="lower right", bbox_to_anchor=(1.01, 0.99), borderaxespad=0.2, columnspacing=1, frameon=False)
 
 
 def draw_tasks(axes, tasks):
@@ -68,7 +68,7 @@ def draw_tasks(axes, tasks):
     order = sorted(tasks, key=lambda name: resources.index(tasks[name]["on"]))
     entries = [tasks[name] for name in order]
     rows(axes, [f"{tasks[name]['on']}  {name}" for name in order], entries, lambda it: HUES[resources.index(it["on"]) % len(HUES)], widest(entries))
-    axes.set_title("Tasks: bounds of the response times, resource by resource", fontsize=9, loc="left")
+    axes.set_title("Bounds of the response times of the tasks, resource by resource", fontsize=9, loc="left")
 
 
 def main():
