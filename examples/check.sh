@@ -1,25 +1,34 @@
 #!/usr/bin/env bash
-# Analyses each system of this folder, replays each trace and takes each script beside one, and compares what is printed
-# with what stands beside it.
+# Analyses each system of this folder, replays each trace and takes each script beside one, makes and hammers systems, and
+# compares what is printed with what stands beside it. It ends with 1 where something differs.
 cd "$(dirname "$0")" || exit 1
 status=0
+# tell WHAT TEXT WORD..: the command with these words writes the text
 tell() {
-  if cmp -s - "$2"; then
-    echo "$1: as told"
+  local what=$1 text=$2
+  shift 2
+  if ../lokwurmi "$@" | cmp -s - "$text"; then
+    echo "$what: as told"
   else
-    echo "$1: another text"
+    echo "$what: another text"
     status=1
   fi
 }
 for system in *.toml; do
-  tell "$system" "${system%.toml}.report.txt" < <(../lokwurmi analyse "$system")
+  tell "$system" "${system%.toml}.report.txt" analyse "$system"
 done
 for trace in *.trace.csv; do
   name=${trace%.trace.csv}
-  tell "$trace" "$name.run.txt" < <(../lokwurmi simulate "$name.toml" "$trace")
+  tell "$trace" "$name.run.txt" simulate "$name.toml" "$trace"
 done
 for script in *.script.txt; do
   name=${script%.script.txt}
-  tell "$script" "$name.session.txt" < <(../lokwurmi session "$name.toml" "$script")
+  tell "$script" "$name.session.txt" session "$name.toml" "$script"
 done
+# made_system.toml is what was made, with a head before it
+tell "generate 42 1" <(grep -v '^#' made_system.toml) generate 42 1
+tell "load 42 1" made_system.load.txt load 42 1
+tell "hammer long_window.toml 1 1" long_window.hammer.txt hammer long_window.toml 1 1
+tell "hammer crossing_chains.toml 1 20" crossing_chains.hammer.txt hammer crossing_chains.toml 1 20
+tell "analyse car_network.toml --workers 4" car_network.report.txt analyse car_network.toml --workers 4
 exit "$status"

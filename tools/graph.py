@@ -1,0 +1,131 @@
+#!/usr/bin/env python3
+"""Draws a system file as a graph for Graphviz: resources as boxes, with their tasks, and who activates whom.
+
+    python3 tools/graph.py [--chains] [--to PICTURE] FILE [REPORT]
+
+FILE is a system file that `lokwurmi analyse` accepts, REPORT what it wrote of it. With a report each task shows its bound,
+each path its greatest time and its verdict; a task without a bound, and the tasks of a path that misses its deadline, are
+marked. Without --to the graph is written in Graphviz's language dot; with it Graphviz draws the picture, whose name ends
+with .svg, .png or .pdf. With --chains tasks are left out that neither activate another nor are activated by one, and a
+resource tells how many these are.
+"""
+import argparse
+import os
+import shutil
+import subprocess
+import sys
+import tomllib
+
+from report import read_report
+
+HUES = ["#1b6ca8", "#b5541c", "#2e7d4f", "#7b4fa3", "#a3862a", "#a83254", "#2a8c8c", "#5b6770", "#8c5a2a", "#4f63c9", "#6f8c1f", "#c04f9b"]
+OVERLOADED, MISSED = "#f5b7b1", "#fbe3b5"
+
+
+def quoted(text):
+    return '"' + text.replace("\\", "\\\\").replace('"', '\\"') + '"'
+
+
+def read_system(file):
+    try:
+        with open(file, "rb") as it:
+            return tomllib.load(it)
+    except (OSError, tomllib.TOMLDecodeError) as fault:
+        sys.exit(f"{file}: can't be read: {fault}")
+
+
+def execution(task, resource):
+    """What a task's execution is, in ticks; that of a frame by its payload."""
+    if "payload" not in task:
+        return task["best"], task["worst"]
+    least, greatest = (67, 80) if task.get("extended") else (47, 55)
+    bit = resource.get("bit", 1)
+    return (least + 8 * task["payload"]) * bit, (greatest + 10 * task["payload"]) * bit
+
+
+def source_label(source):
+    label = f"{source['name']}\nperiod {source['period']}"
+    for key in ("jitter", "distance"):
+        if source.get(key):
+            label += f"\n{key} {source[key]}"
+    return label
+
+
+def graph(system, report, chains):
+    resources = {it["name"]: it for it in system.get("resource", [])}
+    tasks = {it["name"]: it for it in system.get("task", [])}
+    found_tasks, found_paths = report or ({}, {})
+    activates = {it["after"] for it in tasks.values()}
+    drawn = {name for name, it in tasks.items() if not chains or name in activates or it["after"] in tasks}
+    hue, missed = {}, set()
+    for place, path in enumerate(system.get("path", [])):
+        for name in path["tasks"]:
+            hue.setdefault(name, HUES[place % len(HUES)])
+            if found_paths.get(path["name"], {}).get("verdict") == "missed":
+                missed.add(name)
+    lines = ["digraph system {", '  rankdir = "LR"; newrank = true; ranksep = 1.6; nodesep = 0.12; outputorder = "edgesfirst"; labeljust = "l";', '  node [fontname = "Helvetica", fontsize = 10, shape = box, style = "rounded,filled", fillcolor = "white"];']
+    lines += ['  edge [arrowsize = 0.6, tailport = "e", headport = "w", color = "#5b6770"]; graph [fontname = "Helvetica", fontsize = 11];']
+    for place, (name, resource) in enumerate(resources.items()):
+        label = f"{name}: {resource['kind']}"
+        left_out = sum(1 for it in tasks.values() if it["on"] == name and it["name"] not in drawn)
+        if left_out:
+            label += f", and {left_out} task{'s' if left_out > 1 else ''} of its own"
+        lines.append(f"  subgraph cluster_{place} {{")
+        lines.append(f'    label = {quoted(label)}; style = "rounded,filled"; color = "#9aa5b1"; fillcolor = "{"#eef3f8" if resource["kind"] != "can" else "#f6f1e7"}";')
+        for task in tasks.values():
+            if task["on"] != name or task["name"] not in drawn:
+                continue
+            best, worst = execution(task, resource)
+            turn = f"priority {task['priority']}" if "priority" in task else f"slot {task['slot']}"
+            text, look = f"{task['name']}\n{best} to {worst}, {turn}", ""
+            if found := found_tasks.get(task["name"]):
+                text += f"\nbound {'overload' if found['worst'] is None else found['worst']}"
+                if found["worst"] is None:
+                    look = f', fillcolor = "{OVERLOADED}"'
+                elif task["name"] in missed:
+                    look = f', fillcolor = "{MISSED}"'
+            if task["name"] in hue:
+                look += f', color = "{hue[task["name"]]}", penwidth = 1.6'
+            lines.append(f"    {quoted('task ' + task['name'])} [label = {quoted(text)}{look}];".replace("\n", "\\n"))
+        lines.append("  }")
+    begins = {tasks[name]["after"] for name in drawn}
+    for source in system.get("source", []):
+        if source["name"] in begins:
+            lines.append(f"  {quoted('task ' + source['name'])} [label = {quoted(source_label(source))}, shape = plaintext, style = \"\"];".replace("\n", "\\n"))
+    for name in tasks:
+        if name in drawn:
+            before = tasks[name]["after"]
+            look = f' [color = "{hue[name]}", penwidth = 1.6]' if name in hue and before in hue else ""
+            lines.append(f"  {quoted('task ' + before)} -> {quoted('task ' + name)}{look};")
+    for place, path in enumerate(system.get("path", [])):
+        text = path["name"]
+        if found := found_paths.get(text):
+            text += ("\nno bound" if found["worst"] is None else f"\nat most {found['worst']}") + (f"\ndeadline {found['deadline']}: {found['verdict']}" if found["deadline"] is not None else "")
+        elif "deadline" in path:
+            text += f"\ndeadline {path['deadline']}"
+        if path["tasks"][-1] in drawn:
+            lines.append(f"  {quoted(f'path {place}')} [label = {quoted(text)}, shape = plaintext, style = \"\"];".replace("\n", "\\n"))
+            lines.append(f"  {quoted('task ' + path['tasks'][-1])} -> {quoted(f'path {place}')} [style = dashed, arrowhead = none];")
+    return "\n".join([*lines, "}"]) + "\n"
+
+
+def main():
+    reader = argparse.ArgumentParser(description="Draws a system file as a graph for Graphviz.")
+    reader.add_argument("--chains", action="store_true", help="leave out tasks that stand alone")
+    reader.add_argument("--to", metavar="PICTURE", help="draw it: a name that ends with .svg, .png or .pdf")
+    reader.add_argument("file", metavar="FILE", help="a system file")
+    reader.add_argument("report", metavar="REPORT", nargs="?", help="what lokwurmi analyse wrote of it")
+    words = reader.parse_args()
+    text = graph(read_system(words.file), words.report and read_report(words.report), words.chains)
+    if not words.to:
+        sys.stdout.write(text)
+        return
+    form = os.path.splitext(words.to)[1][1:]
+    if form not in ("svg", "png", "pdf"):
+        sys.exit(f"{words.to}: a picture's name ends with .svg, .png or .pdf")
+    if not shutil.which("dot"):
+        sys.exit("graph.py: Graphviz isn't here, whose program is dot: apt-get install graphviz")
+    subprocess.run(["dot", f"-T{form}", "-o", words.to], input=text, text=True, check=True)
+
+
+main()
