@@ -17,12 +17,13 @@ use std::sync::atomic::Ordering::SeqCst;
 use std::test::Fail;
 use std::thread::Threads;
 
-/// Holds each analysis until that of another resource has begun, for so many turns at most, and counts those that it held
-/// in vain. The first resource is one side, all others are the other.
+/// Holds each analysis until that of another resource has begun, for so many turns at most, and counts those that met
+/// another and those that it held in vain. The first resource is one side, all others are the other.
 #[derive(Drop)]
 struct Meet {
     first: AtomicU64,
     others: AtomicU64,
+    met: Arc<AtomicU64>,
     missed: Arc<AtomicU64>,
 }
 
@@ -44,9 +45,12 @@ impl Gate for Meet {
             (&self.others, &self.first)
         };
         own.store(1, SeqCst);
-        if !await_one(other) {
-            self.missed.fetch_add(1, SeqCst);
-        }
+        let count = if await_one(other) {
+            &self.met
+        } else {
+            &self.missed
+        };
+        count.fetch_add(1, SeqCst);
     }
 }
 
@@ -94,26 +98,40 @@ fn counter(alloc: Global) -> Result<Arc<AtomicU64>, Fail> {
     Ok(Arc::new(alloc, AtomicU64::new(0))?)
 }
 
-/// A gate at which two meet, and the count of those that it held in vain.
-fn meeting(alloc: Global) -> Result<(Box<dyn Gate>, Arc<AtomicU64>), Fail> {
-    let missed = counter(alloc)?;
+/// How many met at a gate, and how many it held in vain.
+#[derive(Drop)]
+struct Meetings {
+    met: Arc<AtomicU64>,
+    missed: Arc<AtomicU64>,
+}
+
+/// Whether two met, and none was held in vain.
+fn have_met(meetings: &Meetings) -> bool {
+    meetings.met.load(SeqCst) >= 2 && meetings.missed.load(SeqCst) == 0
+}
+
+/// A gate at which two meet.
+fn meeting(alloc: Global) -> Result<(Box<dyn Gate>, Meetings), Fail> {
+    let meetings = Meetings {
+        met: counter(alloc)?,
+        missed: counter(alloc)?,
+    };
     let gate = Meet {
         first: AtomicU64::new(0),
         others: AtomicU64::new(0),
-        missed: Arc::try_clone(&missed)?,
+        met: Arc::try_clone(&meetings.met)?,
+        missed: Arc::try_clone(&meetings.missed)?,
     };
-    Ok((Box::new(alloc, gate)?, missed))
+    Ok((Box::new(alloc, gate)?, meetings))
 }
 
 /// The first analyses of two workers are under way at the same time.
 #[test]
 fn two_analyses_meet(rt: HostRuntime) -> Result<(), Fail> {
-    let (gate, missed) = meeting(rt.alloc())?;
+    let (gate, meetings) = meeting(rt.alloc())?;
     let words: &[&str] = &["analyse", "sys", "--workers", "2"];
     let answer = call_with(&rt, words, CROSSING_CHAINS, "", gate)?;
-    assert!(rt;
-        missed.load(SeqCst) == 0 && answer.1.as_slice() == CROSSING_CHAINS_REPORT.as_bytes()
-    );
+    assert!(rt; have_met(&meetings) && answer.1.as_slice() == CROSSING_CHAINS_REPORT.as_bytes());
     Ok(())
 }
 
@@ -124,7 +142,7 @@ fn edit_meets(rt: HostRuntime) -> Result<(), Fail> {
     let system = read_system(alloc, CROSSING_CHAINS.as_bytes())?;
     let mut trail = Trail::with_room(alloc, 512)?;
     let mut session = Session::start(&rt, alloc, system, &mut OneByOne, &mut trail)?;
-    let (gate, missed) = meeting(alloc)?;
+    let (gate, meetings) = meeting(alloc)?;
     let mut round: Shared<Box<dyn Gate>> = Shared::new(2, gate);
     let edit = Edit::Exec {
         task: Name::read(alloc, b"a1")?,
@@ -132,7 +150,7 @@ fn edit_meets(rt: HostRuntime) -> Result<(), Fail> {
         worst: 10,
     };
     let made: Result<(), EditFault> = session.edit(&rt, alloc, &edit, &mut round, &mut trail);
-    assert!(rt; missed.load(SeqCst) == 0 && made.is_ok());
+    assert!(rt; have_met(&meetings) && made.is_ok());
     Ok(())
 }
 

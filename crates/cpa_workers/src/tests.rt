@@ -77,11 +77,12 @@ fn raise_is_seen(rt: HostRuntime) -> Result<(), Fail> {
 fn analyses_meet(rt: HostRuntime) -> Result<(), Fail> {
     let alloc = rt.alloc();
     let system = System::build(alloc, endless_jitter(alloc)?)?;
+    let met = Arc::new(alloc, AtomicU64::new(0))?;
     let missed = Arc::new(alloc, AtomicU64::new(0))?;
-    let gate = Meet::new(Arc::try_clone(&missed)?);
+    let gate = Meet::new(Arc::try_clone(&met)?, Arc::try_clone(&missed)?);
     let mut round: Shared<Box<dyn Gate>> = Shared::new(2, Box::new(alloc, gate)?);
     bounds(&rt, alloc, &system, &mut round)?;
-    assert!(rt; missed.load(SeqCst) == 0);
+    assert!(rt; met.load(SeqCst) >= 2 && missed.load(SeqCst) == 0);
     Ok(())
 }
 

@@ -58,19 +58,22 @@ impl Gate for InTurn {
 }
 
 /// Holds each analysis until that of another resource has begun. The first resource is one side, all
-/// others are the other. It counts those that were held too long: on one thread the first is.
+/// others are the other. It counts those that met another and those that were held too long: on one
+/// thread the first is.
 #[derive(Drop)]
 pub(crate) struct Meet {
     first: AtomicU64,
     others: AtomicU64,
+    met: Arc<AtomicU64>,
     missed: Arc<AtomicU64>,
 }
 
 impl Meet {
-    pub(crate) fn new(missed: Arc<AtomicU64>) -> Meet {
+    pub(crate) fn new(met: Arc<AtomicU64>, missed: Arc<AtomicU64>) -> Meet {
         Meet {
             first: AtomicU64::new(0),
             others: AtomicU64::new(0),
+            met,
             missed,
         }
     }
@@ -85,8 +88,7 @@ impl Gate for Meet {
             self.others.store(1, SeqCst);
             await_one(&self.first)
         };
-        if !came {
-            self.missed.fetch_add(1, SeqCst);
-        }
+        let count = if came { &self.met } else { &self.missed };
+        count.fetch_add(1, SeqCst);
     }
 }
