@@ -80,7 +80,8 @@ def main():
     rows = "\n".join(f"exec u1 1 {299 - k % 2}" for k in range(EDITS)) + "\n"
     many, _, _ = timed(system, rows)
     analysis, edit = none - reading, (many - none) / EDITS
-    print(f"one of 64    analysis {analysis * 1e3:.1f} ms, edit {edit * 1e3:.3f} ms, which is 1/{analysis / edit:.0f}  {last}")
+    print(f"one of 64    fresh call {none * 1e3:.1f} ms, of it analysis {analysis * 1e3:.1f} ms; edit {edit * 1e3:.3f} ms, "
+          f"which is 1/{none / edit:.0f} of the call and 1/{analysis / edit:.0f} of the analysis  {last}")
 
 
 if __name__ == "__main__":
