@@ -1,7 +1,7 @@
 #!/usr/bin/env python3
 """Measures how long `lokwurmi session` takes.
 
-Prints a line a case: the least time of some calls, the peak memory, the last line.
+Prints a line a case, from the least time of 5 to 200 calls: the peak memory, the last line.
 
 - car network: 10,000 edits of the greatest execution of a task on the network of a car, each of which reaches all eight
   resources, and 100 reports;
@@ -75,10 +75,10 @@ def main():
     least, peak, last = timed(*car())
     print(f"car network  {least:.3f} s {peak:6.1f} MB  {last}")
     system = largest(300)
-    reading, _, _ = timed(system + "[[path]]\n", "")
-    none, _, last = timed(system, "")
+    reading, _, _ = timed(system + "[[path]]\n", "", 200)
+    none, _, last = timed(system, "", 200)
     rows = "\n".join(f"exec u1 1 {299 - k % 2}" for k in range(EDITS)) + "\n"
-    many, _, _ = timed(system, rows)
+    many, _, _ = timed(system, rows, 20)
     analysis, edit = none - reading, (many - none) / EDITS
     print(f"one of 64    fresh call {none * 1e3:.1f} ms, of it analysis {analysis * 1e3:.1f} ms; edit {edit * 1e3:.3f} ms, "
           f"which is 1/{none / edit:.0f} of the call and 1/{analysis / edit:.0f} of the analysis  {last}")
