@@ -1,5 +1,7 @@
 #!/usr/bin/env python3
-"""Counts the instructions of whole calls of `analyse` on the car network and on the largest systems of each kind.
+"""Counts the instructions of whole calls of `analyse` on the car network, on the largest systems of each kind, and on systems
+with all tasks on one resource. For each program it prints those of the call, and those of what follows reading and judging:
+the call's less those of a call that refuses the same file with a path over an unknown task at its end.
 
     python3 bench/count_instructions.py [PROGRAM ..]
 
@@ -21,18 +23,29 @@ def count(program, file, folder):
     return int(line.split(":")[-1].replace(",", "")), done.stdout
 
 
+def refused(system):
+    """The same file with a path over an unknown task at its end."""
+    path = '{ name = "refused", tasks = ["nothing"] }'
+    if "\npath = [" in system:
+        return system.rstrip()[:-1] + path + "]\n"
+    return system + f"path = [{path}]\n"
+
+
 def main():
     programs = sys.argv[1:] or [PROGRAM]
     with tempfile.TemporaryDirectory() as folder:
         for name, make in systems().items():
             if "climb" in name:
                 continue
-            file = os.path.join(folder, "system.toml")
-            with open(file, "w") as out:
+            whole, part = os.path.join(folder, "system.toml"), os.path.join(folder, "refused.toml")
+            with open(whole, "w") as out:
                 out.write(make())
-            counts = [count(program, file, folder) for program in programs]
+            with open(part, "w") as out:
+                out.write(refused(make()))
+            counts = [count(program, whole, folder) for program in programs]
+            less = [count(program, part, folder)[0] for program in programs]
             same = "" if len({text for _, text in counts}) == 1 else "  other reports"
-            print(f"{name:24}" + "".join(f"{number:14,}" for number, _ in counts) + same)
+            print(f"{name:24}" + "".join(f"{number:14,}{number - judged:14,}" for (number, _), judged in zip(counts, less)) + same, flush=True)
 
 
 if __name__ == "__main__":

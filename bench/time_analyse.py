@@ -4,7 +4,8 @@
 Makes the largest allowed systems of each kind and of all kinds mixed (64 resources, 512 tasks in chains of 8), once with
 chains that follow the order of the resources and once with chains that cross in cycles, and three cycles of two chains on
 two resources with a limit of 10,000,000 ticks: one that settles, and two that climb until they are overloaded, in leaps
-and by some ninety ticks a round. With them goes the car network of examples/. Prints a line a system: the least time of some calls, the peak memory, the last line.
+and by some ninety ticks a round. With them go systems with all 512 tasks on one resource of each kind, in chains of 32, and the
+car network of examples/. Prints a line a system: the least time of some calls, the peak memory, the last line.
 
     python3 bench/time_analyse.py [NAME ..]
 """
@@ -51,6 +52,19 @@ def largest(kinds, place):
     return "\n".join(text + ["]"]) + "\n"
 
 
+def on_one(kind):
+    """512 tasks in 16 chains of 32 on one resource."""
+    text = ["format = 1", f'resource = [{{ name = "r", kind = "{kind}", limit = 10000000 }}]', "source = ["]
+    text += [f'{{ name = "s{c}", period = {20000 + 10 * c} }},' for c in range(16)]
+    text += ["]", "task = ["]
+    for c in range(16):
+        for k in range(32):
+            after = f"t{c}.{k - 1}" if k else f"s{c}"
+            turn = "slot = 3" if kind in ("round-robin", "tdma") else f"priority = {16 * k + c}"
+            text.append(f'{{ name = "t{c}.{k}", on = "r", after = "{after}", best = 1, worst = {1 + (c + k) % 3}, {turn} }},')
+    return "\n".join(text + ["]"]) + "\n"
+
+
 def crossing(first, second):
     """Two chains that cross on two preemptive resources, with these greatest executions of their first and second tasks."""
     return f"""format = 1
@@ -77,6 +91,8 @@ def systems():
         made[f"{name}-in-cycles"] = lambda kind=kind: largest([kind], place_in_cycles)
     made["mixed-in-order"] = lambda: largest(list(KINDS.values()), place_in_order)
     made["mixed-in-cycles"] = lambda: largest(list(KINDS.values()), place_in_cycles)
+    for name, kind in KINDS.items():
+        made[f"{name}-on-one"] = lambda kind=kind: on_one(kind)
     made["cycle-settles"] = lambda: crossing(50, 49)
     made["cycle-climbs-in-leaps"] = lambda: crossing(30, 60)
     made["cycle-climbs-slowly"] = lambda: crossing(45, 50)
