@@ -1,5 +1,7 @@
 """Calls of programs, timed: shared by the scripts of this folder."""
+import os
 import subprocess
+import tempfile
 import time
 
 
@@ -9,3 +11,25 @@ def call(command):
     done = subprocess.run(["/usr/bin/time", "-f", "%M", *command], capture_output=True, check=False)
     took = time.perf_counter() - start
     return took, done.stderr.decode().split()[-1], done.stdout.decode().split("\n")[0]
+
+
+def least(command, calls):
+    """The least seconds of some calls, the peak memory of one in megabytes, and the last line that it writes."""
+    seconds = []
+    for _ in range(calls):
+        start = time.perf_counter()
+        subprocess.run(command, capture_output=True, check=False)
+        seconds.append(time.perf_counter() - start)
+    done = subprocess.run(["/usr/bin/time", "-f", "%M", *command], capture_output=True, text=True, check=False)
+    lines = done.stdout.splitlines() or [""]
+    return min(seconds), int(done.stderr.split()[-1]) / 1024, lines[-1]
+
+
+def least_over(program, command, first, second, calls):
+    """The same for a command of a program over two files with these texts."""
+    with tempfile.TemporaryDirectory() as folder:
+        files = [os.path.join(folder, "first"), os.path.join(folder, "second")]
+        for path, text in zip(files, (first, second)):
+            with open(path, "w") as file:
+                file.write(text)
+        return least([program, command, *files], calls)

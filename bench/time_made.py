@@ -10,32 +10,19 @@ Prints a line a case: the least time of some calls, the peak memory of one, the 
     python3 bench/time_made.py
 """
 import os
-import subprocess
-import time
+
+from calls import least
 
 TOP = os.path.join(os.path.dirname(os.path.abspath(__file__)), "..")
 PROGRAM = os.path.join(TOP, "crates/cpa_cli/out/cpa_cli")
 CAR = os.path.join(TOP, "examples/car_network.toml")
 
 
-def timed(words, calls, processors=None):
-    """The least time of some calls, the peak memory in MB, the last line."""
-    command = (["taskset", "-c", processors] if processors else []) + words
-    least = None
-    for _ in range(calls):
-        begin = time.perf_counter()
-        subprocess.run(command, capture_output=True, check=False)
-        spent = time.perf_counter() - begin
-        least = spent if least is None else min(least, spent)
-    done = subprocess.run(["/usr/bin/env", "time", "-f", "%M", *command], capture_output=True, text=True, check=False)
-    lines = done.stdout.splitlines() or [""]
-    return least, int(done.stderr.split()[-1]) / 1024, lines[-1]
-
-
 def show(name, words, calls, processors=None):
-    least, peak, last = timed(words, calls, processors)
-    print(f"{name:34} {least * 1e3:10.2f} ms {peak:6.1f} MB  {last[:60]}")
-    return least
+    command = (["taskset", "-c", processors] if processors else []) + words
+    seconds, peak, last = least(command, calls)
+    print(f"{name:34} {seconds * 1e3:10.2f} ms {peak:6.1f} MB  {last[:60]}", flush=True)
+    return seconds
 
 
 def main():

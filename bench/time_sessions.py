@@ -13,9 +13,8 @@ Prints a line a case, from the least time of 5 to 200 calls: the peak memory, th
     python3 bench/time_sessions.py
 """
 import os
-import subprocess
-import tempfile
-import time
+
+from calls import least_over
 
 TOP = os.path.join(os.path.dirname(os.path.abspath(__file__)), "..")
 PROGRAM = os.path.join(TOP, "crates/cpa_cli/out/cpa_cli")
@@ -48,32 +47,12 @@ def largest(worst):
 
 
 def timed(system, script, calls=5):
-    with tempfile.TemporaryDirectory() as folder:
-        system_file, script_file = os.path.join(folder, "system.toml"), os.path.join(folder, "script.txt")
-        with open(system_file, "w") as file:
-            file.write(system)
-        with open(script_file, "w") as file:
-            file.write(script)
-        words = [PROGRAM, "session", system_file, script_file]
-        least, last = None, ""
-        for _ in range(calls):
-            begin = time.perf_counter()
-            done = subprocess.run(words, capture_output=True, text=True)
-            spent = time.perf_counter() - begin
-            least = spent if least is None else min(least, spent)
-            last = (done.stdout.splitlines() or [""])[-1]
-        child = subprocess.run(
-            ["/usr/bin/env", "python3", "-c",
-             "import resource, subprocess, sys\n"
-             "subprocess.run(sys.argv[1:], stdout=subprocess.DEVNULL)\n"
-             "print(resource.getrusage(resource.RUSAGE_CHILDREN).ru_maxrss)"] + words,
-            capture_output=True, text=True)
-        return least, int(child.stdout) / 1024, last
+    return least_over(PROGRAM, "session", system, script, calls)
 
 
 def main():
-    least, peak, last = timed(*car())
-    print(f"car network  {least:.3f} s {peak:6.1f} MB  {last}")
+    seconds, peak, last = timed(*car())
+    print(f"car network  {seconds:.3f} s {peak:6.1f} MB  {last}")
     system = largest(300)
     reading, _, _ = timed(system + "[[path]]\n", "", 200)
     none, _, last = timed(system, "", 200)

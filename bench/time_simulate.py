@@ -12,10 +12,9 @@ Makes traces as text and prints a line a case: the least time of some calls, the
     python3 bench/time_simulate.py [NAME ..]
 """
 import os
-import subprocess
 import sys
-import tempfile
-import time
+
+from calls import least_over
 
 TOP = os.path.join(os.path.dirname(os.path.abspath(__file__)), "..")
 PROGRAM = os.path.join(TOP, "crates/cpa_cli/out/cpa_cli")
@@ -66,32 +65,10 @@ CASES = {
 }
 
 
-def run(system, trace):
-    with tempfile.TemporaryDirectory() as folder:
-        sys_file, trace_file = os.path.join(folder, "system.toml"), os.path.join(folder, "trace.csv")
-        with open(sys_file, "w") as file:
-            file.write(system)
-        with open(trace_file, "w") as file:
-            file.write(trace)
-        least, last = None, ""
-        for _ in range(5):
-            begin = time.perf_counter()
-            done = subprocess.run([PROGRAM, "simulate", sys_file, trace_file], capture_output=True, text=True)
-            spent = time.perf_counter() - begin
-            least = spent if least is None else min(least, spent)
-            last = (done.stdout.splitlines() or [""])[-1]
-        child = subprocess.run(["/usr/bin/env", "python3", "-c",
-                                "import resource, subprocess, sys\n"
-                                "subprocess.run(sys.argv[1:], stdout=subprocess.DEVNULL)\n"
-                                "print(resource.getrusage(resource.RUSAGE_CHILDREN).ru_maxrss)",
-                                PROGRAM, "simulate", sys_file, trace_file], capture_output=True, text=True)
-        return least, int(child.stdout) / 1024, last
-
-
 def main():
     for name in sys.argv[1:] or CASES:
-        least, peak, last = run(*CASES[name]())
-        print(f"{name:12} {least:.3f} s {peak:6.1f} MB  {last}")
+        seconds, peak, last = least_over(PROGRAM, "simulate", *CASES[name](), 5)
+        print(f"{name:12} {seconds:.3f} s {peak:6.1f} MB  {last}")
 
 
 if __name__ == "__main__":
