@@ -20,8 +20,8 @@ use cpa_events::Model;
 use cpa_units::Bound;
 use cpa_units::limits::{MAX_BIT, MAX_EXECUTION, MAX_LIMIT};
 use cpa_window::{
-    BusyWindow, Demand, Rival, events_work, least_window, next_window, some_unbounded, work_in,
-    work_until,
+    BusyWindow, Demand, Rival, events_work, least_window, look_ahead, next_window, some_unbounded,
+    work_in, work_until,
 };
 
 #[cfg(test)]
@@ -150,7 +150,11 @@ fn greatest_response(own: &Model, starts: &FrameStarts, frames: u64, limit: u64)
         }
         greatest = greatest.max(end.saturating_sub(own.delta_minus(earlier + 1)));
         from = end;
-        steady = start.steady;
+        steady = if earlier + 1 < frames {
+            look_ahead(starts, earlier, start)
+        } else {
+            start.steady
+        };
     }
     Bound::Within(greatest)
 }

@@ -79,7 +79,8 @@ pub struct Reached {
 }
 
 /// The window of some jobs from 0 to `limit`. No length below `from` has room for them, and `from`
-/// has where it is below `steady`.
+/// has where it is below `steady`. Where that isn't so, no rival is asked how far it looks ahead:
+/// `look_ahead` does that for who goes on.
 pub fn next_window<B: BusyWindow>(
     busy: &B,
     jobs: u64,
@@ -98,11 +99,22 @@ pub fn next_window<B: BusyWindow>(
         return Some(Reached { end: from, steady });
     }
     match least_window(&OfJobs { busy, jobs }, from, limit) {
-        Some(end) => Some(Reached {
-            end,
-            steady: busy.steady_until(jobs, end),
-        }),
+        Some(end) => Some(Reached { end, steady: end }),
         None => None,
+    }
+}
+
+/// Up to which length the windows of further jobs are known after that of these jobs.
+pub fn look_ahead<B: BusyWindow>(busy: &B, jobs: u64, reached: Reached) -> u64
+    requires jobs { jobs ≤ MAX_LIMIT }
+    requires end { reached.end ≤ MAX_LIMIT }
+    requires steady { IsSteady (B.demand busy.now) (B.each busy.now) jobs reached.end reached.steady }
+    ensures { IsSteady (B.demand busy.now) (B.each busy.now) jobs reached.end result }
+{
+    if reached.end < reached.steady {
+        reached.steady
+    } else {
+        busy.steady_until(jobs, reached.end)
     }
 }
 
@@ -127,7 +139,7 @@ pub fn busy_window_bound<B: BusyWindow>(busy: &B, own: &Model, limit: u64) -> Bo
             return Bound::Within(greatest);
         }
         from = reached.end + each;
-        steady = reached.steady;
+        steady = look_ahead(busy, jobs, reached);
         arrival = next;
     }
     Bound::Overload

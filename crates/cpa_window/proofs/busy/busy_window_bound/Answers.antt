@@ -23,8 +23,8 @@ returns-then-reached-next g c =
 pub loop-jobs-preserved : goal.loop-jobs-preserved
 loop-jobs-preserved g c =
     let l = c.loop-jobs in
-    let ready = IsReady-next (g.B.BusyWindow.demand c.args.busy.now) (g.B.BusyWindow.each c.args.busy.now) l.jobs c.args.limit c.in-Some.reached.end c.in-Some.reached.steady (g.met.B.BusyWindow.monotone c.args.busy.now) (g.met.B.BusyWindow.more c.args.busy.now) (g.met.B.BusyWindow.some c.args.busy.now) c.in-Some.ensures.found c.in-Some.ensures.steady in
-    let onward = next (g.B.BusyWindow.demand c.args.busy.now) (g.B.BusyWindow.each c.args.busy.now) (delta_minus c.args.own.now) c.args.limit l.jobs l.from l.steady l.arrival l.greatest (omega arith) l.invariant c.in-Some.reached.end c.in-Some.ensures.found c.in-Some.reached.steady (omega arith) ready in
+    let ready = IsReady-next (g.B.BusyWindow.demand c.args.busy.now) (g.B.BusyWindow.each c.args.busy.now) l.jobs c.args.limit c.in-Some.reached.end c.look_ahead-steady.result (g.met.B.BusyWindow.monotone c.args.busy.now) (g.met.B.BusyWindow.more c.args.busy.now) (g.met.B.BusyWindow.some c.args.busy.now) c.in-Some.ensures.found c.look_ahead-steady.ensures in
+    let onward = next (g.B.BusyWindow.demand c.args.busy.now) (g.B.BusyWindow.each c.args.busy.now) (delta_minus c.args.own.now) c.args.limit l.jobs l.from l.steady l.arrival l.greatest (omega arith) l.invariant c.in-Some.reached.end c.in-Some.ensures.found c.look_ahead-steady.result (omega arith) ready in
     rw (c.delta_minus-next.ensures, c.max-greatest.ensures, c.each_job-each.ensures.value) onward
 
 pub returns : goal.returns
