@@ -2,9 +2,11 @@
 use Rattle.std.proofs.Common.{◌≡◌, ℕ, zero, suc, ◌+◌, ◌-◌, ◌*◌, ◌^◌, ◌<◌, ◌≤◌, ltb, refl, inl, inr, arith}
 use Rattle.std.proofs.lemmas.Bool.{cases_lt, ltb-true, lt-ltb}
 use Rattle.std.proofs.Math.Nat.{mul-le-mul, mul-le-mul_left, mul-le-mul_right, le_trans, le-max_left, le-max_right, max-le}
-use Rattle.cpa_units.specs.declared.limits.TheConstants.{MAX_EXECUTION}
+use Rattle.cpa_units.specs.declared.limits.TheConstants.{MAX_EXECUTION, MAX_LIMIT}
+use Rattle.cpa_units.specs.Numbers.{IsExecution}
 use Rattle.cpa_units.proofs.SearchLaws.{greatest_to-le, greatest_to-passes, greatest_to-greatest}
 use Rattle.cpa_events.specs.declared.Model.{Model}
+use Rattle.cpa_events.specs.declared.TheConstants.{MAX_MODEL_JITTER}
 use Rattle.cpa_events.specs.Events.{delta_minus, eta_plus, after_response, IsModel, IsNoDenser, IsModelInRange, HasJitterUpTo}
 
 -- ---- the least time of some events
@@ -142,6 +144,16 @@ after_response-is_model m best bound i = i
 -- a response adds no more jitter than its bound
 pub after_response-jitter : (m : Model) (best bound most : ℕ) → HasJitterUpTo m most → HasJitterUpTo (after_response m best bound) (most + bound)
 after_response-jitter m best bound most h = omega arith
+
+-- and what is sent on is in range where there is room for that
+pub after_response-in_range : (m : Model) (best bound : ℕ) → IsModelInRange m → IsExecution best → bound ≤ MAX_LIMIT → HasJitterUpTo m (MAX_MODEL_JITTER - bound) → IsModelInRange (after_response m best bound)
+after_response-in_range m best bound r some small room =
+    record {
+      regular = r.regular;
+      period = r.period;
+      jitter = omega arith;
+      distance = max-le (omega (arith, r.distance)) (omega (arith, some.small));
+    }
 
 -- what is sent on is denser where what comes in is, where the least execution is less and where the bound is greater
 pub after_response-denser : (m m' : Model) (best best' bound bound' : ℕ) → IsNoDenser m m' → best' ≤ best → bound ≤ bound' → IsNoDenser (after_response m best bound) (after_response m' best' bound')

@@ -24,7 +24,7 @@ use Rattle.cpa_local.specs.Solution.{IsClosed, IsVector, least_of}
 use Rattle.cpa_local.proofs.ResponseLaws.{bound_of-responses, bound_of-responses_past}
 use Rattle.cpa_local.proofs.SolutionLaws.{least_of-from_closed}
 use Rattle.cpa_depend.proofs.ChainLaws.{LeadsTo-in_range}
-use Rattle.cpa_depend.specs.Cone.{LeadsTo, directly, through, Reads, itself, earlier}
+use Rattle.cpa_depend.specs.Cone.{LeadsTo, LeadsBack, directly, through, Reads, itself, earlier}
 use Rattle.cpa_fix.specs.Readings.{AgreeOnReads, IsClean}
 use Rattle.cpa_fix.specs.Rounds.{AgreeOutside, HasNoFeedback}
 
@@ -92,6 +92,11 @@ module _ (s : SystemLists) (x y : List Bound) where
       unfolding response
       response_by_turns i on =
           ap (bound_at_input s x i) (own_input i on) ∙ bound_at_input-same i (input s y i) on
+
+-- where no task of r leads to another, what they receive doesn't depend on the bounds of r's own tasks
+pub input-outside : (s : SystemLists) (x y : List Bound) (r : ℕ) → (LeadsBack s r → ⊥) → AgreeOutside s r x y → (i : ℕ) → (task_at s i).res.0 ≡ r → input s x i ≡ input s y i
+input-outside s x y r apart agree =
+    own_input s x y r (λ i on j leads. agree j (λ back. apart (i, LeadsTo-in_range s j i leads, on, (j, leads, back))))
 
 -- the bounds of r's tasks depend on what r reads alone
 pub response-same : (s : SystemLists) (x y : List Bound) (r : ℕ) → AgreeOnReads s r x y → (i : ℕ) → (task_at s i).res.0 ≡ r → response s x i ≡ response s y i

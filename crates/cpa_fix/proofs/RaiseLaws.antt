@@ -1,5 +1,5 @@
 -- What raising one bound does.
-use Rattle.std.proofs.Common.{◌≡◌, ℕ, ◌+◌, ◌<◌, ◌≤◌, length, set, List, get_or, refl, sym, ap, ◌∙◌, inl, inr, subst, arith, get_or-set_same, get_or-set_other, length-set}
+use Rattle.std.proofs.Common.{◌≡◌, ℕ, ◌+◌, ◌<◌, ◌≤◌, length, set, List, Bool, true, false, get_or, refl, sym, ap, ◌∙◌, inl, inr, subst, arith, get_or-set_same, get_or-set_other, length-set}
 use Rattle.std.proofs.lemmas.Bool.{cases_eq}
 use Rattle.cpa_units.specs.declared.bound.Bound.{Bound}
 use Rattle.cpa_units.specs.declared.bound.Bound.TheVariants.{Within}
@@ -15,8 +15,10 @@ use Rattle.cpa_local.specs.Solution.{IsVector, least_of}
 use Rattle.cpa_units.proofs.BoundLaws.{IsAtMost_refl, IsAtMost_trans, IsNowhereAbove_trans, le-bound_max_left, le-bound_max_right, bound_max-le, bound_max-limit}
 use Rattle.cpa_local.proofs.ResponseLaws.{response-mono}
 use Rattle.cpa_local.proofs.SolutionLaws.{response-below, response-high}
-use Rattle.cpa_local.specs.Trails.{Marks, IsMarked, IsKept, NewMarksAre, AreMarked}
+use Rattle.cpa_local.specs.Trails.{Marks, IsMarked, IsKept, NewMarksAre, AreMarked, KnowsInputs}
 use Rattle.cpa_local.proofs.TrailLaws.{IsKept_trans, NewMarks_trans, NewMarks-weaker}
+use Rattle.cpa_depend.specs.Cone.{LeadsBack}
+use Rattle.cpa_fix.proofs.DependLaws.{input-outside}
 use Rattle.cpa_fix.specs.Rounds.{TasksOn, IsRisen, IsRaised, AgreeOutside}
 
 bound_of-set_same : (x : List Bound) (i : ℕ) (b : Bound) → i < length x → bound_of (set x i b) i ≡ b
@@ -112,4 +114,29 @@ raise-task s r tasks old new before after marked k rules are within h kept fresh
         | inl same ↦ mark (get_or tasks m no_id).0 (ap (λ (n : ℕ). (get_or tasks n no_id).0) same)
         | inr other ↦ kept.marks (get_or tasks m no_id).0 (raised.marked m (omega arith))
       ];
+    }
+
+-- ---- the inputs that are known
+
+-- the bound of a task of r that leads to no other of r bears on no input of r's tasks
+pub knows-raised : (s : SystemLists) (r i : ℕ) (x : List Bound) (b : Bound) (trail : Marks) → (LeadsBack s r → ⊥) → (task_at s i).res.0 ≡ r → KnowsInputs s r x trail → KnowsInputs s r (set x i b) trail
+knows-raised s r i x b trail apart on known j less there =
+    known j less there
+    ∙ input-outside s x (set x i b) r apart
+    (λ k off. elim (cases_eq k i) [
+      | inl same ↦ absurd (off (subst (λ (q : ℕ). (task_at s q).res.0 ≡ r) (sym same) on))
+      | inr other ↦ sym (bound_of-set_other x i k b other)
+    ]) j there
+
+-- the marks are what counts of a trail
+pub raised-relearned : (s : SystemLists) (r : ℕ) (tasks : List TaskId) (old new : List Bound) (before after later : Marks) (count : ℕ) → later.marks ≡ after.marks → later.room ≡ after.room
+    → IsRaisedTo s r tasks old new before after count → IsRaisedTo s r tasks old new before later count
+raised-relearned s r tasks old new before after later count same room h =
+    record {
+      risen = h.risen;
+      others = h.others;
+      answered = h.answered;
+      kept = record { marks = λ i m. subst (λ (ms : List Bool). get_or ms i false ≡ true) (sym same) (h.kept.marks i m); room = omega (arith, h.kept.room) };
+      fresh = λ i m. h.fresh i (subst (λ (ms : List Bool). get_or ms i false ≡ true) same m);
+      marked = λ k less. subst (λ (ms : List Bool). get_or ms (get_or tasks k no_id).0 false ≡ true) (sym same) (h.marked k less);
     }

@@ -1,16 +1,21 @@
 //! The analysis of one resource.
 
-ghost use Rattle.std.specs.Prelude.{◌<◌, ◌≤◌, ◌≡◌, length};
+ghost use Rattle.std.specs.Prelude.{◌<◌, ◌≤◌, ◌≡◌, ◌↔◌, IsTrue, length, slice_set};
 ghost use Rattle.std.specs.Bool.{OnFalse};
-ghost use Rattle.cpa_units.specs.Bounds.{IsNowhereAbove};
+ghost use Rattle.cpa_units.specs.Bounds.{IsNowhereAbove, bound_of, bound_max};
+ghost use Rattle.cpa_model.specs.SystemLists.{task_at};
+ghost use Rattle.cpa_local.specs.Local.{response};
 ghost use Rattle.cpa_local.specs.Solution.{IsVector};
+ghost use Rattle.cpa_local.specs.Trails.{IsKept, NewMarksAre, AreMarked, KnowsInputs};
+ghost use Rattle.cpa_depend.specs.Cone.{LeadsBack};
 ghost use Rattle.cpa_fix.specs.Readings.{IsSound};
 ghost use Rattle.cpa_fix.specs.Rounds.{IsRisen, IsRaised, AgreeOutside, HasNoFeedback};
 
+use crate::solving::is_same;
 use cpa_depend::leads_back;
-use cpa_local::{Trail, respond};
+use cpa_local::{Trail, respond_knowing};
 use cpa_model::{Kind, System};
-use cpa_units::{ResId, Vector};
+use cpa_units::{ResId, TaskId, Vector};
 
 /// Analyses a resource at a vector of the system nowhere above the least solution: raises the bounds
 /// on it in `x`, none above the least solution, and marks its tasks. `seen` is that vector too, and is
@@ -26,28 +31,67 @@ pub fn analyse(system: &System, res: ResId, seen: &mut Vector, x: &mut Vector, t
     ensures up { IsNowhereAbove seen.old seen.new }
     ensures outside { AgreeOutside system.now res.0 seen.new x.new }
 {
-    raise(system, res, x, trail);
-    bring_up(system, res, seen, x);
+    let back = leads_back(system, res);
+    raise(system, res, back, x, trail);
+    bring_up(system, res, back, seen, x);
 }
 
 /// Raises the bounds on a resource by its analysis, task after task, each at the vector as it is by then.
-fn raise(system: &System, res: ResId, x: &mut Vector, trail: &mut Trail)
+/// `back` tells whether a task of it leads to another.
+fn raise(system: &System, res: ResId, back: bool, x: &mut Vector, trail: &mut Trail)
     requires in_range { res.0 < length system.now.resources }
+    requires back { IsTrue back ↔ LeadsBack system.now res.0 }
     requires start { IsRisen system.now x.old x.old }
     requires room { length system.now.tasks ≤ trail.old.room }
     ensures { IsRaised system.now res.0 x.old x.new trail.old trail.new }
 {
+    trail.learn_inputs(system, res, x);
     for task in system.tasks_on(res) {
-        let bound = respond(system, *task, x, trail);
-        let raised = bound.max(x.get(*task));
-        x.set(*task, raised);
+        raise_task(system, res, *task, back, x, trail);
+    }
+}
+
+/// Raises the bound of a task on a resource by its analysis. The trail knows the inputs of the resource's
+/// tasks before and after.
+fn raise_task(
+    system: &System,
+    res: ResId,
+    task: TaskId,
+    back: bool,
+    x: &mut Vector,
+    trail: &mut Trail,
+)
+    requires in_range { res.0 < length system.now.resources }
+    requires there { task.0 < length system.now.tasks }
+    requires on { (task_at system.now task.0).res.0 ≡ res.0 }
+    requires back { IsTrue back ↔ LeadsBack system.now res.0 }
+    requires start { IsRisen system.now x.old x.old }
+    requires room { length system.now.tasks ≤ trail.old.room }
+    requires known { KnowsInputs system.now res.0 x.old trail.old }
+    ensures raised { x.new ≡ slice_set x.old task.0 (bound_max (response system.now x.old task.0) (bound_of x.old task.0)) }
+    ensures known { KnowsInputs system.now res.0 x.new trail.new }
+    ensures kept { IsKept trail.old trail.new }
+    ensures fresh { NewMarksAre trail.old trail.new (λ i. i ≡ task.0) }
+    ensures marked { AreMarked trail.new (λ i. i ≡ task.0) }
+{
+    system.has_rules();
+    let bound = respond_knowing(system, task, x, trail);
+    let before = x.get(task);
+    let raised = bound.max(before);
+    if is_same(raised, before) {
+        return;
+    }
+    x.set(task, raised);
+    if back {
+        trail.learn_inputs(system, res, x);
     }
 }
 
 /// Brings the vector at which a resource was analysed up to the raised one where the analysis would
 /// be the same there, so that the resource isn't dirty by its own bounds.
-fn bring_up(system: &System, res: ResId, seen: &mut Vector, x: &Vector)
+fn bring_up(system: &System, res: ResId, back: bool, seen: &mut Vector, x: &Vector)
     requires in_range { res.0 < length system.now.resources }
+    requires back { IsTrue back ↔ LeadsBack system.now res.0 }
     requires vector { IsVector system.now x.now }
     requires sound { IsSound system.now res.0 seen.old x.now }
     requires others { AgreeOutside system.now res.0 seen.old x.now }
@@ -55,18 +99,19 @@ fn bring_up(system: &System, res: ResId, seen: &mut Vector, x: &Vector)
     ensures up { IsNowhereAbove seen.old seen.new }
     ensures outside { AgreeOutside system.now res.0 seen.new x.now }
 {
-    if !has_feedback(system, res) {
+    if !has_feedback(system, res, back) {
         seen.assign(x);
     }
 }
 
 /// Whether the bounds on a resource may bear on its own analysis.
-fn has_feedback(system: &System, res: ResId) -> bool
-    requires { res.0 < length system.now.resources }
+fn has_feedback(system: &System, res: ResId, back: bool) -> bool
+    requires in_range { res.0 < length system.now.resources }
+    requires back { IsTrue back ↔ LeadsBack system.now res.0 }
     ensures { OnFalse result (HasNoFeedback system.now res.0) }
 {
     match system.resource(res).kind {
         Kind::RoundRobin => true,
-        _ => leads_back(system, res),
+        _ => back,
     }
 }

@@ -1,5 +1,6 @@
 pub mod BlockingLaws
 pub mod CycleLaws
+pub mod InputLaws
 pub mod ResponseLaws
 pub mod RivalLaws
 pub mod SolutionLaws

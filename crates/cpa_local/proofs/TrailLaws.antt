@@ -1,5 +1,5 @@
 -- What becomes of marks.
-use Rattle.std.proofs.Common.{◌≡◌, ℕ, zero, suc, ◌<◌, ◌⊎◌, Bool, true, false, List, [], ◌∷◌, length, replicate, slice_index_or, refl, inl, inr, arith}
+use Rattle.std.proofs.Common.{◌≡◌, ℕ, zero, suc, ◌<◌, ◌⊎◌, Bool, true, false, List, [], ◌∷◌, length, replicate, slice_index_or, slice_set, refl, inl, inr, arith}
 use Rattle.std.proofs.lemmas.Bool.{false≢true}
 use Rattle.cpa_local.specs.Trails.{Marks, IsKept, NewMarksAre}
 
@@ -8,6 +8,14 @@ pub unmarked : (n i : ℕ) → slice_index_or (replicate n false) i false ≡ fa
 unmarked zero i = refl
 unmarked (suc n) zero = refl
 unmarked (suc n) (suc i) = unmarked n i
+
+-- what is told known stays so where another is told
+pub still-known : (known : List Bool) (i place : ℕ) → slice_index_or known i false ≡ true → slice_index_or (slice_set known place true) i false ≡ true
+still-known [] i place e = e
+still-known (k ∷ ks) zero zero e = refl
+still-known (k ∷ ks) zero (suc place) e = e
+still-known (k ∷ ks) (suc i) zero e = e
+still-known (k ∷ ks) (suc i) (suc place) e = still-known ks i place e
 
 -- one call after another
 

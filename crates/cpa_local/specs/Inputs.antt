@@ -1,6 +1,6 @@
 -- Input models: what each task receives, along the chain of activations, at the bounds that a vector gives. Jitter grows
 -- along a chain as in Richter's thesis and SymTA/S.
-use Rattle.std.specs.Prelude.{ℕ, zero, suc, Option, Some, None, List}
+use Rattle.std.specs.Prelude.{ℕ, zero, suc, ◌≡◌, ◌<◌, Bool, true, false, Option, Some, None, List, length, slice_index_or}
 use Rattle.cpa_units.specs.declared.bound.Bound.{Bound}
 use Rattle.cpa_units.specs.declared.bound.Bound.TheVariants.{Within, Overload}
 use Rattle.cpa_units.specs.declared.limits.TheConstants.{MAX_CHAIN}
@@ -31,3 +31,11 @@ input_along s x (suc more) i = sent_by s x (input_along s x more) (task_at s i).
 -- the input of a task at a vector; none where it is unbounded
 unfoldable pub input : SystemLists → List Bound → ℕ → Option Model
 input s x i = input_along s x MAX_CHAIN i
+
+-- a list that has, by place, the input of each task on resource r
+abbrev pub AreInputs : SystemLists → ℕ → List Bound → List (Option Model) → Type 0
+AreInputs s r x inputs = (i : ℕ) → i < length s.tasks → (task_at s i).res.0 ≡ r → slice_index_or inputs i None ≡ input s x i
+
+-- a list that has the inputs of the tasks that are told known
+abbrev pub AreKnown : SystemLists → List Bound → List Bool → List (Option Model) → Type 0
+AreKnown s x known inputs = (i : ℕ) → slice_index_or known i false ≡ true → slice_index_or inputs i None ≡ input s x i

@@ -1,10 +1,20 @@
 -- The marks of a trail, and what a call may do to them.
-use Rattle.std.specs.Prelude.{ℕ, ◌≡◌, ◌≤◌, ◌⊎◌, Bool, true, false, List, slice_index_or}
+use Rattle.std.specs.Prelude.{ℕ, ◌≡◌, ◌≤◌, ◌⊎◌, Bool, true, false, List, Option, slice_index_or}
+use Rattle.cpa_units.specs.declared.bound.Bound.{Bound}
+use Rattle.cpa_events.specs.declared.Model.{Model}
+use Rattle.cpa_model.specs.SystemLists.{SystemLists}
+use Rattle.cpa_local.specs.Inputs.{AreInputs}
 
--- what contracts see of a trail: a mark for each task that was analysed, and for how many tasks it has room
+-- what contracts see of a trail: a mark for each task that was analysed, for how many tasks it has room, and the inputs
+-- that were worked out last
 pub record Marks : Type 0 where
   pub marks : List Bool
   pub room : ℕ
+  pub inputs : List (Option Model)
+
+-- it has the input of each task on resource r at x
+abbrev pub KnowsInputs : SystemLists → ℕ → List Bound → Marks → Type 0
+KnowsInputs s r x trail = AreInputs s r x trail.inputs
 
 -- the task has a mark
 abbrev pub IsMarked : Marks → ℕ → Type 0

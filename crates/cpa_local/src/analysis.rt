@@ -9,9 +9,10 @@ ghost use Rattle.cpa_model.specs.SystemLists.{task_at, resource_of, slot_of};
 ghost use Rattle.cpa_model.specs.Rules.{IsSystem};
 ghost use Rattle.cpa_local.specs.Local.{bound_by_kind, response};
 ghost use Rattle.cpa_local.specs.Solution.{IsVector};
-ghost use Rattle.cpa_local.specs.Trails.{IsKept, NewMarksAre, AreMarked};
+ghost use Rattle.cpa_local.specs.Inputs.{AreInputs};
+ghost use Rattle.cpa_local.specs.Trails.{IsKept, NewMarksAre, AreMarked, KnowsInputs};
 
-use crate::inputs::input;
+use crate::known::known_input;
 use crate::neighbours::{blocking, gather_higher, gather_others, slot};
 use crate::trail::Trail;
 use cpa_events::Model;
@@ -33,13 +34,38 @@ pub fn respond(system: &System, task: TaskId, x: &Vector, trail: &mut Trail) -> 
     ensures fresh { NewMarksAre trail.old trail.new (λ i. i ≡ task.0) }
     ensures marked { AreMarked trail.new (λ i. i ≡ task.0) }
 {
+    trail.learn_inputs(system, system.task(task).res, x);
+    respond_knowing(system, task, x, trail)
+}
+
+/// The same, where the trail knows the inputs of the tasks on the task's resource at the vector. It knows
+/// them still when it is done.
+#[tactic(auto, unfolding(crate::specs::Local::response))]
+pub fn respond_knowing(system: &System, task: TaskId, x: &Vector, trail: &mut Trail) -> Bound
+    requires there { task.0 < length system.now.tasks }
+    requires vector { IsVector system.now x.now }
+    requires room { length system.now.tasks ≤ trail.old.room }
+    requires known { KnowsInputs system.now (task_at system.now task.0).res.0 x.now trail.old }
+    ensures value { result ≡ response system.now x.now task.0 }
+    ensures inputs { trail.new.inputs ≡ trail.old.inputs }
+    ensures kept { IsKept trail.old trail.new }
+    ensures fresh { NewMarksAre trail.old trail.new (λ i. i ≡ task.0) }
+    ensures marked { AreMarked trail.new (λ i. i ≡ task.0) }
+{
     let tasks = system.tasks();
     prove!(tasks <= 512);
     trail.mark(task);
-    let Some(own) = input(system, task, x) else {
+    let Some(own) = known_input(system, task, x, trail.inputs.as_slice()) else {
         return Bound::Overload;
     };
-    bound_by_kind(system, task, x, &own, &mut trail.rivals)
+    bound_by_kind(
+        system,
+        task,
+        x,
+        &own,
+        trail.inputs.as_slice(),
+        &mut trail.rivals,
+    )
 }
 
 /// The bound of a task with a bounded input, by the rule of the resource's kind.
@@ -48,21 +74,24 @@ fn bound_by_kind(
     task: TaskId,
     x: &Vector,
     own: &Model,
+    inputs: &[Option<Model>],
     rivals: &mut Vec<Rival>,
 ) -> Bound
     requires rules { IsSystem system.now }
     requires there { task.0 < length system.now.tasks }
     requires vector { IsVector system.now x.now }
     requires own { IsModelInRange own.now }
+    requires long { length system.now.tasks ≤ length inputs.now }
+    requires known { AreInputs system.now (task_at system.now task.0).res.0 x.now inputs.now }
     requires room { length system.now.tasks ≤ vec_capacity rivals.old }
     ensures value { result ≡ bound_by_kind system.now x.now task.0 own.now (resource_of system.now task.0).kind }
     ensures room { vec_capacity rivals.new ≡ vec_capacity rivals.old }
 {
     match system.resource(system.task(task).res).kind {
-        Kind::Preemptive => preemptive(system, task, x, own, rivals),
-        Kind::RoundRobin => round_robin(system, task, x, own, rivals),
+        Kind::Preemptive => preemptive(system, task, x, own, inputs, rivals),
+        Kind::RoundRobin => round_robin(system, task, x, own, inputs, rivals),
         Kind::Tdma { gap: _ } => tdma(system, task, own),
-        Kind::Can { bit } => can(system, task, x, own, bit, rivals),
+        Kind::Can { bit } => can(system, task, x, own, bit, inputs, rivals),
     }
 }
 
@@ -72,16 +101,19 @@ fn preemptive(
     task: TaskId,
     x: &Vector,
     own: &Model,
+    inputs: &[Option<Model>],
     rivals: &mut Vec<Rival>,
 ) -> Bound
     requires there { task.0 < length system.now.tasks }
     requires vector { IsVector system.now x.now }
     requires own { IsModelInRange own.now }
+    requires long { length system.now.tasks ≤ length inputs.now }
+    requires known { AreInputs system.now (task_at system.now task.0).res.0 x.now inputs.now }
     requires room { length system.now.tasks ≤ vec_capacity rivals.old }
     ensures value { result ≡ bound_by_kind system.now x.now task.0 own.now Preemptive }
     ensures room { vec_capacity rivals.new ≡ vec_capacity rivals.old }
 {
-    gather_higher(system, task, x, rivals);
+    gather_higher(system, task, x, inputs, rivals);
     let entry = system.task(task);
     let limit = system.resource(entry.res).limit;
     cpa_spp::respond(own, entry.worst, rivals.as_slice(), limit)
@@ -93,17 +125,20 @@ fn round_robin(
     task: TaskId,
     x: &Vector,
     own: &Model,
+    inputs: &[Option<Model>],
     rivals: &mut Vec<Rival>,
 ) -> Bound
     requires there { task.0 < length system.now.tasks }
     requires kind { (resource_of system.now task.0).kind ≡ RoundRobin }
     requires vector { IsVector system.now x.now }
     requires own { IsModelInRange own.now }
+    requires long { length system.now.tasks ≤ length inputs.now }
+    requires known { AreInputs system.now (task_at system.now task.0).res.0 x.now inputs.now }
     requires room { length system.now.tasks ≤ vec_capacity rivals.old }
     ensures value { result ≡ bound_by_kind system.now x.now task.0 own.now RoundRobin }
     ensures room { vec_capacity rivals.new ≡ vec_capacity rivals.old }
 {
-    gather_others(system, task, x, rivals);
+    gather_others(system, task, x, inputs, rivals);
     let entry = system.task(task);
     let limit = system.resource(entry.res).limit;
     cpa_rr::respond(own, entry.worst, slot(entry.turn), rivals.as_slice(), limit)
@@ -130,17 +165,20 @@ fn can(
     x: &Vector,
     own: &Model,
     bit: u64,
+    inputs: &[Option<Model>],
     rivals: &mut Vec<Rival>,
 ) -> Bound
     requires there { task.0 < length system.now.tasks }
     requires kind { (resource_of system.now task.0).kind ≡ Can bit }
     requires vector { IsVector system.now x.now }
     requires own { IsModelInRange own.now }
+    requires long { length system.now.tasks ≤ length inputs.now }
+    requires known { AreInputs system.now (task_at system.now task.0).res.0 x.now inputs.now }
     requires room { length system.now.tasks ≤ vec_capacity rivals.old }
     ensures value { result ≡ bound_by_kind system.now x.now task.0 own.now (Can bit) }
     ensures room { vec_capacity rivals.new ≡ vec_capacity rivals.old }
 {
-    gather_higher(system, task, x, rivals);
+    gather_higher(system, task, x, inputs, rivals);
     let entry = system.task(task);
     let limit = system.resource(entry.res).limit;
     let longest = blocking(system, task);

@@ -49,7 +49,7 @@ fn input_along(system: &System, task: TaskId, x: &Vector, more: u32) -> Option<M
 }
 
 /// What comes out of a task with this input, which came along at most `more` tasks.
-fn output(
+pub(crate) fn output(
     system: &System,
     task: TaskId,
     x: &Vector,

@@ -7,6 +7,7 @@
 
 mod analysis;
 mod inputs;
+mod known;
 mod laws;
 mod neighbours;
 mod start;
@@ -14,7 +15,7 @@ mod start;
 mod tests;
 mod trail;
 
-pub use analysis::respond;
+pub use analysis::{respond, respond_knowing};
 pub use inputs::input;
 pub use laws::{least_solutions_have_laws, responses_are_monotone};
 pub use start::floor;

@@ -1,13 +1,15 @@
 //! The other tasks of a task's resource, as its analysis sees them. All times are in ticks.
 
-ghost use Rattle.std.specs.Prelude.{◌≡◌, ◌<◌, ◌≤◌, ◌==◌, ◌&&◌, nat_lt, map, length, vec_capacity, true};
+ghost use Rattle.std.specs.Prelude.{◌≡◌, ◌<◌, ◌≤◌, ◌==◌, ◌&&◌, nat_lt, map, length, vec_capacity, true, None, slice_index_or};
 ghost use Rattle.cpa_units.specs.declared.limits.TheConstants.{MAX_CYCLE, MAX_EXECUTION};
 ghost use Rattle.cpa_window.specs.Rivals.{IsRival, AreRivals};
 ghost use Rattle.cpa_model.specs.SystemLists.{task_at, priority_of, slot_of, is_higher, is_other, higher_tasks, other_tasks, blocking_of, cycle_of};
+ghost use Rattle.cpa_local.specs.Inputs.{AreInputs, input};
 ghost use Rattle.cpa_local.specs.Local.{rival_of};
 ghost use Rattle.cpa_local.specs.Solution.{IsVector};
 
-use crate::inputs::input;
+use crate::known::known_input;
+use cpa_events::Model;
 use cpa_model::{System, Turn};
 use cpa_units::{TaskId, Vector};
 use cpa_window::Rival;
@@ -51,16 +53,18 @@ fn is_other(system: &System, task: TaskId, other: TaskId) -> bool
     system.task(task).res.0 == system.task(other).res.0 && other.0 != task.0
 }
 
-/// A task as its neighbours see it, where the vector has its bound.
-fn rival(system: &System, task: TaskId, x: &Vector) -> Rival
+/// A task as its neighbours see it, where the vector has its bound and its input is known.
+fn rival(system: &System, task: TaskId, x: &Vector, inputs: &[Option<Model>]) -> Rival
     requires there { task.0 < length system.now.tasks }
     requires vector { IsVector system.now x.now }
+    requires long { length system.now.tasks ≤ length inputs.now }
+    requires known { slice_index_or inputs.now task.0 None ≡ input system.now x.now task.0 }
     ensures value { result ≡ rival_of system.now x.now task.0 }
     ensures in_range { IsRival result }
 {
     let entry = system.task(task);
     Rival {
-        model: input(system, task, x),
+        model: known_input(system, task, x, inputs),
         worst: entry.worst,
         slot: slot(entry.turn),
         bound: x.get(task),
@@ -68,9 +72,17 @@ fn rival(system: &System, task: TaskId, x: &Vector) -> Rival
 }
 
 /// Gathers the tasks of higher priority on the resource of a task, in the room that there is.
-pub(crate) fn gather_higher(system: &System, task: TaskId, x: &Vector, rivals: &mut Vec<Rival>)
+pub(crate) fn gather_higher(
+    system: &System,
+    task: TaskId,
+    x: &Vector,
+    inputs: &[Option<Model>],
+    rivals: &mut Vec<Rival>,
+)
     requires there { task.0 < length system.now.tasks }
     requires vector { IsVector system.now x.now }
+    requires long { length system.now.tasks ≤ length inputs.now }
+    requires known { AreInputs system.now (task_at system.now task.0).res.0 x.now inputs.now }
     requires room { length system.now.tasks ≤ vec_capacity rivals.old }
     ensures value { rivals.new.items ≡ map (rival_of system.now x.now) (higher_tasks system.now task.0) }
     ensures in_range { AreRivals rivals.new.items }
@@ -79,15 +91,23 @@ pub(crate) fn gather_higher(system: &System, task: TaskId, x: &Vector, rivals: &
     rivals.clear();
     for other in system.tasks_on(system.task(task).res) {
         if is_higher(system, task, *other) {
-            rivals.push_reserved(rival(system, *other, x));
+            rivals.push_reserved(rival(system, *other, x, inputs));
         }
     }
 }
 
 /// Gathers the other tasks on the resource of a task, in the room that there is.
-pub(crate) fn gather_others(system: &System, task: TaskId, x: &Vector, rivals: &mut Vec<Rival>)
+pub(crate) fn gather_others(
+    system: &System,
+    task: TaskId,
+    x: &Vector,
+    inputs: &[Option<Model>],
+    rivals: &mut Vec<Rival>,
+)
     requires there { task.0 < length system.now.tasks }
     requires vector { IsVector system.now x.now }
+    requires long { length system.now.tasks ≤ length inputs.now }
+    requires known { AreInputs system.now (task_at system.now task.0).res.0 x.now inputs.now }
     requires room { length system.now.tasks ≤ vec_capacity rivals.old }
     ensures value { rivals.new.items ≡ map (rival_of system.now x.now) (other_tasks system.now task.0) }
     ensures in_range { AreRivals rivals.new.items }
@@ -96,7 +116,7 @@ pub(crate) fn gather_others(system: &System, task: TaskId, x: &Vector, rivals: &
     rivals.clear();
     for other in system.tasks_on(system.task(task).res) {
         if is_other(system, task, *other) {
-            rivals.push_reserved(rival(system, *other, x));
+            rivals.push_reserved(rival(system, *other, x, inputs));
         }
     }
 }

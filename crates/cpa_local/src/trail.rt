@@ -1,19 +1,23 @@
-//! Which tasks were analysed, and room for what an analysis gathers.
+//! Which tasks were analysed, and room for what analyses gather.
 
 ghost use Rattle.std.specs.Prelude.{◌≡◌, ◌≤◌, ◌<◌, ◌↔◌, ℕ, IfOk, IsTrue};
 ghost use Rattle.cpa_units.specs.declared.limits.TheConstants.{MAX_TASKS};
 ghost use Rattle.cpa_local.specs.Trails.{IsMarked, IsKept, NewMarksAre, AreMarked};
 
+use cpa_events::Model as EventModel;
 use cpa_units::{NoMemory, TaskId};
 use cpa_window::Rival;
 use std::alloc::Global;
 use std::marker::Model;
 
-/// A mark for each task that was analysed, and room for the rivals of a task, taken beforehand.
+/// A mark for each task that was analysed, and room for the rivals of a task and for the inputs of a
+/// resource's tasks, taken beforehand.
 #[derive(Drop)]
 pub struct Trail {
     pub(crate) marks: [bool; 512],
     pub(crate) rivals: Vec<Rival>,
+    /// The inputs that were worked out last, by the tasks' places.
+    pub(crate) inputs: Vec<Option<EventModel>>,
 }
 
 impl Model for Trail {
@@ -22,9 +26,9 @@ impl Model for Trail {
 
     ghost Value = { Marks };
 
-    ghost view = { λ t. record { marks = t.marks; room = vec_capacity t.rivals } };
+    ghost view = { λ t. record { marks = t.marks; room = vec_capacity t.rivals; inputs = t.inputs.items } };
 
-    ghost invariant = { λ t. length t.marks ≡ 512 };
+    ghost invariant = { λ t. (length t.marks ≡ 512) × (length t.inputs.items ≡ vec_capacity t.rivals) };
 }
 
 impl Trail {
@@ -35,9 +39,11 @@ impl Trail {
         ensures none { IfOk result (λ t. (i : ℕ) → IsMarked t i → ⊥) }
     {
         let rivals = Vec::with_capacity(alloc, tasks as usize)?;
+        let inputs = vec![in alloc; None; tasks as usize]?;
         Ok(Trail {
             marks: [false; 512],
             rivals,
+            inputs,
         })
     }
 
@@ -68,6 +74,8 @@ impl Trail {
         ensures kept { IsKept self.old self.new }
         ensures fresh { NewMarksAre self.old self.new (λ i. i ≡ task.0) }
         ensures marked { AreMarked self.new (λ i. i ≡ task.0) }
+        ensures inputs { self.new.inputs ≡ self.old.inputs }
+        ensures room { self.new.room ≡ self.old.room }
     {
         self.marks[task.0 as usize] = true;
     }

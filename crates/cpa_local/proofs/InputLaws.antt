@@ -1,0 +1,131 @@
+-- Inputs along chains: they are in range, and a longer look along the chain finds no other.
+use Rattle.std.proofs.Common.{◌≡◌, ℕ, zero, suc, ◌+◌, ◌*◌, ◌<◌, ◌≤◌, length, List, Option, Some, None, refl, sym, ap, ◌∙◌, subst, arith}
+use Rattle.std.specs.Prelude.{IsSome, IfSome, option_map, slice_index_or}
+use Rattle.std.specs.Option.{ForSome}
+use Rattle.std.proofs.lemmas.Bool.{false≢true}
+use Rattle.std.proofs.lemmas.List.{get_or-map}
+use Rattle.cpa_units.specs.declared.bound.Bound.{Bound}
+use Rattle.cpa_units.specs.declared.bound.Bound.TheVariants.{Within, Overload}
+use Rattle.cpa_units.specs.declared.limits.TheConstants.{MAX_CHAIN, MAX_JITTER, MAX_LIMIT}
+use Rattle.cpa_units.specs.Bounds.{RespectsLimit, bound_of}
+use Rattle.cpa_units.specs.Numbers.{IsExecution}
+use Rattle.cpa_events.specs.declared.Model.{Model}
+use Rattle.cpa_events.specs.Events.{IsModelInRange, HasJitterUpTo}
+use Rattle.cpa_events.proofs.EventLaws.{after_response-in_range}
+use Rattle.cpa_model.specs.declared.entries.Task.{Task}
+use Rattle.cpa_model.specs.declared.entries.Activator.{Activator}
+use Rattle.cpa_model.specs.declared.entries.Activator.TheVariants.{Source as FromSource, Task as FromTask}
+use Rattle.cpa_model.specs.Chains.{chain_step, depth_within, activators}
+use Rattle.cpa_model.specs.Streams.{source_model}
+use Rattle.cpa_model.specs.SystemLists.{SystemLists, task_at, source_at, no_task, no_source}
+use Rattle.cpa_model.specs.Rules.{IsSystem, IsTask, IsSource, IsActivator}
+use Rattle.cpa_local.specs.Inputs.{output_of, sent_by, input_along, input}
+use Rattle.cpa_local.specs.Solution.{IsVector}
+
+-- an input that came along so many tasks: its numbers are within the limits
+abbrev pub IsWithin : ℕ → Option Model → Type 0
+IsWithin tasks None = Unit {0}
+IsWithin tasks (Some m) = IsModelInRange m × HasJitterUpTo m (MAX_JITTER + tasks * MAX_LIMIT)
+
+within-range : (tasks : ℕ) (o : Option Model) → IsWithin tasks o → ForSome o IsModelInRange
+within-range tasks o h m e = (subst (IsWithin tasks) e h).0
+
+within-if : (tasks : ℕ) (o : Option Model) → IsWithin tasks o → IfSome o IsModelInRange
+within-if tasks None h = tt
+within-if tasks (Some m) h = h.0
+
+within-jitter : (tasks : ℕ) (o : Option Model) → IsWithin tasks o → ForSome o (λ m. HasJitterUpTo m (MAX_JITTER + tasks * MAX_LIMIT))
+within-jitter tasks o h m e = (subst (IsWithin tasks) e h).1
+
+source-within : (tasks : ℕ) (s : SystemLists) (k : ℕ) → IsSource (source_at s k) → IsWithin tasks (Some (source_model s k))
+source-within tasks s k r =
+    let jitter : (source_model s k).jitter ≤ MAX_JITTER = r.jitter in (
+      record { regular = omega (arith, r.some_period); period = r.period; jitter = omega arith; distance = omega (arith, r.distance, r.period) },
+      omega arith,
+    )
+
+output-within : (tasks best : ℕ) (bound : Bound) (o : Option Model) → tasks < MAX_CHAIN → IsExecution best → RespectsLimit MAX_LIMIT bound → IsWithin tasks o → IsWithin (suc tasks) (output_of best bound o)
+output-within tasks best (Within bound) (Some m) few some limit h =
+    let small : bound ≤ MAX_LIMIT = limit in
+    let jitter : m.jitter ≤ MAX_JITTER + tasks * MAX_LIMIT = h.1 in
+    (after_response-in_range m best bound h.0 some small (omega arith), omega arith)
+output-within tasks best (Within bound) None few some limit h = tt
+output-within tasks best Overload (Some m) few some limit h = tt
+output-within tasks best Overload None few some limit h = tt
+
+module _ (s : SystemLists) (x : List Bound) (rules : IsSystem s) (vector : IsVector s x) where
+  best-is : (i : ℕ) → i < length s.tasks → IsExecution (task_at s i).best
+  best-is i h =
+      let t : IsTask s (task_at s i) = rules.tasks i no_task h in
+      record { some = omega (arith, t.some_best); small = omega (arith, t.ordered, t.worst) }
+
+  sent-within : (tasks : ℕ) (a : Activator) → tasks < MAX_CHAIN → IsActivator s a → ((j : ℕ) → j < length s.tasks → IsWithin tasks (input_along s x tasks j)) → IsWithin (suc tasks) (sent_by s x (input_along s x tasks) a)
+  sent-within tasks (FromSource k) few there before = source-within (suc tasks) s k.0 (rules.sources k.0 no_source there)
+  sent-within tasks (FromTask j) few there before =
+      output-within tasks (task_at s j.0).best (bound_of x j.0) (input_along s x tasks j.0) few (best-is j.0 there) (vector.high j.0 there) (before j.0 there)
+
+  pub along-within : (tasks i : ℕ) → tasks ≤ MAX_CHAIN → i < length s.tasks → IsWithin tasks (input_along s x tasks i)
+  along-within zero i few there = tt
+  along-within (suc tasks) i few there =
+      let t : IsTask s (task_at s i) = rules.tasks i no_task there in
+      sent-within tasks (task_at s i).after (omega arith) t.activated (λ j h. along-within tasks j (omega arith) h)
+
+  pub input-in_range : (i : ℕ) → i < length s.tasks → IfSome (input s x i) IsModelInRange
+  unfolding input
+  input-in_range i there = within-if MAX_CHAIN (input_along s x MAX_CHAIN i) (along-within MAX_CHAIN i (omega arith) there)
+
+  -- ---- where a chain is met within so many tasks, a task more changes nothing
+
+  link-at : (i : ℕ) → i < length s.tasks → slice_index_or (activators s.tasks) i None ≡ Some (task_at s i).after
+  link-at i h = get_or-map (λ (t : Task). Some t.after) s.tasks i no_task None h
+
+  some-more : (f : ℕ → Option ℕ) (j : ℕ) → IsSome (option_map suc (f j)) → IsSome (f j)
+  some-more f j h = by (f j) h
+    where
+      by : (o : Option ℕ) → IsSome (option_map suc o) → IsSome o
+      by None e = e
+      by (Some d) e = refl
+
+  sent-settled : (tasks : ℕ) (a : Activator) → IsActivator s a → IsSome (chain_step (Some a) (depth_within (activators s.tasks) tasks))
+      → ((j : ℕ) → j < length s.tasks → IsSome (depth_within (activators s.tasks) tasks j) → input_along s x (suc tasks) j ≡ input_along s x tasks j)
+      → sent_by s x (input_along s x (suc tasks)) a ≡ sent_by s x (input_along s x tasks) a
+  sent-settled tasks (FromSource k) there met before = refl
+  sent-settled tasks (FromTask j) there met before =
+      ap (output_of (task_at s j.0).best (bound_of x j.0)) (before j.0 there (some-more (depth_within (activators s.tasks) tasks) j.0 met))
+
+  along-settled : (tasks i : ℕ) → i < length s.tasks → IsSome (depth_within (activators s.tasks) tasks i) → input_along s x (suc tasks) i ≡ input_along s x tasks i
+  unfolding depth_within
+  along-settled zero i there met = absurd (false≢true met)
+  along-settled (suc tasks) i there met =
+      let t : IsTask s (task_at s i) = rules.tasks i no_task there in
+      let step : IsSome (chain_step (Some (task_at s i).after) (depth_within (activators s.tasks) tasks)) =
+      subst (λ o. IsSome (chain_step o (depth_within (activators s.tasks) tasks))) (link-at i there) met in
+      sent-settled tasks (task_at s i).after t.activated step (along-settled tasks)
+
+  -- what a task sends on is found from its own input
+  pub input-next : (i j : ℕ) → i < length s.tasks → (task_at s i).after ≡ FromTask (record { 0 = j }) → j < length s.tasks → input s x i ≡ output_of (task_at s j).best (bound_of x j) (input s x j)
+  unfolding input depth_within
+  input-next i j there after less =
+      let met : IsSome (depth_within (activators s.tasks) MAX_CHAIN i) = rules.chains i there in
+      let step : IsSome (chain_step (Some (task_at s i).after) (depth_within (activators s.tasks) 31)) =
+      subst (λ o. IsSome (chain_step o (depth_within (activators s.tasks) 31))) (link-at i there) met in
+      let here : IsSome (depth_within (activators s.tasks) 31 j) =
+      some-more (depth_within (activators s.tasks) 31) j (subst (λ a. IsSome (chain_step (Some a) (depth_within (activators s.tasks) 31))) after step) in
+      ap (sent_by s x (input_along s x 31)) after ∙ ap (output_of (task_at s j).best (bound_of x j)) (sym (along-settled 31 j less here))
+
+  -- the input of an earlier task has room for what its response adds
+  input-earlier : (i j : ℕ) → i < length s.tasks → (task_at s i).after ≡ FromTask (record { 0 = j }) → j < length s.tasks → IsWithin 31 (input s x j)
+  unfolding input depth_within
+  input-earlier i j there after less =
+      let met : IsSome (depth_within (activators s.tasks) MAX_CHAIN i) = rules.chains i there in
+      let step : IsSome (chain_step (Some (task_at s i).after) (depth_within (activators s.tasks) 31)) =
+      subst (λ o. IsSome (chain_step o (depth_within (activators s.tasks) 31))) (link-at i there) met in
+      let here : IsSome (depth_within (activators s.tasks) 31 j) =
+      some-more (depth_within (activators s.tasks) 31) j (subst (λ a. IsSome (chain_step (Some a) (depth_within (activators s.tasks) 31))) after step) in
+      subst (IsWithin 31) (sym (along-settled 31 j less here)) (along-within 31 j (omega arith) less)
+
+  pub earlier-range : (i j : ℕ) → i < length s.tasks → (task_at s i).after ≡ FromTask (record { 0 = j }) → j < length s.tasks → ForSome (input s x j) IsModelInRange
+  earlier-range i j there after less = within-range 31 (input s x j) (input-earlier i j there after less)
+
+  pub earlier-jitter : (i j : ℕ) → i < length s.tasks → (task_at s i).after ≡ FromTask (record { 0 = j }) → j < length s.tasks → ForSome (input s x j) (λ m. HasJitterUpTo m (MAX_JITTER + 31 * MAX_LIMIT))
+  earlier-jitter i j there after less = within-jitter 31 (input s x j) (input-earlier i j there after less)

@@ -1,0 +1,90 @@
+//! The inputs of a resource's tasks, worked out once for all their analyses.
+
+ghost use Rattle.std.specs.Prelude.{◌≡◌, ◌<◌, ◌≤◌, List, length, slice_index_or, None, IfSome};
+ghost use Rattle.std.specs.Option.{ForSome};
+ghost use Rattle.cpa_events.specs.Events.{IsModelInRange};
+ghost use Rattle.cpa_model.specs.SystemLists.{task_at};
+ghost use Rattle.cpa_local.specs.Inputs.{AreInputs, AreKnown, input};
+ghost use Rattle.cpa_local.specs.Solution.{IsVector};
+ghost use Rattle.cpa_local.specs.Trails.{KnowsInputs};
+
+use crate::inputs::{input, output};
+use crate::trail::Trail;
+use cpa_events::Model;
+use cpa_model::{Activator, System};
+use cpa_units::limits::MAX_CHAIN;
+use cpa_units::{ResId, TaskId, Vector};
+
+impl Trail {
+    /// Works out the input of each task on a resource at a vector, in place of those before. The place
+    /// is below the number of resources, and the trail has room for all tasks.
+    pub fn learn_inputs(&mut self, system: &System, res: ResId, x: &Vector)
+        requires there { res.0 < length system.now.resources }
+        requires vector { IsVector system.now x.now }
+        requires room { length system.now.tasks ≤ self.old.room }
+        ensures known { KnowsInputs system.now res.0 x.now self.new }
+        ensures marks { self.new.marks ≡ self.old.marks }
+        ensures room { self.new.room ≡ self.old.room }
+    {
+        learn(system, res, x, &mut self.inputs);
+    }
+}
+
+/// The input of a task, from a list that has it.
+pub(crate) fn known_input(
+    system: &System,
+    task: TaskId,
+    x: &Vector,
+    inputs: &[Option<Model>],
+) -> Option<Model>
+    requires there { task.0 < length system.now.tasks }
+    requires vector { IsVector system.now x.now }
+    requires long { length system.now.tasks ≤ length inputs.now }
+    requires known { slice_index_or inputs.now task.0 None ≡ input system.now x.now task.0 }
+    ensures value { result ≡ input system.now x.now task.0 }
+    ensures in_range { IfSome result IsModelInRange }
+{
+    system.has_rules();
+    inputs[task.0 as usize]
+}
+
+/// Works out the input of each task on a resource. Along a chain that stays on it, each is found from the
+/// one before.
+fn learn(system: &System, res: ResId, x: &Vector, inputs: &mut Vec<Option<Model>>)
+    requires there { res.0 < length system.now.resources }
+    requires vector { IsVector system.now x.now }
+    requires long { length system.now.tasks ≤ length inputs.old.items }
+    ensures known { AreInputs system.now res.0 x.now inputs.new.items }
+    ensures long { length inputs.new.items ≡ length inputs.old.items }
+{
+    let mut known = [false; 512];
+    for task in system.tasks_on(res) {
+        let place = task.0 as usize;
+        inputs[place] = next_input(system, *task, x, &known, inputs.as_slice());
+        known[place] = true;
+    }
+}
+
+/// The input of a task, from that of the task before it where that is known.
+fn next_input(
+    system: &System,
+    task: TaskId,
+    x: &Vector,
+    known: &[bool; 512],
+    inputs: &[Option<Model>],
+) -> Option<Model>
+    requires there { task.0 < length system.now.tasks }
+    requires vector { IsVector system.now x.now }
+    requires long { length system.now.tasks ≤ length inputs.now }
+    requires known { AreKnown system.now x.now known.now inputs.now }
+    ensures { result ≡ input system.now x.now task.0 }
+{
+    system.has_rules();
+    match system.task(task).after {
+        Activator::Task(earlier) if known[earlier.0 as usize] => {
+            let sent = inputs[earlier.0 as usize];
+            output(system, earlier, x, sent, MAX_CHAIN as u32 - 1)
+        }
+        _ => input(system, task, x),
+    }
+}
