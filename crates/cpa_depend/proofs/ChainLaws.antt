@@ -149,18 +149,39 @@ read-all s r tasks set k are end h q = (
   ],
 )
 
--- a task of the resource has an earlier one of its chain there, or it hasn't
-pub back-found : (s : SystemLists) (r : ℕ) (tasks : List TaskId) (none set : List Bool) (k : ℕ) → places_of tasks ≡ tasks_on s r → k < length tasks → (get_or tasks k no_id).0 < length s.tasks
-    → ((q : ℕ) → holds none q ≡ false) → ((q : ℕ) → Members set q ↔ (Members none q ⊎ HasEarlierOn s (get_or tasks k no_id).0 q)) → Members set r → LeadsBack s r
-back-found s r tasks none set k are less there empty more m =
-    elim ((more r).0 m) [
-      | inl old ↦ absurd (let both : true ≡ false = sym old ∙ empty r in let f : ⊥ = cc in f)
-      | inr has ↦ ((get_or tasks k no_id).0, there, on-each s r tasks are k no_id less, has)
+-- a walk from task i towards its source that has met no task on r so far
+pub record IsSearch (s : SystemLists) (i r at : ℕ) : Type 0 where
+  pub in_range : at < length s.tasks
+  pub path : (at ≡ i) ⊎ LeadsTo s at i
+  pub rest : (j : ℕ) → LeadsTo s j i → (task_at s j).res.0 ≡ r → LeadsTo s j at
+
+pub search-path : (s : SystemLists) (i r at : ℕ) (k : TaskId) → (task_at s at).after ≡ Task k → IsSearch s i r at → LeadsTo s k.0 i
+search-path s i r at k e h =
+    elim h.path [
+      | inl same ↦ directly (subst (λ (n : ℕ). Activates s k.0 n) same e)
+      | inr leads ↦ LeadsTo-before s e leads
     ]
 
-pub back-not : (s : SystemLists) (r i : ℕ) (none set : List Bool) → ((q : ℕ) → Members set q ↔ (Members none q ⊎ HasEarlierOn s i q)) → holds set r ≡ false → HasEarlierOn s i r → ⊥
-back-not s r i none set more off has = let both : true ≡ false = sym ((more r).1 (inr has)) ∙ off in let f : ⊥ = cc in f
+-- one step of it, to a task that isn't on r
+pub search-next : (s : SystemLists) (i r at : ℕ) (k : TaskId) → IsSystem s → (task_at s at).after ≡ Task k → ((task_at s k.0).res.0 ≡ r → ⊥) → IsSearch s i r at → IsSearch s i r k.0
+search-next s i r at k rules e off h =
+    record {
+      in_range = activator-in_range s k.0 at rules e;
+      path = inr (search-path s i r at k e h);
+      rest = λ j leads on.
+          let parts = LeadsTo-parts s (h.rest j leads on) in
+          let same : parts.0 ≡ k.0 = activated_once s at parts.0 k parts.1 e in
+          elim parts.2 [
+            | inl it ↦ absurd (off (subst (λ (n : ℕ). (task_at s n).res.0 ≡ r) (it ∙ same) on))
+            | inr before ↦ subst (λ (n : ℕ). LeadsTo s j n) same before
+          ];
+    }
 
+-- at a source it is over
+pub search-over : (s : SystemLists) (i r at : ℕ) → ((k : ℕ) → Activates s k at → ⊥) → IsSearch s i r at → HasEarlierOn s i r → ⊥
+search-over s i r at none h has = let parts = LeadsTo-parts s (h.rest has.0 has.1 has.2) in none parts.0 parts.1
+
+-- no task of the resource has an earlier one of its chain there
 pub back-none : (s : SystemLists) (r : ℕ) (tasks : List TaskId) (count : ℕ) → places_of tasks ≡ tasks_on s r → length tasks ≤ count → ((k : ℕ) → k < count → HasEarlierOn s (get_or tasks k no_id).0 r → ⊥) → LeadsBack s r → ⊥
 back-none s r tasks count are end not back =
     let at = on-found s r tasks are back.0 no_id back.1 back.2 in

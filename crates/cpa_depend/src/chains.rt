@@ -23,6 +23,22 @@ fn with_earlier(system: &System, task: TaskId, set: ResSet) -> ResSet
     all
 }
 
+/// Whether an earlier task of a task's chain is on a resource.
+fn has_earlier_on(system: &System, task: TaskId, res: ResId) -> bool
+    requires rules { IsSystem system.now }
+    requires there { task.0 < length system.now.tasks }
+    ensures { IsTrue result ↔ HasEarlierOn system.now task.0 res.0 }
+{
+    let mut at = task;
+    'steps: while let Activator::Task(earlier) = system.task(at).after {
+        at = earlier;
+        if system.task(at).res.0 == res.0 {
+            return true;
+        }
+    }
+    false
+}
+
 /// Exactly the resources that a resource reads: itself, and those of all earlier tasks in the chains
 /// of its tasks. All are places below the number of resources.
 pub fn reads(system: &System, res: ResId) -> ResSet
@@ -43,7 +59,7 @@ pub fn leads_back(system: &System, res: ResId) -> bool
     ensures { IsTrue result ↔ LeadsBack system.now res.0 }
 {
     for task in system.tasks_on(res) {
-        if with_earlier(system, *task, ResSet::none()).has(res) {
+        if has_earlier_on(system, *task, res) {
             return true;
         }
     }
