@@ -1,7 +1,8 @@
 //! The analysis of one resource.
 
-ghost use Rattle.std.specs.Prelude.{◌<◌, ◌≤◌, ◌≡◌, ◌↔◌, IsTrue, length, slice_set};
+ghost use Rattle.std.specs.Prelude.{◌<◌, ◌≤◌, ◌≡◌, ◌↔◌, IsTrue, length, slice_set, IfOk};
 ghost use Rattle.std.specs.Bool.{OnFalse};
+ghost use Rattle.std.specs.Result.{OnOk};
 ghost use Rattle.cpa_units.specs.Bounds.{IsNowhereAbove, bound_of, bound_max};
 ghost use Rattle.cpa_model.specs.SystemLists.{task_at};
 ghost use Rattle.cpa_local.specs.Local.{response};
@@ -9,13 +10,15 @@ ghost use Rattle.cpa_local.specs.Solution.{IsVector};
 ghost use Rattle.cpa_local.specs.Trails.{IsKept, NewMarksAre, AreMarked, KnowsInputs};
 ghost use Rattle.cpa_depend.specs.Cone.{LeadsBack};
 ghost use Rattle.cpa_fix.specs.Readings.{IsSound};
-ghost use Rattle.cpa_fix.specs.Rounds.{IsRisen, IsRaised, AgreeOutside, HasNoFeedback};
+ghost use Rattle.cpa_fix.specs.Rounds.{IsRisen, IsRaised, AgreeOutside, HasNoFeedback, TasksOn};
 
+use crate::readings::Reading;
 use crate::solving::is_same;
 use cpa_depend::leads_back;
 use cpa_local::{Trail, respond_knowing};
 use cpa_model::{Kind, System};
-use cpa_units::{ResId, TaskId, Vector};
+use cpa_units::{NoMemory, ResId, TaskId, Vector};
+use std::alloc::Global;
 
 /// Analyses a resource at a vector of the system nowhere above the least solution: raises the bounds
 /// on it in `x`, none above the least solution, and marks its tasks. `seen` is that vector too, and is
@@ -34,6 +37,54 @@ pub fn analyse(system: &System, res: ResId, seen: &mut Vector, x: &mut Vector, t
     let back = leads_back(system, res);
     raise(system, res, back, x, trail);
     bring_up(system, res, back, seen, x);
+}
+
+/// Analyses a resource at a vector as `analyse` does, and gives its reading, in the room of an old one if
+/// there is one. Where the analysis would be the same at the raised vector, that is its reading.
+pub(crate) fn analyse_anew(
+    alloc: Global,
+    system: &System,
+    res: ResId,
+    old: Option<Reading>,
+    x: &mut Vector,
+    trail: &mut Trail,
+) -> Result<Reading, NoMemory>
+    requires in_range { res.0 < length system.now.resources }
+    requires start { IsRisen system.now x.old x.old }
+    requires room { length system.now.tasks ≤ trail.old.room }
+    ensures risen { IsRisen system.now x.old x.new }
+    ensures kept { IsKept trail.old trail.new }
+    ensures fresh { NewMarksAre trail.old trail.new (TasksOn system.now (λ r. r ≡ res.0)) }
+    ensures raised { OnOk result (IsRaised system.now res.0 x.old x.new trail.old trail.new) }
+    ensures sound { IfOk result (λ reading. IsSound system.now res.0 reading.seen x.new) }
+    ensures up { IfOk result (λ reading. IsNowhereAbove x.old reading.seen) }
+{
+    let back = leads_back(system, res);
+    if has_feedback(system, res, back) {
+        let reading = reading_at(alloc, old, x)?;
+        raise(system, res, back, x, trail);
+        Ok(reading)
+    } else {
+        raise(system, res, back, x, trail);
+        let reading = reading_at(alloc, old, x)?;
+        Ok(reading)
+    }
+}
+
+/// The reading that a resource was analysed at this vector, in the room of an old one if there is one.
+fn reading_at(alloc: Global, old: Option<Reading>, x: &Vector) -> Result<Reading, NoMemory>
+    ensures { IfOk result (λ reading. reading.seen ≡ x.now) }
+{
+    match old {
+        Some(mut reading) if reading.seen.len() == x.len() => {
+            reading.seen.assign(x);
+            Ok(reading)
+        }
+        _ => {
+            let seen = x.copy(alloc)?;
+            Ok(Reading { seen })
+        }
+    }
 }
 
 /// Raises the bounds on a resource by its analysis, task after task, each at the vector as it is by then.

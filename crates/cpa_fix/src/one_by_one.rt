@@ -5,8 +5,8 @@ ghost use Rattle.std.specs.Result.{OnOk};
 ghost use Rattle.cpa_local.specs.Trails.{IsKept, NewMarksAre, AreMarked};
 ghost use Rattle.cpa_fix.specs.Rounds.{MayStart, IsRisen, IsRound, TasksOn};
 
-use crate::analysing::analyse;
-use crate::readings::{Reading, Readings};
+use crate::analysing::analyse_anew;
+use crate::readings::Readings;
 use crate::rounds::Round;
 use cpa_local::Trail;
 use cpa_model::System;
@@ -57,8 +57,8 @@ pub fn round_of_one(
     ensures done { OnOk result (IsRound system.now (λ r. r == res.0) x.old x.new readings.old readings.new) }
     ensures marked { OnOk result (AreMarked trail.new (TasksOn system.now (λ r. r ≡ res.0))) }
 {
-    let mut seen = x.copy(alloc)?;
-    analyse(system, res, &mut seen, x, trail);
-    readings.put(res, Reading { seen });
+    let old = readings.take(res);
+    let reading = analyse_anew(alloc, system, res, old, x, trail)?;
+    readings.put(res, reading);
     Ok(())
 }

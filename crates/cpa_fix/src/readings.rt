@@ -85,6 +85,15 @@ impl Readings {
         self.kept[res.0 as usize].as_ref()
     }
 
+    /// Takes the reading of a resource, whose place is below the number of resources, out, if there is one.
+    pub fn take(&mut self, res: ResId) -> Option<Reading>
+        requires { res.0 < length self.old }
+        ensures taken { result ≡ reading_of self.old res.0 }
+        ensures left { self.new ≡ slice_set self.old res.0 None }
+    {
+        self.kept[res.0 as usize].take()
+    }
+
     /// Keeps this reading of a resource, whose place is below the number of resources, in place of the
     /// one before.
     pub fn put(&mut self, res: ResId, reading: Reading)
