@@ -1,5 +1,5 @@
 -- The laws by which all other crates know event models: none of them reads a model's fields.
-use Rattle.std.proofs.Common.{◌≡◌, ℕ, zero, suc, ◌+◌, ◌-◌, ◌*◌, ◌^◌, ◌<◌, ◌≤◌, ltb, refl, inl, inr, arith}
+use Rattle.std.proofs.Common.{◌≡◌, ℕ, zero, suc, ◌+◌, ◌-◌, ◌*◌, ◌^◌, ◌<◌, ◌≤◌, ltb, max, refl, ap, ◌∙◌, inl, inr, arith}
 use Rattle.std.proofs.lemmas.Bool.{cases_lt, ltb-true, lt-ltb}
 use Rattle.std.proofs.Math.Nat.{mul-le-mul, mul-le-mul_left, mul-le-mul_right, le_trans, le-max_left, le-max_right, max-le}
 use Rattle.cpa_units.specs.declared.limits.TheConstants.{MAX_EXECUTION, MAX_LIMIT}
@@ -7,7 +7,7 @@ use Rattle.cpa_units.specs.Numbers.{IsExecution}
 use Rattle.cpa_units.proofs.SearchLaws.{greatest_to-le, greatest_to-passes, greatest_to-greatest}
 use Rattle.cpa_events.specs.declared.Model.{Model}
 use Rattle.cpa_events.specs.declared.TheConstants.{MAX_MODEL_JITTER}
-use Rattle.cpa_events.specs.Events.{delta_minus, eta_plus, after_response, IsModel, IsNoDenser, IsModelInRange, HasJitterUpTo}
+use Rattle.cpa_events.specs.Events.{delta_minus, eta_plus, after_response, later, IsModel, IsNoDenser, IsModelInRange, HasJitterUpTo}
 
 -- ---- the least time of some events
 
@@ -165,3 +165,19 @@ after_response-denser m m' best best' bound bound' d b h =
       jitter = omega arith;
       distance = max-le (le_trans (let less : m'.distance - (bound' - best') ≤ m.distance - (bound - best) = omega arith in less) (le-max_left _ _)) (le_trans b (le-max_right _ _));
     }
+
+-- ---- several tasks in a row
+
+later-is : (m n : Model) → m.period ≡ n.period → m.jitter ≡ n.jitter → m.distance ≡ n.distance → m ≡ n
+later-is m n p j d =
+    let made : ℕ → ℕ → ℕ → Model = λ a b c. record { period = a; jitter = b; distance = c } in
+    ap (λ a. made a m.jitter m.distance) p ∙ (ap (λ b. made n.period b m.distance) j ∙ ap (λ c. made n.period n.jitter c) d)
+
+-- after none
+pub later-none : (m : Model) → later m 0 0 ≡ m
+later-none m = later-is (later m 0 0) m refl (omega arith) (omega arith)
+
+-- a task before them
+pub later-response : (m : Model) (best bound late least : ℕ) → later (after_response m best bound) late least ≡ later m (late + (bound - best)) (max least (best - late))
+later-response m best bound late least =
+    later-is (later (after_response m best bound) late least) (later m (late + (bound - best)) (max least (best - late))) refl (omega arith) (omega arith)

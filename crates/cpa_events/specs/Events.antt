@@ -34,6 +34,16 @@ after_response m best bound =
       distance = max (m.distance - (bound - best)) best;
     }
 
+-- the model of the completions of the last of several tasks in a row, whose responses vary by `late` in all: the jitter
+-- grows by that, and the distance shrinks by it, but not below `least`
+abbrev pub later : Model → ℕ → ℕ → Model
+later m late least =
+    record {
+      period = m.period;
+      jitter = m.jitter + late;
+      distance = max (m.distance - late) least;
+    }
+
 -- what each model keeps, and the laws need
 abbrev pub IsModel : Model → Type 0
 IsModel m = 0 < m.period

@@ -30,7 +30,8 @@ pub struct Model {
 
 impl Model {
     ghost use Rattle.cpa_units.specs.Numbers.{IsExecution};
-    ghost use Rattle.cpa_events.specs.Events.{delta_minus, delta_plus, eta_plus, after_response, IsModelInRange, HasJitterUpTo};
+    ghost use Rattle.cpa_units.specs.declared.limits.TheConstants.{MAX_EXECUTION};
+    ghost use Rattle.cpa_events.specs.Events.{delta_minus, delta_plus, eta_plus, after_response, later, IsModelInRange, HasJitterUpTo};
 
     /// The most events in any window of `delta` ticks, whose end does not count: the greatest n
     /// with `delta_minus(n)` below `delta`.
@@ -91,6 +92,23 @@ impl Model {
             period: self.period,
             jitter: self.jitter + late,
             distance: self.distance.saturating_sub(late).max(best),
+        }
+    }
+
+    /// The model of the completions of the last of several tasks in a row, where their responses may
+    /// vary by `late` ticks in all, and none is sooner than `least` ticks after the one before.
+    pub fn later(&self, late: u64, least: u64) -> Model
+        requires model { IsModelInRange self.now }
+        requires late { late ≤ MAX_MODEL_JITTER }
+        requires least { least ≤ MAX_EXECUTION }
+        requires room { HasJitterUpTo self.now (MAX_MODEL_JITTER - late) }
+        ensures model { result ≡ later self.now late least }
+        ensures in_range { IsModelInRange result }
+    {
+        Model {
+            period: self.period,
+            jitter: self.jitter + late,
+            distance: self.distance.saturating_sub(late).max(least),
         }
     }
 }

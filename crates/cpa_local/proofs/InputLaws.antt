@@ -1,23 +1,28 @@
 -- Inputs along chains: they are in range, and a longer look along the chain finds no other.
-use Rattle.std.proofs.Common.{◌≡◌, ℕ, zero, suc, ◌+◌, ◌*◌, ◌<◌, ◌≤◌, length, List, Option, Some, None, refl, sym, ap, ◌∙◌, subst, arith}
+use Rattle.std.proofs.Common.{◌≡◌, ℕ, zero, suc, ◌+◌, ◌-◌, ◌*◌, max, ◌<◌, ◌≤◌, length, List, Option, Some, None, refl, sym, ap, ◌∙◌, subst, arith}
 use Rattle.std.specs.Prelude.{IsSome, IfSome, option_map, slice_index_or}
 use Rattle.std.specs.Option.{ForSome}
 use Rattle.std.proofs.lemmas.Bool.{false≢true}
 use Rattle.std.proofs.lemmas.List.{get_or-map}
 use Rattle.cpa_units.specs.declared.bound.Bound.{Bound}
 use Rattle.cpa_units.specs.declared.bound.Bound.TheVariants.{Within, Overload}
-use Rattle.cpa_units.specs.declared.limits.TheConstants.{MAX_CHAIN, MAX_JITTER, MAX_LIMIT}
+use Rattle.cpa_units.specs.declared.limits.TheConstants.{MAX_CHAIN, MAX_JITTER, MAX_LIMIT, MAX_EXECUTION}
 use Rattle.cpa_units.specs.Bounds.{RespectsLimit, bound_of}
 use Rattle.cpa_units.specs.Numbers.{IsExecution}
 use Rattle.cpa_events.specs.declared.Model.{Model}
-use Rattle.cpa_events.specs.Events.{IsModelInRange, HasJitterUpTo}
-use Rattle.cpa_events.proofs.EventLaws.{after_response-in_range}
+use Rattle.cpa_events.specs.Events.{later, IsModelInRange, HasJitterUpTo}
+use Rattle.cpa_events.specs.declared.TheConstants.{MAX_MODEL_JITTER}
+use Rattle.cpa_events.proofs.EventLaws.{after_response-in_range, later-none, later-response}
 use Rattle.cpa_model.specs.declared.entries.Task.{Task}
 use Rattle.cpa_model.specs.declared.entries.Activator.{Activator}
 use Rattle.cpa_model.specs.declared.entries.Activator.TheVariants.{Source as FromSource, Task as FromTask}
 use Rattle.cpa_model.specs.Chains.{chain_step, depth_within, activators}
 use Rattle.cpa_model.specs.Streams.{source_model}
-use Rattle.cpa_model.specs.SystemLists.{SystemLists, task_at, source_at, no_task, no_source}
+use Rattle.cpa_model.specs.SystemLists.{SystemLists, task_at, source_at, depth_of, no_task, no_source}
+use Rattle.cpa_model.proofs.SystemLaws.{depth_of-task, depth_of-most}
+use Rattle.cpa_units.specs.declared.places.TaskId.{TaskId}
+use Rattle.cpa_units.specs.declared.places.SourceId.{SourceId}
+use Rattle.std.proofs.Math.Nat.{max-le}
 use Rattle.cpa_model.specs.Rules.{IsSystem, IsTask, IsSource, IsActivator}
 use Rattle.cpa_local.specs.Inputs.{output_of, sent_by, input_along, input}
 use Rattle.cpa_local.specs.Solution.{IsVector}
@@ -52,6 +57,28 @@ output-within tasks best (Within bound) (Some m) few some limit h =
 output-within tasks best (Within bound) None few some limit h = tt
 output-within tasks best Overload (Some m) few some limit h = tt
 output-within tasks best Overload None few some limit h = tt
+
+-- ---- from a task back along its chain
+
+-- what is sent on after several tasks
+abbrev pub later_of : ℕ → ℕ → Option Model → Option Model
+later_of late least None = None
+later_of late least (Some m) = Some (later m late least)
+
+later_of-none : (o : Option Model) → later_of 0 0 o ≡ o
+later_of-none None = refl
+later_of-none (Some m) = ap Some (later-none m)
+
+later_of-output : (late least best bound : ℕ) (o : Option Model) → later_of late least (output_of best (Within bound) o) ≡ later_of (late + (bound - best)) (max least (best - late)) o
+later_of-output late least best bound None = refl
+later_of-output late least best bound (Some m) = ap Some (later-response m best bound late least)
+
+-- on the way from task i to its source, by way of task `at`
+pub record IsOnWay (s : SystemLists) (x : List Bound) (i at late least : ℕ) : Type 0 where
+  pub there : at < length s.tasks
+  pub same : input s x i ≡ later_of late least (input s x at)
+  pub room : late + depth_of s at * MAX_LIMIT ≤ MAX_CHAIN * MAX_LIMIT
+  pub small : least ≤ MAX_EXECUTION
 
 module _ (s : SystemLists) (x : List Bound) (rules : IsSystem s) (vector : IsVector s x) where
   best-is : (i : ℕ) → i < length s.tasks → IsExecution (task_at s i).best
@@ -127,5 +154,43 @@ module _ (s : SystemLists) (x : List Bound) (rules : IsSystem s) (vector : IsVec
   pub earlier-range : (i j : ℕ) → i < length s.tasks → (task_at s i).after ≡ FromTask (record { 0 = j }) → j < length s.tasks → ForSome (input s x j) IsModelInRange
   earlier-range i j there after less = within-range 31 (input s x j) (input-earlier i j there after less)
 
-  pub earlier-jitter : (i j : ℕ) → i < length s.tasks → (task_at s i).after ≡ FromTask (record { 0 = j }) → j < length s.tasks → ForSome (input s x j) (λ m. HasJitterUpTo m (MAX_JITTER + 31 * MAX_LIMIT))
-  earlier-jitter i j there after less = within-jitter 31 (input s x j) (input-earlier i j there after less)
+  pub earlier-jitter : (i j : ℕ) → i < length s.tasks → (task_at s i).after ≡ FromTask (record { 0 = j }) → j < length s.tasks → ForSome (input s x j) (λ m. HasJitterUpTo m (MAX_MODEL_JITTER - MAX_LIMIT))
+  earlier-jitter i j there after less m is =
+      let jitter : m.jitter ≤ MAX_JITTER + 31 * MAX_LIMIT = within-jitter 31 (input s x j) (input-earlier i j there after less) m is in
+      omega arith
+
+  pub way-start : (i : ℕ) → i < length s.tasks → IsOnWay s x i i 0 0
+  way-start i there =
+      let short : depth_of s i ≤ 32 = depth_of-most s i in
+      record { there = there; same = sym (later_of-none (input s x i)); room = omega (arith, short); small = omega arith }
+
+  -- one task further
+  pub way-next : (i at late least bound : ℕ) (k : TaskId) → (task_at s at).after ≡ FromTask k → bound_of x k.0 ≡ Within bound → IsOnWay s x i at late least
+      → IsOnWay s x i k.0 (late + (bound - (task_at s k.0).best)) (max least ((task_at s k.0).best - late))
+  way-next i at late least bound k after is way =
+      let t : IsTask s (task_at s at) = rules.tasks at no_task way.there in
+      let there : k.0 < length s.tasks = subst (IsActivator s) after t.activated in
+      let deeper : depth_of s at ≡ suc (depth_of s k.0) = depth_of-task s rules at k way.there after in
+      let limit : RespectsLimit MAX_LIMIT (Within bound) = subst (RespectsLimit MAX_LIMIT) is (vector.high k.0 there) in
+      let small : bound ≤ MAX_LIMIT = limit in
+      let most : depth_of s at * MAX_LIMIT ≡ MAX_LIMIT + depth_of s k.0 * MAX_LIMIT = rw deeper (omega arith) in
+      record {
+        there = there;
+        same = way.same
+            ∙ (ap (later_of late least) (input-next at k.0 way.there after there ∙ ap (λ b. output_of (task_at s k.0).best b (input s x k.0)) is)
+            ∙ later_of-output late least (task_at s k.0).best bound (input s x k.0));
+        room = omega (arith, way.room);
+        small = max-le way.small (let own = best-is k.0 there in omega (arith, own.small));
+      }
+
+  -- where a bound is missing on the way, the input is unbounded
+  pub way-none : (i at late least : ℕ) (k : TaskId) → (task_at s at).after ≡ FromTask k → bound_of x k.0 ≡ Overload → IsOnWay s x i at late least → input s x i ≡ None
+  way-none i at late least k after is way =
+      let t : IsTask s (task_at s at) = rules.tasks at no_task way.there in
+      let there : k.0 < length s.tasks = subst (IsActivator s) after t.activated in
+      way.same ∙ ap (later_of late least) (input-next at k.0 way.there after there ∙ ap (λ b. output_of (task_at s k.0).best b (input s x k.0)) is)
+
+  -- at the source
+  pub way-end : (i at late least : ℕ) (k : SourceId) → (task_at s at).after ≡ FromSource k → IsOnWay s x i at late least → input s x i ≡ Some (later (source_model s k.0) late least)
+  unfolding input
+  way-end i at late least k after way = way.same ∙ ap (later_of late least) (ap (sent_by s x (input_along s x 31)) after)

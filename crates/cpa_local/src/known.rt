@@ -1,19 +1,21 @@
 //! The inputs of a resource's tasks, worked out once for all their analyses.
 
-ghost use Rattle.std.specs.Prelude.{◌≡◌, ◌<◌, ◌≤◌, List, length, slice_index_or, None, IfSome};
+ghost use Rattle.std.specs.Prelude.{◌≡◌, ◌<◌, ◌≤◌, ◌-◌, List, length, slice_index_or, None, IfSome};
 ghost use Rattle.std.specs.Option.{ForSome};
-ghost use Rattle.cpa_events.specs.Events.{IsModelInRange};
+ghost use Rattle.cpa_units.specs.declared.limits.TheConstants.{MAX_LIMIT};
+ghost use Rattle.cpa_units.specs.Bounds.{bound_of};
+ghost use Rattle.cpa_events.specs.declared.TheConstants.{MAX_MODEL_JITTER};
+ghost use Rattle.cpa_events.specs.Events.{IsModelInRange, HasJitterUpTo};
 ghost use Rattle.cpa_model.specs.SystemLists.{task_at};
-ghost use Rattle.cpa_local.specs.Inputs.{AreInputs, AreKnown, input};
+ghost use Rattle.cpa_local.specs.Inputs.{AreInputs, AreKnown, input, output_of};
 ghost use Rattle.cpa_local.specs.Solution.{IsVector};
 ghost use Rattle.cpa_local.specs.Trails.{KnowsInputs};
 
-use crate::inputs::{input, output};
+use crate::inputs::input;
 use crate::trail::Trail;
 use cpa_events::Model;
 use cpa_model::{Activator, System};
-use cpa_units::limits::MAX_CHAIN;
-use cpa_units::{ResId, TaskId, Vector};
+use cpa_units::{Bound, ResId, TaskId, Vector};
 
 impl Trail {
     /// Works out the input of each task on a resource at a vector, in place of those before. The place
@@ -65,6 +67,21 @@ fn learn(system: &System, res: ResId, x: &Vector, inputs: &mut Vec<Option<Model>
     }
 }
 
+/// What comes out of a task with this input, which has room for what its response adds.
+fn output(system: &System, task: TaskId, x: &Vector, model: Option<Model>) -> Option<Model>
+    requires there { task.0 < length system.now.tasks }
+    requires vector { IsVector system.now x.now }
+    requires in_range { ForSome model IsModelInRange }
+    requires jitter { ForSome model (λ m. HasJitterUpTo m (MAX_MODEL_JITTER - MAX_LIMIT)) }
+    ensures { result ≡ output_of (task_at system.now task.0).best (bound_of x.now task.0) model }
+{
+    let best = system.task(task).best;
+    match (x.get(task), model) {
+        (Bound::Within(bound), Some(model)) => Some(model.after_response(best, bound)),
+        _ => None,
+    }
+}
+
 /// The input of a task, from that of the task before it where that is known.
 fn next_input(
     system: &System,
@@ -82,8 +99,7 @@ fn next_input(
     system.has_rules();
     match system.task(task).after {
         Activator::Task(earlier) if known[earlier.0 as usize] => {
-            let sent = inputs[earlier.0 as usize];
-            output(system, earlier, x, sent, MAX_CHAIN as u32 - 1)
+            output(system, earlier, x, inputs[earlier.0 as usize])
         }
         _ => input(system, task, x),
     }

@@ -33,6 +33,6 @@ returns-in-Task c =
     let s = c.args.system.now in
     let less : c.in-Task.earlier.0 < length s.tasks = subst (IsActivator s) c.in-Task.is c.task.ensures.rules.activated in
     let after = ap (λ (t : Task). t.after) (sym c.task.ensures.value) ∙ c.in-Task.is in
-    c.output.ensures.value
+    c.output.ensures
     ∙ ap (output_of (task_at s c.in-Task.earlier.0).best (bound_of c.args.x.now c.in-Task.earlier.0)) (c.requires.known c.in-Task.earlier.0 c.if-known-earlier.true)
     ∙ sym (input-next s c.args.x.now c.has_rules.ensures c.requires.vector c.args.task.0 c.in-Task.earlier.0 c.requires.there after less)
