@@ -1,17 +1,114 @@
--- Sets of places, one place at a time.
-use Rattle.std.proofs.Common.{◌≡◌, ℕ, zero, suc, ◌≤◌, length, Bool, false, nat_lt, List, [], ◌∷◌, replicate, refl, sym, ◌∙◌, arith}
-use Rattle.std.proofs.lemmas.Bool.{le-ltb}
-use Rattle.cpa_units.specs.Sets.{holds}
+-- Sets of places, as the bits of a number.
+use Rattle.std.proofs.Common.{◌≡◌, ℕ, zero, suc, ◌-◌, ◌*◌, ◌/◌, ◌%◌, ◌^◌, not, w64, ◌<◌, ◌≤◌, ◌==◌, ◌||◌, max, min, true, false, nat_lt, refl, sym, ap, ◌∙◌, inl, inr, arith}
+use Rattle.std.specs.Prelude.{bit_or, bit_and}
+use Rattle.std.specs.Int.{bit_at}
+use Rattle.std.proofs.lemmas.Bool.{cases_lt, cases_eq, le-ltb, lt-ltb, eq-eqb, ne_eqb, or_left, eqb-true, false≢true}
+use Rattle.std.proofs.Math.Pow.{pow-lt}
+use Rattle.std.specs.Int.Bits.{and_lt}
+use Rattle.std.specs.Int.{trailing_zeros}
+use Rattle.std.proofs.lemmas.Nat.Bits.{shr_and_one, bit_at-zero, bit_at-lt, bit_at_lowest, bit_at-suc, bit_at_or, bit_at_and, bit_at_ones, bit_at_ones_above, bit_at_set_same, bit_at_set_other, bit_at-trailing_zeros}
+use Rattle.cpa_units.specs.Sets.{holds, Members, HaveCommon, truths}
 
-pub holds-empty : (n r : ℕ) → holds (replicate n false) r ≡ false
-holds-empty zero r = refl
-holds-empty (suc n) zero = refl
-holds-empty (suc n) (suc r) = holds-empty n r
+-- ---- members are bits
 
-pub holds-none_first : (n r : ℕ) → holds (replicate n false) r ≡ nat_lt r 0
-holds-none_first n r = holds-empty n r ∙ sym (le-ltb r 0 (omega arith))
+pub holds-truths : (more n r : ℕ) → r < more → holds (truths more n) r ≡ (bit_at n r == 1)
+unfolding truths
+holds-truths zero n r less = absurd (let none : ⊥ = omega (arith, less) in none)
+holds-truths (suc more) n zero less = ap (λ b. b == 1) (sym (bit_at_lowest n))
+holds-truths (suc more) n (suc r) less = holds-truths more (n / 2) r (omega (arith, less)) ∙ ap (λ b. b == 1) (sym (bit_at-suc n r))
 
-pub holds-past : (members : List Bool) (r : ℕ) → length members ≤ r → holds members r ≡ false
-holds-past [] r h = refl
-holds-past (b ∷ members) zero h = absurd (omega arith)
-holds-past (b ∷ members) (suc r) h = holds-past members r (omega arith)
+pub holds-past : (more n r : ℕ) → more ≤ r → holds (truths more n) r ≡ false
+unfolding truths
+holds-past zero n r past = refl
+holds-past (suc more) n zero past = absurd (let none : ⊥ = omega (arith, past) in none)
+holds-past (suc more) n (suc r) past = holds-past more (n / 2) r (omega (arith, past))
+
+-- ---- each call, by bits
+
+bit-one : (b : ℕ) → b ≡ 0 → (b == 1) ≡ false
+bit-one b e = rw e refl
+
+pub none-holds : (r : ℕ) → holds (truths 64 0) r ≡ false
+none-holds r =
+    elim (cases_lt r 64) [
+      | inl less ↦ holds-truths 64 0 r less ∙ ap (λ b. b == 1) (bit_at-zero r)
+      | inr past ↦ holds-past 64 0 r past
+    ]
+
+pub first-holds : (count : ℕ) → count ≤ 64 → (r : ℕ) → holds (truths 64 (2 ^ count - 1)) r ≡ nat_lt r count
+first-holds count few r =
+    elim (cases_lt r 64) [
+      | inl less ↦ elim (cases_lt r count) [
+        | inl below ↦ holds-truths 64 (2 ^ count - 1) r less ∙ ap (λ b. b == 1) (bit_at_ones count r below) ∙ sym (lt-ltb r count below)
+        | inr past ↦ holds-truths 64 (2 ^ count - 1) r less ∙ ap (λ b. b == 1) (bit_at_ones_above count r past) ∙ sym (le-ltb r count past)
+      ]
+      | inr past ↦ holds-past 64 (2 ^ count - 1) r past ∙ sym (le-ltb r count (omega arith))
+    ]
+
+or-one : (a b : ℕ) → a < 2 → b < 2 → (max a b == 1) ≡ (a == 1 || b == 1)
+or-one zero zero ha hb = refl
+or-one zero (suc zero) ha hb = refl
+or-one (suc zero) zero ha hb = refl
+or-one (suc zero) (suc zero) ha hb = refl
+or-one (suc (suc a)) b ha hb = absurd (let none : ⊥ = omega (arith, ha) in none)
+or-one zero (suc (suc b)) ha hb = absurd (let none : ⊥ = omega (arith, hb) in none)
+or-one (suc zero) (suc (suc b)) ha hb = absurd (let none : ⊥ = omega (arith, hb) in none)
+
+pub union-holds : (a b r : ℕ) → holds (truths 64 (bit_or a b)) r ≡ (holds (truths 64 a) r || holds (truths 64 b) r)
+union-holds a b r =
+    elim (cases_lt r 64) [
+      | inl less ↦
+          rw (holds-truths 64 (bit_or a b) r less, holds-truths 64 a r less, holds-truths 64 b r less, bit_at_or a b r)
+          (or-one (bit_at a r) (bit_at b r) (bit_at-lt a r) (bit_at-lt b r))
+      | inr past ↦ rw (holds-past 64 (bit_or a b) r past, holds-past 64 a r past, holds-past 64 b r past) refl
+    ]
+
+pub with-holds : (n k : ℕ) → k < 64 → (r : ℕ) → holds (truths 64 (bit_or n (1 * 2 ^ k % 2 ^ 64))) r ≡ (r == k || holds (truths 64 n) r)
+with-holds n k within r =
+    elim (cases_eq r k) [
+      | inl same ↦
+          let less : r < 64 = omega arith in
+          let set : bit_at (bit_or n (1 * 2 ^ k % 2 ^ 64)) r ≡ 1 = rw same (bit_at_set_same w64 n k within) in
+          holds-truths 64 (bit_or n (1 * 2 ^ k % 2 ^ 64)) r less ∙ ap (λ b. b == 1) set ∙ sym (or_left (r == k) (holds (truths 64 n) r) (eq-eqb r k same))
+      | inr other ↦ rw (ne_eqb r k other) (others other)
+    ]
+  where
+    others : (r ≡ k → ⊥) → holds (truths 64 (bit_or n (1 * 2 ^ k % 2 ^ 64))) r ≡ holds (truths 64 n) r
+    others other =
+        elim (cases_lt r 64) [
+          | inl less ↦ holds-truths 64 (bit_or n (1 * 2 ^ k % 2 ^ 64)) r less ∙ ap (λ b. b == 1) (bit_at_set_other w64 n k within r other) ∙ sym (holds-truths 64 n r less)
+          | inr past ↦ holds-past 64 (bit_or n (1 * 2 ^ k % 2 ^ 64)) r past ∙ sym (holds-past 64 n r past)
+        ]
+
+pub power : (k : ℕ) → k < 64 → 1 * 2 ^ k % 2 ^ 64 ≡ 2 ^ k
+power k within = let small : 2 ^ k < 2 ^ 64 = pow-lt within in omega (arith, small)
+
+pub has-holds : (n k : ℕ) → k < 64 → (bit_and (n / 2 ^ k) 1 == 1) ≡ holds (truths 64 n) k
+has-holds n k within = ap (λ b. b == 1) (shr_and_one n k) ∙ sym (holds-truths 64 n k within)
+
+-- a place that is a member of both
+member : (n r : ℕ) → r < 64 → bit_at n r ≡ 1 → Members (truths 64 n) r
+member n r less e = holds-truths 64 n r less ∙ eq-eqb (bit_at n r) 1 e
+
+member-bit : (n r : ℕ) → Members (truths 64 n) r → (r < 64) × (bit_at n r ≡ 1)
+member-bit n r m =
+    elim (cases_lt r 64) [
+      | inl less ↦ (less, eqb-true (bit_at n r) 1 (sym (holds-truths 64 n r less) ∙ m))
+      | inr past ↦ absurd (false≢true (sym (holds-past 64 n r past) ∙ m))
+    ]
+
+pub meets-common : (a b : ℕ) → a < 2 ^ 64 → b < 2 ^ 64 → not (bit_and a b == 0) ≡ true → HaveCommon (truths 64 a) (truths 64 b)
+meets-common a b small_a small_b e =
+    let some : 0 < bit_and a b = elim (cases_lt 0 (bit_and a b)) [ inl less ↦ less | inr none ↦ absurd (false≢true (sym (ap not (eq-eqb (bit_and a b) 0 (omega arith))) ∙ e)) ] in
+    let first = bit_at-trailing_zeros w64 (bit_and a b) some (and_lt 64 a b small_a small_b) in
+    let r = trailing_zeros w64 (bit_and a b) in
+    let least : min (bit_at a r) (bit_at b r) ≡ 1 = sym (bit_at_and a b r) ∙ first.1 in
+    (r, member a r first.0 (omega (arith, bit_at-lt a r, bit_at-lt b r)), member b r first.0 (omega (arith, bit_at-lt a r, bit_at-lt b r)))
+
+pub common-meets : (a b : ℕ) → HaveCommon (truths 64 a) (truths 64 b) → not (bit_and a b == 0) ≡ true
+common-meets a b (r, m, n) =
+    let bit : bit_at (bit_and a b) r ≡ 1 = bit_at_and a b r ∙ ap2 (member-bit a r m).1 (member-bit b r n).1 in
+    ap not (ne_eqb (bit_and a b) 0 (λ e. let none : 0 ≡ 1 = sym (bit_at-zero r) ∙ (ap (λ k. bit_at k r) (sym e) ∙ bit) in absurd (let f : ⊥ = omega (arith, none) in f)))
+  where
+    ap2 : {x y : ℕ} → x ≡ 1 → y ≡ 1 → min x y ≡ 1
+    ap2 e f = rw (e, f) refl

@@ -1,25 +1,31 @@
 //! Sets of resources, as a system has at most 64 of them.
 
-ghost use Rattle.std.specs.Prelude.{◌≡◌, ℕ, ◌<◌, ◌≤◌, ◌||◌, ◌==◌, nat_lt, false};
-ghost use Rattle.cpa_units.specs.Sets.{holds};
+ghost use Rattle.std.specs.Prelude.{◌≡◌, ℕ, ◌<◌, ◌≤◌, ◌||◌, ◌==◌, ◌↔◌, IsTrue, nat_lt, false};
+ghost use Rattle.cpa_units.specs.Sets.{holds, HaveCommon};
 
 use crate::places::ResId;
 use std::marker::Model;
 
-/// A set of places below 64. Contracts see the list of its truth values.
+/// A set of places below 64, a bit for each. Contracts see the list of its truth values.
 #[derive(Clone, Copy, Debug)]
 pub struct ResSet {
-    members: [bool; 64],
+    bits: u64,
 }
 
 impl Model for ResSet {
-    ghost use Rattle.std.specs.Prelude.{List, Bool};
+    ghost use Rattle.std.specs.Prelude.{List, Bool, ◌<◌, ◌^◌};
+    ghost use Rattle.std.proofs.Common.{ap};
+    ghost use Rattle.cpa_units.specs.Sets.{truths, number_of, number_of-truths};
 
     ghost Value = { List Bool };
 
-    ghost view = { λ s. s.members };
+    ghost view = { λ s. truths 64 s.bits };
 
-    ghost inverse = { λ members. record { members = members } };
+    ghost invariant = { λ s. s.bits < 2 ^ 64 };
+
+    ghost inverse = { λ members. record { bits = number_of members } };
+
+    ghost inverse_ok = { λ a h. ap (λ b. record { bits = b }) (number_of-truths 64 a.bits h) };
 }
 
 impl ResSet {
@@ -27,9 +33,7 @@ impl ResSet {
     pub fn none() -> ResSet
         ensures { (r : ℕ) → holds result r ≡ false }
     {
-        ResSet {
-            members: [false; 64],
-        }
+        ResSet { bits: 0 }
     }
 
     /// The places below `count`.
@@ -37,11 +41,13 @@ impl ResSet {
         requires { count ≤ 64 }
         ensures { (r : ℕ) → holds result r ≡ nat_lt r count }
     {
-        let mut members = [false; 64];
-        for place in 0..count as usize {
-            members[place] = true;
+        if count < 64 {
+            ResSet {
+                bits: (1 << count) - 1,
+            }
+        } else {
+            ResSet { bits: u64::MAX }
         }
-        ResSet { members }
     }
 
     /// The set with a member more, whose place is below 64.
@@ -49,9 +55,9 @@ impl ResSet {
         requires { res.0 < 64 }
         ensures { (r : ℕ) → holds result r ≡ (r == res.0 || holds self r) }
     {
-        let mut members = self.members;
-        members[res.0 as usize] = true;
-        ResSet { members }
+        ResSet {
+            bits: self.bits | 1 << res.0,
+        }
     }
 
     /// Whether a place, below 64, is a member.
@@ -59,17 +65,22 @@ impl ResSet {
         requires { res.0 < 64 }
         ensures { result ≡ holds self res.0 }
     {
-        self.members[res.0 as usize]
+        self.bits >> res.0 & 1 == 1
     }
 
     /// The members of one set or the other.
     pub fn union(self, other: ResSet) -> ResSet
         ensures { (r : ℕ) → holds result r ≡ (holds self r || holds other r) }
     {
-        let mut members = [false; 64];
-        for (place, member) in members.iter_mut().enumerate() {
-            *member = self.members[place] || other.members[place];
+        ResSet {
+            bits: self.bits | other.bits,
         }
-        ResSet { members }
+    }
+
+    /// Whether both sets have some member in common.
+    pub fn meets(self, other: ResSet) -> bool
+        ensures { IsTrue result ↔ HaveCommon self other }
+    {
+        self.bits & other.bits != 0
     }
 }
