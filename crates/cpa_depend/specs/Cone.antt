@@ -38,10 +38,6 @@ HasEarlierOn s i q = (j : ℕ) × LeadsTo s j i × ((task_at s j).res.0 ≡ q)
 abbrev pub LeadsBack : SystemLists → ℕ → Type 0
 LeadsBack s r = (i : ℕ) × (i < length s.tasks) × ((task_at s i).res.0 ≡ r) × HasEarlierOn s i r
 
--- two sets have a member below `count` in common
-abbrev pub Meets : List Bool → List Bool → ℕ → Type 0
-Meets a b count = (q : ℕ) × (q < count) × Members a q × Members b q
-
 -- each resource that reads a member is one
 abbrev pub IsClosedUnder : SystemLists → List Bool → Type 0
 IsClosedUnder s set = (r q : ℕ) → Reads s r q → Members set q → Members set r

@@ -2,24 +2,11 @@
 
 ghost use Rattle.std.specs.Prelude.{◌<◌, ◌≤◌, ℕ, ◌↔◌, IsTrue, length, MatchOption};
 ghost use Rattle.cpa_units.specs.Sets.{Members};
-ghost use Rattle.cpa_depend.specs.Cone.{AreReads, InCone, Meets, IsClosedUnder, IsWiderWithin};
+ghost use Rattle.cpa_depend.specs.Cone.{AreReads, InCone, IsClosedUnder, IsWiderWithin};
 
 use crate::chains::reads_of_all;
 use cpa_model::System;
 use cpa_units::{ResId, ResSet};
-
-/// Whether two sets have a member below `count` in common.
-fn meets(a: ResSet, b: ResSet, count: u32) -> bool
-    requires { count ≤ 64 }
-    ensures { IsTrue result ↔ Meets a b count }
-{
-    for place in 0..count {
-        if a.has(ResId(place)) && b.has(ResId(place)) {
-            return true;
-        }
-    }
-    false
-}
 
 /// The set with resources that read a member; none where each such resource is a member.
 fn widened(system: &System, reads: &[ResSet; 64], set: ResSet) -> Option<ResSet>
@@ -31,7 +18,7 @@ fn widened(system: &System, reads: &[ResSet; 64], set: ResSet) -> Option<ResSet>
     let mut grown = false;
     for place in 0..count {
         let res = ResId(place);
-        if !wider.has(res) && meets(reads[place as usize], wider, count) {
+        if !wider.has(res) && reads[place as usize].meets(wider) {
             wider = wider.with(res);
             grown = true;
         }

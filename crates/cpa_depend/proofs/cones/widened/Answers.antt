@@ -2,7 +2,7 @@ use Rattle.std.proofs.Common.{◌≡◌, ◌<◌, ℕ, true, false, sym, ◌∙�
 use Rattle.std.proofs.lemmas.Bool.{both_ways}
 use Rattle.cpa_depend.specs.Cone.{Reads}
 use Rattle.cpa_depend.proofs.ConeLaws.{IsPass, pass-none, pass-start, pass-leave, pass-add}
-use Rattle.cpa_depend.proofs.ChainLaws.{Reads-in_range, AreReads-row}
+use Rattle.cpa_depend.proofs.ChainLaws.{AreReads-row}
 use Rattle.cpa_depend.proofs.cones.widened.Goals as goal
 use Rattle.cpa_depend.proofs.cones.widened.Goals.{then-not-has+then-meets, else-not-has, else-not-has-via-then-not-has+else-meets, else-not-has-via-else-not-has}
 
@@ -19,17 +19,16 @@ loop-place-preserved c =
     elim c.if-not-has.branch [
       | then-not-has+then-meets w ↦
           let met = w.meets.ensures.0 w.if-meets.true in
-          let reads : Reads s place met.0 = (row w.index-reads-place.result met.0).0 met.2 in
+          let reads : Reads s place met.0 = (row w.index-reads-place.result met.0).0 met.1 in
           rw (w.wider-is, w.grown-is)
-          (pass-add s c.args.set c.loop-place.wider w.with-wider.result c.loop-place.grown place met.0 in_range (sym c.has.ensures ∙ w.if-not-has.true) reads met.3 w.with-wider.ensures c.loop-place.invariant)
+          (pass-add s c.args.set c.loop-place.wider w.with-wider.result c.loop-place.grown place met.0 in_range (sym c.has.ensures ∙ w.if-not-has.true) reads met.2 w.with-wider.ensures c.loop-place.invariant)
       | else-not-has w ↦
           rw (w.wider-is, w.grown-is)
           (pass-leave s c.args.set c.loop-place.wider c.loop-place.grown place
           (elim w.else-not-has.branch [
             | else-not-has-via-then-not-has+else-meets v ↦ inr (λ q reads m.
-                let low : q < length s.resources = Reads-in_range s place q c.resources-count.ensures.rules in_range reads in
                 let member = (row v.index-reads-place.result q).1 reads in
-                let yes : v.meets.result ≡ true = v.meets.ensures.1 (q, omega arith, member, m) in
+                let yes : v.meets.result ≡ true = v.meets.ensures.1 (q, member, m) in
                 both_ways v.meets.result v.if-meets.false yes)
             | else-not-has-via-else-not-has v ↦ inl (sym c.has.ensures ∙ v.if-not-has.false)
           ])
