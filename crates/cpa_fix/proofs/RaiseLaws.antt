@@ -5,7 +5,7 @@ use Rattle.cpa_units.specs.declared.bound.Bound.{Bound}
 use Rattle.cpa_units.specs.declared.bound.Bound.TheVariants.{Within}
 use Rattle.cpa_units.specs.Bounds.{IsAtMost, IsNowhereAbove, bound_of, bound_max}
 use Rattle.cpa_units.specs.declared.places.TaskId.{TaskId}
-use Rattle.cpa_model.specs.SystemLists.{SystemLists, task_at, places_of, tasks_on}
+use Rattle.cpa_model.specs.SystemLists.{SystemLists, task_at, resource_at, places_of, tasks_on}
 use Rattle.cpa_model.proofs.SystemLaws.{no_id}
 use Rattle.cpa_model.proofs.RosterLaws.{on-each, on-found}
 use Rattle.cpa_model.specs.Rules.{IsSystem}
@@ -15,7 +15,10 @@ use Rattle.cpa_local.specs.Solution.{IsVector, least_of}
 use Rattle.cpa_units.proofs.BoundLaws.{IsAtMost_refl, IsAtMost_trans, IsNowhereAbove_trans, le-bound_max_left, le-bound_max_right, bound_max-le, bound_max-limit}
 use Rattle.cpa_local.proofs.ResponseLaws.{response-mono}
 use Rattle.cpa_local.proofs.SolutionLaws.{response-below, response-high}
-use Rattle.cpa_local.specs.Trails.{Marks, IsMarked, IsKept, NewMarksAre, AreMarked, KnowsInputs}
+use Rattle.cpa_local.specs.Trails.{Marks, IsMarked, IsKept, NewMarksAre, AreMarked, IsPrepared, HasInputs}
+use Rattle.cpa_local.specs.Inputs.{AreInputs}
+use Rattle.cpa_model.specs.declared.entries.Kind.{Kind}
+use Rattle.cpa_model.specs.declared.entries.Kind.TheVariants.{Preemptive, RoundRobin, Tdma, Can}
 use Rattle.cpa_local.proofs.TrailLaws.{IsKept_trans, NewMarks_trans, NewMarks-weaker}
 use Rattle.cpa_depend.specs.Cone.{LeadsBack}
 use Rattle.cpa_fix.proofs.DependLaws.{input-outside}
@@ -116,17 +119,27 @@ raise-task s r tasks old new before after marked k rules are within h kept fresh
       ];
     }
 
--- ---- the inputs that are known
+-- ---- what the analyses share
 
 -- the bound of a task of r that leads to no other of r bears on no input of r's tasks
-pub knows-raised : (s : SystemLists) (r i : ℕ) (x : List Bound) (b : Bound) (trail : Marks) → (LeadsBack s r → ⊥) → (task_at s i).res.0 ≡ r → KnowsInputs s r x trail → KnowsInputs s r (set x i b) trail
-knows-raised s r i x b trail apart on known j less there =
-    known j less there
-    ∙ input-outside s x (set x i b) r apart
-    (λ k off. elim (cases_eq k i) [
-      | inl same ↦ absurd (off (subst (λ (q : ℕ). (task_at s q).res.0 ≡ r) (sym same) on))
-      | inr other ↦ sym (bound_of-set_other x i k b other)
-    ]) j there
+pub prepared-raised : (s : SystemLists) (r i : ℕ) (x : List Bound) (b : Bound) (trail : Marks) → (LeadsBack s r → ⊥) → (task_at s i).res.0 ≡ r → IsPrepared s r x trail → IsPrepared s r (set x i b) trail
+prepared-raised s r i x b trail apart on prepared =
+    record { cycle = prepared.cycle; inputs = by (resource_at s r).kind prepared.inputs }
+  where
+    known : AreInputs s r x trail.inputs → AreInputs s r (set x i b) trail.inputs
+    known inputs j less there =
+        inputs j less there
+        ∙ input-outside s x (set x i b) r apart
+        (λ k off. elim (cases_eq k i) [
+          | inl same ↦ absurd (off (subst (λ (q : ℕ). (task_at s q).res.0 ≡ r) (sym same) on))
+          | inr other ↦ sym (bound_of-set_other x i k b other)
+        ]) j there
+
+    by : (kind : Kind) → HasInputs s r x trail.inputs kind → HasInputs s r (set x i b) trail.inputs kind
+    by (Tdma gap) inputs = tt
+    by Preemptive inputs = known inputs
+    by RoundRobin inputs = known inputs
+    by (Can bit) inputs = known inputs
 
 -- the marks are what counts of a trail
 pub raised-relearned : (s : SystemLists) (r : ℕ) (tasks : List TaskId) (old new : List Bound) (before after later : Marks) (count : ℕ) → later.marks ≡ after.marks → later.room ≡ after.room

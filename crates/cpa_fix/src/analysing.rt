@@ -7,7 +7,7 @@ ghost use Rattle.cpa_units.specs.Bounds.{IsNowhereAbove, bound_of, bound_max};
 ghost use Rattle.cpa_model.specs.SystemLists.{task_at};
 ghost use Rattle.cpa_local.specs.Local.{response};
 ghost use Rattle.cpa_local.specs.Solution.{IsVector};
-ghost use Rattle.cpa_local.specs.Trails.{IsKept, NewMarksAre, AreMarked, KnowsInputs};
+ghost use Rattle.cpa_local.specs.Trails.{IsKept, NewMarksAre, AreMarked, IsPrepared};
 ghost use Rattle.cpa_depend.specs.Cone.{LeadsBack};
 ghost use Rattle.cpa_fix.specs.Readings.{IsSound};
 ghost use Rattle.cpa_fix.specs.Rounds.{IsRisen, IsRaised, AgreeOutside, HasNoFeedback, TasksOn};
@@ -15,7 +15,7 @@ ghost use Rattle.cpa_fix.specs.Rounds.{IsRisen, IsRaised, AgreeOutside, HasNoFee
 use crate::readings::Reading;
 use crate::solving::is_same;
 use cpa_depend::leads_back;
-use cpa_local::{Trail, respond_knowing};
+use cpa_local::{Trail, respond_prepared};
 use cpa_model::{Kind, System};
 use cpa_units::{NoMemory, ResId, TaskId, Vector};
 use std::alloc::Global;
@@ -96,14 +96,14 @@ fn raise(system: &System, res: ResId, back: bool, x: &mut Vector, trail: &mut Tr
     requires room { length system.now.tasks ≤ trail.old.room }
     ensures { IsRaised system.now res.0 x.old x.new trail.old trail.new }
 {
-    trail.learn_inputs(system, res, x);
+    trail.prepare(system, res, x);
     for task in system.tasks_on(res) {
         raise_task(system, res, *task, back, x, trail);
     }
 }
 
-/// Raises the bound of a task on a resource by its analysis. The trail knows the inputs of the resource's
-/// tasks before and after.
+/// Raises the bound of a task on a resource by its analysis. The trail is prepared for the resource at
+/// the vector before and after.
 fn raise_task(
     system: &System,
     res: ResId,
@@ -118,15 +118,15 @@ fn raise_task(
     requires back { IsTrue back ↔ LeadsBack system.now res.0 }
     requires start { IsRisen system.now x.old x.old }
     requires room { length system.now.tasks ≤ trail.old.room }
-    requires known { KnowsInputs system.now res.0 x.old trail.old }
+    requires prepared { IsPrepared system.now res.0 x.old trail.old }
     ensures raised { x.new ≡ slice_set x.old task.0 (bound_max (response system.now x.old task.0) (bound_of x.old task.0)) }
-    ensures known { KnowsInputs system.now res.0 x.new trail.new }
+    ensures prepared { IsPrepared system.now res.0 x.new trail.new }
     ensures kept { IsKept trail.old trail.new }
     ensures fresh { NewMarksAre trail.old trail.new (λ i. i ≡ task.0) }
     ensures marked { AreMarked trail.new (λ i. i ≡ task.0) }
 {
     system.has_rules();
-    let bound = respond_knowing(system, task, x, trail);
+    let bound = respond_prepared(system, task, x, trail);
     let before = x.get(task);
     let raised = bound.max(before);
     if is_same(raised, before) {
@@ -134,7 +134,7 @@ fn raise_task(
     }
     x.set(task, raised);
     if back {
-        trail.learn_inputs(system, res, x);
+        trail.follow(system, res, x);
     }
 }
 

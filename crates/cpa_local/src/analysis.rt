@@ -5,14 +5,14 @@ ghost use Rattle.cpa_units.specs.declared.bound.Bound.{Bound};
 ghost use Rattle.cpa_units.specs.Numbers.{IsExecution};
 ghost use Rattle.cpa_events.specs.Events.{IsModelInRange};
 ghost use Rattle.cpa_model.specs.declared.entries.Kind.TheVariants.{Preemptive, RoundRobin, Tdma, Can};
-ghost use Rattle.cpa_model.specs.SystemLists.{task_at, resource_of, slot_of};
+ghost use Rattle.cpa_model.specs.SystemLists.{task_at, resource_of, slot_of, cycle_of};
 ghost use Rattle.cpa_model.specs.Rules.{IsSystem};
 ghost use Rattle.cpa_local.specs.Local.{bound_by_kind, response};
 ghost use Rattle.cpa_local.specs.Solution.{IsVector};
 ghost use Rattle.cpa_local.specs.Inputs.{AreInputs};
-ghost use Rattle.cpa_local.specs.Trails.{IsKept, NewMarksAre, AreMarked, KnowsInputs};
+ghost use Rattle.cpa_local.specs.Trails.{IsKept, NewMarksAre, AreMarked, IsPrepared, HasCycle, HasInputs};
 
-use crate::known::known_input;
+use crate::known::own_input;
 use crate::neighbours::{blocking, gather_higher, gather_others, slot};
 use crate::trail::Trail;
 use cpa_events::Model;
@@ -34,20 +34,21 @@ pub fn respond(system: &System, task: TaskId, x: &Vector, trail: &mut Trail) -> 
     ensures fresh { NewMarksAre trail.old trail.new (λ i. i ≡ task.0) }
     ensures marked { AreMarked trail.new (λ i. i ≡ task.0) }
 {
-    trail.learn_inputs(system, system.task(task).res, x);
-    respond_knowing(system, task, x, trail)
+    trail.prepare(system, system.task(task).res, x);
+    respond_prepared(system, task, x, trail)
 }
 
-/// The same, where the trail knows the inputs of the tasks on the task's resource at the vector. It knows
-/// them still when it is done.
+/// The same, where the trail is prepared for the task's resource at the vector. It is still when it is
+/// done.
 #[tactic(auto, unfolding(crate::specs::Local::response))]
-pub fn respond_knowing(system: &System, task: TaskId, x: &Vector, trail: &mut Trail) -> Bound
+pub fn respond_prepared(system: &System, task: TaskId, x: &Vector, trail: &mut Trail) -> Bound
     requires there { task.0 < length system.now.tasks }
     requires vector { IsVector system.now x.now }
     requires room { length system.now.tasks ≤ trail.old.room }
-    requires known { KnowsInputs system.now (task_at system.now task.0).res.0 x.now trail.old }
+    requires prepared { IsPrepared system.now (task_at system.now task.0).res.0 x.now trail.old }
     ensures value { result ≡ response system.now x.now task.0 }
     ensures inputs { trail.new.inputs ≡ trail.old.inputs }
+    ensures cycle { trail.new.cycle ≡ trail.old.cycle }
     ensures kept { IsKept trail.old trail.new }
     ensures fresh { NewMarksAre trail.old trail.new (λ i. i ≡ task.0) }
     ensures marked { AreMarked trail.new (λ i. i ≡ task.0) }
@@ -55,7 +56,7 @@ pub fn respond_knowing(system: &System, task: TaskId, x: &Vector, trail: &mut Tr
     let tasks = system.tasks();
     prove!(tasks <= 512);
     trail.mark(task);
-    let Some(own) = known_input(system, task, x, trail.inputs.as_slice()) else {
+    let Some(own) = own_input(system, task, x, trail.inputs.as_slice()) else {
         return Bound::Overload;
     };
     bound_by_kind(
@@ -63,6 +64,7 @@ pub fn respond_knowing(system: &System, task: TaskId, x: &Vector, trail: &mut Tr
         task,
         x,
         &own,
+        trail.cycle,
         trail.inputs.as_slice(),
         &mut trail.rivals,
     )
@@ -74,6 +76,7 @@ fn bound_by_kind(
     task: TaskId,
     x: &Vector,
     own: &Model,
+    cycle: u64,
     inputs: &[Option<Model>],
     rivals: &mut Vec<Rival>,
 ) -> Bound
@@ -82,7 +85,8 @@ fn bound_by_kind(
     requires vector { IsVector system.now x.now }
     requires own { IsModelInRange own.now }
     requires long { length system.now.tasks ≤ length inputs.now }
-    requires known { AreInputs system.now (task_at system.now task.0).res.0 x.now inputs.now }
+    requires cycle { HasCycle system.now (task_at system.now task.0).res.0 cycle (resource_of system.now task.0).kind }
+    requires known { HasInputs system.now (task_at system.now task.0).res.0 x.now inputs.now (resource_of system.now task.0).kind }
     requires room { length system.now.tasks ≤ vec_capacity rivals.old }
     ensures value { result ≡ bound_by_kind system.now x.now task.0 own.now (resource_of system.now task.0).kind }
     ensures room { vec_capacity rivals.new ≡ vec_capacity rivals.old }
@@ -90,7 +94,7 @@ fn bound_by_kind(
     match system.resource(system.task(task).res).kind {
         Kind::Preemptive => preemptive(system, task, x, own, inputs, rivals),
         Kind::RoundRobin => round_robin(system, task, x, own, inputs, rivals),
-        Kind::Tdma { gap: _ } => tdma(system, task, own),
+        Kind::Tdma { gap: _ } => tdma(system, task, own, cycle),
         Kind::Can { bit } => can(system, task, x, own, bit, inputs, rivals),
     }
 }
@@ -145,16 +149,16 @@ fn round_robin(
 }
 
 /// The bound under TDMA, which is the same at every vector. The gap is in the cycle.
-fn tdma(system: &System, task: TaskId, own: &Model) -> Bound
+fn tdma(system: &System, task: TaskId, own: &Model, cycle: u64) -> Bound
     requires rules { IsSystem system.now }
     requires there { task.0 < length system.now.tasks }
     requires slot { IsExecution (slot_of (task_at system.now task.0).turn) }
     requires own { IsModelInRange own.now }
+    requires cycle { cycle ≡ cycle_of system.now (task_at system.now task.0).res.0 }
     ensures { (x : List Bound) (gap : ℕ) → result ≡ bound_by_kind system.now x task.0 own.now (Tdma gap) }
 {
     let entry = system.task(task);
     let limit = system.resource(entry.res).limit;
-    let cycle = system.cycle(entry.res);
     cpa_tdma::respond(own, entry.worst, slot(entry.turn), cycle, limit)
 }
 

@@ -6,29 +6,71 @@ ghost use Rattle.cpa_units.specs.declared.limits.TheConstants.{MAX_LIMIT};
 ghost use Rattle.cpa_units.specs.Bounds.{bound_of};
 ghost use Rattle.cpa_events.specs.declared.TheConstants.{MAX_MODEL_JITTER};
 ghost use Rattle.cpa_events.specs.Events.{IsModelInRange, HasJitterUpTo};
-ghost use Rattle.cpa_model.specs.SystemLists.{task_at};
+ghost use Rattle.cpa_model.specs.SystemLists.{task_at, resource_at, resource_of};
 ghost use Rattle.cpa_local.specs.Inputs.{AreInputs, AreKnown, input, output_of};
 ghost use Rattle.cpa_local.specs.Solution.{IsVector};
-ghost use Rattle.cpa_local.specs.Trails.{KnowsInputs};
+ghost use Rattle.cpa_local.specs.Trails.{IsPrepared, HasCycle, HasInputs};
 
 use crate::inputs::input;
 use crate::trail::Trail;
 use cpa_events::Model;
-use cpa_model::{Activator, System};
+use cpa_model::{Activator, Kind, System};
 use cpa_units::{Bound, ResId, TaskId, Vector};
 
 impl Trail {
-    /// Works out the input of each task on a resource at a vector, in place of those before. The place
-    /// is below the number of resources, and the trail has room for all tasks.
-    pub fn learn_inputs(&mut self, system: &System, res: ResId, x: &Vector)
+    /// Works out what the analyses of a resource's tasks at a vector share, in place of what it was
+    /// before: the cycle under TDMA, else the input of each task. The place is below the number of
+    /// resources, and the trail has room for all tasks.
+    pub fn prepare(&mut self, system: &System, res: ResId, x: &Vector)
         requires there { res.0 < length system.now.resources }
         requires vector { IsVector system.now x.now }
         requires room { length system.now.tasks ≤ self.old.room }
-        ensures known { KnowsInputs system.now res.0 x.now self.new }
+        ensures prepared { IsPrepared system.now res.0 x.now self.new }
         ensures marks { self.new.marks ≡ self.old.marks }
         ensures room { self.new.room ≡ self.old.room }
     {
-        learn(system, res, x, &mut self.inputs);
+        match system.resource(res).kind {
+            Kind::Tdma { gap: _ } => {
+                self.cycle = system.cycle(res);
+            }
+            _ => learn(system, res, x, &mut self.inputs),
+        }
+    }
+
+    /// The same where it was prepared for the resource, at any vector of the system.
+    pub fn follow(&mut self, system: &System, res: ResId, x: &Vector)
+        requires there { res.0 < length system.now.resources }
+        requires vector { IsVector system.now x.now }
+        requires room { length system.now.tasks ≤ self.old.room }
+        requires cycle { HasCycle system.now res.0 self.old.cycle (resource_at system.now res.0).kind }
+        ensures prepared { IsPrepared system.now res.0 x.now self.new }
+        ensures marks { self.new.marks ≡ self.old.marks }
+        ensures room { self.new.room ≡ self.old.room }
+    {
+        match system.resource(res).kind {
+            Kind::Tdma { gap: _ } => {}
+            _ => learn(system, res, x, &mut self.inputs),
+        }
+    }
+}
+
+/// The input of a task, from a list that has it where its resource's kind wants that.
+pub(crate) fn own_input(
+    system: &System,
+    task: TaskId,
+    x: &Vector,
+    inputs: &[Option<Model>],
+) -> Option<Model>
+    requires there { task.0 < length system.now.tasks }
+    requires vector { IsVector system.now x.now }
+    requires long { length system.now.tasks ≤ length inputs.now }
+    requires known { HasInputs system.now (task_at system.now task.0).res.0 x.now inputs.now (resource_of system.now task.0).kind }
+    ensures value { result ≡ input system.now x.now task.0 }
+    ensures in_range { IfSome result IsModelInRange }
+{
+    match system.resource(system.task(task).res).kind {
+        Kind::Tdma { gap: _ } => input(system, task, x),
+        _ => known_input(system, task, x, inputs),
     }
 }
 

@@ -15,7 +15,7 @@ mod start;
 mod tests;
 mod trail;
 
-pub use analysis::{respond, respond_knowing};
+pub use analysis::{respond, respond_prepared};
 pub use inputs::input;
 pub use laws::{least_solutions_have_laws, responses_are_monotone};
 pub use start::floor;

@@ -18,6 +18,8 @@ pub struct Trail {
     pub(crate) rivals: Vec<Rival>,
     /// The inputs that were worked out last, by the tasks' places.
     pub(crate) inputs: Vec<Option<EventModel>>,
+    /// The cycle that was worked out last, in ticks.
+    pub(crate) cycle: u64,
 }
 
 impl Model for Trail {
@@ -26,7 +28,7 @@ impl Model for Trail {
 
     ghost Value = { Marks };
 
-    ghost view = { λ t. record { marks = t.marks; room = vec_capacity t.rivals; inputs = t.inputs.items } };
+    ghost view = { λ t. record { marks = t.marks; room = vec_capacity t.rivals; inputs = t.inputs.items; cycle = t.cycle } };
 
     ghost invariant = { λ t. (length t.marks ≡ 512) × (length t.inputs.items ≡ vec_capacity t.rivals) };
 }
@@ -44,6 +46,7 @@ impl Trail {
             marks: [false; 512],
             rivals,
             inputs,
+            cycle: 0,
         })
     }
 
@@ -75,6 +78,7 @@ impl Trail {
         ensures fresh { NewMarksAre self.old self.new (λ i. i ≡ task.0) }
         ensures marked { AreMarked self.new (λ i. i ≡ task.0) }
         ensures inputs { self.new.inputs ≡ self.old.inputs }
+        ensures cycle { self.new.cycle ≡ self.old.cycle }
         ensures room { self.new.room ≡ self.old.room }
     {
         self.marks[task.0 as usize] = true;

@@ -16,7 +16,7 @@ loop-task-preserved c =
           (raise-task s c.args.res.0 c.tasks_on-task-items.result.now c.args.x.now c.loop-task.x c.args.trail.now c.loop-task.trail c.raise_task.new.trail k
           c.tasks_on-task-items.ensures.rules c.tasks_on-task-items.ensures.places c.loop-task-test.true (c.tasks_on-task-items.ensures.there k no_id c.loop-task-test.true)
           c.raise_task.ensures.kept c.raise_task.ensures.fresh c.raise_task.ensures.marked c.loop-task.invariant.raised);
-      known = c.raise_task.ensures.known;
+      prepared = c.raise_task.ensures.prepared;
     }
 
 pub returns : goal.returns
