@@ -36,6 +36,14 @@ pub clean_from_agree : (s : SystemLists) (kept : List (Option Reading)) (x : Lis
 clean_from_agree s kept x r reading sound e agree =
     (reading, e, record { sound = sound.sound r reading e; current = agree })
 
+-- what is no member of the wider set is none of the other
+pub not-member : (set wider : List Bool) (r : ℕ) → (Members set r → Members wider r) → holds wider r ≡ false → holds set r ≡ false
+not-member set wider r up off =
+    elim (cases_Bool (holds set r)) [
+      | inl on ↦ absurd (false≢true (sym off ∙ up on))
+      | inr out ↦ out
+    ]
+
 -- what is stale is dirty
 pub stale-unclean : (s : SystemLists) (kept : List (Option Reading)) (x : List Bound) (r : ℕ) → IsStale s kept x r → HasCleanReading s kept x r → ⊥
 stale-unclean s kept x r (inl none) clean = let both : None ≡ Some clean.0 = sym none ∙ clean.1 in cc

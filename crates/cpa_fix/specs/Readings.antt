@@ -44,6 +44,10 @@ HasCleanReading s kept x r =
 abbrev pub AreCleanBeyond : SystemLists → List (Option Reading) → List Bound → List Bool → Type 0
 AreCleanBeyond s kept x reach = (r : ℕ) → r < length s.resources → holds reach r ≡ false → HasCleanReading s kept x r
 
+-- the readings of all resources that aren't members are as they were
+abbrev pub AreKeptBeyond : List (Option Reading) → List (Option Reading) → List Bool → Type 0
+AreKeptBeyond old new reach = (r : ℕ) → holds reach r ≡ false → reading_of new r ≡ reading_of old r
+
 -- r is a resource that is dirty at x
 abbrev pub IsDirty : SystemLists → List (Option Reading) → List Bound → ℕ → Type 0
 IsDirty s kept x r = (r < length s.resources) × (HasCleanReading s kept x r → ⊥)

@@ -8,7 +8,7 @@ ghost use Rattle.cpa_model.specs.Rules.{IsSystem};
 ghost use Rattle.cpa_local.specs.Solution.{IsVector, IsLeast};
 ghost use Rattle.cpa_local.specs.Trails.{IsKept, NewMarksAre, AreMarked};
 ghost use Rattle.cpa_depend.specs.Cone.{Reads, InCone, AreReads, IsClosedUnder};
-ghost use Rattle.cpa_fix.specs.Readings.{AgreeOnReads, AreSound, HasCleanReading, AreCleanBeyond, IsDirty, IsSolved};
+ghost use Rattle.cpa_fix.specs.Readings.{AgreeOnReads, AreSound, HasCleanReading, AreCleanBeyond, AreKeptBeyond, IsDirty, IsSolved};
 ghost use Rattle.cpa_fix.specs.Rounds.{MayStart, TasksOn};
 ghost use Rattle.cpa_fix.specs.Stale.{Differs, DiffersOn, AgreeOn, IsStale, AreStale};
 
@@ -56,7 +56,8 @@ pub fn solve<H: Threads + Sync, R: Round>(
 }
 
 /// The same, where resources beyond `reach` are known to be clean at the start, and `reach` has every
-/// resource that reads a member: only members are looked at. The table tells what each resource reads.
+/// resource that reads a member: only members are looked at, and the readings of others are kept. The
+/// table tells what each resource reads.
 pub fn solve_within<H: Threads + Sync, R: Round>(
     rt: &H,
     alloc: Global,
@@ -74,6 +75,7 @@ pub fn solve_within<H: Threads + Sync, R: Round>(
     requires closed { IsClosedUnder system.now reach }
     ensures least { IfOk result (λ it. IsLeast system.now it.bounds) }
     ensures solved { IfOk result (λ it. IsSolved system.now it.bounds it.readings) }
+    ensures beyond { IfOk result (λ it. AreKeptBeyond kept it.readings reach) }
     ensures kept { IsKept trail.old trail.new }
     ensures fresh { NewMarksAre trail.old trail.new (TasksOn system.now (InCone system.now (IsDirty system.now kept start))) }
     ensures marked { OnOk result (AreMarked trail.new (TasksOn system.now (IsDirty system.now kept start))) }
