@@ -1,13 +1,15 @@
 -- Sets of places, as the bits of a number.
-use Rattle.std.proofs.Common.{◌≡◌, ℕ, zero, suc, ◌-◌, ◌*◌, ◌/◌, ◌%◌, ◌^◌, not, w64, ◌<◌, ◌≤◌, ◌==◌, ◌||◌, max, min, true, false, nat_lt, refl, sym, ap, ◌∙◌, inl, inr, arith}
+use Rattle.std.proofs.Common.{◌≡◌, ℕ, zero, suc, ◌+◌, ◌-◌, ◌*◌, ◌/◌, ◌%◌, ◌^◌, not, w64, ◌<◌, ◌≤◌, ◌==◌, ◌||◌, max, min, true, false, nat_lt, refl, sym, ap, ◌∙◌, inl, inr, arith}
 use Rattle.std.specs.Prelude.{bit_or, bit_and}
 use Rattle.std.specs.Int.{bit_at}
 use Rattle.std.proofs.lemmas.Bool.{cases_lt, cases_eq, le-ltb, lt-ltb, eq-eqb, ne_eqb, or_left, eqb-true, false≢true}
-use Rattle.std.proofs.Math.Pow.{pow-lt}
+use Rattle.std.proofs.Math.Pow.{pow-lt, pow_mono, shr-shr}
+use Rattle.std.proofs.Math.Nat.{le_trans}
+use Rattle.std.proofs.lemmas.Nat.{shr_below}
 use Rattle.std.specs.Int.Bits.{and_lt}
 use Rattle.std.specs.Int.{trailing_zeros}
-use Rattle.std.proofs.lemmas.Nat.Bits.{shr_and_one, bit_at-zero, bit_at-lt, bit_at_lowest, bit_at-suc, bit_at_or, bit_at_and, bit_at_ones, bit_at_ones_above, bit_at_set_same, bit_at_set_other, bit_at-trailing_zeros}
-use Rattle.cpa_units.specs.Sets.{holds, Members, HaveCommon, truths}
+use Rattle.std.proofs.lemmas.Nat.Bits.{shr_and_one, bit_at-zero, bit_at-lt, bit_at_lowest, bit_at-suc, bit_at_or, bit_at_and, bit_at_ones, bit_at_ones_above, bit_at_above, bit_at_set_same, bit_at_set_other, bit_at-trailing_zeros}
+use Rattle.cpa_units.specs.Sets.{holds, Members, HaveCommon, IsNext, truths}
 
 -- ---- members are bits
 
@@ -112,3 +114,41 @@ common-meets a b (r, m, n) =
   where
     ap2 : {x y : ℕ} → x ≡ 1 → y ≡ 1 → min x y ≡ 1
     ap2 e f = rw (e, f) refl
+
+-- ---- the least member from a place on
+
+bit_at-shifted : (n k i : ℕ) → bit_at (n / 2 ^ k) i ≡ bit_at n (k + i)
+bit_at-shifted n k i = ap (λ x. x % 2) (shr-shr n k i)
+
+holds-shifted : (n k r : ℕ) → k ≤ r → r < 64 → holds (truths 64 n) r ≡ (bit_at (n / 2 ^ k) (r - k) == 1)
+holds-shifted n k r past less =
+    let same : k + (r - k) ≡ r = omega (arith, past) in
+    holds-truths 64 n r less ∙ ap (λ b. b == 1) (sym (bit_at-shifted n k (r - k) ∙ ap (bit_at n) same))
+
+pub next-none : (n k : ℕ) → n / 2 ^ k ≡ 0 → (r : ℕ) → k ≤ r → holds (truths 64 n) r ≡ false
+next-none n k e r past =
+    elim (cases_lt r 64) [
+      | inl less ↦ holds-shifted n k r past less ∙ ap (λ b. b == 1) (ap (λ m. bit_at m (r - k)) e ∙ bit_at-zero (r - k))
+      | inr over ↦ holds-past 64 n r over
+    ]
+
+pub next-is : (n k : ℕ) → n < 2 ^ 64 → k < 64 → (n / 2 ^ k ≡ 0 → ⊥) → IsNext (truths 64 n) k (k + trailing_zeros w64 (n / 2 ^ k))
+next-is n k small within some =
+    let rest = n / 2 ^ k in
+    let few : rest < 2 ^ (64 - k) = shr_below n (64 - k) k (let whole : 64 - k + k ≡ 64 = omega (arith, within) in rw whole small) in
+    let less : rest < 2 ^ 64 = le_trans few (pow_mono {j = 64} (omega arith)) in
+    let first = bit_at-trailing_zeros w64 rest (elim (cases_lt 0 rest) [ inl pos ↦ pos | inr none ↦ absurd (some (omega (arith, none))) ]) less in
+    let z = trailing_zeros w64 rest in
+    let bit : bit_at n (k + z) ≡ 1 = sym (bit_at-shifted n k z) ∙ first.1 in
+    let there : k + z < 64 = elim (cases_lt (k + z) 64) [
+      | inl it ↦ it
+      | inr past ↦ absurd (let none : 0 ≡ 1 = sym (bit_at_above n 64 (k + z) small past) ∙ bit in let f : ⊥ = omega (arith, none) in f)
+    ] in
+    record {
+      past = omega arith;
+      small = there;
+      member = member n (k + z) there bit;
+      first = λ r past before.
+          let low : r - k < z = omega (arith, past, before) in
+          holds-shifted n k r past (omega (arith, before, there)) ∙ ap (λ b. b == 1) (first.2 (r - k) low);
+    }

@@ -1,5 +1,5 @@
 -- Sets of places, as lists of truth values.
-use Rattle.std.proofs.Common.{ℕ, zero, suc, ◌+◌, ◌*◌, ◌/◌, ◌%◌, ◌^◌, ◌<◌, ◌==◌, ◌≡◌, Bool, true, false, cond, List, [], ◌∷◌, slice_index_or, refl, arith}
+use Rattle.std.proofs.Common.{ℕ, zero, suc, ◌+◌, ◌*◌, ◌/◌, ◌%◌, ◌^◌, ◌<◌, ◌≤◌, ◌==◌, ◌≡◌, Bool, true, false, cond, List, [], ◌∷◌, slice_index_or, refl, arith}
 
 -- whether a place is a member
 abbrev pub holds : List Bool → ℕ → Bool
@@ -12,6 +12,13 @@ Members set place = holds set place ≡ true
 -- two sets have a member in common
 abbrev pub HaveCommon : List Bool → List Bool → Type 0
 HaveCommon a b = (place : ℕ) × Members a place × Members b place
+
+-- the least member from a place on
+pub record IsNext (set : List Bool) (from place : ℕ) : Type 0 where
+  pub past : from ≤ place
+  pub small : place < 64
+  pub member : Members set place
+  pub first : (r : ℕ) → from ≤ r → r < place → holds set r ≡ false
 
 -- so many bits of a number as truth values, from the lowest on
 unfoldable pub truths : ℕ → ℕ → List Bool
