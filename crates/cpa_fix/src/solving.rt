@@ -139,18 +139,20 @@ fn is_stale(system: &System, res: ResId, read: ResSet, x: &Vector, readings: &Re
 
 /// Whether two vectors differ for a task on one of the resources of `read`, which `res` reads.
 fn differs(system: &System, res: ResId, read: ResSet, seen: &Vector, x: &Vector) -> bool
+    requires in_range { res.0 < length system.now.resources }
     requires read { (q : ℕ) → Members read q ↔ Reads system.now res.0 q }
     requires seen { IsVector system.now seen.now }
     requires vector { IsVector system.now x.now }
     ensures yes { OnTrue result (Differs system.now res.0 seen.now x.now) }
     ensures no { OnFalse result (AgreeOnReads system.now res.0 seen.now x.now) }
 {
-    let count = system.resources();
-    for place in 0..count {
-        let other = ResId(place);
-        if read.has(other) && differs_on(system, other, seen, x) {
+    system.has_rules();
+    let mut from = 0;
+    'others: while let Some(other) = read.next(from) {
+        if differs_on(system, other, seen, x) {
             return true;
         }
+        from = other.0 + 1;
     }
     false
 }

@@ -1,8 +1,13 @@
-use Rattle.std.proofs.Common.{ℕ, ◌<◌}
-use Rattle.cpa_depend.specs.Cone.{Reads}
+use Rattle.std.proofs.Common.{ℕ, ◌<◌, ◌≤◌, ◌-◌}
+use Rattle.cpa_units.specs.Sets.{Members}
 use Rattle.cpa_fix.specs.Stale.{AgreeOn}
 use Rattle.cpa_fix.proofs.solving.differs.Given as goal
 
-abbrev pub invariant-loop-place : goal.invariant-loop-place
-invariant-loop-place l =
-    (q : ℕ) → q < l.place → Reads l.system l.fn.res.0 q → AgreeOn l.system q l.seen l.x
+abbrev pub invariant-others : goal.invariant-others
+invariant-others l = record {
+  small : l.from ≤ 64;
+  agree : (q : ℕ) → q < l.from → Members l.fn.read q → AgreeOn l.system q l.seen l.x;
+}
+
+abbrev pub decreases-others : goal.decreases-others
+decreases-others l = 64 - l.from
