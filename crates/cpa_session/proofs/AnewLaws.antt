@@ -1,6 +1,6 @@
 -- A copy of the old bounds in which the tasks on some resources begin anew.
 use Rattle.std.proofs.Common.{◌≡◌, ℕ, ◌+◌, ◌<◌, ◌≤◌, ◌⊎◌, length, List, Bool, false, None, set, get_or, refl, sym, ap, ◌∙◌, inl, inr, subst, arith, get_or-set_same, get_or-set_other, length-set}
-use Rattle.std.proofs.lemmas.Bool.{cases_eq, cases_Bool, false≢true}
+use Rattle.std.proofs.lemmas.Bool.{cases_eq, cases_lt, cases_Bool, false≢true}
 use Rattle.std.proofs.lemmas.List.{ext_get_or}
 use Rattle.cpa_units.specs.declared.bound.Bound.{Bound}
 use Rattle.cpa_units.specs.declared.bound.Bound.TheVariants.{Within}
@@ -61,16 +61,29 @@ pub record IsPartlyAnew (s : SystemLists) (reset : List Bool) (x y : List Bound)
 pub anew-start : (s : SystemLists) (reset : List Bool) (x : List Bound) → IsPartlyAnew s reset x x 0
 anew-start s reset x = record { long = refl; least = λ i less none on. absurd (omega arith); rest = λ i less why. refl }
 
-pub anew-skip : (s : SystemLists) (reset : List Bool) (x y : List Bound) (place : ℕ) → holds reset place ≡ false → IsPartlyAnew s reset x y place → IsPartlyAnew s reset x y (place + 1)
-anew-skip s reset x y place off h =
+-- no member between two places
+pub anew-jump : (s : SystemLists) (reset : List Bool) (x y : List Bound) (from place : ℕ) → from ≤ place → ((r : ℕ) → from ≤ r → r < place → holds reset r ≡ false) → IsPartlyAnew s reset x y from → IsPartlyAnew s reset x y place
+anew-jump s reset x y from place up none h =
     record {
       long = h.long;
-      least = λ i less under on. elim (cases_eq (task_at s i).res.0 place) [
-        | inl here ↦ absurd (false≢true (sym off ∙ sym (ap (holds reset) here) ∙ on))
-        | inr other ↦ h.least i less (omega arith) on
+      least = λ i less under on. elim (cases_lt (task_at s i).res.0 from) [
+        | inl before ↦ h.least i less before on
+        | inr past ↦ absurd (false≢true (sym (none (task_at s i).res.0 past under) ∙ on))
       ];
       rest = λ i less why. elim why [
         | inl past ↦ h.rest i less (inl (omega arith))
+        | inr out ↦ h.rest i less (inr out)
+      ];
+    }
+
+-- no resource at a place
+pub anew-past : (s : SystemLists) (reset : List Bool) (x y : List Bound) (place : ℕ) → IsSystem s → length s.resources ≤ place → IsPartlyAnew s reset x y place → IsPartlyAnew s reset x y (place + 1)
+anew-past s reset x y place rules past h =
+    record {
+      long = h.long;
+      least = λ i less under on. let entry : IsTask s (task_at s i) = rules.tasks i no_task less in h.least i less (omega (arith, entry.placed, past)) on;
+      rest = λ i less why. elim why [
+        | inl beyond ↦ h.rest i less (inl (omega arith))
         | inr out ↦ h.rest i less (inr out)
       ];
     }
@@ -89,7 +102,7 @@ anew-more s reset x y z place on begun h =
       ];
     }
 
-pub anew-all : (s : SystemLists) (reset : List Bool) (x y : List Bound) (place : ℕ) → IsSystem s → length x ≡ length s.tasks → place ≡ length s.resources → IsPartlyAnew s reset x y place
+pub anew-all : (s : SystemLists) (reset : List Bool) (x y : List Bound) (place : ℕ) → IsSystem s → length x ≡ length s.tasks → length s.resources ≤ place → IsPartlyAnew s reset x y place
     → y ≡ carried s (place_before None) reset x
 anew-all s reset x y place rules full end h =
     ext_get_or (Within 0) y (carried s (place_before None) reset x) (h.long ∙ full ∙ sym (long-carried s (place_before None) reset x))
@@ -100,3 +113,12 @@ anew-all s reset x y place rules full end h =
       | inl on ↦ h.least i less (omega (arith, entry.placed)) on ∙ sym (carried-floor s (place_before None) reset x i less (inl on))
       | inr off ↦ h.rest i less (inr off) ∙ sym (carried-kept s (place_before None) reset x i less off (omega arith))
     ])
+
+-- no member from a place on
+pub anew-end : (s : SystemLists) (reset : List Bool) (x y : List Bound) (from : ℕ) → IsSystem s → length x ≡ length s.tasks → ((r : ℕ) → from ≤ r → holds reset r ≡ false) → IsPartlyAnew s reset x y from
+    → y ≡ carried s (place_before None) reset x
+anew-end s reset x y from rules full none h =
+    elim (cases_lt from (length s.resources)) [
+      | inl less ↦ anew-all s reset x y (length s.resources) rules full (omega arith) (anew-jump s reset x y from (length s.resources) (omega (arith, less)) (λ r past under. none r past) h)
+      | inr over ↦ anew-all s reset x y from rules full over h
+    ]
