@@ -1,18 +1,22 @@
 -- Edits that leave tasks on their resources and in their chains leave what each resource reads.
-use Rattle.std.proofs.Common.{◌≡◌, ℕ, ◌<◌, length, Bool, true, List, Ok, refl, sym, ap, ◌∙◌, inl, inr, subst}
+use Rattle.std.proofs.Common.{◌≡◌, ℕ, ◌<◌, length, Bool, true, List, Option, Ok, refl, sym, ap, ◌∙◌, inl, inr, subst}
 use Rattle.std.proofs.lemmas.Bool.{cases_eq, cases_lt, false≢true}
-use Rattle.std.proofs.lemmas.List.{get_or-set_same, get_or-set_other, set_past}
+use Rattle.std.proofs.lemmas.List.{get_or-set_same, get_or-set_other, set_past, length-set}
 use Rattle.std.specs.Prelude.{slice_index_or}
 use Rattle.cpa_units.specs.declared.places.ResId.{ResId}
 use Rattle.cpa_model.specs.declared.entries.Task.{Task}
 use Rattle.cpa_model.specs.declared.entries.Turn.TheVariants as turn
 use Rattle.cpa_model.specs.SystemLists.{SystemLists, task_at, no_task}
-use Rattle.cpa_model.specs.Changes.{with_task_at, with_exec, with_turn, with_swapped, with_source}
+use Rattle.cpa_model.specs.Changes.{with_task_at, with_exec, with_turn, with_swapped, with_source, with_task, without_task}
 use Rattle.cpa_depend.specs.Cone.{LeadsTo, directly, through, Reads, itself, earlier, AreReads}
 use Rattle.cpa_edit.specs.declared.edit.Edit.{Edit}
 use Rattle.cpa_edit.specs.declared.edit.Edit.TheVariants.{Exec, Priority, Swap, Slot, Source as SourceEdit, Add, Remove}
 use Rattle.cpa_edit.specs.Edited.{edited, change}
 use Rattle.cpa_edit.specs.Named.{task_place}
+use Rattle.cpa_units.specs.declared.bound.Bound.{Bound}
+use Rattle.cpa_fix.specs.declared.readings.Reading.{Reading}
+use Rattle.cpa_fix.specs.Readings.{IsSolved}
+use Rattle.cpa_session.specs.Carried.{AreLong}
 use Rattle.cpa_session.specs.Editing.{keeps_chains}
 use Rattle.cpa_session.proofs.EditedLaws.{unrefused}
 
@@ -82,3 +86,41 @@ in_chains-change s (Remove task) on = absurd (false≢true on)
 
 pub table-kept_by : (s t : SystemLists) (e : Edit) (table : List (List Bool)) → edited s e ≡ Ok t → keeps_chains e ≡ true → AreReads s table → AreReads t table
 table-kept_by s t e table made on = table-kept s t table (subst (IsInChains s) (unrefused s t e made).0 (in_chains-change s e on))
+
+-- ---- as many tasks and resources
+
+-- no edit brings or takes a resource
+resources-change : (s : SystemLists) (e : Edit) → (change s e).resources ≡ s.resources
+unfolding change with_exec with_turn with_swapped with_source with_task without_task
+resources-change s (Exec task best worst) = refl
+resources-change s (Priority task number) = refl
+resources-change s (Slot task ticks) = refl
+resources-change s (Swap first second) = refl
+resources-change s (SourceEdit name period jitter distance) = refl
+resources-change s (Add name res after best worst number) = refl
+resources-change s (Remove task) = refl
+
+pub resources-kept_by : (s t : SystemLists) (e : Edit) → edited s e ≡ Ok t → length s.resources ≡ length t.resources
+resources-kept_by s t e made = ap length (sym (resources-change s e) ∙ ap (λ (u : SystemLists). u.resources) (unrefused s t e made).0)
+
+tasks-change : (s : SystemLists) (e : Edit) → keeps_chains e ≡ true → length (change s e).tasks ≡ length s.tasks
+unfolding change with_exec with_turn with_swapped with_source
+tasks-change s (Exec task best worst) on = length-set s.tasks (task_place s task) (record (task_at s (task_place s task)) { best = best; worst = worst })
+tasks-change s (Priority task number) on = length-set s.tasks (task_place s task) (record (task_at s (task_place s task)) { turn = turn.Priority number })
+tasks-change s (Slot task ticks) on = length-set s.tasks (task_place s task) (record (task_at s (task_place s task)) { turn = turn.Slot ticks })
+tasks-change s (Swap first second) on =
+    let i = task_place s first in
+    let j = task_place s second in
+    let u : Task = record (task_at s i) { turn = (task_at s j).turn } in
+    let m : SystemLists = with_task_at s i u in
+    length-set m.tasks j (record (task_at m j) { turn = (task_at s i).turn }) ∙ length-set s.tasks i u
+tasks-change s (SourceEdit name period jitter distance) on = refl
+tasks-change s (Add name res after best worst number) on = absurd (false≢true on)
+tasks-change s (Remove task) on = absurd (false≢true on)
+
+pub tasks-kept_by : (s t : SystemLists) (e : Edit) → edited s e ≡ Ok t → keeps_chains e ≡ true → length s.tasks ≡ length t.tasks
+tasks-kept_by s t e made on = sym (tasks-change s e on) ∙ ap (λ (u : SystemLists). length u.tasks) (unrefused s t e made).0
+
+-- the readings of the old system fit the new one
+pub long-kept_by : (s t : SystemLists) (e : Edit) (x : List Bound) (kept : List (Option Reading)) → edited s e ≡ Ok t → keeps_chains e ≡ true → IsSolved s x kept → AreLong kept (length t.tasks)
+long-kept_by s t e x kept made on solved r reading is = (solved.sound.sound r reading is).vector.long ∙ tasks-kept_by s t e made on
