@@ -1,7 +1,8 @@
 #!/usr/bin/env python3
 """Counts the instructions of whole calls of `analyse` on the car network, on the largest systems of each kind, and on systems
-with all tasks on one resource. For each program it prints those of the call, and those of what follows reading and judging:
-the call's less those of a call that refuses the same file with a path over an unknown task at its end.
+with all tasks on one resource. For each program it prints those of the call, those of what follows reading and judging (the
+call's less those of a call that refuses the same file with a path over an unknown task at its end), and those of the analysis
+alone, without the report.
 
     python3 bench/count_instructions.py [PROGRAM ..]
 
@@ -15,12 +16,23 @@ import tempfile
 
 from time_analyse import PROGRAM, systems
 
+ANALYSIS = "cpa_cli::analysis::least_bounds"
+
 
 def count(program, file, folder):
+    """The instructions of a call, and what it writes."""
     done = subprocess.run(["valgrind", "--tool=callgrind", f"--callgrind-out-file={folder}/out", program, "analyse", file],
                           capture_output=True, text=True)
     line = [line for line in done.stderr.splitlines() if "refs" in line][-1]
     return int(line.split(":")[-1].replace(",", "")), done.stdout
+
+
+def analysis(folder):
+    """The instructions of the last call's analysis."""
+    done = subprocess.run(["callgrind_annotate", "--inclusive=yes", "--threshold=100", f"{folder}/out"],
+                          capture_output=True, text=True)
+    lines = [line for line in done.stdout.splitlines() if ANALYSIS in line]
+    return int(lines[0].split()[0].replace(",", "")) if lines else 0
 
 
 def refused(system):
@@ -29,6 +41,13 @@ def refused(system):
     if "\npath = [" in system:
         return system.rstrip()[:-1] + path + "]\n"
     return system + f"path = [{path}]\n"
+
+
+def measure(program, whole, part, folder):
+    """The instructions of a call, of what follows judging, and of the analysis, and the report."""
+    call, report = count(program, whole, folder)
+    alone = analysis(folder)
+    return call, call - count(program, part, folder)[0], alone, report
 
 
 def main():
@@ -42,10 +61,9 @@ def main():
                 out.write(make())
             with open(part, "w") as out:
                 out.write(refused(make()))
-            counts = [count(program, whole, folder) for program in programs]
-            less = [count(program, part, folder)[0] for program in programs]
-            same = "" if len({text for _, text in counts}) == 1 else "  other reports"
-            print(f"{name:24}" + "".join(f"{number:14,}{number - judged:14,}" for (number, _), judged in zip(counts, less)) + same, flush=True)
+            found = [measure(program, whole, part, folder) for program in programs]
+            same = "" if len({report for *_, report in found}) == 1 else "  other reports"
+            print(f"{name:24}" + "".join(f"{call:14,}{after:14,}{alone:14,}" for call, after, alone, _ in found) + same, flush=True)
 
 
 if __name__ == "__main__":
