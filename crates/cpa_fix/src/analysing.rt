@@ -21,27 +21,12 @@ use cpa_units::{NoMemory, ResId, TaskId, Vector};
 use std::alloc::Global;
 
 /// Analyses a resource at a vector of the system nowhere above the least solution: raises the bounds
-/// on it in `x`, none above the least solution, and marks its tasks. `seen` is that vector too, and is
-/// then a sound reading, brought up to `x` where the analysis would be the same there. The place is
-/// below the number of resources, and the trail has room for all tasks.
-pub fn analyse(system: &System, res: ResId, seen: &mut Vector, x: &mut Vector, trail: &mut Trail)
-    requires in_range { res.0 < length system.now.resources }
-    requires start { IsRisen system.now x.old x.old }
-    requires same { seen.old ≡ x.old }
-    requires room { length system.now.tasks ≤ trail.old.room }
-    ensures raised { IsRaised system.now res.0 x.old x.new trail.old trail.new }
-    ensures sound { IsSound system.now res.0 seen.new x.new }
-    ensures up { IsNowhereAbove seen.old seen.new }
-    ensures outside { AgreeOutside system.now res.0 seen.new x.new }
-{
-    let back = leads_back(system, res);
-    raise(system, res, back, x, trail);
-    bring_up(system, res, back, seen, x);
-}
-
-/// Analyses a resource at a vector as `analyse` does, and gives its reading, in the room of an old one if
-/// there is one. Where the analysis would be the same at the raised vector, that is its reading.
-pub(crate) fn analyse_anew(
+/// on it in `x`, none above the least solution, marks its tasks, and gives a sound reading of it, in the
+/// room of an old one if there is one: the vector before, or the raised one where the analysis would be
+/// the same there, so that the resource isn't dirty by its own bounds. The place is below the number of
+/// resources, and the trail has room for all tasks. Where memory is refused bounds may have risen all
+/// the same.
+pub fn analyse(
     alloc: Global,
     system: &System,
     res: ResId,
@@ -58,6 +43,7 @@ pub(crate) fn analyse_anew(
     ensures raised { OnOk result (IsRaised system.now res.0 x.old x.new trail.old trail.new) }
     ensures sound { IfOk result (λ reading. IsSound system.now res.0 reading.seen x.new) }
     ensures up { IfOk result (λ reading. IsNowhereAbove x.old reading.seen) }
+    ensures outside { IfOk result (λ reading. AgreeOutside system.now res.0 reading.seen x.new) }
 {
     let back = leads_back(system, res);
     if has_feedback(system, res, back) {
@@ -135,23 +121,6 @@ fn raise_task(
     x.set(task, raised);
     if back {
         trail.follow(system, res, x);
-    }
-}
-
-/// Brings the vector at which a resource was analysed up to the raised one where the analysis would
-/// be the same there, so that the resource isn't dirty by its own bounds.
-fn bring_up(system: &System, res: ResId, back: bool, seen: &mut Vector, x: &Vector)
-    requires in_range { res.0 < length system.now.resources }
-    requires back { IsTrue back ↔ LeadsBack system.now res.0 }
-    requires vector { IsVector system.now x.now }
-    requires sound { IsSound system.now res.0 seen.old x.now }
-    requires others { AgreeOutside system.now res.0 seen.old x.now }
-    ensures sound { IsSound system.now res.0 seen.new x.now }
-    ensures up { IsNowhereAbove seen.old seen.new }
-    ensures outside { AgreeOutside system.now res.0 seen.new x.now }
-{
-    if !has_feedback(system, res, back) {
-        seen.assign(x);
     }
 }
 

@@ -5,7 +5,7 @@ ghost use Rattle.std.specs.Result.{OnOk};
 ghost use Rattle.cpa_local.specs.Trails.{IsKept, NewMarksAre, AreMarked};
 ghost use Rattle.cpa_fix.specs.Rounds.{MayStart, IsRisen, IsRound, TasksOn};
 
-use crate::analysing::analyse_anew;
+use crate::analysing::analyse;
 use crate::readings::Readings;
 use crate::rounds::Round;
 use cpa_local::Trail;
@@ -58,7 +58,7 @@ pub fn round_of_one(
     ensures marked { OnOk result (AreMarked trail.new (TasksOn system.now (λ r. r ≡ res.0))) }
 {
     let old = readings.take(res);
-    let reading = analyse_anew(alloc, system, res, old, x, trail)?;
+    let reading = analyse(alloc, system, res, old, x, trail)?;
     readings.put(res, reading);
     Ok(())
 }

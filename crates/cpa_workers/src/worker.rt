@@ -13,7 +13,7 @@ use crate::gate::Gate;
 use crate::words::read_word;
 use cpa_board::{Board, Seat};
 use cpa_depend::reads;
-use cpa_fix::{Reading, Readings, analyse};
+use cpa_fix::{Readings, analyse};
 use cpa_local::Trail;
 use cpa_model::System;
 use cpa_units::{NoMemory, ResId, ResSet, Vector};
@@ -106,11 +106,10 @@ fn visit(
     requires work { IsWork job.now.system.now job.now.board.now job.now.dirty job.now.starts.now seat.old found.old trail.old }
     ensures { OnOk result (IsWork job.now.system.now job.now.board.now job.now.dirty job.now.starts.now seat.new found.new trail.new) }
 {
-    let mut seen = look(alloc, job, seat, res)?;
-    let mut x = seen.copy(alloc)?;
-    analyse(job.system, res, &mut seen, &mut x, trail);
+    let mut x = look(alloc, job, seat, res)?;
+    let reading = analyse(alloc, job.system, res, None, &mut x, trail)?;
     announce(job, seat, res, &x);
-    found.put(res, Reading { seen });
+    found.put(res, reading);
     Ok(())
 }
 

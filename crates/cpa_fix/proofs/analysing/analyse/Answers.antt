@@ -1,6 +1,6 @@
 use Rattle.std.proofs.Common.{sym}
 use Rattle.cpa_fix.proofs.RoundLaws.{sound-brought_up}
-use Rattle.cpa_fix.proofs.analysing.analyse_anew.Goals as goal
+use Rattle.cpa_fix.proofs.analysing.analyse.Goals as goal
 
 pub returns-in_ok-reading-2-clause-sound : goal.returns-in_ok-reading-2-clause-sound
 returns-in_ok-reading-2-clause-sound c =
