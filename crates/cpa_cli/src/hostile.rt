@@ -1,7 +1,12 @@
 //! Sinks and files that fail, files that are cut, and files of which a byte is another.
 
+ghost use Rattle.std.specs.Prelude.{false, None, string_bytes};
+
 use crate::cases::{LONG_WINDOW, TWO_TASKS};
+use crate::command::run;
 use crate::tests::{Faults, NO_FAULTS, call_over};
+use cpa_io::{Files, LoadFault, Sink, SinkFault};
+use std::alloc::Global;
 use std::process::Abort;
 use std::test::Fail;
 use std::thread::Threads;
@@ -114,6 +119,105 @@ fn reads_failing_files(rt: HostRuntime) -> Result<(), Fail> {
             answer.0 == *status && answer.1.as_slice() == text.as_bytes(),
             "{words:?}"
         );
+    }
+    Ok(())
+}
+
+/// Files that all hold the two tasks, or whose loads all fail. They tell nothing but their faults.
+#[derive(Drop)]
+struct WornFiles {
+    faults: u64,
+    last: String,
+    fail: bool,
+}
+
+impl Files for WornFiles {
+    ghost told = { λ _. false };
+
+    ghost held = { λ _ _. None };
+
+    ghost faults = { λ f. f.faults };
+
+    ghost last_failed = { λ f. string_bytes f.last };
+
+    fn load(&mut self, alloc: Global, name: &str, most: u64) -> Result<Vec<u8>, LoadFault> {
+        if self.fail {
+            self.faults = self.faults.saturating_add(1);
+            return match String::from_str(alloc, name) {
+                Ok(name) => {
+                    self.last = name;
+                    Err(LoadFault::Failed)
+                }
+                Err(_) => Err(LoadFault::Memory),
+            };
+        }
+        if TWO_TASKS.len() as u64 > most {
+            return Err(LoadFault::TooLong);
+        }
+        match Vec::from_slice(alloc, TWO_TASKS.as_bytes()) {
+            Ok(bytes) => Ok(bytes),
+            Err(_) => Err(LoadFault::Memory),
+        }
+    }
+}
+
+/// A sink that takes all, or whose calls all fail. It tells nothing but its faults.
+#[derive(Drop)]
+struct WornSink {
+    faults: u64,
+    fail: bool,
+}
+
+impl Sink for WornSink {
+    ghost sent = { λ _. None };
+
+    ghost faults = { λ s. s.faults };
+
+    fn put(&mut self, piece: &[u8]) -> Result<usize, SinkFault> {
+        if self.fail && !piece.is_empty() {
+            self.faults = self.faults.saturating_add(1);
+            return Err(SinkFault::Failed);
+        }
+        Ok(piece.len())
+    }
+}
+
+/// Whether loads fail, whether puts fail, and the status: where both fail, the sink is the last to.
+const WORN: [(bool, bool, u8); 4] = [
+    (false, false, 0),
+    (true, false, 11),
+    (false, true, 20),
+    (true, true, 20),
+];
+
+/// Faults are told by the status where both counts of faults stand at their last value, as they are one below it.
+#[test]
+fn tells_faults_at_last_count(rt: HostRuntime) -> Result<(), Fail> {
+    let alloc = rt.alloc();
+    let mut words = Vec::new(alloc);
+    for word in ["analyse", "sys"] {
+        words.push(String::from_str(alloc, word)?)?;
+    }
+    for count in [u64::MAX - 1, u64::MAX] {
+        for (load, put, status) in &WORN {
+            let mut files = WornFiles {
+                faults: count,
+                last: String::new(alloc),
+                fail: *load,
+            };
+            let mut sink = WornSink {
+                faults: count,
+                fail: *put,
+            };
+            let told = run(&rt, alloc, words.as_slice(), &mut files, &mut sink);
+            assert!(rt; told == *status, "{count} {load} {put}");
+            let loads = if *load { u64::MAX } else { count };
+            let puts = if *put { u64::MAX } else { count };
+            assert!(rt;
+                (files.faults, sink.faults) == (loads, puts),
+                "{count} {load} {put}"
+            );
+        }
     }
     Ok(())
 }

@@ -1,10 +1,10 @@
 -- What is printed is read as the draft that says the same.
-use Rattle.std.proofs.Common.{◌≡◌, ℕ, ◌+◌, ◌≤◌, List, [], ◌∷◌, map, Option, Some, None, Ok, String, Global, Ordering, Less, Equal, Greater, string_bytes, refl, sym, subst, ◌∙◌, arith}
+use Rattle.std.proofs.Common.{◌≡◌, ℕ, ◌+◌, ◌≤◌, List, [], ◌∷◌, map, Option, Some, None, Ok, true, String, Global, Ordering, Less, Equal, Greater, string_bytes, refl, sym, subst, ◌∙◌, arith}
 use Rattle.std.proofs.lemmas.Bool.Decides.{nat_tests}
 use Rattle.std.specs.Ordering.{match_ordering}
 use Rattle.std.specs.String.{string_cmp}
 use Rattle.std.specs.BTreeMap.{insert_entry}
-use Rattle.toml.specs.Data.{Data, Members, items_depth, members_depth, depth, table, as_str}
+use Rattle.toml.specs.Data.{Data, Members, items_depth, members_depth, depth, table, as_str, has_valid_dates, items_have_valid_dates, members_have_valid_dates}
 use Rattle.toml.specs.View.{view, members_view, items_of}
 use Rattle.toml.specs.declared.value.Value.{Value}
 use Rattle.cpa_units.specs.declared.places.TaskId.{TaskId}
@@ -135,3 +135,54 @@ system-depth s =
 
 pub shallow : (s : SystemLists) (ms : Members) → table ms ≡ system_data s → members_depth ms ≤ 80
 shallow s ms e = let h : depth (table ms) ≤ 4 = subst (λ (d : Data). depth d ≤ 4) (sym e) (system-depth s) in omega arith
+
+-- no printed document has a date
+
+module _ {X : Type 0} (data_of : X → Data) (each : (x : X) → has_valid_dates (data_of x) ≡ true) where
+  pub items-undated : (xs : List X) → items_have_valid_dates (items_of (map data_of xs)) ≡ true
+  items-undated [] = refl
+  items-undated (x ∷ xs) = rw (each x, items-undated xs) refl
+
+resource-undated_by : (n : List ℕ) (k : Kind) (l : ℕ) → let r : Resource = record { name = n; kind = k; limit = l } in has_valid_dates (resource_data r) ≡ true
+unfolding resource_data
+resource-undated_by n Preemptive l = refl
+resource-undated_by n RoundRobin l = refl
+resource-undated_by n (Tdma gap) l = refl
+resource-undated_by n (Can bit) l = refl
+
+resource-undated : (r : Resource) → has_valid_dates (resource_data r) ≡ true
+resource-undated r = resource-undated_by r.name r.kind r.limit
+
+source-undated : (r : Source) → has_valid_dates (source_data r) ≡ true
+unfolding source_data
+source-undated r = refl
+
+task-undated_by : (s : SystemLists) (t : Task) (turn : Turn) → let u : Task = record t { turn = turn } in has_valid_dates (task_data s u) ≡ true
+unfolding task_data task_names_data
+task-undated_by s t (Priority number) = refl
+task-undated_by s t (Slot ticks) = refl
+
+task-undated : (s : SystemLists) (t : Task) → has_valid_dates (task_data s t) ≡ true
+task-undated s t = task-undated_by s t t.turn
+
+path-undated_by : (s : SystemLists) (p : Path) (deadline : Option ℕ) → let q : Path = record p { deadline = deadline } in has_valid_dates (path_data s q) ≡ true
+unfolding path_data
+path-undated_by s p None = rw (items-undated (name_data s) (λ i. refl) p.tasks) refl
+path-undated_by s p (Some deadline) = rw (items-undated (name_data s) (λ i. refl) p.tasks) refl
+
+path-undated : (s : SystemLists) (p : Path) → has_valid_dates (path_data s p) ≡ true
+path-undated s p = path-undated_by s p p.deadline
+
+system-undated : (s : SystemLists) → has_valid_dates (system_data s) ≡ true
+unfolding system_data
+system-undated s =
+    rw (
+      items-undated resource_data resource-undated s.resources,
+      items-undated source_data source-undated s.sources,
+      items-undated (task_data s) (task-undated s) s.tasks,
+      items-undated (path_data s) (path-undated s) s.paths,
+    )
+    refl
+
+pub undated : (s : SystemLists) (ms : Members) → table ms ≡ system_data s → members_have_valid_dates ms ≡ true
+undated s ms e = let h : has_valid_dates (table ms) ≡ true = subst (λ (d : Data). has_valid_dates d ≡ true) (sym e) (system-undated s) in h

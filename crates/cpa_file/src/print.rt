@@ -13,6 +13,7 @@ ghost use Rattle.cpa_file.specs.Printed.{put, kind_text, with_kind_number, resou
 use cpa_model::{Activator, Kind, Path, Resource, Source, System, Task, TaskList, Turn};
 use cpa_units::{Name, NoMemory, PathId, ResId, SourceId, TaskId};
 use std::alloc::Global;
+use toml::ser::Error;
 use toml::{Table, Value};
 
 /// Puts a value at a key.
@@ -273,9 +274,11 @@ fn print_document(alloc: Global, system: &System) -> Result<Vec<u8>, NoMemory>
     let document = system_table(alloc, system)?;
     match toml::table_to_string(alloc, &document) {
         Ok(text) => Ok(Vec::from_slice(alloc, text.as_str().as_bytes())?),
-        Err(_) => Err(NoMemory),
+        Err(Error::OutOfMemory) => Err(NoMemory),
+        Err(Error::DateInvalid) => unreachable!(),
     }
 }
+
 /// The bytes of a file that stands for the system. Executions are printed as `best` and `worst`; the layout is that of
 /// `toml`'s printer.
 pub fn print_system(alloc: Global, system: &System) -> Result<Vec<u8>, NoMemory>

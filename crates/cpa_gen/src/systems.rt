@@ -11,7 +11,7 @@ use crate::chains::{Chain, draw_chains, processors};
 use cpa_model::{Activator, Kind, Path, Resource, Source, System, Task, TaskList, Turn};
 use cpa_text::Text;
 use cpa_units::limits::DEFAULT_LIMIT;
-use cpa_units::{Name, NoMemory, ResId, SourceId, TaskId, frame_bits};
+use cpa_units::{Name, NameFault, NoMemory, ResId, SourceId, TaskId, frame_bits};
 use std::alloc::Global;
 
 /// The bit time of the buses, in ticks.
@@ -39,7 +39,8 @@ fn name(alloc: Global, letter: &[u8], number: u64, ending: &[u8]) -> Result<Name
     text.put(ending)?;
     match Name::read(alloc, text.into_bytes().as_slice()) {
         Ok(name) => Ok(name),
-        Err(_) => Err(NoMemory),
+        Err(NameFault::Memory) => Err(NoMemory),
+        Err(NameFault::Form) => unreachable!(),
     }
 }
 

@@ -4,6 +4,9 @@ ghost use Rattle.std.specs.Prelude.{◌≡◌, ◌≢◌, ◌≤◌, ◌<◌, �
 ghost use Rattle.cpa_io.specs.Causes.{risen};
 ghost use Rattle.cpa_io.specs.Memory.{entries_of, held_under, load_fails, put_fails};
 
+#[cfg(test)]
+mod tests;
+
 use crate::files::{Files, LoadFault};
 use crate::loads::FailedLoads;
 use crate::sink::{Sink, SinkFault};

@@ -2,6 +2,11 @@
 
 ghost use Rattle.std.specs.Prelude.{◌≡◌, ◌<◌, ◌≤◌, ◌^◌, All, map, length, option_map, unwrap_or, Some, None, true, false, not, IfOk, IfErr};
 ghost use Rattle.cpa_units.specs.declared.limits.TheConstants.{MAX_PAYLOAD, MAX_BIT, MAX_TASKS};
+ghost use Rattle.cpa_units.specs.Name.{is_name};
+ghost use Rattle.cpa_draft.specs.declared.draft.DraftResource.{DraftResource};
+ghost use Rattle.cpa_draft.specs.declared.draft.DraftSource.{DraftSource};
+ghost use Rattle.cpa_draft.specs.declared.draft.DraftTask.{DraftTask};
+ghost use Rattle.cpa_draft.specs.declared.draft.DraftPath.{DraftPath};
 ghost use Rattle.cpa_draft.specs.Numbers.{nat_of, nat_or};
 ghost use Rattle.cpa_draft.specs.Names.{AreTables, kind_of};
 ghost use Rattle.cpa_draft.specs.Judged.{Judges};
@@ -20,16 +25,18 @@ use cpa_draft::{
     is_by_priority, judge, natural, natural_or,
 };
 use cpa_units::limits::DEFAULT_LIMIT;
-use cpa_units::{Name, NoMemory, ResId, SourceId, TaskId, frame_bits};
+use cpa_units::{Name, NameFault, NoMemory, ResId, SourceId, TaskId, frame_bits};
 use std::alloc::Global;
 
 fn build_name(alloc: Global, raw: &Raw) -> Result<Name, BuildFault>
+    requires { is_name raw.now ≡ true }
     ensures ok { IfOk result (λ name. name ≡ raw.now) }
     ensures err { IfErr result (λ e. e ≡ Memory) }
 {
     match Name::read(alloc, raw.bytes()) {
         Ok(name) => Ok(name),
-        Err(_) => Err(BuildFault::Memory),
+        Err(NameFault::Memory) => Err(BuildFault::Memory),
+        Err(NameFault::Form) => unreachable!(),
     }
 }
 
@@ -49,6 +56,7 @@ fn build_kind(kind: KindWord, gap: Option<i64>, bit: Option<i64>) -> Kind
 }
 
 fn build_resource(alloc: Global, draft: &DraftResource) -> Result<Resource, BuildFault>
+    requires { is_name draft.now.name ≡ true }
     ensures ok { IfOk result (λ r. r ≡ built_resource draft.now) }
     ensures err { IfErr result (λ e. e ≡ Memory) }
 {
@@ -60,6 +68,7 @@ fn build_resource(alloc: Global, draft: &DraftResource) -> Result<Resource, Buil
 }
 
 fn build_source(alloc: Global, draft: &DraftSource) -> Result<Source, BuildFault>
+    requires { is_name draft.now.name ≡ true }
     ensures ok { IfOk result (λ r. r ≡ built_source draft.now) }
     ensures err { IfErr result (λ e. e ≡ Memory) }
 {
@@ -141,6 +150,7 @@ fn build_task(
     task: &DraftTask,
 ) -> Result<Task, BuildFault>
     requires tables { AreTables draft.now tables.now.resources tables.now.activities }
+    requires named { is_name task.now.name ≡ true }
     requires fits { TaskFitsTypes draft.now task.now }
     ensures ok { IfOk result (λ t. t ≡ built_task draft.now task.now) }
     ensures err { IfErr result (λ e. e ≡ Memory) }
@@ -201,6 +211,7 @@ fn build_path(
     path: &DraftPath,
 ) -> Result<Path, BuildFault>
     requires tables { AreTables draft.now tables.now.resources tables.now.activities }
+    requires named { is_name path.now.name ≡ true }
     requires fits { PathFitsTypes draft.now path.now }
     ensures ok { IfOk result (λ p. p ≡ built_path draft.now path.now) }
     ensures err { IfErr result (λ e. e ≡ Memory) }
@@ -215,6 +226,7 @@ fn build_path(
 }
 
 fn build_resources(alloc: Global, drafts: &[DraftResource]) -> Result<Vec<Resource>, BuildFault>
+    requires { All (λ (r : DraftResource). is_name r.name ≡ true) drafts.now }
     ensures ok { IfOk result (λ v. v.items ≡ map built_resource drafts.now) }
     ensures err { IfErr result (λ e. e ≡ Memory) }
 {
@@ -226,6 +238,7 @@ fn build_resources(alloc: Global, drafts: &[DraftResource]) -> Result<Vec<Resour
 }
 
 fn build_sources(alloc: Global, drafts: &[DraftSource]) -> Result<Vec<Source>, BuildFault>
+    requires { All (λ (r : DraftSource). is_name r.name ≡ true) drafts.now }
     ensures ok { IfOk result (λ v. v.items ≡ map built_source drafts.now) }
     ensures err { IfErr result (λ e. e ≡ Memory) }
 {
@@ -243,6 +256,7 @@ fn build_tasks(
     tasks: &[DraftTask],
 ) -> Result<Vec<Task>, BuildFault>
     requires tables { AreTables draft.now tables.now.resources tables.now.activities }
+    requires named { All (λ (t : DraftTask). is_name t.name ≡ true) tasks.now }
     requires fits { All (TaskFitsTypes draft.now) tasks.now }
     ensures ok { IfOk result (λ v. v.items ≡ map (built_task draft.now) tasks.now) }
     ensures err { IfErr result (λ e. e ≡ Memory) }
@@ -261,6 +275,7 @@ fn build_paths(
     paths: &[DraftPath],
 ) -> Result<Vec<Path>, BuildFault>
     requires tables { AreTables draft.now tables.now.resources tables.now.activities }
+    requires named { All (λ (p : DraftPath). is_name p.name ≡ true) paths.now }
     requires fits { All (PathFitsTypes draft.now) paths.now }
     ensures ok { IfOk result (λ v. v.items ≡ map (built_path draft.now) paths.now) }
     ensures err { IfErr result (λ e. e ≡ Memory) }

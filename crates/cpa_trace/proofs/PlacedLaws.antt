@@ -1,13 +1,12 @@
 -- What a breach tells of is there.
-use Rattle.std.proofs.Common.{◌≡◌, ℕ, ◌+◌, ◌<◌, ◌&&◌, Bool, true, false, if◌then◌else◌, length, List, Option, Some, None, refl, sym, ap, ◌∙◌, subst}
+use Rattle.std.proofs.Common.{◌≡◌, ℕ, ◌+◌, ◌<◌, Bool, true, false, if◌then◌else◌, length, List, Option, Some, None, refl}
 use Rattle.std.specs.Prelude.{option_map, IfSome}
 use Rattle.std.specs.Option.{is_some, option_and_then}
-use Rattle.std.proofs.lemmas.Option.{none-some, same_Some}
 use Rattle.cpa_events.specs.declared.Model.{Model}
 use Rattle.cpa_model.specs.Streams.{source_model}
 use Rattle.cpa_model.specs.SystemLists.{SystemLists}
 use Rattle.cpa_trace.specs.declared.breach.Breach.{Breach}
-use Rattle.cpa_trace.specs.declared.breach.Breach.TheVariants.{Close, Exec, Phase}
+use Rattle.cpa_trace.specs.declared.breach.Breach.TheVariants.{Exec, Phase}
 use Rattle.cpa_trace.specs.Trace.{TraceLists, times_of}
 use Rattle.cpa_trace.specs.Breaches.{first_below, first_some, first_too_soon, first_before, close_at, close_by, close_breach, execution_breach, phase_breach, or_else, first_breach, IsBreachOf}
 use Rattle.cpa_trace.proofs.SearchLaws.{first_below-is}

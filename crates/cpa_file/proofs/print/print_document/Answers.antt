@@ -1,8 +1,9 @@
-use Rattle.std.proofs.Common.{◌∙◌, string_bytes}
+use Rattle.std.proofs.Common.{◌∙◌, Err, sym, ap, string_bytes}
+use Rattle.std.proofs.lemmas.Bool.{true≢false}
 use Rattle.std.specs.Str.{IsUtf8}
 use Rattle.toml.specs.View.{table_view}
 use Rattle.cpa_file.proofs.DocumentLaws.{document_of-read}
-use Rattle.cpa_file.proofs.PrintLaws.{shallow}
+use Rattle.cpa_file.proofs.PrintLaws.{shallow, undated}
 use Rattle.cpa_file.proofs.print.print_document.Goals as goal
 
 pub returns-in-Ok-clause-printed : goal.returns-in-Ok-clause-printed
@@ -15,3 +16,8 @@ returns-in-Ok-clause-printed c =
       document = rw (c.in_ok-from_slice-in-Ok.ensures.items ∙ bytes) (document_of-read (string_bytes c.in-Ok.text) ms utf8 (c.in-Ok.ensures.reads_back (shallow c.args.system.now ms c.in_ok-document.ensures.value)));
       same = c.in_ok-document.ensures.value;
     }
+
+pub unreachable-requires : goal.unreachable-requires
+unreachable-requires c =
+    let valid = undated c.args.system.now (table_view c.in_ok-document.document) c.in_ok-document.ensures.value in
+    true≢false (sym valid ∙ c.in-Err-DateInvalid.ensures.dates.0 (ap Err c.in-Err-DateInvalid.field-0-is))

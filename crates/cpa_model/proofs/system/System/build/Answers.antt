@@ -4,6 +4,18 @@ use Rattle.cpa_model.specs.Built.{system_of}
 use Rattle.cpa_model.proofs.BuiltLaws.{system-kept, tasks-fit-types, paths-fit-types}
 use Rattle.cpa_model.proofs.system.System.build.Goals as goal
 
+pub build_resources-requires : goal.build_resources-requires
+build_resources-requires c = rw (c.resource_entries.ensures) (unrefused c.args.draft c.in_ok-tables.ensures.refusal).resources_named
+
+pub build_sources-requires : goal.build_sources-requires
+build_sources-requires c = rw (c.source_entries.ensures) (unrefused c.args.draft c.in_ok-tables.ensures.refusal).sources_named
+
+pub build_tasks-requires-clause-named : goal.build_tasks-requires-clause-named
+build_tasks-requires-clause-named c = rw (c.task_entries.ensures) (unrefused c.args.draft c.in_ok-tables.ensures.refusal).tasks_named
+
+pub build_paths-requires-clause-named : goal.build_paths-requires-clause-named
+build_paths-requires-clause-named c = rw (c.path_entries.ensures) (unrefused c.args.draft c.in_ok-tables.ensures.refusal).paths_named
+
 pub build_tasks-requires-clause-fits : goal.build_tasks-requires-clause-fits
 build_tasks-requires-clause-fits c = rw (c.task_entries.ensures) (tasks-fit-types c.args.draft (unrefused c.args.draft c.in_ok-tables.ensures.refusal))
 
