@@ -1,0 +1,85 @@
+-- The lists of the tasks that follow each activator, from the last task to the first.
+use Rattle.std.proofs.Common.{◌≡◌, ◌≢◌, ℕ, ◌+◌, ◌<◌, ◌≤◌, length, List, Option, Some, None, option_map, replicate, refl, sym, ◌∙◌, ap, subst, inl, inr, arith, get_or, set}
+use Rattle.std.proofs.lemmas.Bool.{cases_lt}
+use Rattle.std.proofs.lemmas.List.{get_or-set_same, get_or-set_other, get_or-replicate, length-replicate, length-set}
+use Rattle.cpa_units.specs.declared.places.TaskId.{TaskId}
+use Rattle.cpa_model.specs.SystemLists.{SystemLists, place_of}
+use Rattle.cpa_sim.specs.Arrivals.{number_at, IsNext, entry_at, AreFollowers}
+
+some-same : (x y : ℕ) → Some x ≡ Some y → x ≡ y
+some-same x y e = cc
+
+-- none so far
+pub none-yet : (s : SystemLists) (p from : ℕ) → length s.tasks ≤ from → IsNext s p from None
+none-yet s p from end = record { from_on = λ j e. cc; there = λ j e. cc; follows = λ j e. cc; none = λ i low high before. absurd (omega arith) }
+
+pub no-followers : (s : SystemLists) (from : ℕ) (firsts nexts : List (Option TaskId)) → firsts ≡ replicate (length s.sources + length s.tasks) None → nexts ≡ replicate (length s.tasks) None → length s.tasks ≤ from → AreFollowers s from firsts nexts
+no-followers s from firsts nexts f n end =
+    record {
+      count_firsts = ap length f ∙ length-replicate (length s.sources + length s.tasks) None;
+      count_nexts = ap length n ∙ length-replicate (length s.tasks) None;
+      firsts_are = λ p less.
+          let e : entry_at firsts p ≡ None = ap (λ xs. entry_at xs p) f ∙ ap (option_map place_of) (get_or-replicate (length s.sources + length s.tasks) p None None less) in
+          subst (IsNext s p from) (sym e) (none-yet s p from end);
+      nexts_are = λ i low high. absurd (omega arith);
+    }
+
+module _ (s : SystemLists) (task : TaskId) (there : task.0 < length s.tasks) (firsts nexts : List (Option TaskId)) (so_far : AreFollowers s (task.0 + 1) firsts nexts) (number : ℕ) (is : number ≡ number_at s task.0) (within : number < length s.sources + length s.tasks) (first : Option TaskId) (reads : first ≡ get_or firsts number None) where
+  -- the task itself is the first
+  itself : IsNext s number task.0 (Some task.0)
+  itself =
+      record {
+        from_on = λ j e. let same = some-same task.0 j e in omega (arith, same);
+        there = λ j e. subst (λ k. k < length s.tasks) (some-same task.0 j e) there;
+        follows = λ j e. subst (λ k. number_at s k ≡ number) (some-same task.0 j e) (sym is);
+        none = λ i low high before. let less = before task.0 refl in absurd (omega arith);
+      }
+
+  -- for other activators it is none
+  other : (p : ℕ) (o : Option ℕ) → p ≢ number → IsNext s p (task.0 + 1) o → IsNext s p task.0 o
+  other p o differs h =
+      record {
+        from_on = λ j e. let low = h.from_on j e in omega (arith, low);
+        there = h.there;
+        follows = h.follows;
+        none = λ i low high before e.
+            elim (cases_lt task.0 i) [
+              | inl later ↦ absurd (h.none i (omega arith) high before e)
+              | inr here ↦ let same : i ≡ task.0 = omega arith in absurd (differs (sym e ∙ (ap (number_at s) same ∙ sym is)))
+            ];
+      }
+
+  pub one-more : AreFollowers s task.0 (set firsts number (Some task)) (set nexts task.0 first)
+  one-more =
+      record {
+        count_firsts = length-set firsts number (Some task) ∙ so_far.count_firsts;
+        count_nexts = length-set nexts task.0 first ∙ so_far.count_nexts;
+        firsts_are = λ p less.
+            elim (cases_lt p number) [
+              | inl below ↦ differs p less (λ e. absurd (omega arith))
+              | inr above ↦ elim (cases_lt number p) [
+                | inl more ↦ differs p less (λ e. absurd (omega arith))
+                | inr same ↦
+                    let e : p ≡ number = omega arith in
+                    let entry : entry_at (set firsts number (Some task)) number ≡ Some task.0 = ap (option_map place_of) (get_or-set_same firsts number (Some task) None (omega (arith, so_far.count_firsts))) in
+                    subst (λ q. IsNext s q task.0 (entry_at (set firsts number (Some task)) q)) (sym e) (subst (IsNext s number task.0) (sym entry) itself)
+              ]
+            ];
+        nexts_are = λ i low high.
+            elim (cases_lt task.0 i) [
+              | inl later ↦
+                  let d : i ≢ task.0 = λ e. absurd (omega arith) in
+                  let entry : entry_at (set nexts task.0 first) i ≡ entry_at nexts i = ap (option_map place_of) (get_or-set_other nexts task.0 i first None d) in
+                  subst (IsNext s (number_at s i) (i + 1)) (sym entry) (so_far.nexts_are i (omega arith) high)
+              | inr here ↦
+                  let e : i ≡ task.0 = omega arith in
+                  let entry : entry_at (set nexts task.0 first) task.0 ≡ entry_at firsts number = ap (option_map place_of) (get_or-set_same nexts task.0 first None (omega (arith, so_far.count_nexts)) ∙ reads) in
+                  let h = subst (λ q. IsNext s q (task.0 + 1) (entry_at firsts number)) is (so_far.firsts_are number within) in
+                  subst (λ q. IsNext s (number_at s q) (q + 1) (entry_at (set nexts task.0 first) q)) (sym e) (subst (IsNext s (number_at s task.0) (task.0 + 1)) (sym entry) h)
+            ];
+      }
+    where
+      differs : (p : ℕ) → p < length s.sources + length s.tasks → p ≢ number → IsNext s p task.0 (entry_at (set firsts number (Some task)) p)
+      differs p less d =
+          let entry : entry_at (set firsts number (Some task)) p ≡ entry_at firsts p = ap (option_map place_of) (get_or-set_other firsts number p (Some task) None d) in
+          subst (IsNext s p task.0) (sym entry) (other p (entry_at firsts p) d (so_far.firsts_are p less))
