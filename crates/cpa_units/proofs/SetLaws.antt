@@ -27,9 +27,6 @@ holds-past (suc more) n (suc r) past = holds-past more (n / 2) r (omega (arith, 
 
 -- ---- each call, by bits
 
-bit-one : (b : ℕ) → b ≡ 0 → (b == 1) ≡ false
-bit-one b e = rw e refl
-
 pub none-holds : (r : ℕ) → holds (truths 64 0) r ≡ false
 none-holds r =
     elim (cases_lt r 64) [
