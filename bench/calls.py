@@ -4,6 +4,16 @@ import subprocess
 import tempfile
 import time
 
+TOP = os.path.join(os.path.dirname(os.path.abspath(__file__)), "..")
+
+
+def built(crate):
+    """The program of a crate, which is built first where it isn't there."""
+    program = os.path.join(TOP, "crates", crate, "out", crate)
+    if not os.path.exists(program):
+        subprocess.run(["rt", "run"], cwd=os.path.join(TOP, "crates", crate), capture_output=True, check=False)
+    return program
+
 
 def call(command):
     """Seconds of a call, its peak memory in kilobytes, and the first line that it writes."""
@@ -11,6 +21,12 @@ def call(command):
     done = subprocess.run(["/usr/bin/time", "-f", "%M", *command], capture_output=True, check=False)
     took = time.perf_counter() - start
     return took, done.stderr.decode().split()[-1], done.stdout.decode().split("\n")[0]
+
+
+def show(label, command):
+    """Prints a line: the least time of five calls, the peak memory of one, and the start of what it writes first."""
+    runs = [call(command) for _ in range(5)]
+    print(f"{label}: {min(run[0] for run in runs):.4f} s, {runs[0][1]} KiB, {runs[0][2][:60]}", flush=True)
 
 
 def least(command, calls):

@@ -9,16 +9,14 @@ the least time of five calls, and the peak memory of a call.
     python3 bench/time_edits.py [FOLDER for the files]
 """
 import os
-import subprocess
 import sys
 import tempfile
 
-from calls import call
+from calls import TOP, built, show
 
 MOST = 1_048_576
 EDITS = 10_000
 SOURCES, TASKS, CHAIN = 128, 512, 32
-TOP = os.path.join(os.path.dirname(os.path.abspath(__file__)), "..")
 
 
 def name(letter, number):
@@ -73,9 +71,7 @@ def edits(sort):
 
 def main():
     folder = sys.argv[1] if len(sys.argv) > 1 else tempfile.mkdtemp()
-    bench = os.path.join(TOP, "crates/cpa_edit_bench/out/cpa_edit_bench")
-    if not os.path.exists(bench):
-        subprocess.run(["rt", "run"], cwd=os.path.join(TOP, "crates/cpa_edit_bench"), capture_output=True, check=False)
+    bench = built("cpa_edit_bench")
     large = os.path.join(folder, "large.toml")
     with open(large, "w") as file:
         file.write(system())
@@ -89,8 +85,7 @@ def main():
         with open(path, "w") as file:
             file.write(text)
         for way in ("load", "read", "apply"):
-            runs = [call([bench, way, described, path]) for _ in range(5)]
-            print(f"{which} {len(text)} bytes, {way}: {min(run[0] for run in runs):.4f} s, {runs[0][1]} KiB, {runs[0][2][:60]}")
+            show(f"{which} {len(text)} bytes, {way}", [bench, way, described, path])
 
 
 if __name__ == "__main__":

@@ -9,14 +9,12 @@ time of five calls, and the peak memory of a call.
     python3 bench/time_reading.py [FOLDER for the files]
 """
 import os
-import subprocess
 import sys
 import tempfile
 
-from calls import call
+from calls import built, show
 
 MOST = 1_048_576
-TOP = os.path.join(os.path.dirname(os.path.abspath(__file__)), "..")
 
 
 def comments():
@@ -72,10 +70,7 @@ def many():
 
 def main():
     folder = sys.argv[1] if len(sys.argv) > 1 else tempfile.mkdtemp()
-    reader = os.path.join(TOP, "crates/cpa_read_bench/out/cpa_read_bench")
-    if not os.path.exists(reader):
-        subprocess.run(["rt", "run"], cwd=os.path.join(TOP, "crates/cpa_read_bench"), capture_output=True, check=False)
-    subprocess.run([os.path.join(TOP, "lokwurmi")], capture_output=True, check=False)
+    reader, program = built("cpa_read_bench"), built("cpa_cli")
     print(f"processors: {os.cpu_count()}")
     for make in (comments, largest, many):
         text = make()
@@ -83,10 +78,9 @@ def main():
         with open(path, "w") as file:
             file.write(text)
         ways = [(way, [reader, way, path]) for way in ("load", "toml", "system")]
-        ways.append(("analyse", [os.path.join(TOP, "crates/cpa_cli/out/cpa_cli"), "analyse", path]))
+        ways.append(("analyse", [program, "analyse", path]))
         for way, command in ways:
-            runs = [call(command) for _ in range(5)]
-            print(f"{make.__name__} {len(text)} bytes, {way}: {min(run[0] for run in runs):.4f} s, {runs[0][1]} KiB, {runs[0][2][:60]}")
+            show(f"{make.__name__} {len(text)} bytes, {way}", command)
 
 
 if __name__ == "__main__":

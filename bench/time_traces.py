@@ -9,16 +9,14 @@ reads it, and judges it once or a hundred times. Prints a line a file and way: t
     python3 bench/time_traces.py [FOLDER for the files]
 """
 import os
-import subprocess
 import sys
 import tempfile
 
-from calls import call
+from calls import built, show
 
 MOST = 16_777_216
 ROWS = 200_000
 SOURCES, TASKS = 128, 512
-TOP = os.path.join(os.path.dirname(os.path.abspath(__file__)), "..")
 
 
 def name(letter, number):
@@ -64,9 +62,7 @@ def events(count, last):
 
 def main():
     folder = sys.argv[1] if len(sys.argv) > 1 else tempfile.mkdtemp()
-    reader = os.path.join(TOP, "crates/cpa_trace_bench/out/cpa_trace_bench")
-    if not os.path.exists(reader):
-        subprocess.run(["rt", "run"], cwd=os.path.join(TOP, "crates/cpa_trace_bench"), capture_output=True, check=False)
+    reader = built("cpa_trace_bench")
     described = os.path.join(folder, "system.toml")
     with open(described, "w") as file:
         file.write(system())
@@ -79,8 +75,7 @@ def main():
         with open(path, "w") as file:
             file.write(text)
         for way in ("load", "read", "judge", "judge-100-times"):
-            runs = [call([reader, way, described, path]) for _ in range(5)]
-            print(f"{which} {len(text)} bytes, {way}: {min(run[0] for run in runs):.4f} s, {runs[0][1]} KiB, {runs[0][2][:60]}")
+            show(f"{which} {len(text)} bytes, {way}", [reader, way, described, path])
 
 
 if __name__ == "__main__":
