@@ -6,7 +6,7 @@ ghost use Rattle.cpa_units.specs.declared.limits.TheConstants.{MAX_PERIOD};
 ghost use Rattle.cpa_events.specs.Events.{IsModelInRange};
 ghost use Rattle.cpa_window.specs.Rivals.{IsRival, AreRivals};
 
-use cpa_events::Model;
+use cpa_events::{Model, Stream};
 use cpa_units::Bound;
 use cpa_units::limits::{MAX_JITTER, MAX_LIMIT, MAX_PERIOD};
 use cpa_window::Rival;
@@ -22,11 +22,11 @@ fn late(period: u64) -> Model
     requires small { period ≤ MAX_PERIOD }
     ensures { IsModelInRange result }
 {
-    Model {
+    Model::one(Stream {
         period,
         jitter: MAX_JITTER,
         distance: 0,
-    }
+    })
 }
 
 /// A rival that takes one tick in each period.
@@ -36,11 +36,11 @@ fn rival(period: u64) -> Rival
     ensures { IsRival result }
 {
     Rival {
-        model: Some(Model {
+        model: Some(Model::one(Stream {
             period,
             jitter: 0,
             distance: 0,
-        }),
+        })),
         worst: 1,
         slot: 1,
         bound: Bound::Within(1000),

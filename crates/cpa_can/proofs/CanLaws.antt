@@ -5,7 +5,7 @@ use Rattle.cpa_units.specs.declared.bound.Bound.{Bound}
 use Rattle.cpa_units.specs.declared.bound.Bound.TheVariants.{Within, Overload}
 use Rattle.cpa_units.specs.Bounds.{IsAtMost, RespectsLimit, bound_plus, bound_minus, capped, greatest_of}
 use Rattle.cpa_units.proofs.BoundLaws.{IsAtMost_trans, bound_plus-mono, bound_minus-mono, capped-mono, le-greatest_of, greatest_of-mono, greatest_of-limit, bound_minus-limit, capped-limit, bound_minus-ge, bound_plus-ge_right, capped-ge}
-use Rattle.cpa_events.specs.declared.Model.{Model}
+use Rattle.cpa_events.specs.Events.{Model}
 use Rattle.cpa_events.specs.Events.{delta_minus, eta_plus, IsModel, IsNoDenser}
 use Rattle.cpa_events.proofs.EventLaws.{eta_plus-mono, eta_plus-denser, delta_minus-denser, delta_minus-one, eta_plus-one}
 use Rattle.cpa_window.specs.declared.rivals.Rival.{Rival}

@@ -5,7 +5,7 @@ use Rattle.cpa_units.specs.declared.bound.Bound.TheVariants.{Within, Overload}
 use Rattle.cpa_units.specs.Numbers.{IsExecution}
 use Rattle.cpa_units.specs.Bounds.{IsAtMost, greatest_of}
 use Rattle.cpa_units.proofs.BoundLaws.{greatest_of-overload, greatest_of-next, capped-within, capped-past}
-use Rattle.cpa_events.specs.declared.Model.{Model}
+use Rattle.cpa_events.specs.Events.{Model}
 use Rattle.cpa_events.specs.Events.{delta_minus, eta_plus}
 use Rattle.cpa_window.specs.declared.rivals.Rival.{Rival}
 use Rattle.cpa_window.specs.Rivals.{some_unbounded}

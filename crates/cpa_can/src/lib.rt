@@ -47,7 +47,7 @@ impl<'a> Demand for BusyBus<'a> {
 
     fn at(&self, window: u64) -> u128 {
         let own = events_work(self.own, window, self.worst);
-        u128::from(self.blocking + own + work_in(self.rivals, window))
+        u128::from(self.blocking + own) + work_in(self.rivals, window)
     }
 }
 
@@ -77,7 +77,7 @@ impl<'a> BusyWindow for FrameStarts<'a> {
     ghost some = { λ f. f.execution.some };
 
     fn at(&self, jobs: u64, window: u64) -> u128 {
-        u128::from(self.blocking + jobs * self.worst + work_in(self.rivals, window + self.bit))
+        u128::from(self.blocking + jobs * self.worst) + work_in(self.rivals, window + self.bit)
     }
 
     fn each_job(&self) -> u64 {

@@ -1,65 +1,128 @@
+ghost use Rattle.std.specs.Prelude.{◌≡◌, ◌+◌, ◌≤◌, ◌++◌, length};
+ghost use Rattle.cpa_events.specs.Streams.{IsStreamInRange};
+ghost use Rattle.cpa_events.specs.Events.{IsModelInRange};
+
 use super::*;
 
-/// A window's end doesn't count: events that come every 10 ticks are two in 11 ticks, and one in 10.
-#[test]
-fn curves(rt: HostRuntime) {
-    let periodic = Model {
-        period: 10,
-        jitter: 0,
-        distance: 0,
-    };
-    for (window, events) in [(0, 0), (1, 1), (10, 1), (11, 2), (20, 2), (21, 3)] {
-        assert_eq!(rt; periodic.eta_plus(window), events, "at {window}");
+fn stream(period: u64, jitter: u64, distance: u64) -> Stream
+    requires some { 1 ≤ period }
+    requires period { period ≤ 1_000_000_000 }
+    requires jitter { jitter ≤ 2_000_000_000 }
+    requires distance { distance ≤ 1_000_000_000 }
+    ensures { IsStreamInRange result }
+{
+    Stream {
+        period,
+        jitter,
+        distance,
     }
+}
 
-    // Three events may come at one instant, and then one every 10 ticks from 5 on.
-    let burst = Model {
-        period: 10,
-        jitter: 25,
-        distance: 0,
-    };
-    for (window, events) in [(0, 0), (1, 3), (5, 3), (6, 4), (15, 4), (16, 5)] {
-        assert_eq!(rt; burst.eta_plus(window), events, "at {window}");
+/// The streams of two models, one list after the other.
+fn both(first: &Model, second: &Model) -> Model
+    requires first { IsModelInRange first.now }
+    requires second { IsModelInRange second.now }
+    requires few { length first.now + length second.now ≤ 32 }
+    ensures in_range { IsModelInRange result }
+    ensures many { length result ≡ length first.now + length second.now }
+    ensures streams { result ≡ first.now ++ second.now }
+{
+    let mut model = first.duplicate();
+    model.append(second);
+    model
+}
+
+/// The least time with room for n events, by a look at each from 0 on.
+fn searched(model: &Model, n: u64) -> u64
+    requires { IsModelInRange model.now }
+{
+    for time in 0..400 {
+        if n <= model.eta_plus(time + 1) {
+            return time;
+        }
     }
-    for (n, least, most) in [
-        (0, 0, 0),
-        (1, 0, 0),
-        (2, 0, 35),
-        (3, 0, 45),
-        (4, 5, 55),
-        (5, 15, 65),
+    400
+}
+
+/// A window's end doesn't count. Three events may come at one instant, and then one every 10 ticks
+/// from 5 on; or the same at least 4 ticks apart.
+#[test]
+fn one_stream(rt: HostRuntime) {
+    let periodic = Model::one(stream(10, 0, 0));
+    let burst = Model::one(stream(10, 25, 0));
+    let spaced = Model::one(stream(10, 25, 4));
+    for (window, plain, bursting, apart) in [
+        (0, 0, 0, 0),
+        (1, 1, 3, 1),
+        (5, 1, 3, 2),
+        (6, 1, 4, 2),
+        (10, 1, 4, 3),
+        (11, 2, 4, 3),
+        (16, 2, 5, 4),
+        (17, 2, 5, 5),
+        (26, 3, 6, 6),
     ] {
-        assert_eq!(rt; burst.delta_minus(n), least, "at {n}");
-        assert_eq!(rt; burst.delta_plus(n), most, "at {n}");
+        let events = (
+            periodic.eta_plus(window),
+            burst.eta_plus(window),
+            spaced.eta_plus(window),
+        );
+        assert_eq!(rt; events, (plain, bursting, apart), "at {window}");
     }
-
-    // The same at least 4 ticks apart.
-    let spaced = Model {
-        period: 10,
-        jitter: 25,
-        distance: 4,
-    };
-    for (window, events) in [(1, 1), (4, 1), (5, 2), (16, 4), (17, 5), (25, 5), (26, 6)] {
-        assert_eq!(rt; spaced.eta_plus(window), events, "at {window}");
-    }
-    for (n, least) in [(2, 4), (5, 16), (6, 25), (7, 35)] {
-        assert_eq!(rt; spaced.delta_minus(n), least, "at {n}");
+    for (n, least, most, apart) in [
+        (0, 0, 0, 0),
+        (1, 0, 0, 0),
+        (2, 0, 35, 4),
+        (3, 0, 45, 8),
+        (4, 5, 55, 12),
+        (5, 15, 65, 16),
+        (6, 25, 75, 25),
+    ] {
+        let times = (
+            burst.delta_minus(n),
+            burst.delta_plus(n),
+            spaced.delta_minus(n),
+        );
+        assert_eq!(rt; times, (least, most, apart), "at {n}");
     }
 }
 
+/// Two streams of periods 10 and 20: their events add up, and their times meet at 20.
 #[test]
-fn largest_numbers(rt: HostRuntime) {
-    let model = Model {
-        period: 1,
-        jitter: MAX_MODEL_JITTER,
-        distance: 0,
-    };
-    assert_eq!(rt; model.eta_plus(4_294_967_296), 6_294_967_296);
-    assert_eq!(rt; model.delta_minus(4_294_967_296), 2_294_967_295);
-    assert_eq!(rt; model.delta_plus(4_294_967_296), 6_294_967_295);
+fn two_streams(rt: HostRuntime) {
+    let two = both(&Model::one(stream(10, 0, 0)), &Model::one(stream(20, 0, 0)));
+    assert_eq!(rt; two.len(), 2);
+    for (window, events) in [(0, 0), (1, 2), (10, 2), (11, 3), (20, 3), (21, 5)] {
+        assert_eq!(rt; two.eta_plus(window), events, "at {window}");
+    }
+    for (n, least) in [(0, 0), (1, 0), (2, 0), (3, 10), (4, 20), (5, 20), (6, 30)] {
+        assert_eq!(rt; two.delta_minus(n), least, "at {n}");
+    }
 }
 
-/// What two crossing chains send on, and a source whose events are 60 ticks apart.
+/// Two equal streams, two of which one keeps a distance, and 32, against a plain search upwards.
+#[test]
+fn least_times(rt: HostRuntime) {
+    let late = Model::one(stream(10, 25, 0));
+    let spaced = Model::one(stream(7, 9, 3));
+    let two = both(&late, &spaced);
+    let four = both(&two, &two);
+    let eight = both(&four, &four);
+    let sixteen = both(&eight, &eight);
+    let most = both(&sixteen, &sixteen);
+    assert_eq!(rt; most.len(), 32);
+    for n in 0..60 {
+        let times = (two.delta_minus(n), most.delta_minus(n));
+        assert_eq!(rt; times, (searched(&two, n), searched(&most, n)), "at {n}");
+    }
+    let equal = both(&spaced, &spaced);
+    for n in 0..30 {
+        assert_eq!(rt; equal.delta_minus(n), searched(&equal, n), "at {n}");
+    }
+}
+
+/// What a task sends on, from sources whose events are and aren't kept apart, and that of each of
+/// two streams.
 #[test]
 fn responses(rt: HostRuntime) {
     for (distance, best, bound, jitter, sent) in [
@@ -68,14 +131,28 @@ fn responses(rt: HostRuntime) {
         (60, 5, 30, 25, 35),
         (60, 5, 5, 0, 60),
     ] {
-        let model = Model {
+        let one = Model::one(Stream {
             period: 100,
             jitter: 0,
             distance,
+        });
+        let answer = both(&one, &one).after_response(best, bound);
+        let last = Stream {
+            period: 100,
+            jitter,
+            distance: sent,
         };
-        let answer = model.after_response(best, bound);
-        assert_eq!(rt; answer.period, 100);
-        assert_eq!(rt; answer.jitter, jitter, "from {best} to {bound}");
-        assert_eq!(rt; answer.distance, sent, "from {best} to {bound}");
+        assert!(rt;
+            answer.len() == 2 && answer.get(1) == last,
+            "from {best} to {bound}"
+        );
     }
+}
+
+#[test]
+fn largest_numbers(rt: HostRuntime) {
+    let model = Model::one(stream(1, MAX_MODEL_JITTER, 0));
+    assert_eq!(rt; model.eta_plus(4_294_967_296), 6_294_967_296);
+    assert_eq!(rt; model.delta_minus(4_294_967_296), 2_294_967_295);
+    assert_eq!(rt; model.delta_plus(4_294_967_296), 6_294_967_295);
 }

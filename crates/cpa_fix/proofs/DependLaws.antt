@@ -6,7 +6,7 @@ use Rattle.cpa_units.specs.declared.bound.Bound.{Bound}
 use Rattle.cpa_units.specs.declared.limits.TheConstants.{MAX_CHAIN}
 use Rattle.cpa_units.specs.Bounds.{IsNowhereAbove, bound_of}
 use Rattle.cpa_units.proofs.BoundLaws.{zero_at_most}
-use Rattle.cpa_events.specs.declared.Model.{Model}
+use Rattle.cpa_events.specs.Events.{Model}
 use Rattle.cpa_window.specs.declared.rivals.Rival.{Rival}
 use Rattle.cpa_window.proofs.RivalLaws.{load_of, work_in-same}
 use Rattle.cpa_spp.proofs.PreemptiveLaws.{preemptive_bound-same}

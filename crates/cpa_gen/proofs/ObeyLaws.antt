@@ -4,12 +4,12 @@ use Rattle.std.proofs.lemmas.Bool.{cases_lt}
 use Rattle.std.proofs.lemmas.Bool.Decides.{Decides-eqb}
 use Rattle.std.proofs.lemmas.List.{get_or_default, get_or_past, get_or-replicate, length-replicate}
 use Rattle.std.proofs.Math.Nat.{mod-lt}
-use Rattle.cpa_events.specs.Events.{delta_minus}
+use Rattle.cpa_events.specs.Streams.{stream_delta_minus}
 use Rattle.cpa_model.specs.declared.entries.Kind.{Kind}
 use Rattle.cpa_model.specs.declared.entries.Kind.TheVariants.{Can, Preemptive, RoundRobin, Tdma}
 use Rattle.cpa_model.specs.declared.entries.Turn.{Turn}
 use Rattle.cpa_model.specs.declared.entries.Turn.TheVariants.{Priority, Slot}
-use Rattle.cpa_model.specs.Streams.{source_model}
+use Rattle.cpa_model.specs.Streams.{source_stream}
 use Rattle.cpa_model.specs.SystemLists.{SystemLists, cycle_of, no_source, no_task, resource_of, slot_of, resource_at, source_at, task_at}
 use Rattle.cpa_model.specs.Rules.{IsSystem, TurnFits}
 use Rattle.cpa_local.proofs.CycleLaws.{slot-in_cycle}
@@ -42,7 +42,7 @@ module _ (s : SystemLists) (kept : IsSystem s) (lates : ℕ → ℕ → ℕ) (wi
       by_place (inr l) = subst IsOrdered (sym (past j l)) (λ n m. absurd (omega (arith, m)))
 
   abbrev IsApart : ℕ → List ℕ → Type 0
-  IsApart j times = (n gap : ℕ) → n + gap < length times → slice_index_or times n 0 + delta_minus (source_model s j) (gap + 1) ≤ slice_index_or times (n + gap) 0
+  IsApart j times = (n gap : ℕ) → n + gap < length times → slice_index_or times n 0 + stream_delta_minus (source_stream s j) (gap + 1) ≤ slice_index_or times (n + gap) 0
 
   all_apart : (j : ℕ) → IsApart j (slice_index_or all_times j [])
   all_apart j = by_place (cases_lt j (length s.sources))
@@ -55,7 +55,7 @@ module _ (s : SystemLists) (kept : IsSystem s) (lates : ℕ → ℕ → ℕ) (wi
   times_order tr e = record { ordered = λ k. subst (λ ts. IsOrdered (slice_index_or ts k [])) (sym e) (all_ordered k) }
 
   pub times_apart : (tr : TraceLists) → tr.times ≡ all_times → (k n gap : ℕ) → n + gap < length (times_of tr k)
-      → time_of tr k n + delta_minus (source_model s k) (gap + 1) ≤ time_of tr k (n + gap)
+      → time_of tr k n + stream_delta_minus (source_stream s k) (gap + 1) ≤ time_of tr k (n + gap)
   times_apart tr e k = subst (λ ts. IsApart k (slice_index_or ts k [])) (sym e) (all_apart k)
 
 -- a cycle with a task has at least its slot

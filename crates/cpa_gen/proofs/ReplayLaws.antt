@@ -1,17 +1,19 @@
 -- Each made trace can be replayed.
-use Rattle.std.proofs.Common.{◌≡◌, ◌<◌, ◌≤◌, ℕ, ◌+◌, ◌%◌, ◌==◌, if◌then◌else◌, Bool, true, false, List, [], length, slice_index_or, refl, sym, ap, subst, arith, inl, inr}
+use Rattle.std.proofs.Common.{◌≡◌, ◌<◌, ◌≤◌, ℕ, ◌+◌, ◌%◌, ◌==◌, if◌then◌else◌, Bool, true, false, List, [], All, length, slice_index_or, refl, sym, ap, subst, arith, inl, inr}
 use Rattle.std.proofs.lemmas.Bool.{cases_lt}
 use Rattle.std.proofs.lemmas.List.{get_or_past, length-replicate}
-use Rattle.std.proofs.lemmas.List.FromFn.{length-range_with_len}
+use Rattle.std.proofs.lemmas.List.FromFn.{get_or-range_with_len, length-range_with_len}
 use Rattle.std.proofs.lemmas.List.Sums.{sum_by-le}
 use Rattle.std.proofs.Math.Nat.{mod-lt}
 use Rattle.cpa_units.specs.declared.limits.TheConstants.{MAX_PHASE, MAX_TRACE_JOBS, MAX_TRACE_TIME}
 use Rattle.cpa_units.specs.Numbers.{IsExecution}
-use Rattle.cpa_model.specs.SystemLists.{SystemLists, cycle_of, no_source, no_task, root_of, source_at, task_at, task_places}
+use Rattle.cpa_units.specs.declared.places.SourceId.{SourceId}
+use Rattle.cpa_model.proofs.SystemLaws.{streams_of-few}
+use Rattle.cpa_model.specs.SystemLists.{SystemLists, cycle_of, no_source, no_task, source_at, streams_of, task_at, task_places}
 use Rattle.cpa_model.specs.Rules.{IsSystem}
 use Rattle.cpa_local.proofs.CycleLaws.{cycle-in_range}
 use Rattle.cpa_trace.specs.Trace.{FitsSystem, TraceLists, executions_of, phase_of, time_of, times_of}
-use Rattle.cpa_trace.specs.Reading.{jobs_of}
+use Rattle.cpa_trace.specs.Reading.{jobs_of, task_jobs}
 use Rattle.cpa_sim.specs.Outcome.{CanReplay}
 use Rattle.rand_pcg.specs.Lcg.{Lcg}
 use Rattle.cpa_gen.specs.Draws.{draw, generator, output}
@@ -59,11 +61,21 @@ module _ (s : SystemLists) (kept : IsSystem s) (lates : ℕ → ℕ → ℕ) (wi
   pub in-time : (tr : TraceLists) → tr.times ≡ all_times → (k n : ℕ) → n < length (times_of tr k) → time_of tr k n ≤ MAX_TRACE_TIME
   in-time tr e k = subst (λ ts. AreTimes (slice_index_or ts k [])) (sym e) (all-times k)
 
+  few-task_jobs : (tr : TraceLists) → tr.times ≡ all_times → (i : ℕ) → i < length s.tasks → task_jobs s tr i ≤ 3200
+  few-task_jobs tr e i l =
+      let each : All (λ (k : SourceId). length (times_of tr k.0) ≤ 100) (streams_of s i) = λ k d m. rw e (all-few (slice_index_or (streams_of s i) k d).0) in
+      let all = sum_by-le (λ (k : SourceId). length (times_of tr k.0)) 100 (streams_of s i) each in
+      omega (arith, all, streams_of-few s kept i l)
+
+  few-everywhere : (tr : TraceLists) → tr.times ≡ all_times → All (λ i. task_jobs s tr i ≤ 3200) (task_places s)
+  few-everywhere tr e k d l =
+      let less : k < length s.tasks = omega (arith, l, length-range_with_len 0 (length s.tasks)) in
+      let here : slice_index_or (task_places s) k d ≡ 0 + k = get_or-range_with_len 0 (length s.tasks) k d less in
+      few-task_jobs tr e (slice_index_or (task_places s) k d) (omega arith)
+
   pub few-jobs : (tr : TraceLists) → tr.times ≡ all_times → jobs_of s tr ≤ MAX_TRACE_JOBS
   few-jobs tr e =
-      let each : (k d : ℕ) → k < length (task_places s) → length (times_of tr (root_of s (slice_index_or (task_places s) k d)).0) ≤ 100
-      = λ k d l. subst (λ ts. length (slice_index_or ts (root_of s (slice_index_or (task_places s) k d)).0 []) ≤ 100) (sym e) (all-few (root_of s (slice_index_or (task_places s) k d)).0) in
-      let all = sum_by-le (λ i. length (times_of tr (root_of s i).0)) 100 (task_places s) each in
+      let all = sum_by-le (task_jobs s tr) 3200 (task_places s) (few-everywhere tr e) in
       omega (arith, all, length-range_with_len 0 (length s.tasks), kept.few_tasks)
 
 -- even numbers

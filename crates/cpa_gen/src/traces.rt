@@ -154,6 +154,18 @@ fn draw_all_times(
     Ok(times)
 }
 
+/// How many jobs a task has in a made trace.
+fn jobs_made(system: &System, task: TaskId) -> u64
+    requires { task.0 < length system.now.tasks }
+    ensures { result ≡ jobs_made system.now task.0 }
+{
+    let mut jobs = 0;
+    for k in 0..system.streams(task) {
+        jobs += events_made(system.source(system.stream(task, k)));
+    }
+    jobs
+}
+
 /// The executions of all tasks, drawn one task after the other.
 fn draw_all_executions(
     alloc: Global,
@@ -166,7 +178,7 @@ fn draw_all_executions(
     let mut executions = Vec::new(alloc);
     for i in 0..system.tasks() {
         let task = TaskId(i);
-        let jobs = events_made(system.source(system.root(task)));
+        let jobs = jobs_made(system, task);
         executions.push(drawn_executions(alloc, rng, system.task(task), jobs)?)?;
     }
     Ok(executions)

@@ -9,15 +9,16 @@ use Rattle.cpa_units.specs.declared.bound.Bound.TheVariants.{Within, Overload}
 use Rattle.cpa_units.specs.declared.limits.TheConstants.{MAX_CHAIN, MAX_JITTER, MAX_LIMIT, MAX_EXECUTION}
 use Rattle.cpa_units.specs.Bounds.{RespectsLimit, bound_of}
 use Rattle.cpa_units.specs.Numbers.{IsExecution}
-use Rattle.cpa_events.specs.declared.Model.{Model}
-use Rattle.cpa_events.specs.Events.{later, IsModelInRange, HasJitterUpTo}
-use Rattle.cpa_events.specs.declared.TheConstants.{MAX_MODEL_JITTER}
-use Rattle.cpa_events.proofs.EventLaws.{after_response-in_range, later-none, later-response}
+use Rattle.cpa_events.specs.Events.{Model}
+use Rattle.cpa_events.specs.Streams.{IsStreamInRange}
+use Rattle.cpa_events.specs.Events.{after_response, later, IsModelInRange, HasJitterUpTo}
+use Rattle.cpa_events.specs.declared.stream.TheConstants.{MAX_MODEL_JITTER}
+use Rattle.cpa_events.proofs.EventLaws.{one-in_range, one-jitter, after_response-in_range, after_response-jitter, jitter-weaken, later-none, later-response}
 use Rattle.cpa_model.specs.declared.entries.Task.{Task}
 use Rattle.cpa_model.specs.declared.entries.Activator.{Activator}
 use Rattle.cpa_model.specs.declared.entries.Activator.TheVariants.{Source as FromSource, Task as FromTask}
 use Rattle.cpa_model.specs.Chains.{chain_step, depth_within, activators}
-use Rattle.cpa_model.specs.Streams.{source_model}
+use Rattle.cpa_model.specs.Streams.{source_stream, source_model}
 use Rattle.cpa_model.specs.SystemLists.{SystemLists, task_at, source_at, depth_of, no_task, no_source}
 use Rattle.cpa_model.proofs.SystemLaws.{depth_of-task, depth_of-most}
 use Rattle.cpa_units.specs.declared.places.TaskId.{TaskId}
@@ -44,16 +45,21 @@ within-jitter tasks o h m e = (subst (IsWithin tasks) e h).1
 
 source-within : (tasks : ℕ) (s : SystemLists) (k : ℕ) → IsSource (source_at s k) → IsWithin tasks (Some (source_model s k))
 source-within tasks s k r =
-    let jitter : (source_model s k).jitter ≤ MAX_JITTER = r.jitter in (
-      record { regular = omega (arith, r.some_period); period = r.period; jitter = omega arith; distance = omega (arith, r.distance, r.period) },
-      omega arith,
-    )
+    let jitter : (source_stream s k).jitter ≤ MAX_JITTER = r.jitter in
+    let small : (source_stream s k).jitter ≤ MAX_JITTER + tasks * MAX_LIMIT = omega arith in
+    let stream : IsStreamInRange (source_stream s k) =
+    record { regular = omega (arith, r.some_period); period = r.period; jitter = omega arith; distance = omega (arith, r.distance, r.period) }
+    in
+    (one-in_range (source_stream s k) stream, one-jitter (source_stream s k) (MAX_JITTER + tasks * MAX_LIMIT) small)
 
 output-within : (tasks best : ℕ) (bound : Bound) (o : Option Model) → tasks < MAX_CHAIN → IsExecution best → RespectsLimit MAX_LIMIT bound → IsWithin tasks o → IsWithin (suc tasks) (output_of best bound o)
 output-within tasks best (Within bound) (Some m) few some limit h =
     let small : bound ≤ MAX_LIMIT = limit in
-    let jitter : m.jitter ≤ MAX_JITTER + tasks * MAX_LIMIT = h.1 in
-    (after_response-in_range m best bound h.0 some small (omega arith), omega arith)
+    let received : HasJitterUpTo m (MAX_JITTER + tasks * MAX_LIMIT) = h.1 in
+    let sent = after_response-jitter m best bound (MAX_JITTER + tasks * MAX_LIMIT) received in (
+      after_response-in_range m best bound h.0 some small (jitter-weaken m (MAX_JITTER + tasks * MAX_LIMIT) (MAX_MODEL_JITTER - bound) received (omega arith)),
+      jitter-weaken (after_response m best bound) (MAX_JITTER + tasks * MAX_LIMIT + bound) (MAX_JITTER + suc tasks * MAX_LIMIT) sent (omega arith),
+    )
 output-within tasks best (Within bound) None few some limit h = tt
 output-within tasks best Overload (Some m) few some limit h = tt
 output-within tasks best Overload None few some limit h = tt
@@ -156,8 +162,7 @@ module _ (s : SystemLists) (x : List Bound) (rules : IsSystem s) (vector : IsVec
 
   pub earlier-jitter : (i j : ℕ) → i < length s.tasks → (task_at s i).after ≡ FromTask (record { 0 = j }) → j < length s.tasks → ForSome (input s x j) (λ m. HasJitterUpTo m (MAX_MODEL_JITTER - MAX_LIMIT))
   earlier-jitter i j there after less m is =
-      let jitter : m.jitter ≤ MAX_JITTER + 31 * MAX_LIMIT = within-jitter 31 (input s x j) (input-earlier i j there after less) m is in
-      omega arith
+      jitter-weaken m (MAX_JITTER + 31 * MAX_LIMIT) (MAX_MODEL_JITTER - MAX_LIMIT) (within-jitter 31 (input s x j) (input-earlier i j there after less) m is) (omega arith)
 
   pub way-start : (i : ℕ) → i < length s.tasks → IsOnWay s x i i 0 0
   way-start i there =

@@ -10,3 +10,6 @@ pub mod WorkedCases
 pub mod PlaceLists
 pub mod RaisingLaws
 pub mod RaisedLaws
+pub mod StreamLaws
+pub mod PassingPlaces
+pub mod RaisingChanges

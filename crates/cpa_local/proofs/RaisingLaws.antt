@@ -6,7 +6,7 @@ use Rattle.cpa_units.specs.declared.bound.Bound.{Bound}
 use Rattle.cpa_units.specs.declared.bound.Bound.TheVariants.{Within, Overload}
 use Rattle.cpa_units.specs.declared.limits.TheConstants.{MAX_CHAIN}
 use Rattle.cpa_units.specs.Bounds.{IsAtMost, IsNowhereAbove, bound_of}
-use Rattle.cpa_events.specs.declared.Model.{Model}
+use Rattle.cpa_events.specs.Events.{Model}
 use Rattle.cpa_events.specs.Events.{IsNoDenser}
 use Rattle.cpa_events.proofs.EventLaws.{after_response-denser}
 use Rattle.cpa_window.specs.Rivals.{IsInputNoDenser, IsNoHeavier, AreNoHeavier}

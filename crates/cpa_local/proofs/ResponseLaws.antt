@@ -8,9 +8,10 @@ use Rattle.cpa_units.specs.declared.bound.Bound.{Bound}
 use Rattle.cpa_units.specs.declared.bound.Bound.TheVariants.{Within, Overload}
 use Rattle.cpa_units.specs.declared.limits.TheConstants.{MAX_CHAIN}
 use Rattle.cpa_units.specs.Bounds.{IsAtMost, RespectsLimit, IsNowhereAbove, bound_of}
-use Rattle.cpa_events.specs.declared.Model.{Model}
+use Rattle.cpa_events.specs.Events.{Model}
+use Rattle.cpa_events.specs.Streams.{IsStream}
 use Rattle.cpa_events.specs.Events.{IsModel, IsNoDenser}
-use Rattle.cpa_events.proofs.EventLaws.{IsNoDenser_refl, after_response-is_model, after_response-denser}
+use Rattle.cpa_events.proofs.EventLaws.{IsNoDenser_refl, one-is_model, after_response-is_model, after_response-denser}
 use Rattle.cpa_window.specs.Rivals.{IsInput, IsInputNoDenser, AreNoHeavier}
 use Rattle.cpa_spp.proofs.PreemptiveLaws.{preemptive_bound-mono, preemptive_bound-low, preemptive_bound-high}
 use Rattle.cpa_rr.proofs.RoundRobinLaws.{round_robin_bound-mono, round_robin_bound-low, round_robin_bound-high}
@@ -22,7 +23,7 @@ use Rattle.cpa_model.specs.declared.entries.Activator.{Activator}
 use Rattle.cpa_model.specs.declared.entries.Activator.TheVariants.{Source as FromSource, Task as FromTask}
 use Rattle.cpa_model.specs.SystemLists.{SystemLists, task_at, source_at, resource_of, slot_of, higher_tasks, other_tasks, blocking_of, cycle_of, no_source}
 use Rattle.cpa_model.specs.Rules.{IsSystem, IsSource}
-use Rattle.cpa_model.specs.Streams.{model_of}
+use Rattle.cpa_model.specs.Streams.{source_stream, source_model}
 use Rattle.cpa_local.specs.Inputs.{output_of, sent_by, input_along, input}
 use Rattle.cpa_local.specs.Local.{rival_of, bound_by_kind, bound_at_input, response, responses}
 
@@ -34,18 +35,18 @@ output_of-is_input best (Within bound) None i = tt
 output_of-is_input best Overload m i = tt
 
 module _ (s : SystemLists) (x : List Bound) (rules : IsSystem s) where
-  source-is_model : (k : ℕ) → IsModel (model_of (source_at s k))
-  source-is_model k =
+  pub source-is_stream : (k : ℕ) → IsStream (source_stream s k)
+  source-is_stream k =
       elim (cases_lt k (length s.sources)) [
         | inl less ↦ let r : IsSource (source_at s k) = rules.sources k no_source less in r.some_period
         | inr past ↦ rw (get_or-eq_default s.sources no_source past) (omega arith)
       ]
 
   sent_by-is_input : (f : ℕ → Option Model) (a : Activator) → ((j : ℕ) → IsInput (f j)) → IsInput (sent_by s x f a)
-  sent_by-is_input f (FromSource k) h = source-is_model k.0
+  sent_by-is_input f (FromSource k) h = one-is_model (source_stream s k.0) (source-is_stream k.0)
   sent_by-is_input f (FromTask j) h = output_of-is_input (task_at s j.0).best (bound_of x j.0) (f j.0) (h j.0)
 
-  input_along-is_input : (chain i : ℕ) → IsInput (input_along s x chain i)
+  pub input_along-is_input : (chain i : ℕ) → IsInput (input_along s x chain i)
   input_along-is_input zero i = tt
   input_along-is_input (suc chain) i = sent_by-is_input (input_along s x chain) (task_at s i).after (input_along-is_input chain)
 
@@ -97,7 +98,7 @@ output_of-mono best (Within a) (Within b) (Some m) (Some n) h d = after_response
 
 module _ (s : SystemLists) (x y : List Bound) (below : IsNowhereAbove x y) where
   sent_by-mono : (f g : ℕ → Option Model) (a : Activator) → ((j : ℕ) → IsInputNoDenser (f j) (g j)) → IsInputNoDenser (sent_by s x f a) (sent_by s y g a)
-  sent_by-mono f g (FromSource k) h = IsNoDenser_refl (model_of (source_at s k.0))
+  sent_by-mono f g (FromSource k) h = IsNoDenser_refl (source_model s k.0)
   sent_by-mono f g (FromTask j) h = output_of-mono (task_at s j.0).best (bound_of x j.0) (bound_of y j.0) (f j.0) (g j.0) (below j.0) (h j.0)
 
   input_along-mono : (chain i : ℕ) → IsInputNoDenser (input_along s x chain i) (input_along s y chain i)

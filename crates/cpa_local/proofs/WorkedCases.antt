@@ -3,8 +3,8 @@ use Rattle.std.proofs.Common.{◌≡◌, ℕ, ◌+◌, ◌*◌, List, [], ◌∷
 use Rattle.cpa_units.specs.declared.bound.Bound.{Bound}
 use Rattle.cpa_units.specs.declared.bound.Bound.TheVariants.{Within}
 use Rattle.cpa_units.specs.Search.{least_from, greatest_to}
-use Rattle.cpa_events.specs.declared.Model.{Model}
-use Rattle.cpa_events.specs.Events.{delta_minus, eta_plus}
+use Rattle.cpa_events.specs.Streams.{stream_delta_minus, stream_eta_plus}
+use Rattle.cpa_events.specs.Events.{Model, delta_minus, eta_plus}
 use Rattle.cpa_window.specs.Windows.{window}
 use Rattle.cpa_window.specs.BusyWindow.{jobs_in_busy_window, busy_window_bound}
 use Rattle.cpa_model.specs.declared.entries.Kind.{Kind}
@@ -36,7 +36,7 @@ task place after best worst priority =
     record { name = []; res = record { 0 = place }; after = after; best = best; worst = worst; turn = Priority priority }
 
 abbrev model : ℕ → ℕ → ℕ → Model
-model period jitter distance = record { period = period; jitter = jitter; distance = distance }
+model period jitter distance = record { period = period; jitter = jitter; distance = distance } ∷ []
 
 -- two chains that cross on two processors, where the second task of each comes before the first of the other
 abbrev crossing : List Task → SystemLists
@@ -55,7 +55,7 @@ unfolding crossing_chains input
 crossing_chains-inputs = refl
 
 crossing_chains-fixed : responses crossing_chains crossing_bounds ≡ crossing_bounds
-unfolding crossing_chains input response busy_window_bound jobs_in_busy_window window eta_plus delta_minus least_from greatest_to
+unfolding crossing_chains input response busy_window_bound jobs_in_busy_window window stream_eta_plus eta_plus stream_delta_minus delta_minus least_from greatest_to
 crossing_chains-fixed = refl
 
 -- two chains that cross with two fixed points, where the first task has this greatest execution
@@ -78,7 +78,7 @@ unfolding two_fixed_points input
 lesser-inputs = refl
 
 lesser-fixed : responses (two_fixed_points 20) lesser_bounds ≡ lesser_bounds
-unfolding two_fixed_points input response busy_window_bound jobs_in_busy_window window eta_plus delta_minus least_from greatest_to
+unfolding two_fixed_points input response busy_window_bound jobs_in_busy_window window stream_eta_plus eta_plus stream_delta_minus delta_minus least_from greatest_to
 lesser-fixed = refl
 
 greater-inputs : map (input (two_fixed_points 20) greater_bounds) (1 ∷ 3 ∷ []) ≡ map Some (model 100 79 1 ∷ model 100 79 1 ∷ [])
@@ -86,7 +86,7 @@ unfolding two_fixed_points input
 greater-inputs = refl
 
 greater-fixed : responses (two_fixed_points 20) greater_bounds ≡ greater_bounds
-unfolding two_fixed_points input response busy_window_bound jobs_in_busy_window window eta_plus delta_minus least_from greatest_to
+unfolding two_fixed_points input response busy_window_bound jobs_in_busy_window window stream_eta_plus eta_plus stream_delta_minus delta_minus least_from greatest_to
 greater-fixed = refl
 
 later-inputs : map (input (two_fixed_points 22) later_bounds) (1 ∷ 3 ∷ []) ≡ map Some (model 100 81 1 ∷ model 100 79 1 ∷ [])
@@ -94,7 +94,7 @@ unfolding two_fixed_points input
 later-inputs = refl
 
 later-fixed : responses (two_fixed_points 22) later_bounds ≡ later_bounds
-unfolding two_fixed_points input response busy_window_bound jobs_in_busy_window window eta_plus delta_minus least_from greatest_to
+unfolding two_fixed_points input response busy_window_bound jobs_in_busy_window window stream_eta_plus eta_plus stream_delta_minus delta_minus least_from greatest_to
 later-fixed = refl
 
 -- The network of a car: six processors and two CAN buses. Chain k has three tasks, which begin at place 3 * k: a sensor's
@@ -136,5 +136,5 @@ unfolding car_network car_bounds input
 car_network-inputs = refl
 
 car_network-bounds : map (response car_network car_bounds) (0 ∷ 1 ∷ 2 ∷ []) ≡ map Within (200 ∷ 540 ∷ 700 ∷ [])
-unfolding car_network car_bounds input response busy_window_bound jobs_in_busy_window window eta_plus delta_minus least_from greatest_to
+unfolding car_network car_bounds input response busy_window_bound jobs_in_busy_window window stream_eta_plus eta_plus stream_delta_minus delta_minus least_from greatest_to
 car_network-bounds = refl

@@ -5,7 +5,7 @@ use Rattle.cpa_units.specs.declared.bound.Bound.{Bound}
 use Rattle.cpa_units.specs.declared.bound.Bound.TheVariants.{Within, Overload}
 use Rattle.cpa_units.specs.declared.limits.TheConstants.{MAX_CHAIN}
 use Rattle.cpa_units.specs.Bounds.{bound_of}
-use Rattle.cpa_events.specs.declared.Model.{Model}
+use Rattle.cpa_events.specs.Events.{Model}
 use Rattle.cpa_events.specs.Events.{after_response}
 use Rattle.cpa_model.specs.declared.entries.Activator.{Activator}
 use Rattle.cpa_model.specs.declared.entries.Activator.TheVariants.{Source as FromSource, Task as FromTask}
@@ -39,3 +39,8 @@ AreInputs s r x inputs = (i : ℕ) → i < length s.tasks → (task_at s i).res.
 -- a list that has the inputs of the tasks that are told known
 abbrev pub AreKnown : SystemLists → List Bound → List Bool → List (Option Model) → Type 0
 AreKnown s x known inputs = (i : ℕ) → slice_index_or known i false ≡ true → slice_index_or inputs i None ≡ input s x i
+
+-- what was found, where something was
+abbrev pub found_if : Bool → Model → Option Model
+found_if true m = Some m
+found_if false m = None

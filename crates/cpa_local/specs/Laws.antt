@@ -1,12 +1,22 @@
 -- The main laws of the analysis of a system, as the public functions of the crate state them.
-use Rattle.std.specs.Prelude.{◌≡◌, List}
+use Rattle.std.specs.Prelude.{◌≡◌, ◌<◌, ℕ, List, length, map, Some}
 use Rattle.cpa_units.specs.declared.bound.Bound.{Bound}
 use Rattle.cpa_units.specs.Bounds.{IsNowhereAbove}
-use Rattle.cpa_model.specs.SystemLists.{SystemLists}
+use Rattle.cpa_units.specs.declared.places.SourceId.{SourceId}
+use Rattle.cpa_events.specs.declared.stream.Stream.{Stream}
+use Rattle.cpa_events.specs.Events.{Model}
+use Rattle.cpa_model.specs.SystemLists.{SystemLists, source_at, streams_of}
 use Rattle.cpa_model.specs.Rules.{IsSystem}
+use Rattle.cpa_local.specs.Inputs.{input}
 use Rattle.cpa_local.specs.Local.{responses}
 use Rattle.cpa_local.specs.Raising.{IsRaising}
 use Rattle.cpa_local.specs.Solution.{IsVector, IsClosed, IsLeast, least_of}
+
+-- the streams of a bounded input are those of its task, in their order: each has the period of its source
+abbrev pub InputsFollowStreams : Type 0
+InputsFollowStreams =
+    (s : SystemLists) (x : List Bound) (i : ℕ) (m : Model) → IsSystem s → i < length s.tasks → input s x i ≡ Some m →
+    map (λ (t : Stream). t.period) m ≡ map (λ (k : SourceId). (source_at s k.0).period) (streams_of s i)
 
 -- where a vector rises, no bound falls
 abbrev pub ResponsesAreMonotone : Type 0

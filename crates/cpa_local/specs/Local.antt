@@ -3,7 +3,7 @@ use Rattle.std.specs.Prelude.{ℕ, Option, Some, None, List, map}
 use Rattle.cpa_units.specs.declared.bound.Bound.{Bound}
 use Rattle.cpa_units.specs.declared.bound.Bound.TheVariants.{Overload}
 use Rattle.cpa_units.specs.Bounds.{bound_of}
-use Rattle.cpa_events.specs.declared.Model.{Model}
+use Rattle.cpa_events.specs.Events.{Model}
 use Rattle.cpa_window.specs.declared.rivals.Rival.{Rival}
 use Rattle.cpa_spp.specs.Preemptive.{preemptive_bound}
 use Rattle.cpa_rr.specs.RoundRobin.{round_robin_bound}

@@ -56,17 +56,18 @@ pub fn respond_prepared(system: &System, task: TaskId, x: &Vector, trail: &mut T
     let tasks = system.tasks();
     prove!(tasks <= 512);
     trail.mark(task);
-    let Some(own) = own_input(system, task, x, trail.inputs.as_slice()) else {
+    let inputs = trail.inputs.as_slice();
+    let Some(own) = own_input(system, task, x, inputs, &mut trail.found) else {
         return Bound::Overload;
     };
     bound_by_kind(
         system,
         task,
         x,
-        &own,
+        own,
         trail.cycle,
-        trail.inputs.as_slice(),
-        &mut trail.rivals,
+        inputs,
+        trail.rivals.as_mut_slice(),
     )
 }
 
@@ -78,7 +79,7 @@ fn bound_by_kind(
     own: &Model,
     cycle: u64,
     inputs: &[Option<Model>],
-    rivals: &mut Vec<Rival>,
+    rivals: &mut [Rival],
 ) -> Bound
     requires rules { IsSystem system.now }
     requires there { task.0 < length system.now.tasks }
@@ -87,9 +88,9 @@ fn bound_by_kind(
     requires long { length system.now.tasks ≤ length inputs.now }
     requires cycle { HasCycle system.now (task_at system.now task.0).res.0 cycle (resource_of system.now task.0).kind }
     requires known { HasInputs system.now (task_at system.now task.0).res.0 x.now inputs.now (resource_of system.now task.0).kind }
-    requires room { length system.now.tasks ≤ vec_capacity rivals.old }
+    requires room { length system.now.tasks ≤ length rivals.old }
     ensures value { result ≡ bound_by_kind system.now x.now task.0 own.now (resource_of system.now task.0).kind }
-    ensures room { vec_capacity rivals.new ≡ vec_capacity rivals.old }
+    ensures room { length rivals.new ≡ length rivals.old }
 {
     match system.resource(system.task(task).res).kind {
         Kind::Preemptive => preemptive(system, task, x, own, inputs, rivals),
@@ -106,21 +107,21 @@ fn preemptive(
     x: &Vector,
     own: &Model,
     inputs: &[Option<Model>],
-    rivals: &mut Vec<Rival>,
+    rivals: &mut [Rival],
 ) -> Bound
     requires there { task.0 < length system.now.tasks }
     requires vector { IsVector system.now x.now }
     requires own { IsModelInRange own.now }
     requires long { length system.now.tasks ≤ length inputs.now }
     requires known { AreInputs system.now (task_at system.now task.0).res.0 x.now inputs.now }
-    requires room { length system.now.tasks ≤ vec_capacity rivals.old }
+    requires room { length system.now.tasks ≤ length rivals.old }
     ensures value { result ≡ bound_by_kind system.now x.now task.0 own.now Preemptive }
-    ensures room { vec_capacity rivals.new ≡ vec_capacity rivals.old }
+    ensures room { length rivals.new ≡ length rivals.old }
 {
-    gather_higher(system, task, x, inputs, rivals);
+    let count = gather_higher(system, task, x, inputs, rivals);
     let entry = system.task(task);
     let limit = system.resource(entry.res).limit;
-    cpa_spp::respond(own, entry.worst, rivals.as_slice(), limit)
+    cpa_spp::respond(own, entry.worst, &rivals[..count], limit)
 }
 
 /// The bound under slotted round robin.
@@ -130,7 +131,7 @@ fn round_robin(
     x: &Vector,
     own: &Model,
     inputs: &[Option<Model>],
-    rivals: &mut Vec<Rival>,
+    rivals: &mut [Rival],
 ) -> Bound
     requires there { task.0 < length system.now.tasks }
     requires kind { (resource_of system.now task.0).kind ≡ RoundRobin }
@@ -138,14 +139,14 @@ fn round_robin(
     requires own { IsModelInRange own.now }
     requires long { length system.now.tasks ≤ length inputs.now }
     requires known { AreInputs system.now (task_at system.now task.0).res.0 x.now inputs.now }
-    requires room { length system.now.tasks ≤ vec_capacity rivals.old }
+    requires room { length system.now.tasks ≤ length rivals.old }
     ensures value { result ≡ bound_by_kind system.now x.now task.0 own.now RoundRobin }
-    ensures room { vec_capacity rivals.new ≡ vec_capacity rivals.old }
+    ensures room { length rivals.new ≡ length rivals.old }
 {
-    gather_others(system, task, x, inputs, rivals);
+    let count = gather_others(system, task, x, inputs, rivals);
     let entry = system.task(task);
     let limit = system.resource(entry.res).limit;
-    cpa_rr::respond(own, entry.worst, slot(entry.turn), rivals.as_slice(), limit)
+    cpa_rr::respond(own, entry.worst, slot(entry.turn), &rivals[..count], limit)
 }
 
 /// The bound under TDMA, which is the same at every vector. The gap is in the cycle.
@@ -170,7 +171,7 @@ fn can(
     own: &Model,
     bit: u64,
     inputs: &[Option<Model>],
-    rivals: &mut Vec<Rival>,
+    rivals: &mut [Rival],
 ) -> Bound
     requires there { task.0 < length system.now.tasks }
     requires kind { (resource_of system.now task.0).kind ≡ Can bit }
@@ -178,13 +179,13 @@ fn can(
     requires own { IsModelInRange own.now }
     requires long { length system.now.tasks ≤ length inputs.now }
     requires known { AreInputs system.now (task_at system.now task.0).res.0 x.now inputs.now }
-    requires room { length system.now.tasks ≤ vec_capacity rivals.old }
+    requires room { length system.now.tasks ≤ length rivals.old }
     ensures value { result ≡ bound_by_kind system.now x.now task.0 own.now (Can bit) }
-    ensures room { vec_capacity rivals.new ≡ vec_capacity rivals.old }
+    ensures room { length rivals.new ≡ length rivals.old }
 {
-    gather_higher(system, task, x, inputs, rivals);
+    let count = gather_higher(system, task, x, inputs, rivals);
     let entry = system.task(task);
     let limit = system.resource(entry.res).limit;
     let longest = blocking(system, task);
-    cpa_can::respond(own, entry.worst, longest, rivals.as_slice(), bit, limit)
+    cpa_can::respond(own, entry.worst, longest, &rivals[..count], bit, limit)
 }

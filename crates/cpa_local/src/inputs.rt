@@ -1,11 +1,12 @@
 //! What tasks receive, along their chains (Richter's thesis, 2005; SymTA/S).
 
-ghost use Rattle.std.specs.Prelude.{◌≡◌, ◌<◌, length, IfSome};
+ghost use Rattle.std.specs.Prelude.{◌≡◌, ◌<◌, ◌∷◌, [], length, option_map, IfSome};
+ghost use Rattle.cpa_events.specs.Streams.{IsStreamInRange};
 ghost use Rattle.cpa_events.specs.Events.{IsModelInRange};
 ghost use Rattle.cpa_local.specs.Inputs.{input};
 ghost use Rattle.cpa_local.specs.Solution.{IsVector};
 
-use cpa_events::Model;
+use cpa_events::{Model, Stream};
 use cpa_model::{Activator, System};
 use cpa_units::{Bound, TaskId, Vector};
 
@@ -18,6 +19,17 @@ pub fn input(system: &System, task: TaskId, x: &Vector) -> Option<Model>
     ensures value { result ≡ input system.now x.now task.0 }
     ensures in_range { IfSome result IsModelInRange }
 {
+    let stream = input_stream(system, task, x)?;
+    Some(Model::one(stream))
+}
+
+/// The one stream of a task's input. Each task has one, since it has one activator.
+pub(crate) fn input_stream(system: &System, task: TaskId, x: &Vector) -> Option<Stream>
+    requires there { task.0 < length system.now.tasks }
+    requires vector { IsVector system.now x.now }
+    ensures value { option_map (λ s. s ∷ []) result ≡ input system.now x.now task.0 }
+    ensures in_range { IfSome result IsStreamInRange }
+{
     system.has_rules();
     let mut at = task;
     let mut late: u64 = 0;
@@ -25,8 +37,8 @@ pub fn input(system: &System, task: TaskId, x: &Vector) -> Option<Model>
     'steps: loop {
         match system.task(at).after {
             Activator::Source(source) => {
-                let model = system.source(source).model();
-                return Some(model.later(late, least));
+                let stream = system.source(source).stream();
+                return Some(stream.later(late, least));
             }
             Activator::Task(earlier) => {
                 let Bound::Within(bound) = x.get(earlier) else {

@@ -1,17 +1,17 @@
 //! The inputs of a resource's tasks, worked out once for all their analyses.
 
-ghost use Rattle.std.specs.Prelude.{◌≡◌, ◌<◌, ◌≤◌, ◌-◌, List, length, slice_index_or, None, IfSome};
-ghost use Rattle.std.specs.Option.{ForSome};
+ghost use Rattle.std.specs.Prelude.{◌≡◌, ◌<◌, ◌≤◌, ◌-◌, List, length, Some, None, slice_index_or, IfSome};
+ghost use Rattle.std.specs.Option.{ForSome, option_copied};
 ghost use Rattle.cpa_units.specs.declared.limits.TheConstants.{MAX_LIMIT};
 ghost use Rattle.cpa_units.specs.Bounds.{bound_of};
-ghost use Rattle.cpa_events.specs.declared.TheConstants.{MAX_MODEL_JITTER};
+ghost use Rattle.cpa_events.specs.declared.stream.TheConstants.{MAX_MODEL_JITTER};
 ghost use Rattle.cpa_events.specs.Events.{IsModelInRange, HasJitterUpTo};
 ghost use Rattle.cpa_model.specs.SystemLists.{task_at, resource_at, resource_of};
-ghost use Rattle.cpa_local.specs.Inputs.{AreInputs, AreKnown, input, output_of};
+ghost use Rattle.cpa_local.specs.Inputs.{AreInputs, AreKnown, input, output_of, found_if};
 ghost use Rattle.cpa_local.specs.Solution.{IsVector};
 ghost use Rattle.cpa_local.specs.Trails.{IsPrepared, HasCycle, HasInputs};
 
-use crate::inputs::input;
+use crate::inputs::input_stream;
 use crate::trail::Trail;
 use cpa_events::Model;
 use cpa_model::{Activator, Kind, System};
@@ -33,7 +33,7 @@ impl Trail {
             Kind::Tdma { gap: _ } => {
                 self.cycle = system.cycle(res);
             }
-            _ => learn(system, res, x, &mut self.inputs),
+            _ => learn(system, res, x, &mut self.inputs, &mut self.found),
         }
     }
 
@@ -49,52 +49,74 @@ impl Trail {
     {
         match system.resource(res).kind {
             Kind::Tdma { gap: _ } => {}
-            _ => learn(system, res, x, &mut self.inputs),
+            _ => learn(system, res, x, &mut self.inputs, &mut self.found),
         }
     }
 }
 
-/// The input of a task, from a list that has it where its resource's kind wants that.
-pub(crate) fn own_input(
+/// The input of a task, from a list that has it where its resource's kind wants that; else it is put
+/// in the room for one.
+pub(crate) fn own_input<'a>(
     system: &System,
     task: TaskId,
     x: &Vector,
-    inputs: &[Option<Model>],
-) -> Option<Model>
+    inputs: &'a [Option<Model>],
+    found: &'a mut Model,
+) -> Option<&'a Model>
     requires there { task.0 < length system.now.tasks }
     requires vector { IsVector system.now x.now }
     requires long { length system.now.tasks ≤ length inputs.now }
     requires known { HasInputs system.now (task_at system.now task.0).res.0 x.now inputs.now (resource_of system.now task.0).kind }
-    ensures value { result ≡ input system.now x.now task.0 }
-    ensures in_range { IfSome result IsModelInRange }
+    ensures value { option_copied result ≡ input system.now x.now task.0 }
+    ensures in_range { IfSome (option_copied result) IsModelInRange }
 {
     match system.resource(system.task(task).res).kind {
-        Kind::Tdma { gap: _ } => input(system, task, x),
-        _ => known_input(system, task, x, inputs),
+        Kind::Tdma { gap: _ } => {
+            let stream = input_stream(system, task, x)?;
+            found.set_one(stream);
+            Some(found)
+        }
+        _ => kept_input(system, task, x, inputs),
     }
 }
 
 /// The input of a task, from a list that has it.
-pub(crate) fn known_input(
+fn kept_input<'a>(
     system: &System,
     task: TaskId,
     x: &Vector,
-    inputs: &[Option<Model>],
-) -> Option<Model>
+    inputs: &'a [Option<Model>],
+) -> Option<&'a Model>
     requires there { task.0 < length system.now.tasks }
     requires vector { IsVector system.now x.now }
     requires long { length system.now.tasks ≤ length inputs.now }
     requires known { slice_index_or inputs.now task.0 None ≡ input system.now x.now task.0 }
-    ensures value { result ≡ input system.now x.now task.0 }
-    ensures in_range { IfSome result IsModelInRange }
+    ensures value { option_copied result ≡ input system.now x.now task.0 }
+    ensures in_range { IfSome (option_copied result) IsModelInRange }
 {
     system.has_rules();
-    inputs[task.0 as usize]
+    inputs[task.0 as usize].as_ref()
+}
+
+/// Keeps a model in a place.
+pub(crate) fn keep(place: &mut Option<Model>, model: &Model)
+    ensures { place.new ≡ Some model.now }
+{
+    match place {
+        Some(kept) => kept.copy_from(model),
+        None => *place = Some(model.duplicate()),
+    }
 }
 
 /// Works out the input of each task on a resource. Along a chain that stays on it, each is found from the
 /// one before.
-fn learn(system: &System, res: ResId, x: &Vector, inputs: &mut Vec<Option<Model>>)
+fn learn(
+    system: &System,
+    res: ResId,
+    x: &Vector,
+    inputs: &mut Vec<Option<Model>>,
+    found: &mut Model,
+)
     requires there { res.0 < length system.now.resources }
     requires vector { IsVector system.now x.now }
     requires long { length system.now.tasks ≤ length inputs.old.items }
@@ -104,45 +126,67 @@ fn learn(system: &System, res: ResId, x: &Vector, inputs: &mut Vec<Option<Model>
     let mut known = [false; 512];
     for task in system.tasks_on(res) {
         let place = task.0 as usize;
-        inputs[place] = next_input(system, *task, x, &known, inputs.as_slice());
+        if find_input(system, *task, x, &known, inputs.as_slice(), found) {
+            keep(&mut inputs[place], found);
+        } else {
+            inputs[place] = None;
+        }
         known[place] = true;
     }
 }
 
-/// What comes out of a task with this input, which has room for what its response adds.
-fn output(system: &System, task: TaskId, x: &Vector, model: Option<Model>) -> Option<Model>
+/// Finds what comes out of a task with this input, which has room for what its response adds. False
+/// where it is unbounded.
+fn find_output(
+    system: &System,
+    task: TaskId,
+    x: &Vector,
+    received: &Option<Model>,
+    found: &mut Model,
+) -> bool
     requires there { task.0 < length system.now.tasks }
     requires vector { IsVector system.now x.now }
-    requires in_range { ForSome model IsModelInRange }
-    requires jitter { ForSome model (λ m. HasJitterUpTo m (MAX_MODEL_JITTER - MAX_LIMIT)) }
-    ensures { result ≡ output_of (task_at system.now task.0).best (bound_of x.now task.0) model }
+    requires in_range { ForSome received.now IsModelInRange }
+    requires jitter { ForSome received.now (λ m. HasJitterUpTo m (MAX_MODEL_JITTER - MAX_LIMIT)) }
+    ensures { found_if result found.new ≡ output_of (task_at system.now task.0).best (bound_of x.now task.0) received.now }
 {
     let best = system.task(task).best;
-    match (x.get(task), model) {
-        (Bound::Within(bound), Some(model)) => Some(model.after_response(best, bound)),
-        _ => None,
+    match (x.get(task), received) {
+        (Bound::Within(bound), Some(model)) => {
+            found.set_after_response(model, best, bound);
+            true
+        }
+        _ => false,
     }
 }
 
-/// The input of a task, from that of the task before it where that is known.
-fn next_input(
+/// Finds the input of a task, from that of the task before it where that is known. False where it is
+/// unbounded.
+fn find_input(
     system: &System,
     task: TaskId,
     x: &Vector,
     known: &[bool; 512],
     inputs: &[Option<Model>],
-) -> Option<Model>
+    found: &mut Model,
+) -> bool
     requires there { task.0 < length system.now.tasks }
     requires vector { IsVector system.now x.now }
     requires long { length system.now.tasks ≤ length inputs.now }
     requires known { AreKnown system.now x.now known.now inputs.now }
-    ensures { result ≡ input system.now x.now task.0 }
+    ensures { found_if result found.new ≡ input system.now x.now task.0 }
 {
     system.has_rules();
     match system.task(task).after {
         Activator::Task(earlier) if known[earlier.0 as usize] => {
-            output(system, earlier, x, inputs[earlier.0 as usize])
+            find_output(system, earlier, x, &inputs[earlier.0 as usize], found)
         }
-        _ => input(system, task, x),
+        _ => match input_stream(system, task, x) {
+            Some(stream) => {
+                found.set_one(stream);
+                true
+            }
+            None => false,
+        },
     }
 }

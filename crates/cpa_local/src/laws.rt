@@ -1,6 +1,12 @@
 //! What holds of bounds and of least solutions, for whoever builds on this crate.
 
-ghost use Rattle.cpa_local.specs.Laws.{ResponsesAreMonotone, LeastExists, LeastIsUnique, LeastIsFixed, ClosedBelowIsLeast, RaisingLiftsLeast};
+ghost use Rattle.cpa_local.specs.Laws.{InputsFollowStreams, ResponsesAreMonotone, LeastExists, LeastIsUnique, LeastIsFixed, ClosedBelowIsLeast, RaisingLiftsLeast};
+
+/// A bounded input has a stream for each of its task's streams, in their order, with the period of its
+/// source.
+pub fn inputs_follow_streams()
+    ensures { InputsFollowStreams }
+{}
 
 /// Where a vector rises, no bound falls, whatever the kinds of the resources (Richter's thesis, 2005).
 pub fn responses_are_monotone()

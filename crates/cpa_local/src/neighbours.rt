@@ -1,14 +1,15 @@
 //! The other tasks of a task's resource, as its analysis sees them. All times are in ticks.
 
-ghost use Rattle.std.specs.Prelude.{◌≡◌, ◌<◌, ◌≤◌, ◌==◌, ◌&&◌, nat_lt, map, length, vec_capacity, true, None, slice_index_or};
+ghost use Rattle.std.specs.Prelude.{◌≡◌, ◌<◌, ◌≤◌, ◌==◌, ◌&&◌, nat_lt, map, length, take, true, None, IfSome, slice_index_or};
 ghost use Rattle.cpa_units.specs.declared.limits.TheConstants.{MAX_CYCLE, MAX_EXECUTION};
+ghost use Rattle.cpa_events.specs.Events.{IsModelInRange};
 ghost use Rattle.cpa_window.specs.Rivals.{IsRival, AreRivals};
 ghost use Rattle.cpa_model.specs.SystemLists.{task_at, priority_of, slot_of, is_higher, is_other, higher_tasks, other_tasks, blocking_of, cycle_of};
 ghost use Rattle.cpa_local.specs.Inputs.{AreInputs, input};
 ghost use Rattle.cpa_local.specs.Local.{rival_of};
 ghost use Rattle.cpa_local.specs.Solution.{IsVector};
 
-use crate::known::known_input;
+use crate::known::keep;
 use cpa_events::Model;
 use cpa_model::{System, Turn};
 use cpa_units::{TaskId, Vector};
@@ -53,72 +54,90 @@ fn is_other(system: &System, task: TaskId, other: TaskId) -> bool
     system.task(task).res.0 == system.task(other).res.0 && other.0 != task.0
 }
 
-/// A task as its neighbours see it, where the vector has its bound and its input is known.
-fn rival(system: &System, task: TaskId, x: &Vector, inputs: &[Option<Model>]) -> Rival
+/// Puts an input in the place of another.
+fn put_input(place: &mut Option<Model>, input: &Option<Model>)
+    requires { IfSome input.now IsModelInRange }
+    ensures value { place.new ≡ input.now }
+    ensures in_range { IfSome place.new IsModelInRange }
+{
+    match input {
+        Some(model) => keep(place, model),
+        None => *place = None,
+    }
+}
+
+/// Puts a task as its neighbours see it in the place of another rival, where the vector has its bound
+/// and its input is known.
+fn put_rival(system: &System, task: TaskId, x: &Vector, inputs: &[Option<Model>], place: &mut Rival)
     requires there { task.0 < length system.now.tasks }
     requires vector { IsVector system.now x.now }
     requires long { length system.now.tasks ≤ length inputs.now }
     requires known { slice_index_or inputs.now task.0 None ≡ input system.now x.now task.0 }
-    ensures value { result ≡ rival_of system.now x.now task.0 }
-    ensures in_range { IsRival result }
+    ensures value { place.new ≡ rival_of system.now x.now task.0 }
+    ensures in_range { IsRival place.new }
 {
+    system.has_rules();
     let entry = system.task(task);
-    Rival {
-        model: known_input(system, task, x, inputs),
-        worst: entry.worst,
-        slot: slot(entry.turn),
-        bound: x.get(task),
-    }
+    place.worst = entry.worst;
+    place.slot = slot(entry.turn);
+    place.bound = x.get(task);
+    put_input(&mut place.model, &inputs[task.0 as usize]);
 }
 
-/// Gathers the tasks of higher priority on the resource of a task, in the room that there is.
+/// Gathers the tasks of higher priority on the resource of a task, in the places of others. Answers how many there are.
 pub(crate) fn gather_higher(
     system: &System,
     task: TaskId,
     x: &Vector,
     inputs: &[Option<Model>],
-    rivals: &mut Vec<Rival>,
-)
+    rivals: &mut [Rival],
+) -> usize
     requires there { task.0 < length system.now.tasks }
     requires vector { IsVector system.now x.now }
     requires long { length system.now.tasks ≤ length inputs.now }
     requires known { AreInputs system.now (task_at system.now task.0).res.0 x.now inputs.now }
-    requires room { length system.now.tasks ≤ vec_capacity rivals.old }
-    ensures value { rivals.new.items ≡ map (rival_of system.now x.now) (higher_tasks system.now task.0) }
-    ensures in_range { AreRivals rivals.new.items }
-    ensures room { vec_capacity rivals.new ≡ vec_capacity rivals.old }
+    requires room { length system.now.tasks ≤ length rivals.old }
+    ensures value { take result rivals.new ≡ map (rival_of system.now x.now) (higher_tasks system.now task.0) }
+    ensures in_range { AreRivals (take result rivals.new) }
+    ensures few { result ≤ length rivals.new }
+    ensures room { length rivals.new ≡ length rivals.old }
 {
-    rivals.clear();
+    let mut count = 0;
     for other in system.tasks_on(system.task(task).res) {
         if is_higher(system, task, *other) {
-            rivals.push_reserved(rival(system, *other, x, inputs));
+            put_rival(system, *other, x, inputs, &mut rivals[count]);
+            count += 1;
         }
     }
+    count
 }
 
-/// Gathers the other tasks on the resource of a task, in the room that there is.
+/// Gathers the other tasks on the resource of a task, in the places of others. Answers how many there are.
 pub(crate) fn gather_others(
     system: &System,
     task: TaskId,
     x: &Vector,
     inputs: &[Option<Model>],
-    rivals: &mut Vec<Rival>,
-)
+    rivals: &mut [Rival],
+) -> usize
     requires there { task.0 < length system.now.tasks }
     requires vector { IsVector system.now x.now }
     requires long { length system.now.tasks ≤ length inputs.now }
     requires known { AreInputs system.now (task_at system.now task.0).res.0 x.now inputs.now }
-    requires room { length system.now.tasks ≤ vec_capacity rivals.old }
-    ensures value { rivals.new.items ≡ map (rival_of system.now x.now) (other_tasks system.now task.0) }
-    ensures in_range { AreRivals rivals.new.items }
-    ensures room { vec_capacity rivals.new ≡ vec_capacity rivals.old }
+    requires room { length system.now.tasks ≤ length rivals.old }
+    ensures value { take result rivals.new ≡ map (rival_of system.now x.now) (other_tasks system.now task.0) }
+    ensures in_range { AreRivals (take result rivals.new) }
+    ensures few { result ≤ length rivals.new }
+    ensures room { length rivals.new ≡ length rivals.old }
 {
-    rivals.clear();
+    let mut count = 0;
     for other in system.tasks_on(system.task(task).res) {
         if is_other(system, task, *other) {
-            rivals.push_reserved(rival(system, *other, x, inputs));
+            put_rival(system, *other, x, inputs, &mut rivals[count]);
+            count += 1;
         }
     }
+    count
 }
 
 /// The greatest execution among the tasks of lower priority on the resource of a task, 0 if there

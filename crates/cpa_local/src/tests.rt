@@ -73,6 +73,9 @@ fn a_chain_of_two(rt: HostRuntime) -> Result<(), Fail> {
         Bound::Within(14)
     );
     assert!(rt; trail.marked(TaskId(1)) && !trail.marked(TaskId(2)));
-    assert_eq!(rt; input(&system, TaskId(1), &x).map(|m| m.jitter), Some(0));
+    assert_eq!(rt;
+        input(&system, TaskId(1), &x).map(|m| m.get(0).jitter),
+        Some(0)
+    );
     Ok(())
 }

@@ -4,8 +4,8 @@ ghost use Rattle.std.specs.Prelude.{◌≡◌, ◌≤◌, ◌<◌, ◌↔◌, �
 ghost use Rattle.cpa_units.specs.declared.limits.TheConstants.{MAX_TASKS};
 ghost use Rattle.cpa_local.specs.Trails.{IsMarked, IsKept, NewMarksAre, AreMarked};
 
-use cpa_events::Model as EventModel;
-use cpa_units::{NoMemory, TaskId};
+use cpa_events::{Model as EventModel, Stream};
+use cpa_units::{Bound, NoMemory, TaskId};
 use cpa_window::Rival;
 use std::alloc::Global;
 use std::marker::Model;
@@ -15,22 +15,44 @@ use std::marker::Model;
 #[derive(Drop)]
 pub struct Trail {
     pub(crate) marks: [bool; 512],
+    /// The rivals that were gathered last, and others behind them.
     pub(crate) rivals: Vec<Rival>,
     /// The inputs that were worked out last, by the tasks' places.
     pub(crate) inputs: Vec<Option<EventModel>>,
+    /// An input that isn't kept.
+    pub(crate) found: EventModel,
     /// The cycle that was worked out last, in ticks.
     pub(crate) cycle: u64,
 }
 
 impl Model for Trail {
-    ghost use Rattle.std.specs.Prelude.{◌≡◌, length, vec_capacity};
+    ghost use Rattle.std.specs.Prelude.{◌≡◌, length};
     ghost use Rattle.cpa_local.specs.Trails.{Marks};
 
     ghost Value = { Marks };
 
-    ghost view = { λ t. record { marks = t.marks; room = vec_capacity t.rivals; inputs = t.inputs.items; cycle = t.cycle } };
+    ghost view = { λ t. record { marks = t.marks; room = length t.rivals.items; inputs = t.inputs.items; cycle = t.cycle } };
 
-    ghost invariant = { λ t. (length t.marks ≡ 512) × (length t.inputs.items ≡ vec_capacity t.rivals) };
+    ghost invariant = { λ t. (length t.marks ≡ 512) × (length t.inputs.items ≡ length t.rivals.items) };
+}
+
+/// A model that takes up room, and says nothing.
+fn no_model() -> EventModel {
+    EventModel::one(Stream {
+        period: 1,
+        jitter: 0,
+        distance: 0,
+    })
+}
+
+/// A rival that takes up room, and says nothing.
+fn no_rival() -> Rival {
+    Rival {
+        slot: 0,
+        bound: Bound::Overload,
+        worst: 0,
+        model: Some(no_model()),
+    }
 }
 
 impl Trail {
@@ -40,12 +62,17 @@ impl Trail {
         ensures room { IfOk result (λ t. t.room ≡ tasks) }
         ensures none { IfOk result (λ t. (i : ℕ) → IsMarked t i → ⊥) }
     {
-        let rivals = Vec::with_capacity(alloc, tasks as usize)?;
-        let inputs = vec![in alloc; None; tasks as usize]?;
+        let mut rivals = Vec::with_capacity(alloc, tasks as usize)?;
+        let mut inputs = Vec::with_capacity(alloc, tasks as usize)?;
+        for _ in 0..tasks {
+            rivals.push_reserved(no_rival());
+            inputs.push_reserved(None);
+        }
         Ok(Trail {
             marks: [false; 512],
             rivals,
             inputs,
+            found: no_model(),
             cycle: 0,
         })
     }

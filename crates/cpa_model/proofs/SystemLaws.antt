@@ -16,9 +16,9 @@ use Rattle.cpa_model.specs.declared.entries.Path.{Path}
 use Rattle.cpa_model.specs.declared.entries.Activator.{Activator}
 use Rattle.cpa_model.specs.declared.entries.Activator.TheVariants.{Source, Task}
 use Rattle.cpa_units.specs.declared.places.TaskId.{TaskId}
-use Rattle.cpa_model.specs.Chains.{chain_step, depth_within, root_step, root_within, activators}
+use Rattle.cpa_model.specs.Chains.{chain_step, depth_within, streams_step, streams_within, activators}
 use Rattle.cpa_model.specs.Rules.{IsSystem, IsPath, IsActivator, TurnFits, KindFits}
-use Rattle.cpa_model.specs.SystemLists.{SystemLists, task_at, no_task, depth_of, root_of, slot_of, gap_of}
+use Rattle.cpa_model.specs.SystemLists.{SystemLists, task_at, no_task, depth_of, root_of, stream_at, streams_of, slot_of, gap_of}
 
 abbrev pub Links : Type 0
 Links = List (Option Activator)
@@ -131,27 +131,48 @@ path-short s rules p path =
     let most = depth_of-most s (get_or p.tasks (length p.tasks - 1) no_id).0 in
     omega arith
 
--- the source that begins a chain is there
+-- a task has one stream, whose source is there
 some_suc : (o : Option ℕ) → IsSome (option_map suc o) → IsSome o
 some_suc None some = absurd (false≢true some)
 some_suc (Some d) some = refl
 
-root-step : (s : SystemLists) (a : Activator) (f : ℕ → SourceId) (g : ℕ → Option ℕ) → IsActivator s a → ((j : ℕ) → j < length s.tasks → IsSome (g j) → (f j).0 < length s.sources)
-    → IsSome (chain_step (Some a) g) → (root_step (Some a) f).0 < length s.sources
-root-step s (Source k) f g there each some = there
-root-step s (Task j) f g there each some = each j.0 there (some_suc (g j.0) some)
+record IsOneSource (s : SystemLists) (ks : List SourceId) : Type 0 where
+  pub one : ks ≡ slice_index_or ks 0 (record { 0 = 0 }) ∷ []
+  pub there : (slice_index_or ks 0 (record { 0 = 0 })).0 < length s.sources
 
-pub root_within-there : (s : SystemLists) → IsSystem s → (n i : ℕ) → i < length s.tasks → IsSome (depth_within (activators s.tasks) n i) → (root_within (activators s.tasks) n i).0 < length s.sources
-unfolding depth_within root_within
-root_within-there s rules zero i h some = absurd (false≢true some)
-root_within-there s rules (suc n) i h some =
+streams-step : (s : SystemLists) (a : Activator) (f : ℕ → List SourceId) (g : ℕ → Option ℕ) → IsActivator s a → ((j : ℕ) → j < length s.tasks → IsSome (g j) → IsOneSource s (f j))
+    → IsSome (chain_step (Some a) g) → IsOneSource s (streams_step (Some a) f)
+streams-step s (Source k) f g there each some = record { one = refl; there = there }
+streams-step s (Task j) f g there each some = each j.0 there (some_suc (g j.0) some)
+
+streams_within-one : (s : SystemLists) → IsSystem s → (n i : ℕ) → i < length s.tasks → IsSome (depth_within (activators s.tasks) n i) → IsOneSource s (streams_within (activators s.tasks) n i)
+unfolding depth_within streams_within
+streams_within-one s rules zero i h some = absurd (false≢true some)
+streams_within-one s rules (suc n) i h some =
     let at : slice_index_or (activators s.tasks) i None ≡ Some (task_at s i).after = activator_at s.tasks i h in
     rw at
-    (root-step s (task_at s i).after (root_within (activators s.tasks) n) (depth_within (activators s.tasks) n) (rules.tasks i no_task h).activated
-    (λ j less deeper. root_within-there s rules n j less deeper) (rw at at some))
+    (streams-step s (task_at s i).after (streams_within (activators s.tasks) n) (depth_within (activators s.tasks) n) (rules.tasks i no_task h).activated
+    (λ j less deeper. streams_within-one s rules n j less deeper) (rw at at some))
+
+pub streams_of-one : (s : SystemLists) → IsSystem s → (i : ℕ) → i < length s.tasks → streams_of s i ≡ root_of s i ∷ []
+streams_of-one s rules i h = (streams_within-one s rules 32 i h (rules.chains i h)).one
 
 pub root_of-there : (s : SystemLists) → IsSystem s → (i : ℕ) → i < length s.tasks → (root_of s i).0 < length s.sources
-root_of-there s rules i h = root_within-there s rules 32 i h (rules.chains i h)
+root_of-there s rules i h = (streams_within-one s rules 32 i h (rules.chains i h)).there
+
+one-long : (s : SystemLists) → IsSystem s → (i : ℕ) → i < length s.tasks → length (streams_of s i) ≡ 1
+one-long s rules i h = rw (streams_of-one s rules i h) refl
+
+pub streams_of-some : (s : SystemLists) → IsSystem s → (i : ℕ) → i < length s.tasks → 1 ≤ length (streams_of s i)
+streams_of-some s rules i h = omega (arith, one-long s rules i h)
+
+pub streams_of-few : (s : SystemLists) → IsSystem s → (i : ℕ) → i < length s.tasks → length (streams_of s i) ≤ 32
+streams_of-few s rules i h = omega (arith, one-long s rules i h)
+
+pub stream_at-there : (s : SystemLists) → IsSystem s → (i k : ℕ) → i < length s.tasks → k < length (streams_of s i) → (stream_at s i k).0 < length s.sources
+stream_at-there s rules i k h less =
+    let first : k ≡ 0 = omega (arith, one-long s rules i h) in
+    rw first (root_of-there s rules i h)
 
 -- the slots of a resource, one task further
 pub range-more : (a n : ℕ) → range_with_len a (n + 1) ≡ range_with_len a n ++ (a + n) ∷ []

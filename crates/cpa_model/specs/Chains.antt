@@ -1,5 +1,5 @@
--- Chains: following activators from a task back to the source that begins its chain.
-use Rattle.std.specs.Prelude.{ℕ, zero, suc, List, Option, Some, None, option_map, map, slice_index_or}
+-- Chains: following activators from a task back to its sources.
+use Rattle.std.specs.Prelude.{ℕ, zero, suc, List, [], ◌∷◌, Option, Some, None, option_map, map, slice_index_or}
 use Rattle.cpa_units.specs.declared.places.SourceId.{SourceId}
 use Rattle.cpa_model.specs.declared.entries.Activator.{Activator}
 use Rattle.cpa_model.specs.declared.entries.Activator.TheVariants.{Source, Task as ByTask}
@@ -21,13 +21,13 @@ depth_within links (suc n) i = chain_step (slice_index_or links i None) (depth_w
 abbrev pub activators : List Task → List (Option Activator)
 activators tasks = map (λ (t : Task). Some t.after) tasks
 
--- one step to the source that begins a chain
-abbrev pub root_step : Option Activator → (ℕ → SourceId) → SourceId
-root_step None deeper = record { 0 = 0 }
-root_step (Some (Source k)) deeper = k
-root_step (Some (ByTask j)) deeper = deeper j.0
+-- one step to the sources whose streams reach a task: a source gives itself alone, and a task its own
+abbrev pub streams_step : Option Activator → (ℕ → List SourceId) → List SourceId
+streams_step None deeper = []
+streams_step (Some (Source k)) deeper = k ∷ []
+streams_step (Some (ByTask j)) deeper = deeper j.0
 
--- the source that begins the chain of task i, where it is met within n tasks
-unfoldable pub root_within : List (Option Activator) → ℕ → ℕ → SourceId
-root_within links zero i = record { 0 = 0 }
-root_within links (suc n) i = root_step (slice_index_or links i None) (root_within links n)
+-- the sources whose streams reach task i, those that are met within n tasks
+unfoldable pub streams_within : List (Option Activator) → ℕ → ℕ → List SourceId
+streams_within links zero i = []
+streams_within links (suc n) i = streams_step (slice_index_or links i None) (streams_within links n)

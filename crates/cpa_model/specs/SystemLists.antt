@@ -6,7 +6,7 @@ use Rattle.cpa_units.specs.declared.limits.TheConstants.{MAX_CHAIN}
 use Rattle.cpa_units.specs.declared.places.ResId.{ResId}
 use Rattle.cpa_units.specs.declared.places.SourceId.{SourceId}
 use Rattle.cpa_units.specs.declared.places.TaskId.{TaskId}
-use Rattle.cpa_model.specs.Chains.{activators, depth_within, root_within}
+use Rattle.cpa_model.specs.Chains.{activators, depth_within, streams_within}
 use Rattle.cpa_model.specs.declared.entries.Resource.{Resource}
 use Rattle.cpa_model.specs.declared.entries.Source.{Source}
 use Rattle.cpa_model.specs.declared.entries.Task.{Task}
@@ -118,9 +118,17 @@ cycle_of s r = sum_by (λ i. slot_of (task_at s i).turn) (tasks_on s r) + gap_of
 abbrev pub depth_of : SystemLists → ℕ → ℕ
 depth_of s i = unwrap_or (depth_within (activators s.tasks) MAX_CHAIN i) 0
 
--- the source that begins a task's chain
+-- the sources of a task's streams: those whose events reach it along its chain
+abbrev pub streams_of : SystemLists → ℕ → List SourceId
+streams_of s i = streams_within (activators s.tasks) MAX_CHAIN i
+
+-- the source of one of a task's streams
+abbrev pub stream_at : SystemLists → ℕ → ℕ → SourceId
+stream_at s i k = slice_index_or (streams_of s i) k (record { 0 = 0 })
+
+-- the source of a task's first stream
 abbrev pub root_of : SystemLists → ℕ → SourceId
-root_of s i = root_within (activators s.tasks) MAX_CHAIN i
+root_of s i = stream_at s i 0
 
 -- the resource, the source and the task with a name
 abbrev pub resource_named : SystemLists → List ℕ → Option ResId

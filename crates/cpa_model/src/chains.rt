@@ -1,8 +1,8 @@
 //! Chains of activators.
 
-ghost use Rattle.std.specs.Prelude.{◌≡◌, slice_index_or, None, unwrap_or};
+ghost use Rattle.std.specs.Prelude.{◌≡◌, ◌<◌, length, slice_index_or, None, unwrap_or};
 ghost use Rattle.cpa_units.specs.declared.limits.TheConstants.{MAX_CHAIN};
-ghost use Rattle.cpa_model.specs.Chains.{activators, depth_within, root_within};
+ghost use Rattle.cpa_model.specs.Chains.{activators, depth_within, streams_within};
 
 use crate::entries::{Activator, Task};
 use cpa_units::SourceId;
@@ -35,10 +35,27 @@ pub(crate) fn chain_depth(tasks: &[Task], task: usize) -> u32
     0
 }
 
-/// The source that begins a task's chain.
+/// The number of a task's streams.
 #[tactic(auto, using(crate::proofs::ChainLaws::walk))]
-pub(crate) fn chain_root(tasks: &[Task], task: usize) -> SourceId
-    ensures { result ≡ root_within (activators tasks.now) MAX_CHAIN task }
+pub(crate) fn chain_streams(tasks: &[Task], task: usize) -> u32
+    ensures { result ≡ length (streams_within (activators tasks.now) MAX_CHAIN task) }
+{
+    let mut at = task;
+    for _passed in 0..MAX_CHAIN as u32 {
+        match activator(tasks, at) {
+            None => return 0,
+            Some(Activator::Source(_)) => return 1,
+            Some(Activator::Task(next)) => at = next.0 as usize,
+        }
+    }
+    0
+}
+
+/// The source of one of a task's streams.
+#[tactic(auto, using(crate::proofs::ChainLaws::walk))]
+pub(crate) fn chain_stream(tasks: &[Task], task: usize, k: u32) -> SourceId
+    requires { k < length (streams_within (activators tasks.now) MAX_CHAIN task) }
+    ensures { result ≡ slice_index_or (streams_within (activators tasks.now) MAX_CHAIN task) k (record { 0 = 0 }) }
 {
     let mut at = task;
     for _passed in 0..MAX_CHAIN as u32 {

@@ -1,16 +1,16 @@
 //! The entries of a system. Times are in ticks.
 
-ghost use Rattle.std.specs.Prelude.{◌≡◌, ◌<◌, ◌^◌, length, map, slice_get, Some, IfSome, IfOk, position};
+ghost use Rattle.std.specs.Prelude.{◌≡◌, ◌<◌, ◌^◌, length, map, slice_get, Some, IfSome, IfOk, position, ◌≤◌};
 ghost use Rattle.std.specs.Str.{bytes_eq};
 ghost use Rattle.cpa_units.specs.declared.limits.TheConstants.{MAX_JITTER};
-ghost use Rattle.cpa_events.specs.Events.{IsModelInRange, HasJitterUpTo};
+ghost use Rattle.cpa_events.specs.Streams.{IsStreamInRange};
 ghost use Rattle.cpa_model.specs.SystemLists.{gap_of, slot_of};
-ghost use Rattle.cpa_model.specs.Streams.{model_of};
+ghost use Rattle.cpa_model.specs.Streams.{stream_of};
 ghost use Rattle.cpa_model.specs.Rules.{IsSource};
 ghost use Rattle.cpa_model.specs.Changes.{id_without};
 
 use crate::changes::id_without;
-use cpa_events::Model as EventModel;
+use cpa_events::Stream;
 use cpa_units::{Name, NoMemory, ResId, SourceId, TaskId};
 use std::alloc::Global;
 use std::marker::Model;
@@ -50,14 +50,14 @@ pub struct Source {
 }
 
 impl Source {
-    /// The event model by which its events come, in ticks (Richter's thesis, 2005).
-    pub fn model(&self) -> EventModel
+    /// The stream in which its events come, in ticks (Richter's thesis, 2005).
+    pub fn stream(&self) -> Stream
         requires { IsSource self.now }
-        ensures value { result ≡ model_of self.now }
-        ensures in_range { IsModelInRange result }
-        ensures jitter { HasJitterUpTo result MAX_JITTER }
+        ensures value { result ≡ stream_of self.now }
+        ensures in_range { IsStreamInRange result }
+        ensures jitter { result.jitter ≤ MAX_JITTER }
     {
-        EventModel {
+        Stream {
             period: self.period,
             jitter: self.jitter,
             distance: self.distance,

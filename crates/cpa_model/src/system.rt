@@ -1,9 +1,10 @@
 //! A system that keeps its rules.
 
-ghost use Rattle.std.specs.Prelude.{◌≡◌, ◌<◌, length, All, IfOk};
+ghost use Rattle.std.specs.Prelude.{◌≡◌, ◌<◌, ◌≤◌, length, All, IfOk};
 ghost use Rattle.cpa_units.specs.declared.places.TaskId.{TaskId};
+ghost use Rattle.cpa_events.specs.declared.TheConstants.{MAX_STREAMS};
 
-use crate::chains::{chain_depth, chain_root};
+use crate::chains::{chain_depth, chain_stream, chain_streams};
 use crate::entries::{Path, Resource, Source, Task, first_with_name, gap_of, slot_of};
 use crate::rosters::{Roster, gather};
 use cpa_units::{NoMemory, PathId, ResId, SourceId, TaskId};
@@ -34,7 +35,7 @@ impl Model for System {
 }
 
 impl System {
-    ghost use Rattle.cpa_model.specs.SystemLists.{resource_at, source_at, task_at, path_at, places_of, tasks_on, resource_named, source_named, task_named, root_of, depth_of, cycle_of};
+    ghost use Rattle.cpa_model.specs.SystemLists.{resource_at, source_at, task_at, path_at, places_of, tasks_on, resource_named, source_named, task_named, root_of, stream_at, streams_of, depth_of, cycle_of};
     ghost use Rattle.cpa_model.specs.Rules.{IsSystem, IsResource, IsSource, IsTask, IsPath};
 
     /// A system keeps its rules. The call does nothing.
@@ -169,13 +170,33 @@ impl System {
         }
     }
 
-    /// The source that begins a task's chain.
+    /// The number of a task's streams: one for each source that reaches it along a chain.
+    pub fn streams(&self, task: TaskId) -> u32
+        requires { task.0 < length self.now.tasks }
+        ensures count { result ≡ length (streams_of self.now task.0) }
+        ensures some { 1 ≤ result }
+        ensures few { result ≤ MAX_STREAMS }
+    {
+        chain_streams(self.tasks.as_slice(), task.0 as usize)
+    }
+
+    /// The source of one of a task's streams.
+    pub fn stream(&self, task: TaskId, k: u32) -> SourceId
+        requires task { task.0 < length self.now.tasks }
+        requires stream { k < length (streams_of self.now task.0) }
+        ensures source { result ≡ stream_at self.now task.0 k }
+        ensures there { result.0 < length self.now.sources }
+    {
+        chain_stream(self.tasks.as_slice(), task.0 as usize, k)
+    }
+
+    /// The source of a task's first stream.
     pub fn root(&self, task: TaskId) -> SourceId
         requires { task.0 < length self.now.tasks }
         ensures source { result ≡ root_of self.now task.0 }
         ensures there { result.0 < length self.now.sources }
     {
-        chain_root(self.tasks.as_slice(), task.0 as usize)
+        chain_stream(self.tasks.as_slice(), task.0 as usize, 0)
     }
 
     /// The number of tasks in a task's chain up to and with itself.

@@ -1,4 +1,4 @@
-ghost use Rattle.std.specs.Prelude.{◌≡◌, All, IfOk, true};
+ghost use Rattle.std.specs.Prelude.{◌≡◌, ◌<◌, length, All, IfOk, true};
 ghost use Rattle.cpa_model.specs.Built.{has_executions};
 
 use crate::entries::{Activator, Kind, Turn};
@@ -127,6 +127,17 @@ fn draft(alloc: Global) -> Result<Draft, AllocError>
     })
 }
 
+/// The source of a task's stream, where it has one alone.
+fn only_stream(system: &System, task: TaskId) -> Option<SourceId>
+    requires { task.0 < length system.now.tasks }
+{
+    if system.streams(task) == 1 {
+        Some(system.stream(task, 0))
+    } else {
+        None
+    }
+}
+
 #[test]
 fn builds_a_system(rt: HostRuntime) -> Result<(), Fail> {
     let alloc = rt.alloc();
@@ -217,6 +228,11 @@ fn builds_a_system(rt: HostRuntime) -> Result<(), Fail> {
         assert_eq!(rt; (task.best, task.worst), executions, "{name}");
         assert_eq!(rt; task.turn, turn, "{name}");
         assert_eq!(rt; system.root(TaskId(place)), SourceId(root), "{name}");
+        assert_eq!(rt;
+            only_stream(&system, TaskId(place)),
+            Some(SourceId(root)),
+            "{name}"
+        );
         assert_eq!(rt; system.depth(TaskId(place)), depth, "{name}");
     }
     assert!(rt; 2 < system.resources());

@@ -1,14 +1,15 @@
 -- The text of a report, and its verdict.
-use Rattle.std.specs.Prelude.{ℕ, ◌++◌, nat_le, Bool, true, false, Option, Some, None, List, length, sum_by, count_by, codes, if◌then◌else◌}
+use Rattle.std.specs.Prelude.{ℕ, ◌++◌, nat_le, ◌==◌, Bool, true, false, Option, Some, None, List, length, sum_by, count_by, codes, if◌then◌else◌, [], ◌∷◌}
 use Rattle.std.specs.List.{list_any, flat_map}
 use Rattle.std.specs.Fmt.{decimal}
 use Rattle.cpa_units.specs.declared.bound.Bound.{Bound}
 use Rattle.cpa_units.specs.declared.bound.Bound.TheVariants.{Within, Overload}
 use Rattle.cpa_units.specs.declared.places.TaskId.{TaskId}
 use Rattle.cpa_units.specs.Bounds.{bound_of, sum_bounds}
-use Rattle.cpa_events.specs.declared.Model.{Model}
+use Rattle.cpa_events.specs.declared.stream.Stream.{Stream}
+use Rattle.cpa_events.specs.Events.{Model}
 use Rattle.cpa_model.specs.declared.entries.Path.{Path}
-use Rattle.cpa_model.specs.SystemLists.{SystemLists, task_at, source_at, resource_of, root_of, task_places}
+use Rattle.cpa_model.specs.SystemLists.{SystemLists, task_at, source_at, resource_of, root_of, streams_of, task_places}
 use Rattle.cpa_local.specs.Inputs.{input}
 use Rattle.cpa_report.specs.declared.paths.Outcome.{Outcome}
 use Rattle.cpa_report.specs.declared.paths.Outcome.TheVariants.{Met, Missed, Unknown, NoDeadline}
@@ -55,7 +56,7 @@ abbrev pub deadline_text : Option ℕ → List ℕ
 deadline_text (Some deadline) = decimal deadline
 deadline_text None = codes "-"
 
--- the period of the source that begins a task's chain
+-- the period of the source of a task's first stream
 abbrev pub root_period : SystemLists → ℕ → ℕ
 root_period s i = (source_at s (root_of s i).0).period
 
@@ -63,8 +64,13 @@ root_period s i = (source_at s (root_of s i).0).period
 unfoldable pub names_text : SystemLists → ℕ → List ℕ
 names_text s i = codes "task " ++ (task_at s i).name ++ codes " " ++ (resource_of s i).name
 
-unfoldable pub model_text : Model → List ℕ
-model_text m = codes " period " ++ decimal m.period ++ codes " jitter " ++ decimal m.jitter ++ codes " distance " ++ decimal m.distance
+unfoldable pub stream_text : Stream → List ℕ
+stream_text s = codes " period " ++ decimal s.period ++ codes " jitter " ++ decimal s.jitter ++ codes " distance " ++ decimal s.distance
+
+-- of a model of one stream that stream
+abbrev pub model_text : Model → List ℕ
+model_text [] = []
+model_text (s ∷ m) = stream_text s
 
 unfoldable pub unbounded_text : ℕ → List ℕ
 unbounded_text period = codes " period " ++ decimal period ++ codes " jitter overload distance overload"
@@ -74,12 +80,20 @@ abbrev pub input_text : SystemLists → ℕ → Option Model → List ℕ
 input_text s i (Some m) = model_text m
 input_text s i None = unbounded_text (root_period s i)
 
+-- how many streams a task has
+unfoldable pub count_text : ℕ → List ℕ
+count_text count = codes " streams " ++ decimal count
+
+-- what comes to a task: its input model where it has one stream, else how many it has
+abbrev pub streams_text : SystemLists → List Bound → ℕ → List ℕ
+streams_text s x i = if length (streams_of s i) == 1 then input_text s i (input s x i) else count_text (length (streams_of s i))
+
 -- the least execution and the bound
 unfoldable pub bounds_text : ℕ → Bound → List ℕ
 bounds_text best worst = codes " best " ++ decimal best ++ codes " worst " ++ bound_text worst
 
 unfoldable pub task_line : SystemLists → List Bound → ℕ → List ℕ
-task_line s x i = names_text s i ++ input_text s i (input s x i) ++ bounds_text (task_at s i).best (bound_of x i) ++ codes "\n"
+task_line s x i = names_text s i ++ streams_text s x i ++ bounds_text (task_at s i).best (bound_of x i) ++ codes "\n"
 
 unfoldable pub path_line : SystemLists → List Bound → Path → List ℕ
 path_line s x p =

@@ -4,13 +4,14 @@ ghost use Rattle.std.specs.Prelude.{◌≡◌, ◌<◌, ◌≤◌, ◌++◌, len
 ghost use Rattle.std.specs.List.{list_any, range_with_len, flat_map};
 ghost use Rattle.std.specs.Fmt.{decimal};
 ghost use Rattle.cpa_units.specs.Bounds.{bound_of};
+ghost use Rattle.cpa_events.specs.Events.{IsModelInRange};
 ghost use Rattle.cpa_model.specs.SystemLists.{path_at, task_places};
 ghost use Rattle.cpa_local.specs.Inputs.{input};
 ghost use Rattle.cpa_local.specs.Solution.{IsVector};
-ghost use Rattle.cpa_report.specs.Report.{is_overload, is_missed, bound_text, outcome_text, deadline_text, names_text, model_text, unbounded_text, input_text, bounds_text, task_line, path_line, summary_line, report_text, verdict};
+ghost use Rattle.cpa_report.specs.Report.{is_overload, is_missed, bound_text, outcome_text, deadline_text, names_text, stream_text, model_text, unbounded_text, input_text, count_text, streams_text, bounds_text, task_line, path_line, summary_line, report_text, verdict};
 
 use crate::paths::{Outcome, is_missed, judge, path_best, path_worst};
-use cpa_events::Model;
+use cpa_events::{Model, Stream};
 use cpa_local::input;
 use cpa_model::System;
 use cpa_text::Text;
@@ -39,13 +40,20 @@ fn put_names(text: &mut Text, system: &System, task: TaskId) -> Result<(), NoMem
     text.put(system.resource(entry.res).name.bytes())
 }
 
-#[tactic(auto, unfolding(crate::specs::Report::model_text))]
+#[tactic(auto, unfolding(crate::specs::Report::stream_text))]
+fn put_stream(text: &mut Text, stream: &Stream) -> Result<(), NoMemory>
+    ensures { OnOk result (text.new ≡ text.old ++ stream_text stream.now) }
+{
+    text.put_count(b" period ", stream.period)?;
+    text.put_count(b" jitter ", stream.jitter)?;
+    text.put_count(b" distance ", stream.distance)
+}
+
 fn put_model(text: &mut Text, model: &Model) -> Result<(), NoMemory>
+    requires { IsModelInRange model.now }
     ensures { OnOk result (text.new ≡ text.old ++ model_text model.now) }
 {
-    text.put_count(b" period ", model.period)?;
-    text.put_count(b" jitter ", model.jitter)?;
-    text.put_count(b" distance ", model.distance)
+    put_stream(text, &model.get(0))
 }
 
 #[tactic(auto, unfolding(crate::specs::Report::unbounded_text))]
@@ -67,6 +75,20 @@ fn put_input(text: &mut Text, system: &System, task: TaskId, x: &Vector) -> Resu
     }
 }
 
+#[tactic(auto, unfolding(crate::specs::Report::count_text))]
+fn put_streams(text: &mut Text, system: &System, task: TaskId, x: &Vector) -> Result<(), NoMemory>
+    requires there { task.0 < length system.now.tasks }
+    requires vector { IsVector system.now x.now }
+    ensures { OnOk result (text.new ≡ text.old ++ streams_text system.now x.now task.0) }
+{
+    let streams = system.streams(task);
+    if streams == 1 {
+        put_input(text, system, task, x)
+    } else {
+        text.put_count(b" streams ", u64::from(streams))
+    }
+}
+
 #[tactic(auto, unfolding(crate::specs::Report::bounds_text))]
 pub(crate) fn put_bounds(text: &mut Text, best: u64, worst: Bound) -> Result<(), NoMemory>
     ensures { OnOk result (text.new ≡ text.old ++ bounds_text best worst) }
@@ -83,7 +105,7 @@ fn put_task(text: &mut Text, system: &System, task: TaskId, x: &Vector) -> Resul
     ensures { OnOk result (text.new ≡ text.old ++ task_line system.now x.now task.0) }
 {
     put_names(text, system, task)?;
-    put_input(text, system, task, x)?;
+    put_streams(text, system, task, x)?;
     put_bounds(text, system.task(task).best, x.get(task))?;
     text.put(b"\n")
 }

@@ -8,7 +8,7 @@ use Rattle.cpa_units.specs.declared.bound.Bound.TheVariants.{Within, Overload}
 use Rattle.cpa_units.specs.Bounds.{IsAtMost, RespectsLimit, bound_min, bound_times, sum_bounds}
 use Rattle.cpa_units.proofs.NumberLaws.{div_ceil-mono}
 use Rattle.cpa_units.proofs.BoundLaws.{bound_plus-mono, bound_times-mono, bound_min-mono, bound_plus-ge_left}
-use Rattle.cpa_events.specs.declared.Model.{Model}
+use Rattle.cpa_events.specs.Events.{Model}
 use Rattle.cpa_events.specs.Events.{delta_minus, IsNoDenser}
 use Rattle.cpa_events.proofs.EventLaws.{eta_plus-mono, eta_plus-denser, delta_minus-denser}
 use Rattle.cpa_window.specs.declared.rivals.Rival.{Rival}

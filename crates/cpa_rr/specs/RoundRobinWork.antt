@@ -7,7 +7,7 @@ use Rattle.std.specs.Int.{div_ceil}
 use Rattle.cpa_units.specs.declared.bound.Bound.{Bound}
 use Rattle.cpa_units.specs.declared.bound.Bound.TheVariants.{Within, Overload}
 use Rattle.cpa_units.proofs.NumberLaws.{div_ceil-mono}
-use Rattle.cpa_events.specs.declared.Model.{Model}
+use Rattle.cpa_events.specs.Events.{Model}
 use Rattle.cpa_events.specs.Events.{eta_plus}
 use Rattle.cpa_events.proofs.EventLaws.{eta_plus-mono}
 use Rattle.cpa_window.specs.declared.rivals.Rival.{Rival}

@@ -22,20 +22,11 @@ use Rattle.cpa_model.specs.Streams.{model_of}
 use Rattle.cpa_model.specs.Changes.{with_task_at, with_source, with_task, without_task, place_without, activator_without, task_without}
 use Rattle.cpa_edit.specs.Edited.{is_fed_by}
 use Rattle.cpa_local.specs.Raising.{IsDenserActivator, IsRaising}
-use Rattle.cpa_session.proofs.RaisingChanges.{raised-same}
+use Rattle.cpa_local.proofs.PassingPlaces.{filter-agree}
+use Rattle.cpa_local.proofs.RaisingChanges.{raised-same}
 use Rattle.cpa_session.specs.Spared.{place_before, IsSameActivator, IsSpared}
 
 -- ---- lists of places
-
-filter-agree : (p q : ℕ → Bool) (a n : ℕ) → ((j : ℕ) → a ≤ j → j < a + n → p j ≡ q j) → filter p (range_with_len a n) ≡ filter q (range_with_len a n)
-filter-agree p q a zero h = refl
-filter-agree p q a (suc n) h =
-    let here = h a (omega arith) (omega arith) in
-    let rest = filter-agree p q (a + 1) n (λ j low high. h j (omega arith) (omega arith)) in
-    elim (cases_Bool (p a)) [
-      | inl on ↦ rw (← here, on) (ap (λ js. a ∷ js) rest)
-      | inr off ↦ rw (← here, off) rest
-    ]
 
 filter-one : (p : ℕ → Bool) (n : ℕ) → p n ≡ false → filter p (places (n + 1)) ≡ filter p (places n)
 filter-one p n off =
@@ -372,7 +363,7 @@ raising-source s k period jitter distance shorter wider closer =
           | inl same ↦ elim (cases_lt k (length s.sources)) [
             | inl less ↦
                 let it : slice_index_or (set s.sources k given) k no_source ≡ given = get_or-set_same s.sources k given no_source less in
-                rw (same, it) (record { period = shorter; jitter = wider; distance = closer })
+                rw (same, it) (record { period = shorter; jitter = wider; distance = closer }, tt)
             | inr past ↦ rw (set_past s.sources k given past) (IsNoDenser_refl (model_of (source_at s m)))
           ]
           | inr other ↦ rw (get_or-set_other s.sources k m given no_source other) (IsNoDenser_refl (model_of (source_at s m)))

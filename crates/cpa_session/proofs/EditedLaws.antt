@@ -29,7 +29,7 @@ use Rattle.cpa_edit.specs.Edited.{added_task, change, refusal, edit_result, firs
 use Rattle.cpa_local.specs.Raising.{IsRaising}
 use Rattle.cpa_session.specs.Spared.{place_before, IsSpared}
 use Rattle.cpa_session.specs.Editing.{widens, gets_denser, raises, gone_by}
-use Rattle.cpa_session.proofs.RaisingChanges.{raising-exec}
+use Rattle.cpa_local.proofs.RaisingChanges.{raising-exec}
 use Rattle.cpa_session.proofs.EditLaws.{in_place-set, in_place-trans, in_place-source, spared-in_place, same-sources, sent-source, spared-with_task, spared-without, raising-source, raising-add}
 
 -- ---- no rule is broken

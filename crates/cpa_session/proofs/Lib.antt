@@ -5,7 +5,5 @@ pub mod EditLaws
 pub mod EditedLaws
 pub mod KeepingLaws
 pub mod LeastLaws
-pub mod PassingPlaces
-pub mod RaisingChanges
 pub mod SearchLaws
 pub mod SparedLaws

@@ -8,7 +8,7 @@ use Rattle.cpa_units.specs.declared.places.TaskId.{TaskId}
 use Rattle.cpa_units.specs.declared.bound.Bound.{Bound}
 use Rattle.cpa_units.specs.declared.limits.TheConstants.{MAX_CHAIN}
 use Rattle.cpa_units.specs.Bounds.{bound_of}
-use Rattle.cpa_events.specs.declared.Model.{Model}
+use Rattle.cpa_events.specs.Events.{Model}
 use Rattle.cpa_model.specs.declared.entries.Resource.{Resource}
 use Rattle.cpa_model.specs.declared.entries.Kind.{Kind}
 use Rattle.cpa_model.specs.declared.entries.Kind.TheVariants.{Preemptive, RoundRobin, Tdma, Can}
@@ -21,7 +21,7 @@ use Rattle.cpa_local.specs.Local.{rival_of, bound_by_kind, bound_at_input, respo
 use Rattle.cpa_depend.specs.Cone.{Activates, LeadsTo, directly, through, Reads, earlier, IsClosedUnder}
 use Rattle.cpa_session.specs.Spared.{IsSameActivator, IsSameTask, AreSameTests, IsSpared, AgreeApart}
 use Rattle.cpa_local.proofs.PlaceLists.{greatest_over}
-use Rattle.cpa_session.proofs.PassingPlaces.{map-passing, map-map, sum_by-map, sum_by-passing, greatest-map, greatest-passing}
+use Rattle.cpa_local.proofs.PassingPlaces.{map-passing, map-map, sum_by-map, sum_by-passing, greatest-map, greatest-passing}
 
 -- a set of resources that has those that were touched and, in the new system, every resource that reads a member
 pub record IsReach (s t : SystemLists) (touched reached : List Bool) (was : ℕ → ℕ) : Type 0 where

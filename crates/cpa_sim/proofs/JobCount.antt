@@ -8,15 +8,16 @@ use Rattle.std.proofs.lemmas.List.Elements.{All-get_or}
 use Rattle.std.proofs.lemmas.List.FromFn.{get_or-map-range_with_len, length-map-range_with_len}
 use Rattle.std.proofs.lemmas.List.Sums.{sum_by-cons, sum_by-append, sum-map}
 use Rattle.cpa_units.specs.declared.limits.TheConstants.{MAX_CHAIN}
+use Rattle.cpa_units.specs.declared.places.SourceId.{SourceId}
 use Rattle.cpa_units.proofs.PlaceLaws.{places, places-more, map-all_places}
 use Rattle.cpa_model.specs.declared.entries.Activator.{Activator}
 use Rattle.cpa_model.specs.declared.entries.Activator.TheVariants.{Source, Task as ByTask}
 use Rattle.cpa_model.specs.declared.entries.Task.{Task}
-use Rattle.cpa_model.specs.Chains.{activators, chain_step, depth_within, root_step, root_within}
+use Rattle.cpa_model.specs.Chains.{activators, chain_step, depth_within, streams_step, streams_within}
 use Rattle.cpa_model.specs.Rules.{IsSystem, IsTask, IsActivator}
-use Rattle.cpa_model.specs.SystemLists.{SystemLists, task_at, no_task, root_of}
+use Rattle.cpa_model.specs.SystemLists.{SystemLists, task_at, no_task}
 use Rattle.cpa_trace.specs.Trace.{TraceLists, times_of, need}
-use Rattle.cpa_trace.specs.Reading.{jobs_of}
+use Rattle.cpa_trace.specs.Reading.{jobs_of, task_jobs}
 use Rattle.cpa_sim.specs.declared.jobs.Job.{Job}
 use Rattle.cpa_sim.specs.declared.jobs.Progress.{Progress}
 use Rattle.cpa_sim.specs.Run.{is_open, ended_count, after_tick, serve, new_jobs, arriving, is_chosen, choice_at, served, ends_in, run}
@@ -172,22 +173,25 @@ module _ (s : SystemLists) (tr : TraceLists) where
     some_before None h = h
     some_before (Some n) h = refl
 
-    -- a task has no more jobs than the source that begins its chain has events
-    chain-jobs : (n i t : ℕ) → i < length s.tasks → is_some (depth_within (activators s.tasks) n i) ≡ true → length ((run s tr t).jobs i) ≤ length (times_of tr (root_within (activators s.tasks) n i).0)
-    unfolding depth_within root_within
+    abbrev events_in : List SourceId → ℕ
+    events_in ks = sum_by (λ (k : SourceId). length (times_of tr k.0)) ks
+
+    -- a task has no more jobs than the sources of its streams have events
+    chain-jobs : (n i t : ℕ) → i < length s.tasks → is_some (depth_within (activators s.tasks) n i) ≡ true → length ((run s tr t).jobs i) ≤ events_in (streams_within (activators s.tasks) n i)
+    unfolding depth_within streams_within
     chain-jobs zero i t h some = absurd (false≢true some)
     chain-jobs (suc n) i t h some =
         rw (link-is i h) (by_activator (λ j below more. chain-jobs n j t below more) (task_at s i).after refl (rw (link-is i h) at some))
       where
-        by_activator : ((j : ℕ) → j < length s.tasks → is_some (depth_within (activators s.tasks) n j) ≡ true → length ((run s tr t).jobs j) ≤ length (times_of tr (root_within (activators s.tasks) n j).0)) → (a : Activator) → (task_at s i).after ≡ a → is_some (chain_step (Some a) (depth_within (activators s.tasks) n)) ≡ true → length ((run s tr t).jobs i) ≤ length (times_of tr (root_step (Some a) (root_within (activators s.tasks) n)).0)
+        by_activator : ((j : ℕ) → j < length s.tasks → is_some (depth_within (activators s.tasks) n j) ≡ true → length ((run s tr t).jobs j) ≤ events_in (streams_within (activators s.tasks) n j)) → (a : Activator) → (task_at s i).after ≡ a → is_some (chain_step (Some a) (depth_within (activators s.tasks) n)) ≡ true → length ((run s tr t).jobs i) ≤ events_in (streams_step (Some a) (streams_within (activators s.tasks) n))
         by_activator rest (Source k) e more = omega (arith, sourced i k.0 e t, before-le (times_of tr k.0) (t + 1))
         by_activator rest (ByTask j) e more =
             omega (arith, fed i j.0 e t, ended-le ((run s tr t).jobs j.0), rest j.0 (feeder_there i j.0 h e) (some_before (depth_within (activators s.tasks) n j.0) more))
 
-    pub jobs-le : (i t : ℕ) → i < length s.tasks → length ((run s tr t).jobs i) ≤ length (times_of tr (root_of s i).0)
+    pub jobs-le : (i t : ℕ) → i < length s.tasks → length ((run s tr t).jobs i) ≤ task_jobs s tr i
     jobs-le i t h = chain-jobs MAX_CHAIN i t h (rules.chains i h)
 
-    seen-le : (i : ℕ) → i < length s.tasks → length (jobs_seen (outcome_of s tr) i) ≤ length (times_of tr (root_of s i).0)
+    seen-le : (i : ℕ) → i < length s.tasks → length (jobs_seen (outcome_of s tr) i) ≤ task_jobs s tr i
     unfolding outcome_of
     seen-le i h =
         let e : jobs_seen (outcome_of s tr) i ≡ map job_of ((run s tr (end_of s tr)).jobs i) = get_or-map-range_with_len (λ i. map job_of ((run s tr (end_of s tr)).jobs i)) 0 (length s.tasks) i i [] h (omega arith) in
@@ -209,7 +213,7 @@ module _ (s : SystemLists) (tr : TraceLists) where
     pub few_jobs : (k : ℕ) → k ≤ length s.tasks → sum_by (λ i. length (jobs_seen (outcome_of s tr) i)) (range_with_len 0 k) ≤ jobs_of s tr
     few_jobs k le =
         let f : ℕ → ℕ = λ i. length (jobs_seen (outcome_of s tr) i) in
-        let g : ℕ → ℕ = λ i. length (times_of tr (root_of s i).0) in
+        let g : ℕ → ℕ = task_jobs s tr in
         let part = sum-le f g (places k) (all_range (λ i. f i ≤ g i) 0 k (λ i low high. seen-le i (omega arith))) in
         let e : k + (length s.tasks - k) ≡ length s.tasks = omega arith in
         let all = rw e at (sum-grows g k (length s.tasks - k)) in

@@ -6,7 +6,9 @@ use Rattle.std.proofs.lemmas.List.Sums.{sum_by-cons}
 use Rattle.std.proofs.lemmas.List.{get_or_past}
 use Rattle.cpa_model.specs.declared.entries.Activator.TheVariants.{Source}
 use Rattle.cpa_events.specs.Events.{delta_plus}
-use Rattle.cpa_model.specs.Streams.{model_of}
+use Rattle.cpa_events.specs.Streams.{stream_delta_plus, IsStream}
+use Rattle.cpa_events.proofs.EventLaws.{delta_minus-of_one}
+use Rattle.cpa_model.specs.Streams.{source_stream, model_of}
 use Rattle.cpa_sound.proofs.CoursesHold.{KeepsNear}
 use Rattle.cpa_model.specs.SystemLists.{SystemLists, task_at, source_at}
 use Rattle.cpa_sound.specs.Course.{KeepsApart}
@@ -160,8 +162,8 @@ module _ (s : SystemLists) (tr : TraceLists) (i k : ℕ) (after : (task_at s i).
       omega (arith, arrived-suc s tr (suc t) i, arrived-suc s tr t i, more, step, arrived-events (suc t))
 
   -- a source's events keep apart as its model says, where the trace obeys
-  pub source-apart : Obeys s tr → (t : ℕ) → KeepsApart (course_of s tr i) (Some (model_of (source_at s k))) t
-  source-apart obeys t n gap a b first last before =
+  pub source-apart : IsStream (source_stream s k) → Obeys s tr → (t : ℕ) → KeepsApart (course_of s tr i) (Some (model_of (source_at s k))) t
+  source-apart regular obeys t n gap a b first last before =
       let times : List ℕ = times_of tr k in
       let order = in_order-from s tr k obeys in
       let low = rw (arrived-events a) at first.0 in
@@ -170,10 +172,10 @@ module _ (s : SystemLists) (tr : TraceLists) (i k : ℕ) (after : (task_at s i).
       let high' = rw (arrived-events (b + 1)) at last.1 in
       let inside : n + gap < length times = omega (arith, high', before-le times (b + 1)) in
       let far = obeys.apart k n gap inside in
-      omega (arith, far, is_from times n a order (omega arith) low, is_before times (n + gap) (b + 1) order high')
+      omega (arith, delta_minus-of_one (source_stream s k) (gap + 1) regular, far, is_from times n a order (omega arith) low, is_before times (n + gap) (b + 1) order high')
 
   -- and near, where the trace does
-  pub source-near : Obeys s tr → ((n gap : ℕ) → n + gap < length (times_of tr k) → get_or (times_of tr k) (n + gap) 0 ≤ get_or (times_of tr k) n 0 + delta_plus (model_of (source_at s k)) (gap + 1)) → KeepsNear (course_of s tr i) (Some (model_of (source_at s k)))
+  pub source-near : Obeys s tr → ((n gap : ℕ) → n + gap < length (times_of tr k) → get_or (times_of tr k) (n + gap) 0 ≤ get_or (times_of tr k) n 0 + stream_delta_plus (source_stream s k) (gap + 1)) → KeepsNear (course_of s tr i) (Some (model_of (source_at s k)))
   source-near obeys near n gap a b first last =
       let times : List ℕ = times_of tr k in
       let order = in_order-from s tr k obeys in

@@ -2,7 +2,7 @@
 use Rattle.std.specs.Prelude.{◌≡◌, ℕ, ◌+◌, ◌<◌, ◌≤◌, List, [], ◌∷◌, length, Option, Some, None}
 use Rattle.cpa_units.specs.declared.bound.Bound.{Bound}
 use Rattle.cpa_units.specs.declared.bound.Bound.TheVariants.{Within}
-use Rattle.cpa_events.specs.declared.Model.{Model}
+use Rattle.cpa_events.specs.Events.{Model}
 use Rattle.cpa_model.specs.declared.entries.Activator.{Activator}
 use Rattle.cpa_model.specs.declared.entries.Activator.TheVariants.{Source, Task}
 use Rattle.cpa_units.specs.Bounds.{bound_of, sum_bounds}

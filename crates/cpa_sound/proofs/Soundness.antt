@@ -24,6 +24,7 @@ use Rattle.cpa_units.specs.declared.bound.Bound.TheVariants.{Within}
 use Rattle.cpa_units.specs.declared.places.TaskId.{TaskId}
 use Rattle.cpa_units.specs.Bounds.{bound_of, sum_bounds}
 use Rattle.std.specs.Prelude.{All}
+use Rattle.cpa_local.proofs.ResponseLaws.{source-is_stream}
 use Rattle.cpa_sound.specs.BoundsHold.{no_job, job_at, HasJob, IsDoneBy, SourcesStayNear, HoldIn}
 use Rattle.cpa_sound.proofs.CourseLaws.{ended-mono, ended-le-arrived, complete, paid}
 use Rattle.cpa_sound.proofs.RunLaws.{served-runs, served-idle, arrived-one}
@@ -49,7 +50,7 @@ module _ (s : SystemLists) (tr : TraceLists) (rules : IsSystem s) (obeys : Obeys
   runs-by_kind i h (Can bit) kind = (can-runs s tr rules obeys i bit h kind, bit-some s rules i bit h kind)
 
   comes-from : (i : ℕ) → i < length s.tasks → (a : Activator) → (task_at s i).after ≡ a → ComesFrom s (course_of s tr) i a
-  comes-from i h (Source k) e = source-apart s tr i k.0 e obeys
+  comes-from i h (Source k) e = source-apart s tr i k.0 e (source-is_stream s [] rules k.0) obeys
   comes-from i h (Task j) e = (feeder_there s rules i j.0 h e, λ t. arrived-one s tr t i ∙ fed s tr i j.0 e t)
 
   pub laws : KeepsLaws s (course_of s tr)

@@ -2,9 +2,10 @@
 use Rattle.std.proofs.Common.{◌≡◌, ℕ, zero, suc, ◌+◌, ◌<◌, ◌≤◌, length, map, get_or, List, [], ◌∷◌, Some, None, refl, sym, ◌∙◌, ap, arith}
 use Rattle.cpa_units.specs.declared.bound.Bound.TheVariants.{Within}
 use Rattle.cpa_units.specs.Search.{least_from, greatest_to}
-use Rattle.cpa_events.specs.declared.Model.{Model}
+use Rattle.cpa_events.specs.declared.stream.Stream.{Stream}
+use Rattle.cpa_events.specs.Streams.{stream_delta_minus, stream_eta_plus}
 use Rattle.cpa_events.specs.Events.{delta_minus, eta_plus}
-use Rattle.cpa_events.proofs.EventLaws.{delta_minus-one}
+use Rattle.cpa_events.proofs.StreamLaws.{stream_delta_minus-one}
 use Rattle.cpa_window.specs.Windows.{window}
 use Rattle.cpa_window.specs.BusyWindow.{jobs_in_busy_window, busy_window_bound}
 use Rattle.cpa_model.specs.declared.entries.Kind.{Kind}
@@ -19,7 +20,7 @@ use Rattle.cpa_model.specs.declared.entries.Task.{Task}
 use Rattle.cpa_model.specs.SystemLists.{SystemLists, task_at, resource_of, cycle_of}
 use Rattle.cpa_local.specs.Inputs.{input}
 use Rattle.cpa_local.specs.Local.{response, responses}
-use Rattle.cpa_model.specs.Streams.{source_model}
+use Rattle.cpa_model.specs.Streams.{source_stream}
 use Rattle.cpa_trace.specs.Trace.{TraceLists, times_of, time_of, phase_of, Obeys}
 use Rattle.cpa_sched.specs.Steps.{step}
 use Rattle.cpa_sim.specs.declared.jobs.Progress.{Progress}
@@ -97,7 +98,7 @@ two_tasks : SystemLists
 two_tasks = system (Preemptive ∷ []) (10 ∷ 20 ∷ []) (task 0 (from_source 0) 1 3 (Priority 1) ∷ task 0 (from_source 1) 2 7 (Priority 2) ∷ [])
 
 ten_is_closed : responses two_tasks (Within 3 ∷ Within 10 ∷ []) ≡ Within 3 ∷ Within 10 ∷ []
-unfolding two_tasks input response busy_window_bound jobs_in_busy_window window eta_plus delta_minus least_from greatest_to
+unfolding two_tasks input response busy_window_bound jobs_in_busy_window window stream_eta_plus eta_plus stream_delta_minus delta_minus least_from greatest_to
 ten_is_closed = refl
 
 at_9 : (run two_tasks (both_at (0 ∷ [])) 9).jobs 1 ≡ record { arrival = 0; left = 1; end = None } ∷ []
@@ -108,12 +109,12 @@ at_10 : (run two_tasks (both_at (0 ∷ [])) 10).jobs 1 ≡ done 0 10 ∷ []
 unfolding run advance served ends_in runs_in choice_at step two_tasks
 at_10 = refl
 
-one_event : (m : Model) (n gap : ℕ) → n + gap < 1 → get_or (0 ∷ []) n 0 + delta_minus m (gap + 1) ≤ get_or (0 ∷ []) (n + gap) 0
+one_event : (m : Stream) (n gap : ℕ) → n + gap < 1 → get_or (0 ∷ []) n 0 + stream_delta_minus m (gap + 1) ≤ get_or (0 ∷ []) (n + gap) 0
 one_event m n gap h =
     let none : n ≡ 0 = omega arith in
     let no_gap : gap ≡ 0 = omega arith in
     let one : 0 + 1 ≡ 1 = omega arith in
-    let first : 0 + delta_minus m (0 + 1) ≤ 0 = rw one (omega (arith, delta_minus-one m)) in
+    let first : 0 + stream_delta_minus m (0 + 1) ≤ 0 = rw one (omega (arith, stream_delta_minus-one m)) in
     let zero_sum : 0 + 0 ≡ 0 = omega arith in
     rw (none, no_gap, zero_sum) first
 
@@ -121,9 +122,9 @@ both_obey : Obeys two_tasks (both_at (0 ∷ []))
 unfolding two_tasks
 both_obey = record { apart = apart; least = λ i k h past. absurd (omega arith); greatest = λ i k h past. absurd (omega arith); phase = phase }
   where
-    apart : (k n gap : ℕ) → n + gap < length (times_of (both_at (0 ∷ [])) k) → time_of (both_at (0 ∷ [])) k n + delta_minus (source_model two_tasks k) (gap + 1) ≤ time_of (both_at (0 ∷ [])) k (n + gap)
-    apart zero n gap h = one_event (source_model two_tasks 0) n gap h
-    apart (suc zero) n gap h = one_event (source_model two_tasks 1) n gap h
+    apart : (k n gap : ℕ) → n + gap < length (times_of (both_at (0 ∷ [])) k) → time_of (both_at (0 ∷ [])) k n + stream_delta_minus (source_stream two_tasks k) (gap + 1) ≤ time_of (both_at (0 ∷ [])) k (n + gap)
+    apart zero n gap h = one_event (source_stream two_tasks 0) n gap h
+    apart (suc zero) n gap h = one_event (source_stream two_tasks 1) n gap h
     apart (suc (suc k)) n gap h = absurd (omega arith)
 
     phase : (i gap : ℕ) → i < 2 → (resource_of two_tasks i).kind ≡ Tdma gap → phase_of (both_at (0 ∷ [])) (task_at two_tasks i).res.0 < cycle_of two_tasks (task_at two_tasks i).res.0

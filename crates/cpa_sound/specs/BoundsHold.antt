@@ -8,11 +8,12 @@ use Rattle.cpa_units.specs.declared.bound.Bound.{Bound}
 use Rattle.cpa_units.specs.declared.bound.Bound.TheVariants.{Within}
 use Rattle.cpa_units.specs.declared.places.TaskId.{TaskId}
 use Rattle.cpa_units.specs.Bounds.{bound_of, sum_bounds}
-use Rattle.cpa_events.specs.declared.Model.{Model}
+use Rattle.cpa_events.specs.Streams.{stream_delta_plus}
+use Rattle.cpa_events.specs.Events.{Model}
 use Rattle.cpa_events.specs.Events.{delta_minus, delta_plus}
 use Rattle.cpa_model.specs.declared.entries.Path.{Path}
 use Rattle.cpa_model.specs.Rules.{IsPath}
-use Rattle.cpa_model.specs.Streams.{source_model}
+use Rattle.cpa_model.specs.Streams.{source_stream}
 use Rattle.cpa_model.specs.SystemLists.{SystemLists, task_at}
 use Rattle.cpa_local.specs.Inputs.{input}
 use Rattle.cpa_trace.specs.Trace.{TraceLists, times_of, time_of, Obeys}
@@ -45,7 +46,7 @@ pub record IsDoneBy (s : SystemLists) (tr : TraceLists) (t i k due : ℕ) : Type
 -- any two events of a source are at most δ+ of its model apart: n + gap comes gap events after n
 abbrev pub SourcesStayNear : SystemLists → TraceLists → Type 0
 SourcesStayNear s tr =
-    (k n gap : ℕ) → n + gap < length (times_of tr k) → time_of tr k (n + gap) ≤ time_of tr k n + delta_plus (source_model s k) (gap + 1)
+    (k n gap : ℕ) → n + gap < length (times_of tr k) → time_of tr k (n + gap) ≤ time_of tr k n + stream_delta_plus (source_stream s k) (gap + 1)
 
 -- the first and the last task of a path, and the sum of its tasks' bounds
 abbrev pub first_of_path : Path → ℕ

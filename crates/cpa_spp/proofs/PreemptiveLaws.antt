@@ -5,7 +5,7 @@ use Rattle.cpa_units.specs.declared.bound.Bound.{Bound}
 use Rattle.cpa_units.specs.declared.bound.Bound.TheVariants.{Within, Overload}
 use Rattle.cpa_units.specs.Bounds.{IsAtMost, RespectsLimit, bound_plus}
 use Rattle.cpa_units.proofs.BoundLaws.{bound_plus-mono, bound_plus-ge_left}
-use Rattle.cpa_events.specs.declared.Model.{Model}
+use Rattle.cpa_events.specs.Events.{Model}
 use Rattle.cpa_events.specs.Events.{delta_minus, IsNoDenser}
 use Rattle.cpa_events.proofs.EventLaws.{delta_minus-denser}
 use Rattle.cpa_window.specs.declared.rivals.Rival.{Rival}

@@ -4,7 +4,7 @@ use Rattle.std.specs.Prelude.{ℕ, ◌*◌, List}
 use Rattle.cpa_units.specs.declared.bound.Bound.{Bound}
 use Rattle.cpa_units.specs.declared.bound.Bound.TheVariants.{Within}
 use Rattle.cpa_units.specs.Bounds.{bound_plus}
-use Rattle.cpa_events.specs.declared.Model.{Model}
+use Rattle.cpa_events.specs.Events.{Model}
 use Rattle.cpa_events.specs.Events.{delta_minus}
 use Rattle.cpa_window.specs.declared.rivals.Rival.{Rival}
 use Rattle.cpa_window.specs.Rivals.{work_in}

@@ -43,7 +43,7 @@ impl<'a> BusyWindow for PreemptiveJobs<'a> {
     ghost some = { λ b. b.execution.some };
 
     fn at(&self, jobs: u64, window: u64) -> u128 {
-        u128::from(jobs * self.worst + work_in(self.rivals, window))
+        u128::from(jobs * self.worst) + work_in(self.rivals, window)
     }
 
     fn each_job(&self) -> u64 {

@@ -3,7 +3,7 @@ ghost use Rattle.cpa_events.specs.Events.{IsModelInRange};
 ghost use Rattle.cpa_window.specs.Rivals.{IsRival};
 
 use crate::respond;
-use cpa_events::Model;
+use cpa_events::{Model, Stream};
 use cpa_units::Bound;
 use cpa_units::limits::{MAX_JITTER, MAX_LIMIT};
 use cpa_window::Rival;
@@ -14,11 +14,11 @@ fn every(period: u64, jitter: u64) -> Model
     requires jitter { jitter ≤ MAX_JITTER }
     ensures { IsModelInRange result }
 {
-    Model {
+    Model::one(Stream {
         period,
         jitter,
         distance: 0,
-    }
+    })
 }
 
 fn higher(period: u64, jitter: u64, worst: u64) -> Rival

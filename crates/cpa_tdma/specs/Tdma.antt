@@ -3,7 +3,7 @@ use Rattle.std.specs.Prelude.{ℕ, ◌+◌, ◌-◌, ◌*◌}
 use Rattle.std.specs.Int.{div_ceil}
 use Rattle.cpa_units.specs.declared.bound.Bound.{Bound}
 use Rattle.cpa_units.specs.declared.bound.Bound.TheVariants.{Within}
-use Rattle.cpa_events.specs.declared.Model.{Model}
+use Rattle.cpa_events.specs.Events.{Model}
 use Rattle.cpa_events.specs.Events.{delta_minus}
 use Rattle.cpa_window.specs.BusyWindow.{busy_window_bound, windows_of}
 

@@ -2,7 +2,7 @@ ghost use Rattle.std.specs.Prelude.{◌≤◌};
 ghost use Rattle.cpa_events.specs.Events.{IsModelInRange};
 
 use crate::respond;
-use cpa_events::Model;
+use cpa_events::{Model, Stream};
 use cpa_units::Bound;
 use cpa_units::limits::{MAX_LIMIT, MAX_PERIOD};
 
@@ -12,11 +12,11 @@ fn every(period: u64, jitter: u64) -> Model
     requires jitter { jitter ≤ 1000 }
     ensures { IsModelInRange result }
 {
-    Model {
+    Model::one(Stream {
         period,
         jitter,
         distance: 0,
-    }
+    })
 }
 
 #[test]

@@ -7,37 +7,37 @@ use Rattle.std.proofs.lemmas.Bool.Decides.{nat_tests}
 use Rattle.std.proofs.lemmas.List.{get_or_past, get_or_default}
 use Rattle.std.proofs.lemmas.List.Folds.{list_any_at, Any-from_list_any}
 use Rattle.std.proofs.lemmas.Option.{none-some}
-use Rattle.cpa_events.specs.declared.Model.{Model}
-use Rattle.cpa_events.specs.Events.{delta_minus}
+use Rattle.cpa_events.specs.declared.stream.Stream.{Stream}
+use Rattle.cpa_events.specs.Streams.{stream_delta_minus}
 use Rattle.cpa_model.specs.declared.entries.Kind.{Kind}
 use Rattle.cpa_model.specs.declared.entries.Kind.TheVariants.{Preemptive, RoundRobin, Tdma, Can}
 use Rattle.cpa_model.specs.declared.entries.Task.{Task}
 use Rattle.cpa_model.specs.SystemLists.{SystemLists, resource_at, resource_of, task_at, cycle_of, no_task, no_resource}
 use Rattle.cpa_trace.specs.declared.breach.Breach.{Breach}
 use Rattle.cpa_trace.specs.declared.breach.Breach.TheVariants.{Phase}
-use Rattle.cpa_model.specs.Streams.{source_model}
+use Rattle.cpa_model.specs.Streams.{source_stream}
 use Rattle.cpa_trace.specs.Trace.{TraceLists, times_of, time_of, executions_of, phase_of, need, FitsSystem, Obeys}
 use Rattle.cpa_trace.specs.Breaches.{first_some, is_too_soon, first_before, first_too_soon, close_at, close_by, close_breach, is_out_of_range, execution_breach, is_tdma, has_tasks, phase_breach, or_else, first_breach}
 use Rattle.cpa_trace.proofs.SearchLaws.{FailsBelow, first_below-none, first_below-fails, first_below-is, is_some-none, none-is_some, first_some-none, first_some-fails}
 use Rattle.cpa_trace.proofs.CloseLaws.{delta-gaps}
 
--- any two of some times are as far apart as a model says
-abbrev AreApart : Model → List ℕ → Type 0
-AreApart m times = (n gap : ℕ) → n + gap < length times → get_or times n 0 + delta_minus m (gap + 1) ≤ get_or times (n + gap) 0
+-- any two of some times are as far apart as a stream says
+abbrev AreApart : Stream → List ℕ → Type 0
+AreApart m times = (n gap : ℕ) → n + gap < length times → get_or times n 0 + stream_delta_minus m (gap + 1) ≤ get_or times (n + gap) 0
 
-delta-one : (m : Model) → delta_minus m (0 + 1) ≡ 0
+delta-one : (m : Stream) → stream_delta_minus m (0 + 1) ≡ 0
 delta-one m = delta-gaps m 0 ∙ rw (zero-mul, zero-mul) (omega arith)
 
 close_at-none : (k n : ℕ) (times : List ℕ) (o : Option ℕ) → is_some o ≡ true → close_at k times (Some n) o ≡ None → ⊥
 close_at-none k n times None some e = false≢true some
 close_at-none k n times (Some i) some e = none-some _ (sym e)
 
-too_soon-none : (k : ℕ) (m : Model) (times : List ℕ) (o : Option ℕ) → first_too_soon m times ≡ o → close_by k m times o ≡ None → first_too_soon m times ≡ None
+too_soon-none : (k : ℕ) (m : Stream) (times : List ℕ) (o : Option ℕ) → first_too_soon m times ≡ o → close_by k m times o ≡ None → first_too_soon m times ≡ None
 too_soon-none k m times None is e = is
 too_soon-none k m times (Some n) is e =
     absurd (close_at-none k n times (first_before m times n) (first_below-is (λ n. is_some (first_before m times n)) (length times) n is).passes e)
 
-apart-from : (m : Model) (times : List ℕ) → first_too_soon m times ≡ None → AreApart m times
+apart-from : (m : Stream) (times : List ℕ) → first_too_soon m times ≡ None → AreApart m times
 apart-from m times none n zero h = rw (delta-one m, add-zero, add-zero) (omega arith)
 apart-from m times none n (suc gap) h =
     let fails = first_below-fails (λ k. is_some (first_before m times k)) (length times) none (n + suc gap) h in
@@ -46,7 +46,7 @@ apart-from m times none n (suc gap) h =
     let e : n + suc gap - n ≡ suc gap = omega arith in
     rw e at (ltb-false _ _ test)
 
-none-apart : (m : Model) (times : List ℕ) → AreApart m times → first_too_soon m times ≡ None
+none-apart : (m : Stream) (times : List ℕ) → AreApart m times → first_too_soon m times ≡ None
 none-apart m times apart = first_below-none (λ n. is_some (first_before m times n)) (length times) (λ n there.
     is_some-none (is_too_soon m times n) n (λ i less.
     let e : i + (n - i) ≡ n = omega arith in
@@ -92,13 +92,13 @@ tdma-gap (Tdma gap) e = (gap, refl)
 tdma-gap (Can bit) e = absurd (false≢true e)
 
 module _ (s : SystemLists) (tr : TraceLists) (fits : FitsSystem s tr) where
-  apart : first_some (close_breach s tr) (length s.sources) ≡ None → (k n gap : ℕ) → n + gap < length (times_of tr k) → time_of tr k n + delta_minus (source_model s k) (gap + 1) ≤ time_of tr k (n + gap)
+  apart : first_some (close_breach s tr) (length s.sources) ≡ None → (k n gap : ℕ) → n + gap < length (times_of tr k) → time_of tr k n + stream_delta_minus (source_stream s k) (gap + 1) ≤ time_of tr k (n + gap)
   apart none k =
       let split : (k < length s.sources) ⊎ (length s.sources ≤ k) = grind arith in
       elim split [
         | inl there ↦
             let here = first_some-fails (close_breach s tr) (length s.sources) k none there in
-            apart-from (source_model s k) (times_of tr k) (too_soon-none k (source_model s k) (times_of tr k) (first_too_soon (source_model s k) (times_of tr k)) refl here)
+            apart-from (source_stream s k) (times_of tr k) (too_soon-none k (source_stream s k) (times_of tr k) (first_too_soon (source_stream s k) (times_of tr k)) refl here)
         | inr past ↦ λ n gap h.
             let empty : times_of tr k ≡ [] = get_or_past tr.times k [] (rw fits.sources past) in
             let long = ap length empty in
@@ -153,8 +153,8 @@ module _ (s : SystemLists) (tr : TraceLists) (fits : FitsSystem s tr) where
 
   no_close : Obeys s tr → FailsBelow (λ k. is_some (close_breach s tr k)) (length s.sources)
   no_close obeys k there =
-      let none = none-apart (source_model s k) (times_of tr k) (obeys.apart k) in
-      let here : close_breach s tr k ≡ None = ap (close_by k (source_model s k) (times_of tr k)) none in
+      let none = none-apart (source_stream s k) (times_of tr k) (obeys.apart k) in
+      let here : close_breach s tr k ≡ None = ap (close_by k (source_stream s k) (times_of tr k)) none in
       rw here refl
 
   no_execution : Obeys s tr → FailsBelow (λ i. is_some (execution_breach s tr i)) (length s.tasks)

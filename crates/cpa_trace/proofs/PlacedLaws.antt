@@ -2,8 +2,8 @@
 use Rattle.std.proofs.Common.{◌≡◌, ℕ, ◌+◌, ◌<◌, Bool, true, false, if◌then◌else◌, length, List, Option, Some, None, refl}
 use Rattle.std.specs.Prelude.{option_map, IfSome}
 use Rattle.std.specs.Option.{is_some, option_and_then}
-use Rattle.cpa_events.specs.declared.Model.{Model}
-use Rattle.cpa_model.specs.Streams.{source_model}
+use Rattle.cpa_events.specs.declared.stream.Stream.{Stream}
+use Rattle.cpa_model.specs.Streams.{source_stream}
 use Rattle.cpa_model.specs.SystemLists.{SystemLists}
 use Rattle.cpa_trace.specs.declared.breach.Breach.{Breach}
 use Rattle.cpa_trace.specs.declared.breach.Breach.TheVariants.{Exec, Phase}
@@ -17,7 +17,7 @@ module _ (s : SystemLists) where
   placed-close_at k times (Some n) None there = tt
   placed-close_at k times None i there = tt
 
-  placed-close_by : (k : ℕ) (m : Model) (times : List ℕ) (n : Option ℕ) → k < length s.sources → IfSome (close_by k m times n) (IsBreachOf s)
+  placed-close_by : (k : ℕ) (m : Stream) (times : List ℕ) (n : Option ℕ) → k < length s.sources → IfSome (close_by k m times n) (IsBreachOf s)
   placed-close_by k m times None there = tt
   placed-close_by k m times (Some n) there = placed-close_at k times (Some n) (first_before m times n) there
 
@@ -40,7 +40,7 @@ module _ (s : SystemLists) where
   pub placed-first : (tr : TraceLists) → IfSome (first_breach s tr) (IsBreachOf s)
   placed-first tr =
       placed-or_else (first_some (close_breach s tr) (length s.sources)) (or_else (first_some (execution_breach s tr) (length s.tasks)) (first_some (phase_breach s tr) (length s.resources)))
-      (placed-some (close_breach s tr) (length s.sources) (λ k there. placed-close_by k (source_model s k) (times_of tr k) (first_too_soon (source_model s k) (times_of tr k)) there) (first_below (λ k. is_some (close_breach s tr k)) (length s.sources)) refl)
+      (placed-some (close_breach s tr) (length s.sources) (λ k there. placed-close_by k (source_stream s k) (times_of tr k) (first_too_soon (source_stream s k) (times_of tr k)) there) (first_below (λ k. is_some (close_breach s tr k)) (length s.sources)) refl)
       (placed-or_else (first_some (execution_breach s tr) (length s.tasks)) (first_some (phase_breach s tr) (length s.resources))
       (placed-some (execution_breach s tr) (length s.tasks) (λ i there. placed-exec i _ there) (first_below (λ k. is_some (execution_breach s tr k)) (length s.tasks)) refl)
       (placed-some (phase_breach s tr) (length s.resources) (λ r there. placed-phase r _ there) (first_below (λ k. is_some (phase_breach s tr k)) (length s.resources)) refl))

@@ -2,13 +2,13 @@
 use Rattle.std.specs.Prelude.{◌<◌, ℕ, ◌+◌, ◌-◌, Bool, true, false, not, ◌&&◌, ◌==◌, nat_lt, nat_le, List, length, slice_index_or, Option, Some, None, is_some, option_map, option_and_then, if◌then◌else◌}
 use Rattle.std.specs.List.{list_any}
 use Rattle.cpa_units.specs.Search.{least_from}
-use Rattle.cpa_events.specs.declared.Model.{Model}
-use Rattle.cpa_events.specs.Events.{delta_minus}
+use Rattle.cpa_events.specs.declared.stream.Stream.{Stream}
+use Rattle.cpa_events.specs.Streams.{stream_delta_minus}
 use Rattle.cpa_model.specs.declared.entries.Kind.{Kind}
 use Rattle.cpa_model.specs.declared.entries.Kind.TheVariants.{Tdma}
 use Rattle.cpa_model.specs.declared.entries.Task.{Task}
 use Rattle.cpa_model.specs.SystemLists.{SystemLists, resource_at, task_at, cycle_of}
-use Rattle.cpa_model.specs.Streams.{source_model}
+use Rattle.cpa_model.specs.Streams.{source_stream}
 use Rattle.cpa_trace.specs.Trace.{TraceLists, times_of, executions_of, phase_of}
 use Rattle.cpa_trace.specs.declared.breach.Breach.{Breach}
 use Rattle.cpa_trace.specs.declared.breach.Breach.TheVariants.{Close, Exec, Phase}
@@ -22,15 +22,15 @@ abbrev pub first_below : (ℕ → Bool) → ℕ → Option ℕ
 first_below passes count = if_below count (least_from passes 0 count)
 
 -- whether event n comes too soon after an earlier event i: they are n - i + 1 events
-abbrev pub is_too_soon : Model → List ℕ → ℕ → ℕ → Bool
-is_too_soon m times n i = nat_lt (slice_index_or times n 0) (slice_index_or times i 0 + delta_minus m (n - i + 1))
+abbrev pub is_too_soon : Stream → List ℕ → ℕ → ℕ → Bool
+is_too_soon m times n i = nat_lt (slice_index_or times n 0) (slice_index_or times i 0 + stream_delta_minus m (n - i + 1))
 
 -- the first event after which event n comes too soon
-abbrev pub first_before : Model → List ℕ → ℕ → Option ℕ
+abbrev pub first_before : Stream → List ℕ → ℕ → Option ℕ
 first_before m times n = first_below (is_too_soon m times n) n
 
 -- the first event that comes too soon after an earlier one
-abbrev pub first_too_soon : Model → List ℕ → Option ℕ
+abbrev pub first_too_soon : Stream → List ℕ → Option ℕ
 first_too_soon m times = first_below (λ n. is_some (first_before m times n)) (length times)
 
 -- the two times of the first breach of a source, where event n is the one that comes too soon
@@ -38,12 +38,12 @@ abbrev pub close_at : ℕ → List ℕ → Option ℕ → Option ℕ → Option 
 close_at k times (Some n) (Some i) = Some (Close (record { 0 = k }) (slice_index_or times i 0) (slice_index_or times n 0))
 close_at k times _ _ = None
 
-abbrev pub close_by : ℕ → Model → List ℕ → Option ℕ → Option Breach
+abbrev pub close_by : ℕ → Stream → List ℕ → Option ℕ → Option Breach
 close_by k m times None = None
 close_by k m times (Some n) = close_at k times (Some n) (first_before m times n)
 
 abbrev pub close_breach : SystemLists → TraceLists → ℕ → Option Breach
-close_breach s tr k = close_by k (source_model s k) (times_of tr k) (first_too_soon (source_model s k) (times_of tr k))
+close_breach s tr k = close_by k (source_stream s k) (times_of tr k) (first_too_soon (source_stream s k) (times_of tr k))
 
 -- whether a listed execution is out of its task's range
 abbrev pub is_out_of_range : Task → List ℕ → ℕ → Bool

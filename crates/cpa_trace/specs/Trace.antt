@@ -2,9 +2,9 @@
 use Rattle.std.specs.Prelude.{◌≡◌, ℕ, ◌+◌, ◌-◌, ◌<◌, ◌≤◌, List, [], ◌∷◌, ◌++◌, length, replicate, slice_set, slice_index_or}
 use Rattle.cpa_units.specs.declared.limits.TheConstants.{MAX_TRACE_TIME, MAX_PHASE}
 use Rattle.cpa_units.specs.Numbers.{IsExecution}
-use Rattle.cpa_events.specs.Events.{delta_minus}
+use Rattle.cpa_events.specs.Streams.{stream_delta_minus}
 use Rattle.cpa_model.specs.declared.entries.Kind.TheVariants.{Tdma}
-use Rattle.cpa_model.specs.Streams.{source_model}
+use Rattle.cpa_model.specs.Streams.{source_stream}
 use Rattle.cpa_model.specs.SystemLists.{SystemLists, task_at, resource_of, cycle_of}
 
 -- per source the times of its events, per task the executions of its jobs, per resource a phase
@@ -59,8 +59,8 @@ pub record IsInRange (tr : TraceLists) : Type 0 where
 
 -- a trace obeys a system
 pub record Obeys (s : SystemLists) (tr : TraceLists) : Type 0 where
-  -- any two events of a source are as far apart as its model says (Richter): n + gap comes gap events after n
-  pub apart : (k n gap : ℕ) → n + gap < length (times_of tr k) → time_of tr k n + delta_minus (source_model s k) (gap + 1) ≤ time_of tr k (n + gap)
+  -- any two events of a source are as far apart as its stream says (Richter): n + gap comes gap events after n
+  pub apart : (k n gap : ℕ) → n + gap < length (times_of tr k) → time_of tr k n + stream_delta_minus (source_stream s k) (gap + 1) ≤ time_of tr k (n + gap)
   -- each listed execution is in its task's range, also one whose job never arrives
   pub least : (i k : ℕ) → i < length s.tasks → k < length (executions_of tr i) → (task_at s i).best ≤ need s tr i k
   pub greatest : (i k : ℕ) → i < length s.tasks → k < length (executions_of tr i) → need s tr i k ≤ (task_at s i).worst

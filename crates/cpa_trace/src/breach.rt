@@ -1,14 +1,14 @@
 //! Whether a trace obeys a system, and its first breach where it doesn't.
 
 ghost use Rattle.std.specs.Prelude.{◌≡◌, ℕ, ◌+◌, ◌-◌, ◌<◌, ◌≤◌, ◌↔◌, length, None, true, Some, IfSome, is_some, nat_lt};
-ghost use Rattle.cpa_events.specs.Events.{delta_minus, IsModelInRange};
+ghost use Rattle.cpa_events.specs.Streams.{stream_delta_minus, IsStreamInRange};
 ghost use Rattle.cpa_model.specs.SystemLists.{task_at};
-ghost use Rattle.cpa_model.specs.Streams.{source_model};
+ghost use Rattle.cpa_model.specs.Streams.{source_stream};
 ghost use Rattle.cpa_trace.specs.Trace.{times_of, executions_of, IsOrdered, FitsSystem, Obeys};
 ghost use Rattle.cpa_trace.specs.Breaches.{first_some, has_tasks, is_tdma, first_before, first_too_soon, close_breach, execution_breach, phase_breach, first_breach, first_below, is_out_of_range, IsBreachOf};
 
 use crate::trace::Trace;
-use cpa_events::Model;
+use cpa_events::Stream;
 use cpa_model::{Kind, System, Task};
 use cpa_units::{ResId, SourceId, TaskId};
 
@@ -33,26 +33,26 @@ pub enum Breach {
 }
 
 /// Whether so many gaps want more time than has passed.
-fn is_too_long(model: &Model, gaps: u64, passed: u64) -> bool
-    ensures { result ≡ nat_lt passed (delta_minus model.now (gaps + 1)) }
+fn is_too_long(stream: &Stream, gaps: u64, passed: u64) -> bool
+    ensures { result ≡ nat_lt passed (stream_delta_minus stream.now (gaps + 1)) }
 {
     let (gaps, passed) = (gaps as u128, passed as u128);
-    passed < gaps * model.distance as u128
-        || passed + (model.jitter as u128) < gaps * model.period as u128
+    passed < gaps * stream.distance as u128
+        || passed + (stream.jitter as u128) < gaps * stream.period as u128
 }
 
 /// The first event that comes too soon after an earlier one. `ahead` tells by how much the source
 /// may be ahead of its period: it fills by a period with each event, and empties with time.
-fn first_too_soon(model: &Model, times: &[u64]) -> Option<usize>
-    requires model { IsModelInRange model.now }
+fn first_too_soon(stream: &Stream, times: &[u64]) -> Option<usize>
+    requires stream { IsStreamInRange stream.now }
     requires ordered { IsOrdered times.now }
-    ensures { result ≡ first_too_soon model.now times.now }
+    ensures { result ≡ first_too_soon stream.now times.now }
 {
     let mut ahead = 0;
     for n in 1..times.len() {
         let passed = times[n] - times[n - 1];
-        ahead = (ahead + model.period).saturating_sub(passed);
-        if passed < model.distance || model.jitter < ahead {
+        ahead = (ahead + stream.period).saturating_sub(passed);
+        if passed < stream.distance || stream.jitter < ahead {
             return Some(n);
         }
     }
@@ -60,13 +60,13 @@ fn first_too_soon(model: &Model, times: &[u64]) -> Option<usize>
 }
 
 /// The first event after which event n comes too soon.
-fn first_before(model: &Model, times: &[u64], n: usize) -> Option<usize>
+fn first_before(stream: &Stream, times: &[u64], n: usize) -> Option<usize>
     requires there { n < length times.now }
     requires ordered { IsOrdered times.now }
-    ensures { result ≡ first_before model.now times.now n }
+    ensures { result ≡ first_before stream.now times.now n }
 {
     for i in 0..n {
-        if is_too_long(model, (n - i) as u64, times[n] - times[i]) {
+        if is_too_long(stream, (n - i) as u64, times[n] - times[i]) {
             return Some(i);
         }
     }
@@ -79,10 +79,10 @@ fn close_breach(system: &System, trace: &Trace, source: SourceId) -> Option<Brea
     requires fits { FitsSystem system.now trace.now }
     ensures { result ≡ close_breach system.now trace.now source.0 }
 {
-    let model = system.source(source).model();
+    let stream = system.source(source).stream();
     let times = trace.times(source);
-    let n = first_too_soon(&model, times)?;
-    let i = first_before(&model, times, n)?;
+    let n = first_too_soon(&stream, times)?;
+    let i = first_before(&stream, times, n)?;
     Some(Breach::Close {
         source,
         first: times[i],

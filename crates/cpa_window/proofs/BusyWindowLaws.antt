@@ -7,7 +7,7 @@ use Rattle.cpa_units.specs.Search.{least_from}
 use Rattle.cpa_units.specs.Bounds.{IsAtMost, RespectsLimit, bound_minus, bound_max, greatest_of}
 use Rattle.cpa_units.proofs.SearchLaws.{least_from-ge, least_from-le, least_from-passes, least_from-least}
 use Rattle.cpa_units.proofs.BoundLaws.{greatest_of-overload, IsAtMost_trans, bound_minus-mono, le-bound_max_left, le-bound_max_right, le-greatest_of, greatest_of-mono, greatest_of-limit, bound_minus-limit, bound_minus-ge}
-use Rattle.cpa_events.specs.declared.Model.{Model}
+use Rattle.cpa_events.specs.Events.{Model}
 use Rattle.cpa_events.specs.Events.{delta_minus}
 use Rattle.cpa_events.proofs.EventLaws.{delta_minus-one}
 use Rattle.cpa_window.specs.BusyWindow.{is_last, jobs_in_busy_window, busy_window_bound, windows_of}

@@ -1,5 +1,5 @@
 -- The work of rivals: it grows with them, and it is a number where their inputs are bounded.
-use Rattle.std.proofs.Common.{◌≡◌, ℕ, zero, suc, ◌+◌, ◌≤◌, true, false, List, [], ◌∷◌, Option, Some, None, map, refl, sym, ◌∙◌, ap, inl, inr, is_none, arith}
+use Rattle.std.proofs.Common.{◌≡◌, ℕ, zero, suc, ◌≤◌, true, false, List, [], ◌∷◌, Option, Some, None, map, refl, sym, ◌∙◌, ap, inl, inr, is_none, arith}
 use Rattle.std.specs.List.{sum_by}
 use Rattle.std.proofs.lemmas.Bool.{or_parts, or_cases}
 use Rattle.std.proofs.lemmas.List.Sums.{sum_by-cons, sum_by-le-sum_by}
@@ -8,11 +8,10 @@ use Rattle.cpa_units.specs.declared.bound.Bound.{Bound}
 use Rattle.cpa_units.specs.declared.bound.Bound.TheVariants.{Within, Overload}
 use Rattle.cpa_units.specs.Bounds.{IsAtMost, bound_plus, bound_times, sum_bounds}
 use Rattle.cpa_units.proofs.BoundLaws.{IsAtMost_refl, zero_at_most, bound_plus-mono, bound_times-mono, bound_plus-overload}
-use Rattle.cpa_events.specs.declared.Model.{Model}
-use Rattle.cpa_events.specs.Events.{delta_minus, eta_plus}
-use Rattle.cpa_events.proofs.EventLaws.{eta_plus-zero, eta_plus-mono, eta_plus-denser, eta_plus-steady}
+use Rattle.cpa_events.specs.Events.{Model}
+use Rattle.cpa_events.proofs.EventLaws.{eta_plus-zero, eta_plus-mono, eta_plus-denser}
 use Rattle.cpa_window.specs.declared.rivals.Rival.{Rival}
-use Rattle.cpa_window.specs.Rivals.{events_in, work_in, some_unbounded, bounded_events, rival_work, bounded_work, IsInputNoDenser, IsNoHeavier, AreNoHeavier, IsConstant}
+use Rattle.cpa_window.specs.Rivals.{events_in, work_in, some_unbounded, bounded_events, rival_work, bounded_work, IsInputNoDenser, IsNoHeavier, AreNoHeavier}
 
 pub events_in-mono : (a b : Option Model) (w : ℕ) → IsInputNoDenser a b → IsAtMost (events_in a w) (events_in b w)
 events_in-mono (Some m) (Some n) w d = eta_plus-denser m n w d
@@ -68,10 +67,6 @@ bounded_events-mono None v w h = omega arith
 pub bounded_work-mono : (rivals : List Rival) (v w : ℕ) → v ≤ w → bounded_work rivals v ≤ bounded_work rivals w
 bounded_work-mono rivals v w h =
     sum_by-le-sum_by (rival_work v) (rival_work w) rivals (λ r. mul-le-mul_right r.worst (bounded_events-mono r.model v w h))
-
--- a model has no more events until the next can come
-pub eta_plus-constant : (m : Model) (from : ℕ) → IsConstant (eta_plus m) from (delta_minus m (eta_plus m from + 1))
-eta_plus-constant m from = record { same = λ w later sooner. eta_plus-steady m from w later sooner }
 
 -- ---- other rivals with the same work
 

@@ -6,7 +6,7 @@ use Rattle.cpa_units.specs.declared.bound.Bound.{Bound}
 use Rattle.cpa_units.specs.declared.bound.Bound.TheVariants.{Within, Overload}
 use Rattle.cpa_units.specs.declared.limits.TheConstants.{MAX_EXECUTION, MAX_LIMIT, MAX_TASKS}
 use Rattle.cpa_units.specs.Bounds.{IsAtMost, bound_times, sum_bounds}
-use Rattle.cpa_events.specs.declared.Model.{Model}
+use Rattle.cpa_events.specs.Events.{Model}
 use Rattle.cpa_events.specs.Events.{eta_plus, IsModel, IsModelInRange, IsNoDenser}
 use Rattle.cpa_window.specs.declared.rivals.Rival.{Rival}
 

@@ -1,7 +1,7 @@
 //! The other tasks of a resource, and the work that they bring.
 
 ghost use Rattle.std.specs.Prelude.{◌≡◌, ◌+◌, ◌*◌, ◌^◌, ◌≤◌};
-ghost use Rattle.cpa_events.specs.Events.{delta_minus, eta_plus, IsModelInRange};
+ghost use Rattle.cpa_events.specs.Events.{eta_plus, IsModelInRange};
 ghost use Rattle.cpa_window.specs.Rivals.{IsRival, AreRivals, rival_work, bounded_work, some_unbounded, IsConstant};
 
 use cpa_events::Model;
@@ -9,37 +9,38 @@ use cpa_units::Bound;
 use cpa_units::limits::{MAX_BIT, MAX_EXECUTION, MAX_LIMIT};
 
 /// Another task of the resource, as an analysis sees it.
-#[derive(Clone, Copy, Debug)]
+#[derive(Debug, Drop)]
 pub struct Rival {
-    /// The model of its input; none where that is unbounded.
-    pub model: Option<Model>,
-    /// Its greatest execution, in ticks.
-    pub worst: u64,
     /// Its slot in ticks, 0 where slots don't count.
     pub slot: u64,
     /// Its bound so far; a number is at most ten million ticks.
     pub bound: Bound,
+    /// Its greatest execution, in ticks.
+    pub worst: u64,
+    /// The model of its input; none where that is unbounded.
+    pub model: Option<Model>,
 }
 
 /// The work of a window's events, each of which takes so long, in ticks.
+#[inline(always)]
 pub fn events_work(model: &Model, window: u64, each: u64) -> u64
     requires model { IsModelInRange model.now }
     requires window { window ≤ 2 * MAX_LIMIT }
     requires each { each ≤ MAX_EXECUTION }
     ensures value { result ≡ eta_plus model.now window * each }
-    ensures small { result ≤ 2 ^ 51 }
+    ensures small { result ≤ 2 ^ 56 }
 {
     model.eta_plus(window) * each
 }
 
 /// Up to which length windows have no more events than this one: when the next event can come.
+#[inline(always)]
 pub fn events_until(model: &Model, window: u64) -> u64
     requires model { IsModelInRange model.now }
     requires window { window ≤ 2 * MAX_LIMIT }
-    ensures value { result ≡ delta_minus model.now (eta_plus model.now window + 1) }
-    ensures constant { IsConstant (eta_plus model.now) window result }
+    ensures { IsConstant (eta_plus model.now) window result }
 {
-    model.delta_minus(model.eta_plus(window) + 1)
+    model.steady_until(window)
 }
 
 /// Some rival's input is unbounded.
@@ -50,21 +51,23 @@ pub fn some_unbounded(rivals: &[Rival]) -> bool
 }
 
 /// The work of rivals whose inputs are bounded, in a window, in ticks. Others count as nothing.
-pub fn work_in(rivals: &[Rival], window: u64) -> u64
+#[inline(always)]
+pub fn work_in(rivals: &[Rival], window: u64) -> u128
     requires rivals { AreRivals rivals.now }
     requires window { window ≤ MAX_LIMIT + MAX_BIT }
     ensures value { result ≡ bounded_work rivals.now window }
-    ensures small { result ≤ 2 ^ 60 }
+    ensures small { result ≤ 2 ^ 65 }
 {
     let mut total = 0;
     for rival in rivals {
-        total += rival_work(rival, window);
+        total += u128::from(rival_work(rival, window));
     }
     total
 }
 
 /// Up to which length windows have no more work of such rivals than this window has. Less would be
 /// right too: how far it looks ahead is left open.
+#[inline(always)]
 pub fn work_until(rivals: &[Rival], window: u64) -> u64
     requires rivals { AreRivals rivals.now }
     requires window { window ≤ MAX_LIMIT + MAX_BIT }
@@ -78,11 +81,12 @@ pub fn work_until(rivals: &[Rival], window: u64) -> u64
 }
 
 /// The work of one rival in a window.
+#[inline(always)]
 fn rival_work(rival: &Rival, window: u64) -> u64
     requires rival { IsRival rival.now }
     requires window { window ≤ MAX_LIMIT + MAX_BIT }
     ensures value { result ≡ rival_work window rival.now }
-    ensures small { result ≤ 2 ^ 51 }
+    ensures small { result ≤ 2 ^ 56 }
 {
     match &rival.model {
         Some(model) => events_work(model, window, rival.worst),
@@ -91,6 +95,7 @@ fn rival_work(rival: &Rival, window: u64) -> u64
 }
 
 /// Up to which length windows have no more work of one rival.
+#[inline(always)]
 fn rival_until(rival: &Rival, window: u64) -> u64
     requires rival { IsRival rival.now }
     requires window { window ≤ MAX_LIMIT + MAX_BIT }

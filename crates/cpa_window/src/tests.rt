@@ -6,11 +6,11 @@ ghost use Rattle.cpa_events.proofs.EventLaws.{eta_plus-mono};
 
 use crate::rivals::events_work;
 use crate::windows::{Demand, least_window};
-use cpa_events::Model;
+use cpa_events::{Model, Stream};
 use cpa_units::limits::MAX_EXECUTION;
 
 /// The work of one model's events.
-#[derive(Clone, Copy)]
+#[derive(Drop)]
 struct Batches {
     model: Model,
     each: u64,
@@ -35,11 +35,11 @@ fn late_batches(period: u64, jitter: u64, each: u64) -> Batches
     requires each { each ≤ 1000 }
 {
     Batches {
-        model: Model {
+        model: Model::one(Stream {
             period,
             jitter,
             distance: 0,
-        },
+        }),
         each,
     }
 }

@@ -1,6 +1,6 @@
-use Rattle.std.proofs.Common.{length, map, ap, sym, ◌∙◌, arith}
+use Rattle.std.proofs.Common.{◌<◌, ◌≤◌, take, length, map, ap, sym, ◌∙◌, arith}
 use Rattle.std.specs.Prelude.{filter}
-use Rattle.std.proofs.lemmas.List.{map-append, length-map}
+use Rattle.std.proofs.lemmas.List.{map-append, length-map, take_more_set}
 use Rattle.std.proofs.lemmas.List.Elements.{All-push}
 use Rattle.cpa_window.specs.Rivals.{IsRival}
 use Rattle.cpa_model.specs.declared.entries.Task.{Task}
@@ -12,34 +12,45 @@ use Rattle.cpa_local.proofs.RivalLaws.{other-on, others-few, passing-more, faili
 use Rattle.cpa_local.proofs.neighbours.gather_others.Goals as goal
 use Rattle.cpa_local.proofs.neighbours.gather_others.Goals.{then-is_other, else-is_other}
 
-pub push_reserved-requires : goal.push_reserved-requires
-push_reserved-requires c =
+pub bounds-rivals-count : goal.bounds-rivals-count
+bounds-rivals-count c =
     let few = roster-few (is_on c.args.system.now c.task.result.now.res.0) (length c.args.system.now.tasks) c.tasks_on-other-items.result.now c.tasks_on-other-items.ensures.places in
     omega (arith, c.loop-other.invariant.few, c.loop-other.invariant.room, c.loop-other-test.true, c.requires.room)
+
+pub offset_bounds-rivals-count : goal.offset_bounds-rivals-count
+offset_bounds-rivals-count c =
+    let few = roster-few (is_on c.args.system.now c.task.result.now.res.0) (length c.args.system.now.tasks) c.tasks_on-other-items.result.now c.tasks_on-other-items.ensures.places in
+    let small : c.loop-other.count ≤ 512 = omega (arith, c.loop-other.invariant.few, c.loop-other-test.true, c.tasks_on-other-items.ensures.rules.few_tasks) in
+    omega (arith, small)
 
 pub loop-other-preserved : goal.loop-other-preserved
 loop-other-preserved c =
     let s = c.args.system.now in
     let ids = c.tasks_on-other-items.result.now in
     let k = c.loop-other.other-index in
+    let few = roster-few (is_on s c.task.result.now.res.0) (length s.tasks) ids c.tasks_on-other-items.ensures.places in
+    let less : c.loop-other.count < length c.loop-other.rivals =
+    omega (arith, c.loop-other.invariant.few, c.loop-other.invariant.room, c.loop-other-test.true, c.requires.room, few) in
     elim c.if-is_other.branch [
       | then-is_other w ↦
           let chosen = sym c.is_other.ensures ∙ w.if-is_other.true in
           let more = passing-more (is_other s c.args.task.0) ids k no_id c.loop-other-test.true chosen in
+          let put = take_more_set c.loop-other.rivals c.loop-other.count w.put_rival.new.place less in
           record {
-            found = rw (w.rivals-is, w.push_reserved.ensures.items, c.loop-other.invariant.found, w.rival.ensures.value, more)
+            found = rw (w.rivals-is, w.count-is, put, c.loop-other.invariant.found, w.put_rival.ensures.value, more)
                 (sym (map-append (rival_of s c.args.x.now) _ _));
-            few = rw (w.rivals-is, w.push_reserved.ensures.len) (let few = c.loop-other.invariant.few in omega arith);
-            each = rw (w.rivals-is, w.push_reserved.ensures.items) (All-push IsRival c.loop-other.rivals.items w.rival.result c.loop-other.invariant.each w.rival.ensures.in_range);
-            room = rw (w.rivals-is, w.push_reserved.ensures.capacity) c.loop-other.invariant.room;
+            few = rw w.count-is (let few = c.loop-other.invariant.few in omega arith);
+            each = rw (w.rivals-is, w.count-is, put)
+                (All-push IsRival (take c.loop-other.count c.loop-other.rivals) w.put_rival.new.place c.loop-other.invariant.each w.put_rival.ensures.in_range);
+            room = c.if-is_other.auto.rivals ∙ c.loop-other.invariant.room;
           }
       | else-is_other w ↦
           let left = sym c.is_other.ensures ∙ w.if-is_other.false in
           record {
-            found = rw (w.rivals-is, c.loop-other.invariant.found) (ap (map (rival_of s c.args.x.now)) (sym (failing-more (is_other s c.args.task.0) ids k no_id c.loop-other-test.true left)));
-            few = rw w.rivals-is (let few = c.loop-other.invariant.few in omega arith);
-            each = rw w.rivals-is c.loop-other.invariant.each;
-            room = rw w.rivals-is c.loop-other.invariant.room;
+            found = rw (w.rivals-is, w.count-is, c.loop-other.invariant.found) (ap (map (rival_of s c.args.x.now)) (sym (failing-more (is_other s c.args.task.0) ids k no_id c.loop-other-test.true left)));
+            few = rw w.count-is (let few = c.loop-other.invariant.few in omega arith);
+            each = rw (w.rivals-is, w.count-is) c.loop-other.invariant.each;
+            room = c.if-is_other.auto.rivals ∙ c.loop-other.invariant.room;
           }
     ]
 
@@ -63,3 +74,8 @@ returns-clause-in_range c =
       few = omega (arith, others-few s c.args.task.0 c.requires.there, c.tasks_on-other-items.ensures.rules.few_tasks);
       each = c.loop-other.invariant.each;
     }
+
+pub returns-clause-few : goal.returns-clause-few
+returns-clause-few c =
+    let few = roster-few (is_on c.args.system.now c.task.result.now.res.0) (length c.args.system.now.tasks) c.tasks_on-other-items.result.now c.tasks_on-other-items.ensures.places in
+    omega (arith, c.loop-other.invariant.few, c.loop-other.invariant.room, c.loop-other.auto.other-index-end, c.requires.room)
