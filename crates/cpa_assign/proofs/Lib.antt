@@ -1,0 +1,13 @@
+pub mod AbleLaws
+pub mod TradeLaws
+pub mod OrderLaws
+pub mod AudsleyLaws
+pub mod PriorityLaws
+pub mod OrderedLaws
+pub mod MeetLaws
+pub mod CountLaws
+pub mod PlacingLaws
+pub mod NumberLaws
+pub mod KeptLaws
+pub mod OneOrderLaws
+pub mod DecidedLaws

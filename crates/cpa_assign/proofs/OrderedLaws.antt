@@ -1,0 +1,191 @@
+-- The bound of a task of the resource under an order depends on the set of tasks before it alone.
+use Rattle.std.proofs.Common.{◌≡◌, ℕ, ◌<◌, ◌==◌, ◌||◌, nat_lt, max, not, slice_index_or, Bool, true, false, List, Some, None, map, length, refl, ap, sym, ◌∙◌, inl, inr, arith}
+use Rattle.std.specs.Prelude.{filter, fold}
+use Rattle.std.specs.List.{range_with_len}
+use Rattle.std.proofs.lemmas.Bool.{cases_Bool, cases_order, false≢true, eqb-true, lt-ltb, le-ltb}
+use Rattle.std.proofs.lemmas.List.{get_or-map}
+use Rattle.cpa_units.specs.declared.bound.Bound.{Bound}
+use Rattle.cpa_units.specs.declared.places.SourceId.{SourceId}
+use Rattle.cpa_window.proofs.RivalLaws.{load_of, work_in-same}
+use Rattle.cpa_spp.proofs.PreemptiveLaws.{preemptive_bound-same}
+use Rattle.cpa_can.proofs.CanLaws.{can_bound-same}
+use Rattle.cpa_model.specs.declared.entries.Kind.{Kind}
+use Rattle.cpa_model.specs.declared.entries.Kind.TheVariants.{Preemptive, RoundRobin, Tdma, Can}
+use Rattle.cpa_model.specs.declared.entries.Turn.TheVariants.{Priority}
+use Rattle.cpa_model.specs.declared.entries.Task.{Task}
+use Rattle.cpa_model.specs.declared.entries.Activator.TheVariants.{Source as FromSource}
+use Rattle.cpa_model.specs.Chains.{activators, streams_within}
+use Rattle.cpa_model.specs.SystemLists.{SystemLists, task_at, resource_at, resource_of, task_places, root_of, is_higher, higher_tasks, blocking_of, no_task, is_on}
+use Rattle.cpa_model.specs.Rules.{IsSystem}
+use Rattle.cpa_model.specs.Streams.{source_model}
+use Rattle.cpa_local.specs.Inputs.{input}
+use Rattle.cpa_local.specs.Local.{rival_of, bound_by_kind, response}
+use Rattle.cpa_assign.specs.Orders.{is_member, place_in, kth_priority, ordered_task, with_order, HasPriorities, IsOrder, IsOrderable}
+use Rattle.cpa_assign.specs.Placing.{root_model, rival_at, rivals_at, greatest_worst, is_below, placed_by_kind, placed_bound}
+use Rattle.cpa_assign.proofs.AbleLaws.{fed-alone}
+use Rattle.cpa_assign.proofs.OrderLaws.{is_before, same_place, flip-no, before-place, before-member, place-less, place-own}
+use Rattle.cpa_local.proofs.PassingPlaces.{filter-agree, map-passing, map-map, greatest-passing}
+use Rattle.cpa_assign.proofs.PriorityLaws.{kth-order}
+use Rattle.cpa_assign.proofs.PlacingLaws.{there-on, order-long, ordered-long, ordered-at}
+
+-- of two places one is less, or they are of one member
+opposite : (a b i j : ℕ) → (a ≡ b → i ≡ j) → (i ≡ j → a ≡ b) → nat_lt a b ≡ not (nat_lt b a || j == i)
+opposite a b i j own back =
+    elim (cases_order a b) [
+      | inl same ↦ rw (same, own same, le-ltb b b (omega arith), same_place j) refl
+      | inr o ↦ elim o [
+        | inl less ↦
+            let apart : (j == i) ≡ false = elim (cases_Bool (j == i)) [
+              | inl one ↦ let same = back (sym (eqb-true j i one)) in absurd (omega (arith, same))
+              | inr two ↦ two
+            ] in
+            rw (lt-ltb a b less, le-ltb b a (omega arith), apart) refl
+        | inr more ↦ rw (lt-ltb b a more, le-ltb a b (omega arith)) refl
+      ]
+    ]
+
+module _ (s : SystemLists) (r : ℕ) (o : List ℕ) (rules : IsSystem s) (able : IsOrderable s r) (order : IsOrder s r o) where
+  abbrev t : SystemLists
+  t = with_order s r o
+
+  long : length t.tasks ≡ length s.tasks
+  long = ordered-long s r o
+
+  task-ordered : (i : ℕ) → i < length s.tasks → task_at t i ≡ ordered_task s r o i
+  task-ordered i less = ordered-at s r o i no_task less
+
+  resource-same : (q : ℕ) → resource_at t q ≡ resource_at s q
+  unfolding with_order
+  resource-same q = refl
+
+  source-same : (k : ℕ) → source_model t k ≡ source_model s k
+  unfolding with_order
+  source-same k = refl
+
+  places-same : task_places t ≡ task_places s
+  places-same = ap (range_with_len 0) long
+
+  on-task : (i : ℕ) → i < length s.tasks → is_on s r i ≡ true → task_at t i ≡ record (task_at s i) { turn = Priority (kth_priority s r (place_in o i)) }
+  on-task i less on = task-ordered i less ∙ (rw on refl)
+
+  off-task : (i : ℕ) → i < length s.tasks → is_on s r i ≡ false → task_at t i ≡ task_at s i
+  off-task i less off = task-ordered i less ∙ (rw off refl)
+
+  member-on : (i : ℕ) → i < length s.tasks → is_on s r i ≡ true → is_member o i ≡ true
+  member-on i less on = order.members i ∙ (rw (lt-ltb i (length s.tasks) less, on) refl)
+
+  pub member-there : (i : ℕ) → is_member o i ≡ true → (i < length s.tasks) × (is_on s r i ≡ true)
+  member-there i h = there-on s r i (sym (order.members i) ∙ h)
+
+  priority-less : (i j : ℕ) → is_member o i ≡ true → is_member o j ≡ true → nat_lt (kth_priority s r (place_in o j)) (kth_priority s r (place_in o i)) ≡ is_before o i j
+  priority-less i j mi mj =
+      let a = place-less o i mi in
+      let b = place-less o j mj in
+      kth-order s r rules able.kind (place_in o j) (place_in o i) (omega (arith, b, order-long s r o order)) (omega (arith, a, order-long s r o order))
+      ∙ sym (before-place o i j mi mj)
+
+  module _ (i : ℕ) (mi : is_member o i ≡ true) where
+    own : (i < length s.tasks) × (is_on s r i ≡ true)
+    own = member-there i mi
+
+    own-res : (task_at s i).res.0 ≡ r
+    own-res = eqb-true (task_at s i).res.0 r own.1
+
+    own-task : task_at t i ≡ record (task_at s i) { turn = Priority (kth_priority s r (place_in o i)) }
+    own-task = on-task i own.0 own.1
+
+    higher-before : (j : ℕ) → j < length s.tasks → is_higher t i j ≡ is_before o i j
+    higher-before j less =
+        elim (cases_Bool (is_on s r j)) [
+          | inl on ↦
+              let res : (task_at s j).res.0 ≡ r = eqb-true (task_at s j).res.0 r on in
+              let mj : is_member o j ≡ true = member-on j less on in
+              rw (own-task, on-task j less on, own-res, res, same_place r) (priority-less i j mi mj)
+          | inr off ↦
+              let no_member : is_before o i j ≡ false = elim (cases_Bool (is_before o i j)) [
+                | inl before ↦ absurd (false≢true (sym off ∙ (member-there j (before-member o i j before)).1))
+                | inr none ↦ none
+              ] in
+              rw (own-task, off-task j less off, own-res, flip-no (task_at s j).res.0 r off, no_member) refl
+        ]
+
+    lower-after : (j : ℕ) → j < length s.tasks → is_higher t j i ≡ is_below s r (is_before o i) i j
+    lower-after j less =
+        elim (cases_Bool (is_on s r j)) [
+          | inl on ↦
+              let res : (task_at s j).res.0 ≡ r = eqb-true (task_at s j).res.0 r on in
+              let mj : is_member o j ≡ true = member-on j less on in
+              rw (own-task, on-task j less on, own-res, res, same_place r, lt-ltb j (length s.tasks) less)
+              (priority-less j i mj mi ∙ before-place o j i mj mi ∙ opposite (place_in o i) (place_in o j) i j (place-own o i j mi mj) (λ same. ap (place_in o) same)
+              ∙ ap (λ (b : Bool). not (b || j == i)) (sym (before-place o i j mi mj)))
+          | inr off ↦ rw (own-task, off-task j less off, own-res, off, lt-ltb j (length s.tasks) less) refl
+        ]
+
+    resource-own : resource_of t i ≡ resource_at s r
+    resource-own = resource-same (task_at t i).res.0 ∙ ap (λ (it : Task). resource_at s it.res.0) own-task ∙ ap (resource_at s) own-res
+
+    root-own : (k : SourceId) → (task_at s i).after ≡ FromSource k → root_of s i ≡ k
+    unfolding streams_within
+    root-own k after =
+        let link : slice_index_or (activators s.tasks) i None ≡ Some (FromSource k) = get_or-map (λ (it : Task). Some it.after) s.tasks i no_task None own.0 ∙ ap Some after in
+        rw link refl
+
+    input-own : (x : List Bound) → input t x i ≡ Some (root_model s i)
+    unfolding input
+    input-own x =
+        let fed = fed-alone s r able.fed i own.0 own.1 in
+        let after : (task_at t i).after ≡ FromSource fed.0 = ap (λ (it : Task). it.after) own-task ∙ fed.1 in
+        rw (after, root-own fed.0 fed.1) (ap Some (source-same fed.0.0))
+
+  -- ---- the tasks before one of the resource as its rivals
+
+  input-member : (x : List Bound) (j : ℕ) → is_member o j ≡ true → input t x j ≡ Some (root_model s j)
+  input-member x j mj = input-own j mj x
+
+  worst-same : (j : ℕ) → j < length s.tasks → (task_at t j).worst ≡ (task_at s j).worst
+  worst-same j less =
+      elim (cases_Bool (is_on s r j)) [
+        | inl on ↦ ap (λ (it : Task). it.worst) (on-task j less on)
+        | inr off ↦ ap (λ (it : Task). it.worst) (off-task j less off)
+      ]
+
+  module _ (x : List Bound) (i : ℕ) (mi : is_member o i ≡ true) where
+    higher-same : higher_tasks t i ≡ filter (is_before o i) (task_places s)
+    higher-same =
+        ap (filter (is_higher t i)) places-same
+        ∙ filter-agree (is_higher t i) (is_before o i) 0 (length s.tasks) (λ j low high. higher-before i mi j (omega arith))
+
+    loads-same : map load_of (map (rival_of t x) (higher_tasks t i)) ≡ map load_of (rivals_at s (is_before o i))
+    loads-same =
+        ap (λ (js : List ℕ). map load_of (map (rival_of t x) js)) higher-same
+        ∙ map-map load_of (rival_of t x) (filter (is_before o i) (task_places s))
+        ∙ map-passing (is_before o i) (λ j. load_of (rival_of t x j)) (λ j. load_of (rival_at s j)) 0 (length s.tasks) (λ j low high before.
+        let mj = before-member o i j before in
+        let e = input-member x j mj in
+        let w = worst-same j (omega arith) in
+        rw (e, w) refl)
+        ∙ sym (map-map load_of (rival_at s) (filter (is_before o i) (task_places s)))
+
+    blocking-same : blocking_of t i ≡ greatest_worst s (is_below s r (is_before o i) i)
+    blocking-same =
+        ap (λ (js : List ℕ). fold (λ most j. max most (task_at t j).worst) 0 (filter (λ j. is_higher t j i) js)) places-same
+        ∙ ap (fold (λ most j. max most (task_at t j).worst) 0) (filter-agree (λ j. is_higher t j i) (is_below s r (is_before o i) i) 0 (length s.tasks) (λ j low high. lower-after i mi j (omega arith)))
+        ∙ greatest-passing (is_below s r (is_before o i) i) (λ j. (task_at t j).worst) (λ j. (task_at s j).worst) 0 0 (length s.tasks) (λ j low high passes. worst-same j (omega arith))
+
+    by_kind-same : (kind : Kind) → HasPriorities kind → bound_by_kind t x i (root_model s i) kind ≡ placed_by_kind s r (is_before o i) i kind
+    by_kind-same Preemptive h =
+        rw (worst-same i (own i mi).0, resource-own i mi)
+        (preemptive_bound-same (root_model s i) (task_at s i).worst (map (rival_of t x) (higher_tasks t i)) (rivals_at s (is_before o i)) (resource_at s r).limit
+        (λ w. work_in-same (map (rival_of t x) (higher_tasks t i)) (rivals_at s (is_before o i)) w loads-same))
+    by_kind-same (Can bit) h =
+        rw (worst-same i (own i mi).0, resource-own i mi, blocking-same)
+        (can_bound-same (root_model s i) (task_at s i).worst (greatest_worst s (is_below s r (is_before o i) i)) (map (rival_of t x) (higher_tasks t i)) (rivals_at s (is_before o i)) bit (resource_at s r).limit
+        (λ w. work_in-same (map (rival_of t x) (higher_tasks t i)) (rivals_at s (is_before o i)) w loads-same))
+    by_kind-same RoundRobin h = absurd (false≢true h)
+    by_kind-same (Tdma gap) h = absurd (false≢true h)
+
+    -- the bound of a member is that of its place, at any vector
+    pub response-placed : response t x i ≡ placed_bound s r (is_before o i) i
+    unfolding response placed_bound
+    response-placed =
+        rw (input-own i mi x, resource-own i mi) (by_kind-same (resource_at s r).kind able.kind)

@@ -1,0 +1,110 @@
+-- What the search for a place knows.
+use Rattle.std.proofs.Common.{slice_index_or, ◌≡◌, ◌≢◌, ℕ, zero, suc, ◌<◌, ◌≤◌, ◌==◌, ◌&&◌, not, nat_lt, Bool, IsTrue, true, false, List, [], ◌∷◌, Some, map, set, length, slice_get, refl, ap, sym, ◌∙◌, subst, inl, inr, arith}
+use Rattle.std.specs.Prelude.{filter}
+use Rattle.std.proofs.lemmas.Bool.{and_parts, not-true, cases_Bool, cases_lt, false≢true, eq-eqb, eqb-true, ltb-true, lt-ltb, le-ltb}
+use Rattle.std.proofs.Math.Dec.{eqb-suc-zero, eqb-zero-suc}
+use Rattle.std.proofs.lemmas.List.{get_or_past, length-map}
+use Rattle.std.proofs.lemmas.List.FromFn.{get_or-map-range_with_len, length-map-range_with_len, length-range_with_len}
+use Rattle.std.proofs.lemmas.Option.{same_Some}
+use Rattle.std.proofs.lemmas.List.Sums.{length-filter, count_by-le-length}
+use Rattle.cpa_units.specs.declared.bound.Bound.{Bound}
+use Rattle.cpa_units.specs.declared.bound.Bound.TheVariants.{Within}
+use Rattle.cpa_units.specs.declared.places.TaskId.{TaskId}
+use Rattle.cpa_units.specs.Bounds.{IsAtMost, fits}
+use Rattle.cpa_units.specs.Sets.{holds}
+use Rattle.cpa_units.proofs.BoundLaws.{fits-true, fits-from}
+use Rattle.cpa_model.specs.declared.entries.Task.{Task}
+use Rattle.cpa_model.specs.declared.entries.Path.{Path}
+use Rattle.cpa_model.specs.SystemLists.{SystemLists, task_places, is_on, tasks_on, place_of, places_of}
+use Rattle.cpa_assign.specs.Orders.{is_member, is_task_on, IsPathInTime, IsOrder, ordered_task, with_order}
+use Rattle.cpa_assign.proofs.OrderLaws.{once-from, and-true}
+use Rattle.cpa_assign.proofs.CountLaws.{once-long}
+use Rattle.cpa_assign.specs.Placing.{without}
+use Rattle.cpa_local.proofs.PassingPlaces.{filter-agree}
+
+pub without-other : (free : ℕ → Bool) (i k : ℕ) → without free i k ≡ true → k ≢ i
+without-other free i k h = λ same. false≢true (sym (not-true (k == i) (and_parts (free k) _ h).1) ∙ eq-eqb k i same)
+
+-- a list of one task
+pub only-one : (ts : List TaskId) (i : ℕ) (t : TaskId) → length ts ≡ 1 → slice_get ts 0 ≡ Some t → t.0 ≡ i → ts ≡ record { 0 = i } ∷ []
+only-one [] i t long first same = absurd (omega (arith, long))
+only-one (u ∷ []) i t long first same = ap (λ (n : ℕ). let id : TaskId = record { 0 = n } in id ∷ []) (ap (λ (v : TaskId). v.0) (same_Some u t first) ∙ same)
+only-one (u ∷ v ∷ ts) i t long first same = absurd (omega (arith, long))
+
+-- a path of this task alone is in time just where the bound is at most its deadline
+pub path-judged : (p : Path) (i d : ℕ) (b : Bound) (verdict : Bool) → p.tasks ≡ record { 0 = i } ∷ [] → p.deadline ≡ Some d → verdict ≡ fits b d
+    → (IsTrue verdict → IsPathInTime p i b) × (IsPathInTime p i b → IsTrue verdict)
+path-judged p i d b verdict only is told = (
+  λ passes alone x also. subst (λ (n : ℕ). IsAtMost b (Within n)) (same_Some d x (sym is ∙ also)) (fits-true b d (sym told ∙ passes)),
+  λ h. told ∙ fits-from b d (h only d is),
+)
+
+-- the tasks of a resource are told one by one
+pub roster-long : (s : SystemLists) (r : ℕ) (ids : List TaskId) → places_of ids ≡ tasks_on s r → length ids ≡ length (tasks_on s r)
+roster-long s r ids are = sym (length-map ids place_of) ∙ ap length are
+
+pub places-long : (ids : List TaskId) → length (places_of ids) ≡ length ids
+places-long ids = length-map ids place_of
+
+pub there-on : (s : SystemLists) (r i : ℕ) → is_task_on s r i ≡ true → (i < length s.tasks) × (is_on s r i ≡ true)
+there-on s r i h =
+    let both = and_parts (nat_lt i (length s.tasks)) (is_on s r i) h in
+    (ltb-true i (length s.tasks) both.0, both.1)
+
+-- the tasks of a system with an order
+pub ordered-long : (s : SystemLists) (r : ℕ) (o : List ℕ) → length (with_order s r o).tasks ≡ length s.tasks
+unfolding with_order
+ordered-long s r o = length-map-range_with_len (ordered_task s r o) 0 (length s.tasks)
+
+pub ordered-at : (s : SystemLists) (r : ℕ) (o : List ℕ) (j : ℕ) (d : Task) → j < length s.tasks → slice_index_or (with_order s r o).tasks j d ≡ ordered_task s r o j
+unfolding with_order
+ordered-at s r o j d less = get_or-map-range_with_len (ordered_task s r o) 0 (length s.tasks) j j d less (omega arith)
+
+-- an order has as many tasks as the resource
+pub order-long : (s : SystemLists) (r : ℕ) (o : List ℕ) → IsOrder s r o → length o ≡ length (tasks_on s r)
+order-long s r o order =
+    once-long o (length s.tasks) (once-from o order.once) (λ i member. (there-on s r i (sym (order.members i) ∙ member)).0)
+    ∙ ap length (filter-agree (is_member o) (is_on s r) 0 (length s.tasks) (λ j low high. order.members j ∙ (rw (lt-ltb j (length s.tasks) (omega arith)) refl)))
+
+-- there are no more of them than tasks
+pub roster-few : (s : SystemLists) (r : ℕ) → length (tasks_on s r) ≤ length s.tasks
+roster-few s r =
+    let few = count_by-le-length (is_on s r) (task_places s) in
+    omega (arith, few, length-filter (is_on s r) (task_places s), length-range_with_len 0 (length s.tasks))
+
+-- the marks tell which tasks are on the resource
+pub marks-tell : (s : SystemLists) (r : ℕ) (marks : List Bool) → marks ≡ map (is_on s r) (task_places s) → (j : ℕ) → holds marks j ≡ is_task_on s r j
+marks-tell s r marks are j =
+    elim (cases_lt j (length s.tasks)) [
+      | inl less ↦ rw (are, lt-ltb j (length s.tasks) less) (get_or-map-range_with_len (is_on s r) 0 (length s.tasks) j j false less (omega arith))
+      | inr past ↦ rw (are, le-ltb j (length s.tasks) past) (get_or_past (map (is_on s r) (task_places s)) j false (omega (arith, past, length-map-range_with_len (is_on s r) 0 (length s.tasks))))
+    ]
+
+pub marks-long : (s : SystemLists) (r : ℕ) (marks : List Bool) → marks ≡ map (is_on s r) (task_places s) → length marks ≡ length s.tasks
+marks-long s r marks are = rw are (length-map-range_with_len (is_on s r) 0 (length s.tasks))
+
+pub marks-count : (s : SystemLists) (r : ℕ) (marks : List Bool) → marks ≡ map (is_on s r) (task_places s) → length (filter (holds marks) (task_places s)) ≡ length (tasks_on s r)
+marks-count s r marks are =
+    ap length (filter-agree (holds marks) (is_on s r) 0 (length s.tasks) (λ j low high.
+    marks-tell s r marks are j ∙ (rw (lt-ltb j (length s.tasks) (omega arith)) refl)))
+
+and-false : (b : Bool) → (b && false) ≡ false
+and-false true = refl
+and-false false = refl
+
+-- one mark fewer
+pub set-tells : (free : List Bool) (i : ℕ) → i < length free → (j : ℕ) → holds (set free i false) j ≡ without (holds free) i j
+set-tells [] i less j = absurd (omega (arith, less))
+set-tells (b ∷ free) zero less zero = sym (and-false b)
+set-tells (b ∷ free) zero less (suc j) = rw (eqb-suc-zero j) (sym (and-true (holds free j)))
+set-tells (b ∷ free) (suc i) less zero = rw (eqb-zero-suc i) (sym (and-true b))
+set-tells (b ∷ free) (suc i) less (suc j) = set-tells free i (omega (arith, less)) j ∙ ap (λ (t : Bool). holds free j && not t) (more-equal j i)
+  where
+    more-equal : (j i : ℕ) → (j == i) ≡ (suc j == suc i)
+    more-equal j i = elim (cases_Bool (j == i)) [
+      | inl same ↦ same ∙ sym (eq-eqb (suc j) (suc i) (ap suc (eqb-true j i same)))
+      | inr other ↦ elim (cases_Bool (suc j == suc i)) [
+        | inl too ↦ let e = eqb-true (suc j) (suc i) too in absurd (false≢true (sym other ∙ eq-eqb j i (omega (arith, e))))
+        | inr not_too ↦ other ∙ sym not_too
+      ]
+    ]

@@ -1,0 +1,244 @@
+-- Where tasks move from above a task to below it, its bound doesn't rise: each leaves the interference, in which it has its
+-- execution at least once, and enters the blocking at most once.
+use Rattle.std.proofs.Common.{◌≡◌, ℕ, ◌+◌, ◌-◌, ◌*◌, ◌≤◌, ◌==◌, ◌&&◌, ◌||◌, ◌⊎◌, not, max, Bool, true, false, cond, List, [], ◌∷◌, map, length, refl, ap, sym, ◌∙◌, inl, inr, arith}
+use Rattle.std.specs.Prelude.{filter, fold}
+use Rattle.std.specs.List.{sum_by}
+use Rattle.std.proofs.lemmas.Bool.{cases_Bool, cases_lt}
+use Rattle.std.proofs.lemmas.List.Sums.{sum_by-cons}
+use Rattle.std.proofs.Math.Nat.{mul-le-mul_right}
+use Rattle.std.proofs.Math.ListN.{get_or-eq_default}
+use Rattle.cpa_units.specs.declared.bound.Bound.{Bound}
+use Rattle.cpa_units.specs.declared.bound.Bound.TheVariants.{Within, Overload}
+use Rattle.cpa_units.specs.Bounds.{IsAtMost, bound_plus}
+use Rattle.cpa_units.proofs.BoundLaws.{IsAtMost_trans, bound_plus-mono, bound_minus-mono, capped-mono, greatest_of-mono}
+use Rattle.cpa_events.specs.Events.{Model}
+use Rattle.cpa_events.specs.Events.{eta_plus, delta_minus, IsModel}
+use Rattle.cpa_events.proofs.EventLaws.{eta_plus-mono, eta_plus-one}
+use Rattle.cpa_window.specs.declared.rivals.Rival.{Rival}
+use Rattle.cpa_window.specs.Rivals.{work_in}
+use Rattle.cpa_window.specs.Windows.{window, IsWindow}
+use Rattle.cpa_window.proofs.WindowLaws.{window-is, window-least}
+use Rattle.cpa_window.proofs.BusyWindowLaws.{busy_window_bound-grows}
+use Rattle.cpa_spp.specs.Preemptive.{preemptive_demand}
+use Rattle.cpa_can.specs.Can.{can_busy_demand, can_demand, can_response, can_bound, greatest_in_busy_window}
+use Rattle.cpa_model.specs.declared.entries.Kind.{Kind}
+use Rattle.cpa_model.specs.declared.entries.Kind.TheVariants.{Preemptive, RoundRobin, Tdma, Can}
+use Rattle.cpa_model.specs.SystemLists.{SystemLists, task_at, source_at, resource_at, task_places, root_of, no_source, no_resource}
+use Rattle.cpa_model.specs.Rules.{IsSystem, IsSource, IsResource, KindFits}
+use Rattle.cpa_assign.specs.Orders.{is_task_on}
+use Rattle.cpa_events.proofs.EventLaws.{one-is_model}
+use Rattle.cpa_model.specs.Streams.{source_stream}
+use Rattle.cpa_local.proofs.ResponseLaws.{source-is_stream}
+use Rattle.cpa_assign.specs.Placing.{root_model, rival_at, rivals_at, greatest_worst, is_below, placed_by_kind, placed_bound}
+
+-- ---- windows of demands that are compared from their first length on
+
+window-mono_from_at : (demand demand' : ℕ → Bound) (first limit : ℕ) (w : Bound) → ((v : ℕ) → first ≤ v → IsAtMost (demand v) (demand' v)) → IsWindow demand' first limit w → IsAtMost (window demand first limit) w
+window-mono_from_at demand demand' first limit Overload d h = tt
+window-mono_from_at demand demand' first limit (Within w) d h =
+    window-least demand first limit w h.0 h.1 (IsAtMost_trans (demand w) (demand' w) (Within w) (d w h.0) h.2)
+
+window-mono_from : (demand demand' : ℕ → Bound) (first limit : ℕ) → ((v : ℕ) → first ≤ v → IsAtMost (demand v) (demand' v)) → IsAtMost (window demand first limit) (window demand' first limit)
+window-mono_from demand demand' first limit d = window-mono_from_at demand demand' first limit (window demand' first limit) d (window-is demand' first limit)
+
+-- ---- less blocking and interference together, no greater a bound on a bus
+
+shifted : (a b c : ℕ) (v w : Bound) → IsAtMost (bound_plus (Within a) v) (bound_plus (Within b) w) → IsAtMost (bound_plus (Within (a + c)) v) (bound_plus (Within (b + c)) w)
+shifted a b c v Overload h = tt
+shifted a b c (Within v) (Within w) h = omega arith
+shifted a b c Overload (Within w) h = absurd h
+
+greatest_in-mono : (f g : ℕ → Bound) (m : ℕ → ℕ) (a b : Bound) → ((q : ℕ) → IsAtMost (f q) (g q)) → ((v w : ℕ) → v ≤ w → m v ≤ m w) → IsAtMost a b → IsAtMost (greatest_in_busy_window f m a) (greatest_in_busy_window g m b)
+greatest_in-mono f g m a Overload h k l = tt
+greatest_in-mono f g m Overload (Within b) h k l = absurd l
+greatest_in-mono f g m (Within a) (Within b) h k l = greatest_of-mono f g (m a) (m b) (k a b l) (λ q one le. h q)
+
+module _ (own : Model) (worst blocking blocking' : ℕ) (rs ss : List Rival) (bit limit : ℕ) (some : 1 ≤ bit) (less : (w : ℕ) → 1 ≤ w → IsAtMost (bound_plus (Within blocking) (work_in rs w)) (bound_plus (Within blocking') (work_in ss w))) where
+  response-trade : (q : ℕ) → IsAtMost (can_response own worst blocking rs bit limit q) (can_response own worst blocking' ss bit limit q)
+  response-trade q =
+      let start = window-mono_from (can_demand worst blocking rs bit q) (can_demand worst blocking' ss bit q) 0 limit
+      (λ w first. shifted blocking blocking' ((q - 1) * worst) (work_in rs (w + bit)) (work_in ss (w + bit)) (less (w + bit) (omega arith))) in
+      bound_minus-mono _ _ (delta_minus own q) (delta_minus own q)
+      (capped-mono limit _ _ (bound_plus-mono _ _ (Within worst) (Within worst) start (omega arith)))
+      (omega arith)
+
+  can_bound-trade : IsAtMost (can_bound own worst blocking rs bit limit) (can_bound own worst blocking' ss bit limit)
+  can_bound-trade =
+      greatest_in-mono (can_response own worst blocking rs bit limit) (can_response own worst blocking' ss bit limit) (eta_plus own) _ _
+      response-trade (λ v w le. eta_plus-mono own v w le)
+      (window-mono_from (can_busy_demand own worst blocking rs) (can_busy_demand own worst blocking' ss) 1 limit
+      (λ w first. shifted blocking blocking' (eta_plus own w * worst) (work_in rs w) (work_in ss w) (less w first)))
+
+-- ---- what moves leaves at least as much as it brings
+
+-- what a place adds to a sum over those that pass
+picked : (ℕ → Bool) → (ℕ → ℕ) → ℕ → ℕ
+picked p f j = cond (p j) (f j) 0
+
+sum_over : (ℕ → Bool) → (ℕ → ℕ) → List ℕ → ℕ
+sum_over p f js = sum_by f (filter p js)
+
+greatest_over : (ℕ → Bool) → (ℕ → ℕ) → List ℕ → ℕ
+greatest_over p f js = fold (λ most j. max most (f j)) 0 (filter p js)
+
+fold-most : (f : ℕ → ℕ) (most : ℕ) (js : List ℕ) → fold (λ most j. max most (f j)) most js ≡ max most (fold (λ most j. max most (f j)) 0 js)
+fold-most f most [] = omega arith
+fold-most f most (j ∷ js) =
+    let a = fold-most f (max most (f j)) js in
+    let b = fold-most f (max 0 (f j)) js in
+    omega (arith, a, b)
+
+sum-step : (p : ℕ → Bool) (f : ℕ → ℕ) (j : ℕ) (js : List ℕ) → sum_over p f (j ∷ js) ≡ picked p f j + sum_over p f js
+unfolding sum_over picked
+sum-step p f j js =
+    elim (cases_Bool (p j)) [
+      | inl passes ↦ rw passes (sum_by-cons f j (filter p js))
+      | inr fails ↦ rw fails (omega arith)
+    ]
+
+greatest-step : (p : ℕ → Bool) (f : ℕ → ℕ) (j : ℕ) (js : List ℕ) → greatest_over p f (j ∷ js) ≡ max (picked p f j) (greatest_over p f js)
+unfolding greatest_over picked
+greatest-step p f j js =
+    elim (cases_Bool (p j)) [
+      | inl passes ↦ rw passes (let e = fold-most f (max 0 (f j)) (filter p js) in omega (arith, e))
+      | inr fails ↦ rw fails (omega arith)
+    ]
+
+-- a place that counts for less, and which is below only where it was below or has left those above
+record IsTrade (fewer above below' below : ℕ → Bool) (f g : ℕ → ℕ) (j : ℕ) : Type 0 where
+  less : picked fewer g j ≤ picked above g j
+  trade : (picked below' f j ≤ picked below f j) ⊎ (picked below' f j + picked fewer g j ≤ picked above g j)
+
+traded : (fewer above below' below : ℕ → Bool) (f g : ℕ → ℕ) (js : List ℕ) → ((j : ℕ) → IsTrade fewer above below' below f g j)
+    → (greatest_over below' f js + sum_over fewer g js ≤ greatest_over below f js + sum_over above g js) × (sum_over fewer g js ≤ sum_over above g js)
+unfolding greatest_over sum_over
+traded fewer above below' below f g [] h = (omega arith, omega arith)
+traded fewer above below' below f g (j ∷ js) h =
+    let it = h j in
+    let rest = traded fewer above below' below f g js h in
+    let a = sum-step fewer g j js in
+    let b = sum-step above g j js in
+    let c = greatest-step below' f j js in
+    let d = greatest-step below f j js in
+    let less = it.less in
+    elim it.trade [
+      | inl stays ↦ (omega (arith, rest.0, rest.1, a, b, c, d, less, stays), omega (arith, rest.1, a, b, less))
+      | inr moves ↦ (omega (arith, rest.0, rest.1, a, b, c, d, less, moves), omega (arith, rest.1, a, b, less))
+    ]
+
+picked-same : (p q : ℕ → Bool) (f : ℕ → ℕ) (j : ℕ) → p j ≡ q j → picked p f j ≤ picked q f j
+unfolding picked
+picked-same p q f j same = rw same (omega arith)
+
+picked-kept : (fewer above : ℕ → Bool) (g : ℕ → ℕ) (j : ℕ) → (fewer j ≡ true → above j ≡ true) → picked fewer g j ≤ picked above g j
+unfolding picked
+picked-kept fewer above g j moved =
+    elim (cases_Bool (fewer j)) [
+      | inl high ↦ rw (high, moved high) (omega arith)
+      | inr low ↦ rw low (omega arith)
+    ]
+
+kept : (fewer above : ℕ → Bool) (g : ℕ → ℕ) (js : List ℕ) → ((j : ℕ) → fewer j ≡ true → above j ≡ true) → sum_over fewer g js ≤ sum_over above g js
+unfolding sum_over
+kept fewer above g [] moved = omega arith
+kept fewer above g (j ∷ js) moved =
+    let rest = kept fewer above g js moved in
+    let a = sum-step fewer g j js in
+    let b = sum-step above g j js in
+    let here : picked fewer g j ≤ picked above g j = picked-kept fewer above g j (moved j) in
+    omega (arith, rest, a, b, here)
+
+picked-some : (p : ℕ → Bool) (f : ℕ → ℕ) (j : ℕ) → p j ≡ true → picked p f j ≡ f j
+unfolding picked
+picked-some p f j passes = rw passes refl
+
+picked-none : (p : ℕ → Bool) (f : ℕ → ℕ) (j : ℕ) → p j ≡ false → picked p f j ≡ 0
+unfolding picked
+picked-none p f j fails = rw fails refl
+
+picked-le : (p : ℕ → Bool) (f : ℕ → ℕ) (j : ℕ) → picked p f j ≤ f j
+unfolding picked
+picked-le p f j = elim (cases_Bool (p j)) [ inl passes ↦ rw passes (omega arith) | inr fails ↦ rw fails (omega arith) ]
+
+module _ (s : SystemLists) (r i : ℕ) (fewer above : ℕ → Bool) (rules : IsSystem s) (moved : (j : ℕ) → fewer j ≡ true → above j ≡ true) where
+  worst_of : ℕ → ℕ
+  worst_of j = (task_at s j).worst
+
+  work_of : ℕ → ℕ → ℕ
+  work_of w j = eta_plus (root_model s j) w * worst_of j
+
+  root-is_model : (j : ℕ) → IsModel (root_model s j)
+  root-is_model j = one-is_model (source_stream s (root_of s j).0) (source-is_stream s [] rules (root_of s j).0)
+
+  not_below : (test : ℕ → Bool) (j : ℕ) → test j ≡ true → is_below s r test i j ≡ false
+  not_below test j h =
+      elim (cases_Bool (is_task_on s r j)) [
+        | inl there ↦ rw (there, h) refl
+        | inr elsewhere ↦ rw elsewhere refl
+      ]
+
+  trades : (w j : ℕ) → 1 ≤ w → IsTrade fewer above (is_below s r fewer i) (is_below s r above i) worst_of (work_of w) j
+  unfolding work_of
+  trades w j some =
+      let once : 1 ≤ eta_plus (root_model s j) w = eta_plus-one (root_model s j) w (root-is_model j) some in
+      let once_worst : 1 * worst_of j ≤ eta_plus (root_model s j) w * worst_of j = mul-le-mul_right (worst_of j) once in
+      let brings : picked (is_below s r fewer i) worst_of j ≤ worst_of j = picked-le (is_below s r fewer i) worst_of j in
+      let less : picked fewer (work_of w) j ≤ picked above (work_of w) j = picked-kept fewer above (work_of w) j (moved j) in
+      elim (cases_Bool (fewer j)) [
+        | inl high ↦
+            let none = picked-none (is_below s r fewer i) worst_of j (not_below fewer j high) in
+            record { less = less; trade = inl (omega (arith, none)) }
+        | inr low ↦
+            let left = picked-none fewer (work_of w) j low in
+            elim (cases_Bool (above j)) [
+              | inl higher ↦
+                  let had = picked-some above (work_of w) j higher in
+                  record { less = less; trade = inr (omega (arith, left, had, once_worst, brings)) }
+              | inr lower ↦
+                  let same : is_below s r fewer i j ≡ is_below s r above i j = ap (λ (b : Bool). is_task_on s r j && not (b || j == i)) (low ∙ sym lower) in
+                  record { less = less; trade = inl (picked-same (is_below s r fewer i) (is_below s r above i) worst_of j same) }
+            ]
+      ]
+
+  work_in-listed : (w : ℕ) (js : List ℕ) → work_in (map (rival_at s) js) w ≡ Within (sum_by (work_of w) js)
+  unfolding work_of worst_of
+  work_in-listed w [] = refl
+  work_in-listed w (j ∷ js) = rw (work_in-listed w js, sum_by-cons (work_of w) j js) refl
+
+  -- the blocking and the interference of a window, together
+  no_more_together : (w : ℕ) → 1 ≤ w
+      → IsAtMost (bound_plus (Within (greatest_worst s (is_below s r fewer i))) (work_in (rivals_at s fewer) w)) (bound_plus (Within (greatest_worst s (is_below s r above i))) (work_in (rivals_at s above) w))
+  unfolding sum_over greatest_over worst_of
+  no_more_together w some =
+      rw (work_in-listed w (filter fewer (task_places s)), work_in-listed w (filter above (task_places s)))
+      (traded fewer above (is_below s r fewer i) (is_below s r above i) worst_of (work_of w) (task_places s) (λ j. trades w j some)).0
+
+  -- the interference alone
+  no_more_work : (w : ℕ) → IsAtMost (work_in (rivals_at s fewer) w) (work_in (rivals_at s above) w)
+  unfolding sum_over
+  no_more_work w =
+      rw (work_in-listed w (filter fewer (task_places s)), work_in-listed w (filter above (task_places s)))
+      (kept fewer above (work_of w) (task_places s) moved)
+
+  placed_by_kind-fewer : (kind : Kind) → KindFits kind → IsAtMost (placed_by_kind s r fewer i kind) (placed_by_kind s r above i kind)
+  placed_by_kind-fewer Preemptive fit =
+      busy_window_bound-grows (preemptive_demand (task_at s i).worst (rivals_at s fewer)) (preemptive_demand (task_at s i).worst (rivals_at s above)) (delta_minus (root_model s i)) (delta_minus (root_model s i)) (resource_at s r).limit
+      (λ q w. bound_plus-mono (Within (q * (task_at s i).worst)) (Within (q * (task_at s i).worst)) (work_in (rivals_at s fewer) w) (work_in (rivals_at s above) w) (omega arith) (no_more_work w))
+      (λ q. omega arith)
+  placed_by_kind-fewer (Can bit) fit =
+      can_bound-trade (root_model s i) (task_at s i).worst (greatest_worst s (is_below s r fewer i)) (greatest_worst s (is_below s r above i)) (rivals_at s fewer) (rivals_at s above) bit (resource_at s r).limit
+      fit.0 no_more_together
+  placed_by_kind-fewer RoundRobin fit = tt
+  placed_by_kind-fewer (Tdma gap) fit = tt
+
+  kind_fits : KindFits (resource_at s r).kind
+  kind_fits =
+      elim (cases_lt r (length s.resources)) [
+        | inl less ↦ let it : IsResource (resource_at s r) = rules.resources r no_resource less in it.kind_fits
+        | inr past ↦ rw (get_or-eq_default s.resources no_resource past) tt
+      ]
+
+  -- where tasks move from above to below, the bound doesn't rise
+  pub fewer_above : IsAtMost (placed_bound s r fewer i) (placed_bound s r above i)
+  unfolding placed_bound
+  fewer_above = placed_by_kind-fewer (resource_at s r).kind kind_fits

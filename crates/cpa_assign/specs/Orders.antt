@@ -1,0 +1,117 @@
+-- Priority orders of a resource, as in Audsley's optimal priority assignment ("Optimal priority assignment and feasibility of
+-- static priority tasks with arbitrary start times", 1991).
+use Rattle.std.specs.Prelude.{ℕ, ◌<◌, ◌≡◌, ◌≢◌, ◌⊎◌, ◌==◌, ◌&&◌, nat_lt, nat_le, Bool, IsTrue, true, false, if◌then◌else◌, Option, Some, None, List, [], ◌∷◌, filter, map, length, reverse}
+use Rattle.std.specs.List.{AllPairs, list_all, list_any, position_or_len}
+use Rattle.std.specs.Option.{ForSome}
+use Rattle.cpa_units.specs.declared.bound.Bound.{Bound}
+use Rattle.cpa_units.specs.declared.bound.Bound.TheVariants.{Within}
+use Rattle.cpa_units.specs.declared.limits.TheConstants.{MAX_PRIORITY}
+use Rattle.cpa_units.specs.declared.places.TaskId.{TaskId}
+use Rattle.cpa_units.specs.Bounds.{IsAtMost}
+use Rattle.cpa_units.specs.Search.{least_from}
+use Rattle.cpa_model.specs.declared.entries.Task.{Task}
+use Rattle.cpa_model.specs.declared.entries.Path.{Path}
+use Rattle.cpa_model.specs.declared.entries.Activator.{Activator}
+use Rattle.cpa_model.specs.declared.entries.Activator.TheVariants.{Source as FromSource, Task as FromTask}
+use Rattle.cpa_model.specs.declared.entries.Turn.TheVariants.{Priority}
+use Rattle.cpa_model.specs.declared.entries.Kind.{Kind}
+use Rattle.cpa_model.specs.declared.entries.Kind.TheVariants.{Preemptive, Can}
+use Rattle.cpa_model.specs.SystemLists.{SystemLists, task_at, path_at, resource_at, task_places, tasks_on, priority_of, is_on, places_of}
+use Rattle.cpa_local.specs.Solution.{least_of}
+use Rattle.cpa_report.specs.Report.{path_worst}
+
+-- whether a task is in a list
+abbrev pub is_member : List ℕ → ℕ → Bool
+is_member o i = list_any (λ j. j == i) o
+
+-- whether a task is there, and on the resource
+abbrev pub is_task_on : SystemLists → ℕ → ℕ → Bool
+is_task_on s r i = nat_lt i (length s.tasks) && is_on s r i
+
+-- a list of the tasks on a resource, each once; the first has the highest priority
+pub record IsOrder (s : SystemLists) (r : ℕ) (o : List ℕ) : Type 0 where
+  pub members : (i : ℕ) → is_member o i ≡ is_task_on s r i
+  pub once : AllPairs (λ i j. i ≢ j) o
+
+-- whether a task is on a resource and has a priority number up to p
+abbrev pub has_number_up_to : SystemLists → ℕ → ℕ → ℕ → Bool
+has_number_up_to s r p i = is_on s r i && nat_le (priority_of (task_at s i).turn) p
+
+-- how many tasks on a resource do
+abbrev pub number_up_to : SystemLists → ℕ → ℕ → ℕ
+number_up_to s r p = length (filter (has_number_up_to s r p) (task_places s))
+
+-- the k-th smallest of the priority numbers on a resource, counted from 0: the least up to which there are more than k
+abbrev pub kth_priority : SystemLists → ℕ → ℕ → ℕ
+kth_priority s r k = least_from (λ p. nat_lt k (number_up_to s r p)) 0 MAX_PRIORITY
+
+-- the place of a task in an order, counted from 0
+abbrev pub place_in : List ℕ → ℕ → ℕ
+place_in o i = position_or_len (λ j. j == i) o
+
+-- a task as the order has it
+abbrev pub ordered_task : SystemLists → ℕ → List ℕ → ℕ → Task
+ordered_task s r o i =
+    if is_on s r i then record (task_at s i) { turn = Priority (kth_priority s r (place_in o i)) } else task_at s i
+
+-- the system in which the k-th task of an order has the k-th smallest of the priority numbers on the resource
+unfoldable pub with_order : SystemLists → ℕ → List ℕ → SystemLists
+with_order s r o = record s { tasks = map (ordered_task s r o) (task_places s) }
+
+-- where the path is of this task alone, the bound is at most its deadline
+abbrev pub IsPathInTime : Path → ℕ → Bound → Type 0
+IsPathInTime p i bound = p.tasks ≡ record { 0 = i } ∷ [] → ForSome p.deadline (λ d. IsAtMost bound (Within d))
+
+-- the bound is at most the deadline of each path whose only task is this one
+abbrev pub IsInTime : SystemLists → ℕ → Bound → Type 0
+IsInTime s i bound = (k : ℕ) → k < length s.paths → IsPathInTime (path_at s k) i bound
+
+-- each path whose only task is on the resource is within its deadline, in the least solution under the order
+abbrev pub Meets : SystemLists → ℕ → List ℕ → Type 0
+Meets s r o =
+    (k i : ℕ) → k < length s.paths → (path_at s k).tasks ≡ record { 0 = i } ∷ [] → is_on s r i ≡ true
+    → ForSome (path_at s k).deadline (λ d. IsAtMost (path_worst (least_of (with_order s r o)) (path_at s k)) (Within d))
+
+-- the first list is lexicographically at most the second, which may be longer
+abbrev pub IsLexAtMost : List ℕ → List ℕ → Type 0
+IsLexAtMost [] ys = Unit {0}
+IsLexAtMost (a ∷ xs) [] = ⊥
+IsLexAtMost (a ∷ xs) (b ∷ ys) = (a < b) ⊎ ((a ≡ b) × IsLexAtMost xs ys)
+
+-- the order meets the deadlines, and of all that do it is the least, read from its last member to its first
+pub record IsBestOrder (s : SystemLists) (r : ℕ) (o : List ℕ) : Type 0 where
+  pub order : IsOrder s r o
+  pub meets : Meets s r o
+  pub least : (p : List ℕ) → IsOrder s r p → Meets s r p → IsLexAtMost (reverse o) (reverse p)
+
+-- what is answered of a resource: its best order, or none where no order meets
+abbrev pub IsOrderOf : SystemLists → ℕ → Option (List TaskId) → Type 0
+IsOrderOf s r (Some order) = IsBestOrder s r (places_of order)
+IsOrderOf s r None = (o : List ℕ) → IsOrder s r o → ¬ Meets s r o
+
+-- whether the tasks on a resource of this kind have priorities
+abbrev pub has_priorities : Kind → Bool
+has_priorities Preemptive = true
+has_priorities (Can bit) = true
+has_priorities _ = false
+
+abbrev pub HasPriorities : Kind → Type 0
+HasPriorities kind = IsTrue (has_priorities kind)
+
+-- whether an activator is a source
+abbrev pub is_source : Activator → Bool
+is_source (FromSource k) = true
+is_source (FromTask i) = false
+
+-- whether the tasks on a resource are activated by sources alone
+abbrev pub is_fed_by_sources : SystemLists → ℕ → Bool
+is_fed_by_sources s r = list_all (λ i. is_source (task_at s i).after) (tasks_on s r)
+
+abbrev pub IsFedBySources : SystemLists → ℕ → Type 0
+IsFedBySources s r = IsTrue (is_fed_by_sources s r)
+
+-- a resource that can be given an order
+pub record IsOrderable (s : SystemLists) (r : ℕ) : Type 0 where
+  pub there : r < length s.resources
+  pub kind : HasPriorities (resource_at s r).kind
+  pub fed : IsFedBySources s r

@@ -1,0 +1,62 @@
+-- The bound of a task by the set of tasks above it alone: all other tasks of the resource are below.
+use Rattle.std.specs.Prelude.{ℕ, ◌<◌, ◌≡◌, ◌==◌, ◌&&◌, ◌||◌, not, max, Bool, true, Some, List, filter, fold, map}
+use Rattle.cpa_units.specs.declared.bound.Bound.{Bound}
+use Rattle.cpa_units.specs.declared.bound.Bound.TheVariants.{Overload}
+use Rattle.cpa_events.specs.Events.{Model}
+use Rattle.cpa_window.specs.declared.rivals.Rival.{Rival}
+use Rattle.cpa_spp.specs.Preemptive.{preemptive_bound}
+use Rattle.cpa_can.specs.Can.{can_bound}
+use Rattle.cpa_model.specs.declared.entries.Kind.{Kind}
+use Rattle.cpa_model.specs.declared.entries.Kind.TheVariants.{Preemptive, Can}
+use Rattle.cpa_model.specs.SystemLists.{SystemLists, task_at, resource_at, task_places, root_of}
+use Rattle.cpa_model.specs.Streams.{source_model}
+use Rattle.cpa_assign.specs.Orders.{is_task_on, IsInTime}
+
+-- the event model of the source that begins a task's chain
+abbrev pub root_model : SystemLists → ℕ → Model
+root_model s i = source_model s (root_of s i).0
+
+-- a task as those below it see it; its slot and its own bound don't count
+abbrev pub rival_at : SystemLists → ℕ → Rival
+rival_at s j = record { model = Some (root_model s j); worst = (task_at s j).worst; slot = 0; bound = Overload }
+
+-- the tasks that pass a test, as rivals
+abbrev pub rivals_at : SystemLists → (ℕ → Bool) → List Rival
+rivals_at s test = map (rival_at s) (filter test (task_places s))
+
+-- the greatest execution of the tasks that pass a test, 0 where none does
+abbrev pub greatest_worst : SystemLists → (ℕ → Bool) → ℕ
+greatest_worst s test = fold (λ most j. max most (task_at s j).worst) 0 (filter test (task_places s))
+
+-- whether j is below task i of the resource, where `above` tells which are above
+abbrev pub is_below : SystemLists → ℕ → (ℕ → Bool) → ℕ → ℕ → Bool
+is_below s r above i j = is_task_on s r j && not (above j || j == i)
+
+abbrev pub placed_by_kind : SystemLists → ℕ → (ℕ → Bool) → ℕ → Kind → Bound
+placed_by_kind s r above i Preemptive =
+    preemptive_bound (root_model s i) (task_at s i).worst (rivals_at s above) (resource_at s r).limit
+placed_by_kind s r above i (Can bit) =
+    can_bound (root_model s i) (task_at s i).worst (greatest_worst s (is_below s r above i)) (rivals_at s above) bit (resource_at s r).limit
+placed_by_kind s r above i _ = Overload
+
+-- the bound of task i of a resource below those that `above` tells
+unfoldable pub placed_bound : SystemLists → ℕ → (ℕ → Bool) → ℕ → Bound
+placed_bound s r above i = placed_by_kind s r above i (resource_at s r).kind
+
+-- those that are free but one
+abbrev pub without : (ℕ → Bool) → ℕ → ℕ → Bool
+without free i j = free j && not (j == i)
+
+-- task i is in time below those that `above` tells
+abbrev pub Fits : SystemLists → ℕ → (ℕ → Bool) → ℕ → Type 0
+Fits s r above i = IsInTime s i (placed_bound s r above i)
+
+-- the first of the free tasks that is in time below all others of them
+pub record IsLowestOf (s : SystemLists) (r : ℕ) (free : ℕ → Bool) (i : ℕ) : Type 0 where
+  pub unplaced : free i ≡ true
+  pub fits : Fits s r (without free i) i
+  pub first : (k : ℕ) → k < i → free k ≡ true → ¬ Fits s r (without free k) k
+
+-- none of the free tasks is in time below all others of them
+abbrev pub NoneIsLowest : SystemLists → ℕ → (ℕ → Bool) → Type 0
+NoneIsLowest s r free = (k : ℕ) → free k ≡ true → ¬ Fits s r (without free k) k

@@ -1,0 +1,173 @@
+//! The bound of a task below a set of others.
+
+ghost use Rattle.std.specs.Prelude.{◌≡◌, ◌<◌, ◌≤◌, ◌↔◌, IsTrue, length, vec_capacity, IfSome, IfNone, true};
+ghost use Rattle.cpa_units.specs.declared.limits.TheConstants.{MAX_EXECUTION};
+ghost use Rattle.cpa_units.specs.Sets.{holds};
+ghost use Rattle.cpa_events.specs.Events.{IsModelInRange};
+ghost use Rattle.cpa_window.specs.Rivals.{IsRival, AreRivals};
+ghost use Rattle.cpa_model.specs.SystemLists.{path_at};
+ghost use Rattle.cpa_assign.specs.Orders.{IsInTime, IsPathInTime};
+ghost use Rattle.cpa_assign.specs.Placing.{root_model, rival_at, rivals_at, greatest_worst, is_below, placed_bound, without, IsLowestOf, NoneIsLowest};
+
+use cpa_events::Model;
+use cpa_model::{Kind, System};
+use cpa_units::{Bound, PathId, ResId, TaskId};
+use cpa_window::Rival;
+
+/// The event model of the source that begins a task's chain.
+fn root_model(system: &System, task: TaskId) -> Model
+    requires { task.0 < length system.now.tasks }
+    ensures value { result ≡ root_model system.now task.0 }
+    ensures in_range { IsModelInRange result }
+{
+    Model::one(system.source(system.root(task)).stream())
+}
+
+/// A task as those below it see it.
+fn rival(system: &System, task: TaskId) -> Rival
+    requires { task.0 < length system.now.tasks }
+    ensures value { result ≡ rival_at system.now task.0 }
+    ensures in_range { IsRival result }
+{
+    Rival {
+        model: Some(root_model(system, task)),
+        worst: system.task(task).worst,
+        slot: 0,
+        bound: Bound::Overload,
+    }
+}
+
+/// Whether another task is free, and so above this one at the lowest free place.
+fn stands_above(free: &[bool], task: TaskId, other: TaskId) -> bool
+    requires { other.0 < length free.now }
+    ensures { result ≡ without (holds free.now) task.0 other.0 }
+{
+    free[other.0 as usize] && other.0 != task.0
+}
+
+/// Gathers the tasks above one at the lowest free place, in the room that there is.
+fn gather_above(system: &System, task: TaskId, free: &[bool], rivals: &mut Vec<Rival>)
+    requires there { task.0 < length system.now.tasks }
+    requires marks { length free.now ≡ length system.now.tasks }
+    requires room { length system.now.tasks ≤ vec_capacity rivals.old }
+    ensures value { rivals.new.items ≡ rivals_at system.now (without (holds free.now) task.0) }
+    ensures in_range { AreRivals rivals.new.items }
+    ensures room { vec_capacity rivals.new ≡ vec_capacity rivals.old }
+{
+    rivals.clear();
+    for k in 0..system.tasks() {
+        if stands_above(free, task, TaskId(k)) {
+            rivals.push_reserved(rival(system, TaskId(k)));
+        }
+    }
+}
+
+/// Whether another task of the resource is below this one at the lowest free place.
+fn stands_below(system: &System, res: ResId, free: &[bool], task: TaskId, other: TaskId) -> bool
+    requires there { other.0 < length system.now.tasks }
+    requires marks { length free.now ≡ length system.now.tasks }
+    ensures { result ≡ is_below system.now res.0 (without (holds free.now) task.0) task.0 other.0 }
+{
+    system.task(other).res.0 == res.0 && !(stands_above(free, task, other) || other.0 == task.0)
+}
+
+/// The greatest execution of the tasks below one at the lowest free place, 0 if there are none.
+fn blocking(system: &System, res: ResId, task: TaskId, free: &[bool]) -> u64
+    requires marks { length free.now ≡ length system.now.tasks }
+    ensures value { result ≡ greatest_worst system.now (is_below system.now res.0 (without (holds free.now) task.0) task.0) }
+    ensures in_range { result ≤ MAX_EXECUTION }
+{
+    let mut most: u64 = 0;
+    for k in 0..system.tasks() {
+        if stands_below(system, res, free, task, TaskId(k)) {
+            most = most.max(system.task(TaskId(k)).worst);
+        }
+    }
+    most
+}
+
+/// The bound of a task at the lowest free place, below all others that are free.
+#[tactic(auto, unfolding(crate::specs::Placing::placed_bound))]
+fn lowest_bound(
+    system: &System,
+    res: ResId,
+    task: TaskId,
+    free: &[bool],
+    rivals: &mut Vec<Rival>,
+) -> Bound
+    requires there { task.0 < length system.now.tasks }
+    requires res { res.0 < length system.now.resources }
+    requires marks { length free.now ≡ length system.now.tasks }
+    requires room { length system.now.tasks ≤ vec_capacity rivals.old }
+    ensures value { result ≡ placed_bound system.now res.0 (without (holds free.now) task.0) task.0 }
+    ensures room { vec_capacity rivals.new ≡ vec_capacity rivals.old }
+{
+    gather_above(system, task, free, rivals);
+    let own = root_model(system, task);
+    let worst = system.task(task).worst;
+    let entry = system.resource(res);
+    match entry.kind {
+        Kind::Preemptive => cpa_spp::respond(&own, worst, rivals.as_slice(), entry.limit),
+        Kind::Can { bit } => {
+            let longest = blocking(system, res, task, free);
+            cpa_can::respond(&own, worst, longest, rivals.as_slice(), bit, entry.limit)
+        }
+        Kind::RoundRobin | Kind::Tdma { gap: _ } => Bound::Overload,
+    }
+}
+
+/// Whether a bound of a task is within the deadline of a path, if the path is of that task alone.
+fn is_path_in_time(system: &System, path: PathId, task: TaskId, bound: Bound) -> bool
+    requires { path.0 < length system.now.paths }
+    ensures { IsTrue result ↔ IsPathInTime (path_at system.now path.0) task.0 bound }
+{
+    let entry = system.path(path);
+    if entry.tasks.len() != 1 || entry.tasks.get(0).0 != task.0 {
+        return true;
+    }
+    match entry.deadline {
+        None => true,
+        Some(deadline) => match bound {
+            Bound::Within(ticks) => ticks <= deadline,
+            Bound::Overload => false,
+        },
+    }
+}
+
+/// Whether a bound of a task is within the deadlines of all paths that are of that task alone.
+fn is_in_time(system: &System, task: TaskId, bound: Bound) -> bool
+    ensures { IsTrue result ↔ IsInTime system.now task.0 bound }
+{
+    for k in 0..system.paths() {
+        if !is_path_in_time(system, PathId(k), task, bound) {
+            return false;
+        }
+    }
+    true
+}
+
+/// The first of the free tasks that is in time at the lowest free place, below all others of them.
+pub(crate) fn lowest(
+    system: &System,
+    res: ResId,
+    free: &[bool],
+    rivals: &mut Vec<Rival>,
+) -> Option<TaskId>
+    requires res { res.0 < length system.now.resources }
+    requires marks { length free.now ≡ length system.now.tasks }
+    requires room { length system.now.tasks ≤ vec_capacity rivals.old }
+    ensures found { IfSome result (λ i. IsLowestOf system.now res.0 (holds free.now) i.0) }
+    ensures there { IfSome result (λ i. i.0 < length system.now.tasks) }
+    ensures none { IfNone result (NoneIsLowest system.now res.0 (holds free.now)) }
+    ensures room { vec_capacity rivals.new ≡ vec_capacity rivals.old }
+{
+    for k in 0..system.tasks() {
+        let task = TaskId(k);
+        if free[k as usize]
+            && is_in_time(system, task, lowest_bound(system, res, task, free, rivals))
+        {
+            return Some(task);
+        }
+    }
+    None
+}

@@ -1,0 +1,2 @@
+pub mod SlackLaws
+pub mod OneSlackLaws

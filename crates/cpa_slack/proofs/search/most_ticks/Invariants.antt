@@ -1,0 +1,22 @@
+use Rattle.std.proofs.Common.{◌≡◌, ◌+◌, ◌-◌, ◌<◌, ◌≤◌, length}
+use Rattle.cpa_units.specs.declared.limits.TheConstants.{MAX_TASKS}
+use Rattle.cpa_local.specs.Solution.{least_of}
+use Rattle.cpa_local.specs.Trails.{IsKept, NewMarksAre}
+use Rattle.cpa_slack.specs.Slack.{longer, IsLonger, Holds}
+use Rattle.cpa_slack.proofs.search.most_ticks.Given as goal
+
+abbrev pub invariant-loop-past : goal.invariant-loop-past
+invariant-loop-past g l = record {
+  tried : IsLonger l.system l.task.0 l.tried;
+  least_held : l.least_held ≡ least_of (longer l.system l.task.0 l.holding);
+  below : l.holding < l.past;
+  top : l.past ≤ l.fn.most + 1;
+  holds : Holds (longer l.system l.task.0 l.holding);
+  fails : l.past ≤ l.fn.most → ¬ Holds (longer l.system l.task.0 l.past);
+  kept : IsKept l.fn.trail l.trail;
+  fresh : NewMarksAre l.fn.trail l.trail (λ i. i < length l.system.tasks);
+  room : MAX_TASKS ≤ l.trail.room;
+}
+
+abbrev pub decreases-loop-past : goal.decreases-loop-past
+decreases-loop-past g l = l.past - l.holding
