@@ -23,7 +23,7 @@ expect() {
   if ((got == status)) && [[ $line == "$last"* ]]; then
     printf 'ok    %3d  %-40s %s\n' "$got" "${words:0:40}" "${line:0:70}"
   else
-    printf 'WRONG %3d  %-40s %s\n' "$got" "$words" "${line:0:200}"
+    printf 'WRONG %3d  %-40s %s\n' "$got" "${words:0:200}" "${line:0:200}"
     wrong=1
   fi
 }
@@ -48,6 +48,12 @@ expect_status 20 $? 'a full disk'
 expect_status 20 $? 'a full disk, session'
 "$program" hammer car.toml 1 2 >/dev/full
 expect_status 20 $? 'a full disk, hammer'
+"$program" assign two.toml cpu >/dev/full
+expect_status 20 $? 'a full disk, assign'
+"$program" assign two.toml zz >/dev/full
+expect_status 20 $? 'a full disk, a refused resource'
+"$program" slack car.toml sense0 --workers 8 >/dev/full
+expect_status 20 $? 'a full disk, slack'
 "$program" help >/dev/full
 expect_status 20 $? 'a full disk, refused words'
 
@@ -56,6 +62,12 @@ mkdir folder
 expect 11 'cannot read folder' analyse folder
 expect 11 'cannot read none' analyse none
 expect 11 'cannot read none' session two.toml none
+expect 11 'cannot read folder' assign folder cpu
+expect 11 'cannot read none' slack none a
+expect 18 'assign refused 1' assign two.toml "$(printf '%0100000d' 0)"
+expect 18 'assign refused 1' assign two.toml $'c\npu'
+expect 18 'slack refused 1' slack two.toml sa
+expect 10 'words refused' slack two.toml $'\xff'
 if [ "$(id -u)" != 0 ]; then
   : >closed && chmod 0 closed
   expect 11 'cannot read closed' analyse closed
@@ -105,6 +117,8 @@ def crowd(kind, extra):
 
 for kind, extra in kinds.items():
     write("crowd_" + kind, crowd(kind, extra))
+# the first task is late at each place
+write("late_crowd", crowd("preemptive", "") + '[[path]]\nname = "d"\ntasks = ["t0"]\ndeadline = 1\n')
 
 text = ["format = 1\n"] + [f'[[resource]]\nname = "r{r}"\nkind = "preemptive"\nlimit = 10000000\n' for r in range(64)]
 text += [f'[[source]]\nname = "s{k}"\nperiod = 1000000000\njitter = 1000000000\ndistance = 1000000000\n' for k in range(16)]
@@ -122,6 +136,10 @@ expect 14 'system refused reason 1 file 0' analyse feeds
 expect 14 'system refused reason 1 file 0' analyse comment
 expect 14 'system refused reason 1 file 0' analyse string
 expect 12 'too long longer' analyse longer
+expect 13 'not TOML' assign nested r
+expect 12 'too long longer' assign longer r
+expect 14 'system refused reason 1 file 0' slack feeds t
+expect 12 'too long longer' slack longer t
 expect 0 'summary tasks 2' session two.toml lines
 expect 15 'script refused too many lines' session two.toml more_lines
 expect 15 'script refused line 1' session two.toml one_line
@@ -138,6 +156,15 @@ expect 16 'trace refused row 1 malformed' simulate two.toml fields
 for kind in preemptive round-robin tdma can; do expect 0 'summary tasks 512 overload 0' analyse "crowd_$kind"; done
 expect 0 'summary tasks 512 overload 0' analyse chains
 expect 0 'summary tasks 512 overload 0' analyse chains --workers 64
+for kind in preemptive can; do expect 0 'assigned r tasks 512' assign "crowd_$kind" r; done
+for kind in round-robin tdma; do expect 18 'assign refused 2' assign "crowd_$kind" r; done
+expect 3 'none r' assign late_crowd r
+expect 18 'assign refused 3' assign chains r1
+expect 0 'slack t511 999997 next limit' slack crowd_preemptive t511
+expect 0 'slack t0 999997 next limit' slack crowd_round-robin t0 --workers 64
+expect 3 'slack t1 none' slack late_crowd t1
+expect 0 'slack t0 0 next limit' slack chains t0
+expect 0 'slack t31 0 next limit' slack chains t31 --workers 64
 expect 0 'summary jobs 1 done 1 end 11000000' simulate end.toml end.csv
 expect 0 'summary tasks 2' analyse two.toml --workers 64
 expect 0 'summary tasks 384 overload 0' load 4294967295 128

@@ -79,5 +79,10 @@ try 100000 1 simulate crossing_chains.toml crossing_chains.trace.csv
 try 100000 1 generate 42 3
 try 100000 1 load 42 3
 try 100000 1 hammer two_tasks.toml 1 2
+try 100000 1 assign deadline_order.toml cpu
+try 100000 1 assign sae_can.toml can
+try 100000 1 slack two_tasks.toml b
+try 100000 1 slack sae_can.toml m16 --workers 2
+try 1000 7 slack car_network.toml sense0
 try 1000 7 generate 1 128
 try 1000 7 load 1 128

@@ -1,6 +1,7 @@
 #!/usr/bin/env bash
-# Analyses each system of this folder, replays each trace and takes each script beside one, makes and hammers systems, and
-# compares what is printed with what stands beside it. It ends with 1 where something differs.
+# Analyses each system of this folder, replays each trace and takes each script beside one, makes and hammers systems, looks for
+# priority orders and room to grow, and compares what is printed with what stands beside it. It ends with 1 where something
+# differs.
 cd "$(dirname "$0")" || exit 1
 status=0
 # tell WHAT TEXT WORD..: the command with these words writes the text
@@ -30,5 +31,9 @@ tell "generate 42 1" <(grep -v '^#' made_system.toml) generate 42 1
 tell "load 42 1" made_system.load.txt load 42 1
 tell "hammer long_window.toml 1 1" long_window.hammer.txt hammer long_window.toml 1 1
 tell "hammer crossing_chains.toml 1 20" crossing_chains.hammer.txt hammer crossing_chains.toml 1 20
+tell "assign deadline_order.toml cpu" deadline_order.assign.txt assign deadline_order.toml cpu
+tell "assign sae_can.toml can" sae_can.assign.txt assign sae_can.toml can
+tell "slack sae_can.toml m16" sae_can.slack.txt slack sae_can.toml m16
+tell "slack car_network.toml sense0 --workers 4" car_network.slack.txt slack car_network.toml sense0 --workers 4
 tell "analyse car_network.toml --workers 4" car_network.report.txt analyse car_network.toml --workers 4
 exit "$status"

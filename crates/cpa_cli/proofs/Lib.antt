@@ -1,3 +1,4 @@
+pub mod GrowthLaws
 pub mod MadeLaws
 pub mod OutputLaws
 pub mod PlanLaws

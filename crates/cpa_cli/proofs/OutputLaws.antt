@@ -1,7 +1,9 @@
 -- There is an output of each call, and one only.
-use Rattle.std.proofs.Common.{◌≡◌, ℕ, Bool, true, false, nat_lt, if◌then◌else◌, List, [], length, Option, Some, None, Ok, Err, refl, sym, ◌∙◌, inl}
+use Rattle.std.proofs.Common.{◌≡◌, ◌<◌, ℕ, Bool, true, false, not, nat_lt, if◌then◌else◌, List, [], length, Option, Some, None, Ok, Err, refl, sym, ◌∙◌, inl}
 use Rattle.std.specs.Prelude.{Result, IfSome}
-use Rattle.cpa_model.specs.SystemLists.{SystemLists}
+use Rattle.cpa_units.specs.declared.places.ResId.{ResId}
+use Rattle.cpa_units.specs.declared.places.TaskId.{TaskId}
+use Rattle.cpa_model.specs.SystemLists.{SystemLists, resource_at, resource_named, task_named}
 use Rattle.cpa_model.specs.Rules.{IsSystem}
 use Rattle.cpa_file.specs.Reading.{Reading, NotToml, Refused, Accepted, reading_of}
 use Rattle.cpa_file.proofs.ReadingLaws.{accepted-is_system}
@@ -17,14 +19,17 @@ use Rattle.cpa_units.specs.declared.limits.TheConstants.{MAX_SYSTEM_FILE, MAX_SC
 use Rattle.cpa_sim.specs.Outcome.{outcome_of}
 use Rattle.cpa_sim.specs.SimText.{sim_text}
 use Rattle.cpa_cli.specs.declared.work.Work.TheVariants as work
-use Rattle.cpa_words.specs.Words.{Asked, Analyse, Session, Simulate, Generate, Load, Hammer, IsWithin, accepted}
+use Rattle.cpa_words.specs.Words.{Asked, Analyse, Session, Simulate, Generate, Load, Hammer, Assign, Slack, IsWithin, accepted}
 use Rattle.cpa_words.proofs.WithinLaws.{accepted_within}
 use Rattle.cpa_gen.specs.MadeSystems.{made_system}
-use Rattle.cpa_cli.specs.Lines.{words_refused, too_long, not_toml, system_refused, script_refused, trace_refused, trace_disobeys}
+use Rattle.cpa_cli.specs.Lines.{words_refused, too_long, not_toml, system_refused, script_refused, trace_refused, trace_disobeys, assign_refused, slack_refused}
 use Rattle.cpa_cli.specs.Answers.{Answer, reply}
-use Rattle.cpa_cli.specs.Plan.{Held, Plan, Do, Refuse, Missing, with_content, with_reading, with_system, with_steps, with_script, unless_breach, with_entries, with_trace, plan_for, plan_by, plan_of}
+use Rattle.cpa_cli.specs.Plan.{Held, Plan, Do, Refuse, Missing, with_content, with_reading, with_system, with_steps, with_script, unless_breach, with_entries, with_trace, with_resource, with_task, plan_for, plan_by, plan_of}
 use Rattle.cpa_cli.specs.Output.{IsAnswerTo, IsOutput, HasAnswer, AreAlike, SendsSome}
+use Rattle.cpa_assign.specs.Orders.{has_priorities, is_fed_by_sources, IsOrderable}
+use Rattle.cpa_assign.proofs.AbleLaws.{orderable-from}
 use Rattle.cpa_cli.proofs.SendLaws.{nothing-sent}
+use Rattle.cpa_cli.proofs.GrowthLaws.{resource-there, task-there, some-assigned, one-assigned, some-growth, one-growth}
 use Rattle.cpa_cli.proofs.MadeLaws.{some-summary, one-summary, some-hammered, one-hammered}
 use Rattle.cpa_cli.proofs.ReportLaws.{some-report, one-report}
 use Rattle.cpa_cli.proofs.SessionLaws.{some-session, one-session}
@@ -69,6 +74,20 @@ some-system : (held : Held) (file : List ℕ) (next : SystemLists → Plan) → 
 some-system held file next each =
     some-content file MAX_SYSTEM_FILE (held file) (λ bytes. with_reading file (reading_of bytes) next) (λ bytes. some-reading file (reading_of bytes) next (accepted-is_system bytes) each)
 
+some-resource : (s : SystemLists) (o : Option ResId) (next : ResId → Plan) → ((r : ResId) → o ≡ Some r → r.0 < length s.resources) → ((r : ResId) → IsOrderable s r.0 → HasAnswer (next r)) → HasAnswer (with_resource s o next)
+some-resource s None next there each = (reply 18 (assign_refused 1), refl)
+some-resource s (Some r) next there each = by (has_priorities (resource_at s r.0).kind) refl (is_fed_by_sources s r.0) refl
+  where
+    by : (p : Bool) → has_priorities (resource_at s r.0).kind ≡ p → (f : Bool) → is_fed_by_sources s r.0 ≡ f
+        → HasAnswer (if not p then Refuse 18 (assign_refused 2) else (if not f then Refuse 18 (assign_refused 3) else next r))
+    by false kind f fed = (reply 18 (assign_refused 2), refl)
+    by true kind false fed = (reply 18 (assign_refused 3), refl)
+    by true kind true fed = each r (orderable-from s r.0 (there r refl) kind fed)
+
+some-task : (s : SystemLists) (o : Option TaskId) (next : TaskId → Plan) → ((i : TaskId) → o ≡ Some i → i.0 < length s.tasks) → ((i : TaskId) → i.0 < length s.tasks → HasAnswer (next i)) → HasAnswer (with_task o next)
+some-task s None next there each = (reply 18 slack_refused, refl)
+some-task s (Some i) next there each = each i (there i refl)
+
 some-run : (s : SystemLists) (tr : TraceLists) → HasAnswer (Do (work.Simulate s tr))
 some-run s tr = (reply 0 (sim_text s (outcome_of s tr)), refl)
 
@@ -82,6 +101,12 @@ some-for held (Simulate file trace) within =
 some-for held (Generate number size) within = tt
 some-for held (Load number size workers) within = some-summary number size within.1
 some-for held (Hammer file number traces) within = some-system held file (λ s. Do (work.Hammer s number traces)) (λ s rules. some-hammered s number traces rules)
+some-for held (Assign file resource) within =
+    some-system held file (λ s. with_resource s (resource_named s resource) (λ r. Do (work.Assign s r)))
+    (λ s rules. some-resource s (resource_named s resource) (λ r. Do (work.Assign s r)) (resource-there s resource) (λ r able. some-assigned s r.0 rules able))
+some-for held (Slack file task workers) within =
+    some-system held file (λ s. with_task (task_named s task) (λ i. Do (work.Slack s i workers)))
+    (λ s rules. some-task s (task_named s task) (λ i. Do (work.Slack s i workers)) (task-there s task) (λ i there. some-growth s i.0 rules there))
 
 some-by : (held : Held) (o : Option Asked) → IfSome o IsWithin → HasAnswer (plan_by held o)
 some-by held None within = (reply 10 words_refused, refl)
@@ -99,6 +124,8 @@ nothing-of (Do (work.Session s steps workers)) sent some = nothing-sent (IsAnswe
 nothing-of (Do (work.Simulate s tr)) sent some = nothing-sent (IsAnswerTo (Do (work.Simulate s tr))) some sent
 nothing-of (Do (work.Load number size workers)) sent some = nothing-sent (IsAnswerTo (Do (work.Load number size workers))) some sent
 nothing-of (Do (work.Hammer s number traces)) sent some = nothing-sent (IsAnswerTo (Do (work.Hammer s number traces))) some sent
+nothing-of (Do (work.Assign s r)) sent some = nothing-sent (IsAnswerTo (Do (work.Assign s r))) some sent
+nothing-of (Do (work.Slack s i workers)) sent some = nothing-sent (IsAnswerTo (Do (work.Slack s i workers))) some sent
 nothing-of (Refuse status line) sent some = nothing-sent (IsAnswerTo (Refuse status line)) some sent
 nothing-of Missing sent some = nothing-sent (IsAnswerTo Missing) some sent
 
@@ -114,6 +141,8 @@ one-answer (Do (work.Simulate s tr)) a b h k = h ∙ sym k
 one-answer (Do (work.Generate number size)) a b h k = (h.status_is ∙ sym k.status_is, h.stands ∙ sym k.stands)
 one-answer (Do (work.Load number size workers)) a b h k = one-summary number size (made_system number size) a b h k
 one-answer (Do (work.Hammer s number traces)) a b h k = one-hammered s number traces a b h k
+one-answer (Do (work.Assign s r)) a b h k = one-assigned s r.0 a b h k
+one-answer (Do (work.Slack s i workers)) a b h k = one-growth s i.0 a b h k
 one-answer (Refuse status line) a b h k = h ∙ sym k
 one-answer Missing a b h k = h ∙ sym k
 

@@ -60,6 +60,14 @@ breach_text s (breach.Phase r) = codes "resource " ++ (resource_at s r.0).name
 abbrev pub trace_disobeys : SystemLists → Breach → List ℕ
 trace_disobeys s b = codes "trace disobeys " ++ breach_text s b ++ codes "\n"
 
+-- the line of a resource that can't be given an order
+abbrev pub assign_refused : ℕ → List ℕ
+assign_refused number = codes "assign refused " ++ decimal number ++ codes "\n"
+
+-- the line of a task that isn't there
+abbrev pub slack_refused : List ℕ
+slack_refused = codes "slack refused 1\n"
+
 -- the line of a session that tells of a refused edit
 abbrev pub edit_refused : ℕ → EditRefusal → List ℕ
 edit_refused line number = codes "line " ++ decimal line ++ codes " refused " ++ decimal number.0 ++ codes "\n"

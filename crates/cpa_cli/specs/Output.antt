@@ -2,7 +2,7 @@
 use Rattle.std.specs.Prelude.{◌≡◌, ◌≢◌, ◌⊎◌, ℕ, Bool, true, List, [], Option, Some, None}
 use Rattle.cpa_io.specs.Causes.{grown, Rose, SentPart}
 use Rattle.cpa_file.specs.Reading.{reading_of}
-use Rattle.cpa_words.specs.Words.{Asked, accepted, Analyse, Session, Simulate, Generate, Load, Hammer}
+use Rattle.cpa_words.specs.Words.{Asked, accepted, Analyse, Session, Simulate, Generate, Load, Hammer, Assign, Slack}
 use Rattle.cpa_cli.specs.declared.work.Work.TheVariants as work
 use Rattle.cpa_cli.specs.Plan.{Held, Plan, Do, Refuse, Missing, plan_of, IsAccepted}
 use Rattle.cpa_cli.specs.Answers.{Answer, reply}
@@ -70,6 +70,8 @@ IsNamed told held (Simulate file trace) last = IsSecond told held file trace las
 IsNamed told held (Generate number size) last = ⊥
 IsNamed told held (Load number size workers) last = ⊥
 IsNamed told held (Hammer file number traces) last = last ≡ file
+IsNamed told held (Assign file resource) last = last ≡ file
+IsNamed told held (Slack file task workers) last = last ≡ file
 
 -- a file that the words name is the one whose load failed last, and the count of faults rose
 pub record IsUnread (words : List (List ℕ)) (told : Bool) (held : Held) (before now : ℕ) (last : List ℕ) : Type 0 where

@@ -1,7 +1,9 @@
 -- What a call has to do, by its words and the files that they name, or why it is refused: the order of refusals.
-use Rattle.std.specs.Prelude.{◌≡◌, ℕ, ◌≤◌, nat_lt, if◌then◌else◌, List, length, Option, Some, None, Result, Ok, Err}
+use Rattle.std.specs.Prelude.{◌≡◌, ℕ, ◌≤◌, nat_lt, not, if◌then◌else◌, List, length, Option, Some, None, Result, Ok, Err}
 use Rattle.cpa_units.specs.declared.limits.TheConstants.{MAX_SYSTEM_FILE, MAX_SCRIPT_FILE, MAX_TRACE_FILE}
-use Rattle.cpa_model.specs.SystemLists.{SystemLists}
+use Rattle.cpa_units.specs.declared.places.ResId.{ResId}
+use Rattle.cpa_units.specs.declared.places.TaskId.{TaskId}
+use Rattle.cpa_model.specs.SystemLists.{SystemLists, resource_at, resource_named, task_named}
 use Rattle.cpa_file.specs.Reading.{Reading, NotToml, Refused, Accepted, reading_of}
 use Rattle.cpa_edit.specs.declared.script.Step.{Step}
 use Rattle.cpa_edit.specs.Script.{Read, script_of}
@@ -10,8 +12,9 @@ use Rattle.cpa_trace.specs.declared.fault.TraceFault.{TraceFault}
 use Rattle.cpa_trace.specs.Trace.{TraceLists}
 use Rattle.cpa_trace.specs.Reading.{trace_of}
 use Rattle.cpa_trace.specs.Breaches.{first_breach}
-use Rattle.cpa_words.specs.Words.{Asked, accepted, Analyse, Session, Simulate, Generate, Load, Hammer}
-use Rattle.cpa_cli.specs.Lines.{words_refused, too_long, not_toml, system_refused, script_refused, trace_refused, trace_disobeys}
+use Rattle.cpa_words.specs.Words.{Asked, accepted, Analyse, Session, Simulate, Generate, Load, Hammer, Assign, Slack}
+use Rattle.cpa_assign.specs.Orders.{has_priorities, is_fed_by_sources}
+use Rattle.cpa_cli.specs.Lines.{words_refused, too_long, not_toml, system_refused, script_refused, trace_refused, trace_disobeys, assign_refused, slack_refused}
 use Rattle.cpa_cli.specs.declared.work.Work.{Work}
 use Rattle.cpa_cli.specs.declared.work.Work.TheVariants as work
 
@@ -61,6 +64,18 @@ with_entries s (Err fault) next = Refuse 16 (trace_refused fault)
 abbrev pub with_trace : Held → SystemLists → List ℕ → (TraceLists → Plan) → Plan
 with_trace held s file next = with_content file MAX_TRACE_FILE (held file) (λ bytes. with_entries s (trace_of s bytes) next)
 
+-- a resource that can be given an order
+abbrev pub with_resource : SystemLists → Option ResId → (ResId → Plan) → Plan
+with_resource s None next = Refuse 18 (assign_refused 1)
+with_resource s (Some r) next =
+    if not (has_priorities (resource_at s r.0).kind) then Refuse 18 (assign_refused 2)
+    else (if not (is_fed_by_sources s r.0) then Refuse 18 (assign_refused 3) else next r)
+
+-- a task that is there
+abbrev pub with_task : Option TaskId → (TaskId → Plan) → Plan
+with_task None next = Refuse 18 slack_refused
+with_task (Some i) next = next i
+
 -- what accepted words ask for: the system file is read first, and a made system needs none
 abbrev pub plan_for : Held → Asked → Plan
 plan_for held (Analyse file workers) = with_system held file (λ s. Do (work.Analyse s workers))
@@ -69,6 +84,8 @@ plan_for held (Simulate file trace) = with_system held file (λ s. with_trace he
 plan_for held (Generate number size) = Do (work.Generate number size)
 plan_for held (Load number size workers) = Do (work.Load number size workers)
 plan_for held (Hammer file number traces) = with_system held file (λ s. Do (work.Hammer s number traces))
+plan_for held (Assign file resource) = with_system held file (λ s. with_resource s (resource_named s resource) (λ r. Do (work.Assign s r)))
+plan_for held (Slack file task workers) = with_system held file (λ s. with_task (task_named s task) (λ i. Do (work.Slack s i workers)))
 
 abbrev pub plan_by : Held → Option Asked → Plan
 plan_by held None = Refuse 10 words_refused

@@ -1,7 +1,8 @@
 -- What comes of the work that a call has to do.
-use Rattle.std.specs.Prelude.{◌≡◌, ℕ, List, Some}
+use Rattle.std.specs.Prelude.{◌≡◌, ◌<◌, ℕ, List, length, Option, Some, None}
 use Rattle.std.specs.List.{range_with_len}
 use Rattle.cpa_units.specs.declared.bound.Bound.{Bound}
+use Rattle.cpa_units.specs.declared.places.TaskId.{TaskId}
 use Rattle.cpa_model.specs.SystemLists.{SystemLists}
 use Rattle.cpa_local.specs.Solution.{IsLeast}
 use Rattle.cpa_file.specs.Reading.{Accepted, reading_of}
@@ -14,8 +15,14 @@ use Rattle.cpa_words.specs.Words.{AreWorkers, AreTraces, IsSize}
 use Rattle.cpa_gen.specs.MadeSystems.{made_system}
 use Rattle.cpa_gen.specs.Seen.{seen_over}
 use Rattle.cpa_gen.specs.Texts.{load_text, hammer_text}
+use Rattle.cpa_assign.specs.Orders.{IsOrderOf, IsOrderable}
+use Rattle.cpa_assign.specs.OrderText.{assign_text}
+use Rattle.cpa_slack.specs.declared.slack.Slack.{Slack}
+use Rattle.cpa_slack.specs.declared.slack.Slack.TheVariants.{Missed, Add}
+use Rattle.cpa_slack.specs.Slack.{IsSlack}
+use Rattle.cpa_slack.specs.SlackText.{slack_text}
 use Rattle.cpa_cli.specs.declared.work.Work.{Work}
-use Rattle.cpa_cli.specs.declared.work.Work.TheVariants.{Analyse, Session, Simulate, Generate, Load, Hammer}
+use Rattle.cpa_cli.specs.declared.work.Work.TheVariants.{Analyse, Session, Simulate, Generate, Load, Hammer, Assign, Slack as SlackOf}
 use Rattle.cpa_cli.specs.Answers.{Answer, reply, IsReport}
 use Rattle.cpa_cli.specs.Session.{IsSession}
 
@@ -43,6 +50,30 @@ pub record IsHammered (s : SystemLists) (number traces : ℕ) (answer : Answer) 
   pub status_is : answer.status ≡ Some 0
   pub text_is : answer.text ≡ hammer_text s bounds (seen_over s bounds number (range_with_len 0 traces))
 
+-- an order is found, or no order meets
+abbrev pub order_status : Option (List TaskId) → ℕ
+order_status (Some order) = 0
+order_status None = 3
+
+-- the best order of a resource that meets, or that there is none
+pub record IsAssigned (s : SystemLists) (r : ℕ) (answer : Answer) : Type 0 where
+  pub order : Option (List TaskId)
+  pub is_best : IsOrderOf s r order
+  pub status_is : answer.status ≡ Some (order_status order)
+  pub text_is : answer.text ≡ assign_text s r order
+
+-- there is room, or a deadline is missed already
+abbrev pub slack_status : Slack → ℕ
+slack_status (Add ticks limit) = 0
+slack_status Missed = 3
+
+-- by how much a task may grow
+pub record IsGrowth (s : SystemLists) (i : ℕ) (answer : Answer) : Type 0 where
+  pub slack : Slack
+  pub is_most : IsSlack s i slack
+  pub status_is : answer.status ≡ Some (slack_status slack)
+  pub text_is : answer.text ≡ slack_text s i slack
+
 -- the number of workers is in no answer
 abbrev pub IsDone : Work → Answer → Type 0
 IsDone (Analyse s workers) answer = IsReport s answer
@@ -51,6 +82,8 @@ IsDone (Simulate s tr) answer = answer ≡ reply 0 (sim_text s (outcome_of s tr)
 IsDone (Generate number size) answer = IsFileOf (made_system number size) answer
 IsDone (Load number size workers) answer = IsSummary number size (made_system number size) answer
 IsDone (Hammer s number traces) answer = IsHammered s number traces answer
+IsDone (Assign s r) answer = IsAssigned s r.0 answer
+IsDone (SlackOf s i workers) answer = IsGrowth s i.0 answer
 
 -- its numbers are within the limits, and its names are names
 abbrev pub IsWithinLimits : Work → Type 0
@@ -60,3 +93,5 @@ IsWithinLimits (Simulate s tr) = CanReplay s tr
 IsWithinLimits (Generate number size) = IsSize size
 IsWithinLimits (Load number size workers) = IsSize size × AreWorkers workers
 IsWithinLimits (Hammer s number traces) = AreTraces traces
+IsWithinLimits (Assign s r) = IsOrderable s r.0
+IsWithinLimits (SlackOf s i workers) = (i.0 < length s.tasks) × AreWorkers workers

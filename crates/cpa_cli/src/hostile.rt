@@ -16,13 +16,15 @@ const SCRIPT: &str = "add c cpu sb 1 2 3\nreport\nremove zz\nremove a\n";
 const TRACE: &str = "event,sa,0\nevent,sa,12\nevent,sb,20\nexec,b,2\n";
 
 /// The words of each command.
-const COMMANDS: [&[&str]; 6] = [
+const COMMANDS: [&[&str]; 8] = [
     &["analyse", "sys"],
     &["session", "sys", "scr"],
     &["simulate", "sys", "tr"],
     &["generate", "42", "1"],
     &["load", "42", "1"],
     &["hammer", "sys", "1", "2"],
+    &["assign", "sys", "cpu"],
+    &["slack", "sys", "b"],
 ];
 
 /// A call over the two tasks, the script and the trace.

@@ -2,7 +2,7 @@
 
 ghost use Rattle.std.specs.Prelude.{◌≡◌, ◌++◌, codes, IfOk, OnOk};
 ghost use Rattle.cpa_trace.specs.Breaches.{IsBreachOf};
-ghost use Rattle.cpa_cli.specs.Lines.{words_refused, part_word, system_refused, script_refused, trace_refused, row_refused, breach_text, trace_disobeys, edit_refused};
+ghost use Rattle.cpa_cli.specs.Lines.{words_refused, part_word, system_refused, script_refused, trace_refused, row_refused, breach_text, trace_disobeys, edit_refused, assign_refused, slack_refused};
 
 use cpa_edit::{EditRefusal, ScriptFault};
 use cpa_model::{Part, Refusal, System};
@@ -52,6 +52,23 @@ pub fn refusal_line(alloc: Global, refusal: Refusal) -> Result<Vec<u8>, NoMemory
     text.put_count(b" ", refusal.place)?;
     text.put(b"\n")?;
     Ok(text.into_bytes())
+}
+
+/// The line of a resource that can't be given an order, with the number of the reason.
+pub fn assign_line(alloc: Global, number: u64) -> Result<Vec<u8>, NoMemory>
+    ensures { IfOk result (λ v. v.items ≡ assign_refused number) }
+{
+    let mut text = Text::new(alloc);
+    text.put_count(b"assign refused ", number)?;
+    text.put(b"\n")?;
+    Ok(text.into_bytes())
+}
+
+/// The line of a task that isn't there.
+pub fn slack_line(alloc: Global) -> Result<Vec<u8>, NoMemory>
+    ensures { IfOk result (λ v. v.items ≡ slack_refused) }
+{
+    Ok(Vec::from_slice(alloc, b"slack refused 1\n")?)
 }
 
 /// The line of a script that is refused; want of memory has none.

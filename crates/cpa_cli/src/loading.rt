@@ -1,30 +1,39 @@
 //! What the words ask for, with the files that they name.
 
-ghost use Rattle.std.specs.Prelude.{◌≡◌, ◌≤◌, ℕ, true, List, map, string_bytes, length, Some, IfOk, IfErr};
+ghost use Rattle.std.specs.Prelude.{◌≡◌, ◌<◌, ◌≤◌, ℕ, true, List, map, string_bytes, length, Some, IfOk, IfErr};
 ghost use Rattle.cpa_units.specs.declared.limits.TheConstants.{MAX_TRACE_FILE};
 ghost use Rattle.cpa_file.specs.Reading.{Accepted, reading_of};
 ghost use Rattle.cpa_edit.specs.declared.script.Step.{Step};
 ghost use Rattle.cpa_edit.specs.Script.{script_of, AreNamed};
 ghost use Rattle.cpa_trace.specs.Reading.{trace_of};
-ghost use Rattle.cpa_model.specs.SystemLists.{SystemLists};
+ghost use Rattle.cpa_units.specs.declared.places.ResId.{ResId};
+ghost use Rattle.cpa_units.specs.declared.places.TaskId.{TaskId};
+ghost use Rattle.cpa_model.specs.SystemLists.{SystemLists, resource_named, task_named};
+ghost use Rattle.cpa_assign.specs.Orders.{IsOrderable};
+ghost use Rattle.cpa_cli.specs.declared.ended.Ended.TheVariants.{Refused};
 ghost use Rattle.cpa_trace.specs.Trace.{TraceLists};
 ghost use Rattle.cpa_sim.specs.Outcome.{CanReplay};
-ghost use Rattle.cpa_words.specs.Words.{Analyse, Session, Simulate, Hammer, AreWorkers, AreTraces, IsWithin};
+ghost use Rattle.cpa_words.specs.Words.{Analyse, Session, Simulate, Hammer, Assign, Slack, AreWorkers, AreTraces, IsWithin};
 ghost use Rattle.cpa_words.specs.Commands.{asked};
-ghost use Rattle.cpa_cli.specs.Plan.{Plan, Do, with_content, with_reading, with_system, with_steps, with_script, with_entries, with_trace, plan_for, plan_of, IsAccepted};
+ghost use Rattle.cpa_cli.specs.Plan.{Plan, Do, with_content, with_reading, with_system, with_steps, with_script, with_entries, with_trace, with_resource, with_task, plan_for, plan_of, IsAccepted};
 ghost use Rattle.cpa_cli.specs.Work.{IsWithinLimits};
 ghost use Rattle.cpa_cli.specs.Output.{IsNamed, IsSecond};
 ghost use Rattle.cpa_cli.specs.Ends.{IsEndOf, HasStatus, IsUnreadFile, IsNoUnread, IsUnreadCall};
 
 use crate::ended::{Ended, Reply};
-use crate::lines::{breach_line, file_line, refusal_line, script_line, trace_line, words_line};
+use crate::lines::{
+    assign_line, breach_line, file_line, refusal_line, script_line, slack_line, trace_line,
+    words_line,
+};
 use crate::work::Work;
+use cpa_assign::{has_priorities, is_fed_by_sources};
 use cpa_edit::{Script, ScriptFault, read_script};
 use cpa_file::{FileRefusal, read_system};
 use cpa_io::{Files, LoadFault};
 use cpa_model::System;
 use cpa_trace::{Trace, TraceFault, obeys, read_trace};
 use cpa_units::limits::{MAX_SCRIPT_FILE, MAX_SYSTEM_FILE, MAX_TRACE_FILE};
+use cpa_units::{ResId, TaskId};
 use cpa_words::{Command, accept};
 use std::alloc::Global;
 
@@ -253,6 +262,92 @@ fn plan_hammering<F: Files>(
     })
 }
 
+/// The resource of a name, which can be given an order.
+fn find_resource(alloc: Global, system: &System, name: &str) -> Result<ResId, Ended>
+    ensures planned { (next : ResId → Plan) → IfOk result (λ r. with_resource system.now (resource_named system.now name.now) next ≡ next r) }
+    ensures able { IfOk result (λ r. IsOrderable system.now r.0) }
+    ensures ended { (next : ResId → Plan) → IfErr result (IsEndOf (with_resource system.now (resource_named system.now name.now) next)) }
+    ensures status { IfErr result HasStatus }
+    ensures unread { IfErr result IsNoUnread }
+{
+    let Some(res) = system.find_resource(name.as_bytes()) else {
+        return Err(refused_by(assign_line(alloc, 1)?));
+    };
+    if !has_priorities(system, res) {
+        return Err(refused_by(assign_line(alloc, 2)?));
+    }
+    if !is_fed_by_sources(system, res) {
+        return Err(refused_by(assign_line(alloc, 3)?));
+    }
+    Ok(res)
+}
+
+/// The end of a call whose resource or task is refused.
+fn refused_by(line: Vec<u8>) -> Ended
+    ensures { result ≡ Refused (record { status = 18; text = line }) }
+{
+    Ended::Refused(Reply {
+        status: 18,
+        text: line,
+    })
+}
+
+/// The task of a name.
+fn find_task(alloc: Global, system: &System, name: &str) -> Result<TaskId, Ended>
+    ensures planned { (next : TaskId → Plan) → IfOk result (λ i. with_task (task_named system.now name.now) next ≡ next i) }
+    ensures there { IfOk result (λ i. i.0 < length system.now.tasks) }
+    ensures ended { (next : TaskId → Plan) → IfErr result (IsEndOf (with_task (task_named system.now name.now) next)) }
+    ensures status { IfErr result HasStatus }
+    ensures unread { IfErr result IsNoUnread }
+{
+    match system.find_task(name.as_bytes()) {
+        Some(task) => Ok(task),
+        None => Err(refused_by(slack_line(alloc)?)),
+    }
+}
+
+/// The work of a priority order.
+fn plan_assigning<F: Files>(
+    alloc: Global,
+    files: &mut F,
+    file: &str,
+    resource: &str,
+) -> Result<Work, Ended>
+    ensures planned { F.told files.old ≡ true → IfOk result (λ work. plan_for (F.held files.old) (Assign file.now resource.now) ≡ Do work) }
+    ensures limits { IfOk result IsWithinLimits }
+    ensures ended { F.told files.old ≡ true → IfErr result (IsEndOf (plan_for (F.held files.old) (Assign file.now resource.now))) }
+    ensures status { IfErr result HasStatus }
+    ensures unread { IfErr result (IsUnreadFile (λ last. last ≡ file.now) (F.faults files.old) (F.faults files.new) (F.last_failed files.new)) }
+{
+    let system = load_system(alloc, files, file)?;
+    let res = find_resource(alloc, &system, resource)?;
+    Ok(Work::Assign { system, res })
+}
+
+/// The work of a slack.
+fn plan_slack<F: Files>(
+    alloc: Global,
+    files: &mut F,
+    file: &str,
+    task: &str,
+    workers: u32,
+) -> Result<Work, Ended>
+    requires { AreWorkers workers }
+    ensures planned { F.told files.old ≡ true → IfOk result (λ work. plan_for (F.held files.old) (Slack file.now task.now workers) ≡ Do work) }
+    ensures limits { IfOk result IsWithinLimits }
+    ensures ended { F.told files.old ≡ true → IfErr result (IsEndOf (plan_for (F.held files.old) (Slack file.now task.now workers))) }
+    ensures status { IfErr result HasStatus }
+    ensures unread { IfErr result (IsUnreadFile (λ last. last ≡ file.now) (F.faults files.old) (F.faults files.new) (F.last_failed files.new)) }
+{
+    let system = load_system(alloc, files, file)?;
+    let task = find_task(alloc, &system, task)?;
+    Ok(Work::Slack {
+        system,
+        task,
+        workers,
+    })
+}
+
 /// What a command asks for.
 fn plan_command<F: Files>(alloc: Global, files: &mut F, command: Command) -> Result<Work, Ended>
     requires { IsWithin (asked command) }
@@ -285,6 +380,12 @@ fn plan_command<F: Files>(alloc: Global, files: &mut F, command: Command) -> Res
             number,
             traces,
         } => plan_hammering(alloc, files, file, number, traces),
+        Command::Assign { file, resource } => plan_assigning(alloc, files, file, resource),
+        Command::Slack {
+            file,
+            task,
+            workers,
+        } => plan_slack(alloc, files, file, task, workers),
     }
 }
 

@@ -18,6 +18,8 @@ mod lines;
 mod loading;
 #[cfg(test)]
 mod made;
+#[cfg(test)]
+mod orders;
 mod performing;
 #[cfg(test)]
 mod rounds;

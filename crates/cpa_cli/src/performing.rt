@@ -1,15 +1,16 @@
 //! The work of the commands.
 
-ghost use Rattle.std.specs.Prelude.{◌≡◌, ◌≤◌, ◌⊎◌, Err, IfOk, OnErr};
+ghost use Rattle.std.specs.Prelude.{◌≡◌, ◌<◌, ◌≤◌, ◌⊎◌, length, Err, IfOk, OnErr};
 ghost use Rattle.cpa_io.specs.Causes.{Rose};
 ghost use Rattle.cpa_words.specs.Words.{AreTraces, IsSize};
+ghost use Rattle.cpa_assign.specs.Orders.{IsOrderable};
 ghost use Rattle.cpa_gen.specs.MadeSystems.{made_system};
 ghost use Rattle.cpa_sim.specs.Outcome.{CanReplay, outcome_of};
 ghost use Rattle.cpa_sim.specs.SimText.{sim_text};
 ghost use Rattle.cpa_cli.specs.declared.ended.Stopped.TheVariants as stopped;
 ghost use Rattle.cpa_cli.specs.Answers.{reply, IsReport};
 ghost use Rattle.cpa_cli.specs.Plan.{Do};
-ghost use Rattle.cpa_cli.specs.Work.{IsDone, IsFileOf, IsHammered, IsSummary, IsWithinLimits};
+ghost use Rattle.cpa_cli.specs.Work.{IsAssigned, IsDone, IsFileOf, IsGrowth, IsHammered, IsSummary, IsWithinLimits, order_status, slack_status};
 ghost use Rattle.cpa_cli.specs.Output.{IsOfOutput, Sends, SendsPart, SendsSome};
 
 use crate::analysis::least_bounds;
@@ -17,14 +18,19 @@ use crate::ended::Stopped;
 use crate::sending::{send, send_report};
 use crate::session::run_session;
 use crate::work::Work;
+use cpa_assign::{Order, assign_text};
 use cpa_file::print_system;
 use cpa_fix::{OneByOne, Round};
 use cpa_gen::{hammer_text, load_text, make_system};
 use cpa_io::Sink;
+use cpa_local::Trail;
 use cpa_model::System;
 use cpa_report::verdict;
 use cpa_sim::{replay, sim_text};
+use cpa_slack::{Slack, find_slack, slack_text};
 use cpa_trace::Trace;
+use cpa_units::limits::MAX_TASKS;
+use cpa_units::{ResId, TaskId};
 use cpa_workers::{Gate, Shared};
 use std::alloc::Global;
 use std::thread::Threads;
@@ -126,6 +132,64 @@ fn hammer<H: Threads + Sync, K: Sink>(
     send(sink, 0, text.as_slice())
 }
 
+/// Whether an order meets, as a status.
+fn order_status(order: &Option<Order>) -> u8
+    ensures { result ≡ order_status order.now }
+{
+    match order {
+        Some(_) => 0,
+        None => 3,
+    }
+}
+
+/// Whether there is room, as a status.
+fn slack_status(slack: &Slack) -> u8
+    ensures { result ≡ slack_status slack.now }
+{
+    match slack {
+        Slack::Add { ticks: _, limit: _ } => 0,
+        Slack::Missed => 3,
+    }
+}
+
+/// Sends the best priority order of a resource, or that no order meets.
+fn assign<K: Sink>(alloc: Global, system: &System, res: ResId, sink: &mut K) -> Result<u8, Stopped>
+    requires { IsOrderable system.now res.0 }
+    ensures sends { IfOk result (λ status. Sends (IsAssigned system.now res.0) status (K.sent sink.old) (K.sent sink.new)) }
+    ensures status { IfOk result IsOfOutput }
+    ensures part { OnErr result (SendsPart (IsAssigned system.now res.0) (K.sent sink.old) (K.sent sink.new)) }
+    ensures rises { K.faults sink.old ≤ K.faults sink.new }
+    ensures failed { result ≡ Err stopped.Sink → Rose (K.faults sink.old) (K.faults sink.new) }
+{
+    system.has_rules();
+    let order = cpa_assign::assign(alloc, system, res)?;
+    let text = assign_text(alloc, system, res, &order)?;
+    send(sink, order_status(&order), text.as_slice())
+}
+
+/// Sends by how much a task may grow.
+fn slack<H: Threads + Sync, R: Round, K: Sink>(
+    rt: &H,
+    alloc: Global,
+    system: &System,
+    task: TaskId,
+    round: &mut R,
+    sink: &mut K,
+) -> Result<u8, Stopped>
+    requires { task.0 < length system.now.tasks }
+    ensures sends { IfOk result (λ status. Sends (IsGrowth system.now task.0) status (K.sent sink.old) (K.sent sink.new)) }
+    ensures status { IfOk result IsOfOutput }
+    ensures part { OnErr result (SendsPart (IsGrowth system.now task.0) (K.sent sink.old) (K.sent sink.new)) }
+    ensures rises { K.faults sink.old ≤ K.faults sink.new }
+    ensures failed { result ≡ Err stopped.Sink → Rose (K.faults sink.old) (K.faults sink.new) }
+{
+    system.has_rules();
+    let mut trail = Trail::with_room(alloc, MAX_TASKS as u32)?;
+    let slack = find_slack(rt, alloc, system, task, round, &mut trail)?;
+    let text = slack_text(alloc, system, task, &slack)?;
+    send(sink, slack_status(&slack), text.as_slice())
+}
+
 /// Does the work, and sends what comes of it. Workers pass the gate before each analysis.
 pub fn perform<H: Threads + Sync, K: Sink, G: Gate>(
     rt: &H,
@@ -171,5 +235,14 @@ where
             number,
             traces,
         } => hammer(rt, alloc, &system, number, traces, sink),
+        Work::Assign { system, res } => assign(alloc, &system, res, sink),
+        Work::Slack {
+            system,
+            task,
+            workers,
+        } => {
+            let mut round = Shared::new(workers, gate);
+            slack(rt, alloc, &system, task, &mut round, sink)
+        }
     }
 }

@@ -3,6 +3,7 @@
 use cpa_edit::Script;
 use cpa_model::System;
 use cpa_trace::Trace;
+use cpa_units::{ResId, TaskId};
 
 /// What a call has to do, once all that it reads is accepted.
 #[derive(Drop)]
@@ -39,5 +40,16 @@ pub enum Work {
         system: System,
         number: u64,
         traces: u64,
+    },
+    /// A priority order of a resource that can be given one.
+    Assign {
+        system: System,
+        res: ResId,
+    },
+    /// By how much a task may grow, by 1 to 64 workers.
+    Slack {
+        system: System,
+        task: TaskId,
+        workers: u32,
     },
 }

@@ -45,6 +45,8 @@ words_arranged verb.Simulate words = nowhere words
 words_arranged verb.Generate words = nowhere words
 words_arranged verb.Load words = arranged words
 words_arranged verb.Hammer words = nowhere words
+words_arranged verb.Assign words = nowhere words
+words_arranged verb.Slack words = arranged words
 
 counted : (n : ℕ) (s : Sorted) → is_regular n s ≡ true → length s.operands ≡ n
 counted n s e = (Decides-eqb (length s.operands) n).0 (both (length s.operands == n) (list_all is_operand s.operands && option_map_or is_operand s.workers true) e).0
@@ -63,6 +65,8 @@ words_readable verb.Simulate words e = readable 2 _ (omega arith) (omega arith) 
 words_readable verb.Generate words e = readable 2 _ (omega arith) (omega arith) (λ h. refl) e
 words_readable verb.Load words e = readable 2 _ (omega arith) (omega arith) (λ h. absurd (omega (arith, h))) e
 words_readable verb.Hammer words e = readable 3 _ (omega arith) (omega arith) (λ h. refl) e
+words_readable verb.Assign words e = readable 2 _ (omega arith) (omega arith) (λ h. refl) e
+words_readable verb.Slack words e = readable 2 _ (omega arith) (omega arith) (λ h. absurd (omega (arith, h))) e
 
 abbrev Regular : Verb → List (List ℕ) → Bool
 Regular verb words = is_regular (operands_of verb) (words_of verb words)

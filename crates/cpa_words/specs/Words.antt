@@ -8,7 +8,7 @@ use Rattle.cpa_words.specs.declared.verb.Verb.{Verb}
 use Rattle.cpa_words.specs.declared.verb.Verb.TheVariants as verb
 use Rattle.cpa_words.specs.Numbers.{number_within}
 
--- what accepted words ask for; files are told by their words
+-- what accepted words ask for; files, resources and tasks are told by their words
 pub data Asked : Type 0 where
   -- the report of the system in a file, by so many workers
   Analyse : List ℕ → ℕ → Asked
@@ -22,6 +22,10 @@ pub data Asked : Type 0 where
   Load : ℕ → ℕ → ℕ → Asked
   -- what is observed of the system in a file under the made traces of a number
   Hammer : List ℕ → ℕ → ℕ → Asked
+  -- a priority order of the resource with a name, of the system in a file
+  Assign : List ℕ → List ℕ → Asked
+  -- by how much the task with a name may grow, of the system in a file, by so many workers
+  Slack : List ℕ → List ℕ → ℕ → Asked
 
 -- so many workers, numbers, sizes and traces as there may be
 abbrev pub AreWorkers : ℕ → Type 0
@@ -44,6 +48,8 @@ IsWithin (Simulate file trace) = Unit {0}
 IsWithin (Generate number size) = IsNumber number × IsSize size
 IsWithin (Load number size workers) = IsNumber number × IsSize size × AreWorkers workers
 IsWithin (Hammer file number traces) = IsNumber number × AreTraces traces
+IsWithin (Assign file resource) = Unit {0}
+IsWithin (Slack file task workers) = AreWorkers workers
 
 -- the command of a name
 abbrev pub verb_of : List ℕ → Option Verb
@@ -52,7 +58,9 @@ verb_of word = if bytes_eq word (codes "analyse") then Some verb.Analyse
     else (if bytes_eq word (codes "simulate") then Some verb.Simulate
     else (if bytes_eq word (codes "generate") then Some verb.Generate
     else (if bytes_eq word (codes "load") then Some verb.Load
-    else (if bytes_eq word (codes "hammer") then Some verb.Hammer else None)))))
+    else (if bytes_eq word (codes "hammer") then Some verb.Hammer
+    else (if bytes_eq word (codes "assign") then Some verb.Assign
+    else (if bytes_eq word (codes "slack") then Some verb.Slack else None)))))))
 
 -- how many operands it has
 abbrev pub operands_of : Verb → ℕ
@@ -65,6 +73,7 @@ abbrev pub takes_workers : Verb → Bool
 takes_workers verb.Analyse = true
 takes_workers verb.Session = true
 takes_workers verb.Load = true
+takes_workers verb.Slack = true
 takes_workers _ = false
 
 -- a word that isn't empty and doesn't begin with a dash
@@ -132,6 +141,8 @@ asked_for verb.Simulate s = Some (Simulate (operand s 0) (operand s 1))
 asked_for verb.Generate s = with_numbers Generate (number_within 0 MAX_NUMBER (operand s 0)) (number_within 0 MAX_SIZE (operand s 1))
 asked_for verb.Load s = loaded (number_within 0 MAX_NUMBER (operand s 0)) (number_within 0 MAX_SIZE (operand s 1)) (workers_of s.workers)
 asked_for verb.Hammer s = with_numbers (Hammer (operand s 0)) (number_within 0 MAX_NUMBER (operand s 1)) (number_within 1 MAX_TRACES (operand s 2))
+asked_for verb.Assign s = Some (Assign (operand s 0) (operand s 1))
+asked_for verb.Slack s = option_map (Slack (operand s 0) (operand s 1)) (workers_of s.workers)
 
 -- what the words after a command ask for
 abbrev pub asked_by : List (List ℕ) → Verb → Option Asked

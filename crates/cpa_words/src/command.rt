@@ -49,6 +49,17 @@ pub enum Command<'a> {
         number: u64,
         traces: u64,
     },
+    /// A priority order of a resource of a system.
+    Assign {
+        file: &'a str,
+        resource: &'a str,
+    },
+    /// By how much a task of a system may grow, by 1 to 64 workers.
+    Slack {
+        file: &'a str,
+        task: &'a str,
+        workers: u32,
+    },
 }
 
 /// The number of workers, 1 where it isn't given.
@@ -102,6 +113,15 @@ fn command_of<'a>(verb: Verb, found: Operands<'a>) -> Option<Command<'a>>
             file: found.first?,
             number: number_within(found.second?, 0, MAX_NUMBER)?,
             traces: number_within(found.third?, 1, MAX_TRACES)?,
+        }),
+        Verb::Assign => Some(Command::Assign {
+            file: found.first?,
+            resource: found.second?,
+        }),
+        Verb::Slack => Some(Command::Slack {
+            file: found.first?,
+            task: found.second?,
+            workers: workers_of(found.workers)?,
         }),
     }
 }

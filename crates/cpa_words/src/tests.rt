@@ -105,6 +105,29 @@ const ACCEPTED: &[(&str, Command<'static>)] = &[
             traces: 10_000,
         },
     ),
+    (
+        "assign sys bus",
+        Command::Assign {
+            file: "sys",
+            resource: "bus",
+        },
+    ),
+    (
+        "slack sys b",
+        Command::Slack {
+            file: "sys",
+            task: "b",
+            workers: 1,
+        },
+    ),
+    (
+        "slack sys --workers=2 assign",
+        Command::Slack {
+            file: "sys",
+            task: "assign",
+            workers: 2,
+        },
+    ),
 ];
 
 /// Words with a blank between each two that ask for nothing.
@@ -129,6 +152,8 @@ const REFUSED: &[&str] = &[
     "generate 1",
     "load 1",
     "hammer sys 1",
+    "assign sys",
+    "slack sys",
     // A word too many.
     "analyse sys sys",
     "session sys edits 1",
@@ -136,6 +161,8 @@ const REFUSED: &[&str] = &[
     "generate 1 2 3",
     "load 1 2 3",
     "hammer sys 1 2 3",
+    "assign sys bus 1",
+    "slack sys b 1",
     // A word that is empty.
     " analyse sys",
     "analyse ",
@@ -146,6 +173,8 @@ const REFUSED: &[&str] = &[
     "generate 1 ",
     "load  1 2",
     "hammer  1 2",
+    "assign sys ",
+    "slack  b",
     // A word that begins with a dash.
     "analyse -",
     "analyse -sys",
@@ -160,6 +189,8 @@ const REFUSED: &[&str] = &[
     "hammer - 1 2",
     "hammer sys - 2",
     "hammer sys 1 -",
+    "assign sys -x",
+    "slack sys -x",
     "analyse -- sys",
     "analyse sys --",
     "analyse sys -h",
@@ -199,6 +230,9 @@ const REFUSED: &[&str] = &[
     "load 1 2 --workers",
     "hammer sys 1 2 --workers 1",
     "hammer sys 1 --workers=1 2",
+    "assign sys bus --workers 2",
+    "slack sys b --workers 0",
+    "slack sys --workers 2",
     // Numbers that aren't one, or are past their range.
     "generate +1 2",
     "generate 1 +2",

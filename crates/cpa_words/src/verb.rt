@@ -12,6 +12,8 @@ pub enum Verb {
     Generate,
     Load,
     Hammer,
+    Assign,
+    Slack,
 }
 
 impl Verb {
@@ -31,6 +33,10 @@ impl Verb {
             Some(Verb::Load)
         } else if word == "hammer" {
             Some(Verb::Hammer)
+        } else if word == "assign" {
+            Some(Verb::Assign)
+        } else if word == "slack" {
+            Some(Verb::Slack)
         } else {
             None
         }
@@ -42,7 +48,12 @@ impl Verb {
     {
         match self {
             Verb::Analyse => 1,
-            Verb::Session | Verb::Simulate | Verb::Generate | Verb::Load => 2,
+            Verb::Session
+            | Verb::Simulate
+            | Verb::Generate
+            | Verb::Load
+            | Verb::Assign
+            | Verb::Slack => 2,
             Verb::Hammer => 3,
         }
     }
@@ -51,6 +62,9 @@ impl Verb {
     pub fn takes_workers(self) -> bool
         ensures { result ≡ takes_workers self }
     {
-        matches!(self, Verb::Analyse | Verb::Session | Verb::Load)
+        matches!(
+            self,
+            Verb::Analyse | Verb::Session | Verb::Load | Verb::Slack
+        )
     }
 }

@@ -1,0 +1,83 @@
+#!/usr/bin/env python3
+"""Holds the answers of `lokwurmi slack` against `lokwurmi analyse`, over random systems.
+
+The systems are those of compare.py, with all four kinds and paths over two tasks, and every task of each is asked for. In three
+of four the deadlines are made anew, so that all are met, with more or less to spare. With as many ticks as are told all
+deadlines have to be met, with one more not, or the execution is the greatest there is; and where there is none, one has to be
+missed already. One worker and two have to answer alike. Ends with 1 at the first answer that doesn't fit.
+
+    python3 bench/check_slack.py [NUMBER of systems, 300 if absent] [NUMBER to begin with, 0 if absent]
+"""
+import random
+import re
+import subprocess
+import sys
+import tempfile
+
+from calls import built
+from compare import made_system
+
+PROGRAM = built("cpa_cli")
+MOST = 1_000_000
+
+
+def call(text, *words):
+    """The status and the text of a call over a file with this text."""
+    with tempfile.NamedTemporaryFile("w", suffix=".toml") as file:
+        file.write(text)
+        file.flush()
+        done = subprocess.run([PROGRAM, words[0], file.name, *words[1:]], capture_output=True, text=True, check=False)
+    return done.returncode, done.stdout
+
+
+def holds(text):
+    return not re.search(r"^path .* (missed|unknown)$", call(text, "analyse")[1], re.M)
+
+
+def relaxed(text, number):
+    """The system with deadlines that are met, and none where a path has no bound."""
+    pick = random.Random(number)
+    for path, worst in re.findall(r"^path (\S+) best \d+ worst (\S+)", call(text, "analyse")[1], re.M):
+        deadline = "" if worst == "overload" else f"\ndeadline = {int(worst) + pick.randint(0, int(worst))}"
+        text = re.sub(rf'(name = "{path}"\ntasks = .*)\ndeadline = \d+', rf"\g<1>{deadline}", text)
+    return text
+
+
+def longer(text, task, ticks):
+    """The system with so many ticks more for the task, and its greatest execution by then."""
+    form = rf'(name = "{task}"\n(?:.*\n){{3}}worst = )(\d+)'
+    worst = int(re.search(form, text)[2]) + ticks
+    return re.sub(form, rf"\g<1>{worst}", text), worst
+
+
+def fits(text, task, answer):
+    if answer == (3, f"slack {task} none\n"):
+        return not holds(text)
+    told = re.fullmatch(rf"slack {task} (\d+) next (missed|limit)\n", answer[1])
+    if answer[0] or not told:
+        return False
+    system, worst = longer(text, task, int(told[1]))
+    if worst > MOST or not holds(system):
+        return False
+    return worst == MOST if told[2] == "limit" else worst < MOST and not holds(longer(text, task, int(told[1]) + 1)[0])
+
+
+def main():
+    count = int(sys.argv[1]) if len(sys.argv) > 1 else 300
+    begin = int(sys.argv[2]) if len(sys.argv) > 2 else 0
+    ends = {"missed": 0, "limit": 0, "none": 0}
+    for number in range(begin, begin + count):
+        text = made_system(number)
+        if number % 4:
+            text = relaxed(text, number)
+        for task in re.findall(r'^name = "(t\d+)"', text, re.M):
+            answer = call(text, "slack", task)
+            if not fits(text, task, answer) or call(text, "slack", task, "--workers", "2") != answer:
+                print(f"system {number}, task {task}: {answer}\n{text}")
+                sys.exit(1)
+            ends[answer[1].split()[-1]] += 1
+    print(f"{count} systems, answers that end with missed, limit and none: {list(ends.values())}")
+
+
+if __name__ == "__main__":
+    main()

@@ -1,0 +1,179 @@
+//! Priority orders, and room to grow.
+
+use crate::cases::{CROSSING_CHAINS, CUT_NAME, DAVIS_BUS, ENDLESS_JITTER, TDMA_GAP, TWO_TASKS};
+use crate::tests::{NO_FAULTS, call};
+use std::process::Abort;
+use std::test::Fail;
+use std::thread::Threads;
+
+/// The bus of Davis and others with a deadline of 250 for each message, which none meets at the lowest place.
+const LATE_BUS: &str = r#"format = 1
+resource = [{ name = "bus", kind = "can", bit = 1 }]
+source = [{ name = "s1", period = 250 }, { name = "s2", period = 350 }, { name = "s3", period = 350 }]
+task = [
+  { name = "m1", on = "bus", after = "s1", best = 100, worst = 100, priority = 1 },
+  { name = "m2", on = "bus", after = "s2", best = 100, worst = 100, priority = 2 },
+  { name = "m3", on = "bus", after = "s3", best = 100, worst = 100, priority = 3 },
+]
+path = [
+  { name = "d1", tasks = ["m1"], deadline = 250 },
+  { name = "d2", tasks = ["m2"], deadline = 250 },
+  { name = "d3", tasks = ["m3"], deadline = 250 },
+]
+"#;
+
+/// A processor without tasks.
+const IDLE: &str = r#"format = 1
+resource = [{ name = "p", kind = "preemptive" }]
+"#;
+
+/// The two tasks, with a deadline for `b`: its bound is 14 with a tick more, and 15 with two.
+const TWO_IN_TIME: &str = r#"format = 1
+resource = [{ name = "cpu", kind = "preemptive" }]
+source = [{ name = "sa", period = 10 }, { name = "sb", period = 20 }]
+task = [
+  { name = "a", on = "cpu", after = "sa", best = 1, worst = 3, priority = 1 },
+  { name = "b", on = "cpu", after = "sb", best = 2, worst = 7, priority = 2 },
+]
+path = [{ name = "db", tasks = ["b"], deadline = 14 }]
+"#;
+
+/// Two chains whose jitters feed each other without end, and no deadline.
+const ENDLESS_WITHOUT_DEADLINE: &str = r#"format = 1
+resource = [
+  { name = "p", kind = "preemptive", limit = 1000 },
+  { name = "q", kind = "preemptive", limit = 1000 },
+  { name = "r", kind = "preemptive" },
+]
+source = [{ name = "sa", period = 100 }, { name = "sb", period = 100 }, { name = "sc", period = 50, jitter = 5 }]
+task = [
+  { name = "a1", on = "p", after = "sa", best = 1, worst = 30, priority = 2 },
+  { name = "a2", on = "q", after = "a1", best = 1, worst = 60, priority = 1 },
+  { name = "b1", on = "q", after = "sb", best = 1, worst = 30, priority = 2 },
+  { name = "b2", on = "p", after = "b1", best = 1, worst = 60, priority = 1 },
+  { name = "c", on = "r", after = "sc", best = 2, worst = 4, priority = 1 },
+]
+"#;
+
+const REFUSED: &str = "words refused\n";
+
+const MOST: &str = "slack b 999993 next limit\n";
+
+/// Words, the system that is held as `sys`, the status and the text.
+const ANSWERS: [(&[&str], &str, u8, &str); 23] = [
+    (
+        &["assign", "sys", "bus"],
+        DAVIS_BUS,
+        0,
+        "priority m3 1\npriority m2 2\npriority m1 3\nassigned bus tasks 3\n",
+    ),
+    (&["assign", "sys", "bus"], LATE_BUS, 3, "none bus\n"),
+    (
+        &["assign", "sys", "zz"],
+        DAVIS_BUS,
+        18,
+        "assign refused 1\n",
+    ),
+    (
+        &["assign", "sys", "ring"],
+        TDMA_GAP,
+        18,
+        "assign refused 2\n",
+    ),
+    (
+        &["assign", "sys", "p"],
+        CROSSING_CHAINS,
+        18,
+        "assign refused 3\n",
+    ),
+    (&["assign", "sys", "p"], IDLE, 0, "assigned p tasks 0\n"),
+    (&["assign", "zz", "bus"], DAVIS_BUS, 11, "cannot read zz\n"),
+    (&["assign", "sys", "zz"], CUT_NAME, 13, "not TOML sys\n"),
+    (
+        &["assign", "sys", "bus", "--workers", "2"],
+        DAVIS_BUS,
+        10,
+        REFUSED,
+    ),
+    (&["assign", "sys", "-x"], DAVIS_BUS, 10, REFUSED),
+    (&["assign", "sys"], DAVIS_BUS, 10, REFUSED),
+    (&["assign", "sys", ""], DAVIS_BUS, 10, REFUSED),
+    (&["assign", "sys", "bus", "bus"], DAVIS_BUS, 10, REFUSED),
+    (&["slack", "sys", "b"], TWO_TASKS, 0, MOST),
+    (&["slack", "--workers=007", "sys", "b"], TWO_TASKS, 0, MOST),
+    (&["slack", "zz", "b"], TWO_TASKS, 11, "cannot read zz\n"),
+    (&["slack", "sys", "zz"], CUT_NAME, 13, "not TOML sys\n"),
+    (
+        &["slack", "sys", "b", "--workers", "0"],
+        TWO_TASKS,
+        10,
+        REFUSED,
+    ),
+    (&["slack", "sys", "b", "--workers"], TWO_TASKS, 10, REFUSED),
+    (&["slack", "sys", "-x"], TWO_TASKS, 10, REFUSED),
+    (&["slack", "sys"], TWO_TASKS, 10, REFUSED),
+    (&["slack", "sys", ""], TWO_TASKS, 10, REFUSED),
+    (
+        &["audit", "sys", "trace", "schedule", "--workers", "1"],
+        TWO_TASKS,
+        10,
+        REFUSED,
+    ),
+];
+
+/// A task, the system that is held as `sys`, the status and the text of its slack.
+const GROWTHS: [(&str, &str, u8, &str); 6] = [
+    ("b", TWO_IN_TIME, 0, "slack b 1 next missed\n"),
+    ("b", TWO_TASKS, 0, MOST),
+    ("m1", DAVIS_BUS, 3, "slack m1 none\n"),
+    ("zz", DAVIS_BUS, 18, "slack refused 1\n"),
+    (
+        "c",
+        ENDLESS_WITHOUT_DEADLINE,
+        0,
+        "slack c 999996 next limit\n",
+    ),
+    ("c", ENDLESS_JITTER, 3, "slack c none\n"),
+];
+
+/// Runs the words over the system, and compares status and text.
+fn check<R: Abort + AllocGlobal + Threads + Sync>(
+    rt: &R,
+    words: &[&str],
+    system: &str,
+    status: u8,
+    text: &str,
+) -> Result<(), Fail> {
+    let answer = call(rt, words, system.as_bytes(), &NO_FAULTS)?;
+    assert!(rt;
+        answer.0 == status && answer.1.as_slice() == text.as_bytes(),
+        "{words:?} {text}"
+    );
+    Ok(())
+}
+
+/// Each row of the table.
+#[test]
+fn assigns_and_refuses(rt: HostRuntime) -> Result<(), Fail> {
+    for (words, system, status, text) in &ANSWERS {
+        check(&rt, words, system, *status, text)?;
+    }
+    Ok(())
+}
+
+/// Each slack of the table, by several numbers of workers: the bytes are the same.
+#[test]
+fn tells_slack(rt: HostRuntime) -> Result<(), Fail> {
+    for (task, system, status, text) in &GROWTHS {
+        for workers in &["1", "2", "8"] {
+            check(
+                &rt,
+                &["slack", "sys", task, "--workers", workers],
+                system,
+                *status,
+                text,
+            )?;
+        }
+    }
+    Ok(())
+}
