@@ -23,6 +23,15 @@ def call(command):
     return took, done.stderr.decode().split()[-1], done.stdout.decode().split("\n")[0]
 
 
+def answer(program, text, *words):
+    """The status and the text of a command over a file with this text, which stands after its first word."""
+    with tempfile.NamedTemporaryFile("w", suffix=".toml") as file:
+        file.write(text)
+        file.flush()
+        done = subprocess.run([program, words[0], file.name, *words[1:]], capture_output=True, text=True, check=False)
+    return done.returncode, done.stdout
+
+
 def show(label, command):
     """Prints a line: the least time of five calls, the peak memory of one, and the start of what it writes first."""
     runs = [call(command) for _ in range(5)]

@@ -15,11 +15,9 @@ import itertools
 import os
 import random
 import re
-import subprocess
 import sys
-import tempfile
 
-from calls import TOP, built
+from calls import TOP, answer, built
 
 PROGRAM = built("cpa_cli")
 
@@ -62,25 +60,16 @@ def with_order(text, resource, order):
     return text
 
 
-def call(text, *words):
-    """The status and the text of a call over a file with this text."""
-    with tempfile.NamedTemporaryFile("w", suffix=".toml") as file:
-        file.write(text)
-        file.flush()
-        done = subprocess.run([PROGRAM, words[0], file.name, *words[1:]], capture_output=True, text=True, check=False)
-    return done.returncode, done.stdout
-
-
 def meets(text, resource, order):
     """Whether each path over one task of the resource is met under the order."""
     written = with_order(text, resource, order)
     alone = re.findall(r'name = "([^"]*)", tasks = \["([^"]*)"\], deadline', written)
     wanted = {path for path, task in alone if task in order}
-    told = dict(re.findall(r"^path (\S+) .* (\w+)$", call(written, "analyse")[1], re.M))
+    told = dict(re.findall(r"^path (\S+) .* (\w+)$", answer(PROGRAM, written, "analyse")[1], re.M))
     return all(told[path] == "met" for path in wanted)
 
 
-def answer(text, resource, order):
+def wanted_answer(text, resource, order):
     """What has to be answered for this order."""
     if order is None:
         return 3, f"none {resource}\n"
@@ -100,9 +89,9 @@ def best_order(text, resource):
 
 
 def hold(what, text, resource, order):
-    got = call(text, "assign", resource)
-    if got != answer(text, resource, order):
-        print(f"{what} differs:\n{text}\nby trying: {answer(text, resource, order)}\nby the program: {got}")
+    got = answer(PROGRAM, text, "assign", resource)
+    if got != wanted_answer(text, resource, order):
+        print(f"{what} differs:\n{text}\nby trying: {wanted_answer(text, resource, order)}\nby the program: {got}")
         sys.exit(1)
 
 
@@ -110,7 +99,7 @@ def sae():
     with open(os.path.join(TOP, "examples/sae_can.toml"), encoding="utf-8") as file:
         text = file.read()
     published = list(tasks_of(text, "can"))
-    status, told = call(text, "assign", "can")
+    status, told = answer(PROGRAM, text, "assign", "can")
     order = re.findall(r"^priority (\S+)", told, re.M)
     lines = re.findall(r'^  \{ name = "m.*\n', text, re.M)
     turned = text.replace("".join(lines), "".join(reversed(lines)))

@@ -10,34 +10,23 @@ missed already. One worker and two have to answer alike. Ends with 1 at the firs
 """
 import random
 import re
-import subprocess
 import sys
-import tempfile
 
-from calls import built
+from calls import answer, built
 from compare import made_system
 
 PROGRAM = built("cpa_cli")
 MOST = 1_000_000
 
 
-def call(text, *words):
-    """The status and the text of a call over a file with this text."""
-    with tempfile.NamedTemporaryFile("w", suffix=".toml") as file:
-        file.write(text)
-        file.flush()
-        done = subprocess.run([PROGRAM, words[0], file.name, *words[1:]], capture_output=True, text=True, check=False)
-    return done.returncode, done.stdout
-
-
 def holds(text):
-    return not re.search(r"^path .* (missed|unknown)$", call(text, "analyse")[1], re.M)
+    return not re.search(r"^path .* (missed|unknown)$", answer(PROGRAM, text, "analyse")[1], re.M)
 
 
 def relaxed(text, number):
     """The system with deadlines that are met, and none where a path has no bound."""
     pick = random.Random(number)
-    for path, worst in re.findall(r"^path (\S+) best \d+ worst (\S+)", call(text, "analyse")[1], re.M):
+    for path, worst in re.findall(r"^path (\S+) best \d+ worst (\S+)", answer(PROGRAM, text, "analyse")[1], re.M):
         deadline = "" if worst == "overload" else f"\ndeadline = {int(worst) + pick.randint(0, int(worst))}"
         text = re.sub(rf'(name = "{path}"\ntasks = .*)\ndeadline = \d+', rf"\g<1>{deadline}", text)
     return text
@@ -50,11 +39,11 @@ def longer(text, task, ticks):
     return re.sub(form, rf"\g<1>{worst}", text), worst
 
 
-def fits(text, task, answer):
-    if answer == (3, f"slack {task} none\n"):
+def fits(text, task, got):
+    if got == (3, f"slack {task} none\n"):
         return not holds(text)
-    told = re.fullmatch(rf"slack {task} (\d+) next (missed|limit)\n", answer[1])
-    if answer[0] or not told:
+    told = re.fullmatch(rf"slack {task} (\d+) next (missed|limit)\n", got[1])
+    if got[0] or not told:
         return False
     system, worst = longer(text, task, int(told[1]))
     if worst > MOST or not holds(system):
@@ -71,11 +60,11 @@ def main():
         if number % 4:
             text = relaxed(text, number)
         for task in re.findall(r'^name = "(t\d+)"', text, re.M):
-            answer = call(text, "slack", task)
-            if not fits(text, task, answer) or call(text, "slack", task, "--workers", "2") != answer:
-                print(f"system {number}, task {task}: {answer}\n{text}")
+            got = answer(PROGRAM, text, "slack", task)
+            if not fits(text, task, got) or answer(PROGRAM, text, "slack", task, "--workers", "2") != got:
+                print(f"system {number}, task {task}: {got}\n{text}")
                 sys.exit(1)
-            ends[answer[1].split()[-1]] += 1
+            ends[got[1].split()[-1]] += 1
     print(f"{count} systems, answers that end with missed, limit and none: {list(ends.values())}")
 
 
