@@ -8,14 +8,19 @@ ghost use Rattle.cpa_events.specs.Streams.{stream_delta_minus, IsStreamInRange};
 ghost use Rattle.cpa_events.specs.Events.{delta_minus, delta_plus, eta_plus, after_response, IsModelInRange, HasJitterUpTo};
 
 use crate::MAX_STREAMS;
+use crate::kept::Kept;
 use crate::stream::{MAX_MODEL_JITTER, Stream};
 use cpa_units::limits::MAX_LIMIT;
+
+/// How many streams a model has room for: two more than may count. So a rival (`cpa_window`) has 448
+/// bytes, seven lines of a cache, and what the walks read of each lies in one line.
+const ROOM: usize = 34;
 
 /// A list of 1 to 32 streams. Contracts see that list.
 #[derive(Debug, Drop)]
 pub struct Model {
     len: u32,
-    streams: [Stream; 32],
+    streams: [Kept; ROOM],
 }
 
 impl std::marker::Model for Model {
@@ -26,18 +31,19 @@ impl std::marker::Model for Model {
 
     ghost view = { λ m. take m.len m.streams };
 
-    ghost invariant = { λ m. (1 ≤ m.len) × (m.len ≤ 32) × (length m.streams ≡ 32) };
+    ghost invariant = { λ m. (1 ≤ m.len) × (m.len ≤ 32) × (length m.streams ≡ 34) };
 }
 
 impl Model {
     /// The model of one stream.
     pub fn one(stream: Stream) -> Model
+        requires { IsStreamInRange stream }
         ensures value { result ≡ stream ∷ [] }
-        ensures in_range { IsStreamInRange stream → IsModelInRange result }
+        ensures in_range { IsModelInRange result }
     {
         Model {
             len: 1,
-            streams: [stream; 32],
+            streams: [Kept::of(stream); ROOM],
         }
     }
 
@@ -65,7 +71,7 @@ impl Model {
         requires { k < length self.now }
         ensures { result ≡ slice_index_or self.now k result }
     {
-        self.streams[k as usize]
+        self.kept(k).stream()
     }
 
     /// Adds the streams of another model at the end.
@@ -74,7 +80,7 @@ impl Model {
         ensures { self.new ≡ self.old ++ other.now }
     {
         for k in 0..other.len() {
-            self.push(other.get(k));
+            self.push(other.kept(k));
         }
     }
 
@@ -126,7 +132,7 @@ impl Model {
         requires events { n ≤ 2 ^ 32 }
         ensures { result ≡ delta_plus self.now n }
     {
-        self.streams[0].delta_plus(n)
+        self.get(0).delta_plus(n)
     }
 
     /// The model of a task's completions, where its jobs come by this one and each is done after
@@ -158,17 +164,17 @@ impl Model {
     {
         self.set_one(received.get(0).after_response(best, bound));
         for k in 1..received.len() {
-            self.push(received.get(k).after_response(best, bound));
+            self.push(Kept::of(received.get(k).after_response(best, bound)));
         }
     }
 
     /// Becomes the list of one stream.
     pub fn set_one(&mut self, stream: Stream)
+        requires { IsStreamInRange stream }
         ensures value { self.new ≡ stream ∷ [] }
-        ensures in_range { IsStreamInRange stream → IsModelInRange self.new }
+        ensures in_range { IsModelInRange self.new }
     {
-        self.streams[0] = stream;
-        self.len = 1;
+        self.begin(Kept::of(stream));
     }
 
     /// Becomes the list of another model.
@@ -176,9 +182,9 @@ impl Model {
         ensures { self.new ≡ other.now }
     {
         let count = other.len();
-        self.set_one(other.get(0));
+        self.begin(other.kept(0));
         for k in 1..count {
-            self.push(other.get(k));
+            self.push(other.kept(k));
         }
     }
 
@@ -188,13 +194,29 @@ impl Model {
         ensures { ForSome result (λ s. self.now ≡ s ∷ []) }
     {
         if self.len == 1 {
-            Some(self.streams[0])
+            Some(self.streams[0].stream())
         } else {
             None
         }
     }
 
-    fn push(&mut self, stream: Stream)
+    /// A stream by its place, as it is kept.
+    fn kept(&self, k: u32) -> Kept
+        requires { k < length self.now }
+        ensures { result ≡ slice_index_or self.now k result }
+    {
+        self.streams[k as usize]
+    }
+
+    /// Becomes the list of one stream.
+    fn begin(&mut self, stream: Kept)
+        ensures { self.new ≡ stream ∷ [] }
+    {
+        self.streams[0] = stream;
+        self.len = 1;
+    }
+
+    fn push(&mut self, stream: Kept)
         requires { length self.old < MAX_STREAMS }
         ensures { self.new ≡ self.old ++ stream ∷ [] }
     {
@@ -202,7 +224,7 @@ impl Model {
         self.len += 1;
     }
 
-    fn streams(&self) -> &[Stream]
+    fn streams(&self) -> &[Kept]
         ensures value { result.now ≡ self.now }
         ensures some { 1 ≤ length result.now }
         ensures few { length result.now ≤ MAX_STREAMS }
@@ -215,14 +237,14 @@ impl Model {
 #[cold]
 #[inline(never)]
 #[tactic(auto, unfolding(crate::specs::Events::eta_plus))]
-fn events_in(streams: &[Stream], delta: u64) -> u128
+fn events_in(streams: &[Kept], delta: u64) -> u128
     requires streams { IsModelInRange streams.now }
     requires window { delta ≤ 2 ^ 63 }
     ensures { result ≡ eta_plus streams.now delta }
 {
     let mut total = 0;
     for stream in streams {
-        total += u128::from(stream.eta_plus(delta));
+        total += u128::from(stream.stream().eta_plus(delta));
     }
     total
 }
@@ -231,14 +253,14 @@ fn events_in(streams: &[Stream], delta: u64) -> u128
 #[cold]
 #[inline(never)]
 #[tactic(auto, unfolding(crate::specs::Events::eta_plus))]
-fn steady(streams: &[Stream], delta: u64) -> u64
+fn steady(streams: &[Kept], delta: u64) -> u64
     requires streams { IsModelInRange streams.now }
     requires window { delta ≤ 2 ^ 31 }
     ensures { (w : ℕ) → delta ≤ w → w ≤ result → eta_plus streams.now w ≡ eta_plus streams.now delta }
 {
     let mut until = u64::MAX;
     for stream in streams {
-        until = until.min(stream.steady_until(delta));
+        until = until.min(stream.stream().steady_until(delta));
     }
     until
 }
@@ -246,7 +268,7 @@ fn steady(streams: &[Stream], delta: u64) -> u64
 /// The least time from the first to the last of n events of all streams.
 #[cold]
 #[inline(never)]
-fn least_time(streams: &[Stream], n: u64) -> u64
+fn least_time(streams: &[Kept], n: u64) -> u64
     requires streams { IsModelInRange streams.now }
     requires events { n ≤ 2 ^ 32 }
     ensures { result ≡ delta_minus streams.now n }
@@ -255,21 +277,21 @@ fn least_time(streams: &[Stream], n: u64) -> u64
 }
 
 /// The least of the times in which the streams have n events, each alone.
-fn least_alone(streams: &[Stream], n: u64) -> u64
+fn least_alone(streams: &[Kept], n: u64) -> u64
     requires streams { IsModelInRange streams.now }
     requires events { n ≤ 2 ^ 32 }
     ensures room { n ≤ eta_plus streams.now (result + 1) }
     ensures small { result ≤ 2 ^ 32 * MAX_PERIOD }
 {
-    let mut least = streams[0].delta_minus(n);
+    let mut least = streams[0].stream().delta_minus(n);
     for stream in streams {
-        least = least.min(stream.delta_minus(n));
+        least = least.min(stream.stream().delta_minus(n));
     }
     least
 }
 
 /// The least time whose window, with its end, has room for n events, found by halving; `enough` has.
-fn least_room(streams: &[Stream], n: u64, enough: u64) -> u64
+fn least_room(streams: &[Kept], n: u64, enough: u64) -> u64
     requires streams { IsModelInRange streams.now }
     requires room { n ≤ eta_plus streams.now (enough + 1) }
     requires small { enough < 2 ^ 63 }

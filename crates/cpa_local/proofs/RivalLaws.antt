@@ -3,11 +3,15 @@ use Rattle.std.proofs.Common.{◌≡◌, ◌≢◌, ℕ, zero, suc, ◌+◌, ◌
 use Rattle.std.specs.Prelude.{filter}
 use Rattle.std.proofs.lemmas.Bool.{and_parts, ltb-true, true≢false}
 use Rattle.std.proofs.lemmas.Bool.Decides.{nat_tests}
-use Rattle.std.proofs.lemmas.List.{take_all, take_more, length-append, map-append, append-nil}
+use Rattle.std.proofs.lemmas.List.{take_all, take_more, length-append, length-map, map-append, append-nil}
 use Rattle.std.proofs.lemmas.List.Elements.{filter-append}
 use Rattle.cpa_units.specs.declared.places.TaskId.{TaskId}
 use Rattle.cpa_units.proofs.PlaceLaws.{places, places-more}
 use Rattle.cpa_model.specs.SystemLists.{SystemLists, is_on, is_higher, is_other, task_places, tasks_on, place_of, places_of, priority_of, task_at}
+
+-- a resource has as many tasks as its list
+pub places-long : (ids : List TaskId) (places : List ℕ) → places_of ids ≡ places → length ids ≡ length places
+places-long ids places e = sym (length-map ids place_of) ∙ ap length e
 
 -- no task is of higher priority than itself
 higher-other : (s : SystemLists) (i k : ℕ) → is_higher s i k ≡ true → k ≢ i

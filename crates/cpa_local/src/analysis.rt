@@ -5,7 +5,7 @@ ghost use Rattle.cpa_units.specs.declared.bound.Bound.{Bound};
 ghost use Rattle.cpa_units.specs.Numbers.{IsExecution};
 ghost use Rattle.cpa_events.specs.Events.{IsModelInRange};
 ghost use Rattle.cpa_model.specs.declared.entries.Kind.TheVariants.{Preemptive, RoundRobin, Tdma, Can};
-ghost use Rattle.cpa_model.specs.SystemLists.{task_at, resource_of, slot_of, cycle_of};
+ghost use Rattle.cpa_model.specs.SystemLists.{task_at, tasks_on, resource_of, slot_of, cycle_of};
 ghost use Rattle.cpa_model.specs.Rules.{IsSystem};
 ghost use Rattle.cpa_local.specs.Local.{bound_by_kind, response};
 ghost use Rattle.cpa_local.specs.Solution.{IsVector};
@@ -14,7 +14,7 @@ ghost use Rattle.cpa_local.specs.Trails.{IsKept, NewMarksAre, AreMarked, IsPrepa
 
 use crate::known::own_input;
 use crate::neighbours::{blocking, gather_higher, gather_others, slot};
-use crate::trail::Trail;
+use crate::trail::{Trail, make_rivals};
 use cpa_events::Model;
 use cpa_model::{Kind, System};
 use cpa_units::{Bound, TaskId, Vector};
@@ -56,6 +56,10 @@ pub fn respond_prepared(system: &System, task: TaskId, x: &Vector, trail: &mut T
     let tasks = system.tasks();
     prove!(tasks <= 512);
     trail.mark(task);
+    make_rivals(
+        &mut trail.rivals,
+        system.tasks_on(system.task(task).res).len(),
+    );
     let inputs = trail.inputs.as_slice();
     let Some(own) = own_input(system, task, x, inputs, &mut trail.found) else {
         return Bound::Overload;
@@ -88,7 +92,7 @@ fn bound_by_kind(
     requires long { length system.now.tasks ≤ length inputs.now }
     requires cycle { HasCycle system.now (task_at system.now task.0).res.0 cycle (resource_of system.now task.0).kind }
     requires known { HasInputs system.now (task_at system.now task.0).res.0 x.now inputs.now (resource_of system.now task.0).kind }
-    requires room { length system.now.tasks ≤ length rivals.old }
+    requires room { length (tasks_on system.now (task_at system.now task.0).res.0) ≤ length rivals.old }
     ensures value { result ≡ bound_by_kind system.now x.now task.0 own.now (resource_of system.now task.0).kind }
     ensures room { length rivals.new ≡ length rivals.old }
 {
@@ -114,7 +118,7 @@ fn preemptive(
     requires own { IsModelInRange own.now }
     requires long { length system.now.tasks ≤ length inputs.now }
     requires known { AreInputs system.now (task_at system.now task.0).res.0 x.now inputs.now }
-    requires room { length system.now.tasks ≤ length rivals.old }
+    requires room { length (tasks_on system.now (task_at system.now task.0).res.0) ≤ length rivals.old }
     ensures value { result ≡ bound_by_kind system.now x.now task.0 own.now Preemptive }
     ensures room { length rivals.new ≡ length rivals.old }
 {
@@ -139,7 +143,7 @@ fn round_robin(
     requires own { IsModelInRange own.now }
     requires long { length system.now.tasks ≤ length inputs.now }
     requires known { AreInputs system.now (task_at system.now task.0).res.0 x.now inputs.now }
-    requires room { length system.now.tasks ≤ length rivals.old }
+    requires room { length (tasks_on system.now (task_at system.now task.0).res.0) ≤ length rivals.old }
     ensures value { result ≡ bound_by_kind system.now x.now task.0 own.now RoundRobin }
     ensures room { length rivals.new ≡ length rivals.old }
 {
@@ -179,7 +183,7 @@ fn can(
     requires own { IsModelInRange own.now }
     requires long { length system.now.tasks ≤ length inputs.now }
     requires known { AreInputs system.now (task_at system.now task.0).res.0 x.now inputs.now }
-    requires room { length system.now.tasks ≤ length rivals.old }
+    requires room { length (tasks_on system.now (task_at system.now task.0).res.0) ≤ length rivals.old }
     ensures value { result ≡ bound_by_kind system.now x.now task.0 own.now (Can bit) }
     ensures room { length rivals.new ≡ length rivals.old }
 {

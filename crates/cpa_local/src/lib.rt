@@ -11,8 +11,6 @@ mod known;
 mod laws;
 mod neighbours;
 mod start;
-#[cfg(test)]
-mod tests;
 mod trail;
 
 pub use analysis::{respond, respond_prepared};

@@ -4,7 +4,7 @@ ghost use Rattle.std.specs.Prelude.{◌≡◌, ◌<◌, ◌≤◌, ◌==◌, ◌
 ghost use Rattle.cpa_units.specs.declared.limits.TheConstants.{MAX_CYCLE, MAX_EXECUTION};
 ghost use Rattle.cpa_events.specs.Events.{IsModelInRange};
 ghost use Rattle.cpa_window.specs.Rivals.{IsRival, AreRivals};
-ghost use Rattle.cpa_model.specs.SystemLists.{task_at, priority_of, slot_of, is_higher, is_other, higher_tasks, other_tasks, blocking_of, cycle_of};
+ghost use Rattle.cpa_model.specs.SystemLists.{task_at, tasks_on, priority_of, slot_of, is_higher, is_other, higher_tasks, other_tasks, blocking_of, cycle_of};
 ghost use Rattle.cpa_local.specs.Inputs.{AreInputs, input};
 ghost use Rattle.cpa_local.specs.Local.{rival_of};
 ghost use Rattle.cpa_local.specs.Solution.{IsVector};
@@ -96,7 +96,7 @@ pub(crate) fn gather_higher(
     requires vector { IsVector system.now x.now }
     requires long { length system.now.tasks ≤ length inputs.now }
     requires known { AreInputs system.now (task_at system.now task.0).res.0 x.now inputs.now }
-    requires room { length system.now.tasks ≤ length rivals.old }
+    requires room { length (tasks_on system.now (task_at system.now task.0).res.0) ≤ length rivals.old }
     ensures value { take result rivals.new ≡ map (rival_of system.now x.now) (higher_tasks system.now task.0) }
     ensures in_range { AreRivals (take result rivals.new) }
     ensures few { result ≤ length rivals.new }
@@ -124,7 +124,7 @@ pub(crate) fn gather_others(
     requires vector { IsVector system.now x.now }
     requires long { length system.now.tasks ≤ length inputs.now }
     requires known { AreInputs system.now (task_at system.now task.0).res.0 x.now inputs.now }
-    requires room { length system.now.tasks ≤ length rivals.old }
+    requires room { length (tasks_on system.now (task_at system.now task.0).res.0) ≤ length rivals.old }
     ensures value { take result rivals.new ≡ map (rival_of system.now x.now) (other_tasks system.now task.0) }
     ensures in_range { AreRivals (take result rivals.new) }
     ensures few { result ≤ length rivals.new }

@@ -1,6 +1,6 @@
 //! Which tasks were analysed, and room for what analyses gather.
 
-ghost use Rattle.std.specs.Prelude.{◌≡◌, ◌≤◌, ◌<◌, ◌↔◌, ℕ, IfOk, IsTrue};
+ghost use Rattle.std.specs.Prelude.{◌≡◌, ◌≤◌, ◌<◌, ◌↔◌, ℕ, length, vec_capacity, IfOk, IsTrue};
 ghost use Rattle.cpa_units.specs.declared.limits.TheConstants.{MAX_TASKS};
 ghost use Rattle.cpa_local.specs.Trails.{IsMarked, IsKept, NewMarksAre, AreMarked};
 
@@ -15,7 +15,8 @@ use std::marker::Model;
 #[derive(Drop)]
 pub struct Trail {
     pub(crate) marks: [bool; 512],
-    /// The rivals that were gathered last, and others behind them.
+    /// The rivals that were gathered last, and others behind them: as many as were wanted so far, in
+    /// room for all tasks.
     pub(crate) rivals: Vec<Rival>,
     /// The inputs that were worked out last, by the tasks' places.
     pub(crate) inputs: Vec<Option<EventModel>>,
@@ -26,14 +27,14 @@ pub struct Trail {
 }
 
 impl Model for Trail {
-    ghost use Rattle.std.specs.Prelude.{◌≡◌, length};
+    ghost use Rattle.std.specs.Prelude.{◌≡◌, ◌≤◌, length, vec_capacity};
     ghost use Rattle.cpa_local.specs.Trails.{Marks};
 
     ghost Value = { Marks };
 
-    ghost view = { λ t. record { marks = t.marks; room = length t.rivals.items; inputs = t.inputs.items; cycle = t.cycle } };
+    ghost view = { λ t. record { marks = t.marks; room = length t.inputs.items; inputs = t.inputs.items; cycle = t.cycle } };
 
-    ghost invariant = { λ t. (length t.marks ≡ 512) × (length t.inputs.items ≡ length t.rivals.items) };
+    ghost invariant = { λ t. (length t.marks ≡ 512) × (length t.inputs.items ≤ vec_capacity t.rivals) };
 }
 
 /// A model that takes up room, and says nothing.
@@ -55,6 +56,18 @@ fn no_rival() -> Rival {
     }
 }
 
+/// Makes rivals until there are so many. They are made where they are first wanted, and not with the
+/// trail, since most resources have few tasks.
+pub(crate) fn make_rivals(rivals: &mut Vec<Rival>, count: usize)
+    requires { count ≤ vec_capacity rivals.old }
+    ensures enough { count ≤ length rivals.new.items }
+    ensures capacity { vec_capacity rivals.new ≡ vec_capacity rivals.old }
+{
+    for _ in rivals.len()..count {
+        rivals.push_reserved(no_rival());
+    }
+}
+
 impl Trail {
     /// A trail without marks, with room for a system of so many tasks, at most 512.
     pub fn with_room(alloc: Global, tasks: u32) -> Result<Trail, NoMemory>
@@ -62,10 +75,9 @@ impl Trail {
         ensures room { IfOk result (λ t. t.room ≡ tasks) }
         ensures none { IfOk result (λ t. (i : ℕ) → IsMarked t i → ⊥) }
     {
-        let mut rivals = Vec::with_capacity(alloc, tasks as usize)?;
+        let rivals = Vec::with_capacity(alloc, tasks as usize)?;
         let mut inputs = Vec::with_capacity(alloc, tasks as usize)?;
         for _ in 0..tasks {
-            rivals.push_reserved(no_rival());
             inputs.push_reserved(None);
         }
         Ok(Trail {

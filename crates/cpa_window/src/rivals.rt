@@ -8,17 +8,18 @@ use cpa_events::Model;
 use cpa_units::Bound;
 use cpa_units::limits::{MAX_BIT, MAX_EXECUTION, MAX_LIMIT};
 
-/// Another task of the resource, as an analysis sees it.
+/// Another task of the resource, as an analysis sees it. What the walks read first of a rival stands
+/// first, before the streams behind the first one.
 #[derive(Debug, Drop)]
 pub struct Rival {
-    /// Its slot in ticks, 0 where slots don't count.
-    pub slot: u64,
-    /// Its bound so far; a number is at most ten million ticks.
-    pub bound: Bound,
     /// Its greatest execution, in ticks.
     pub worst: u64,
+    /// Its slot in ticks, 0 where slots don't count.
+    pub slot: u64,
     /// The model of its input; none where that is unbounded.
     pub model: Option<Model>,
+    /// Its bound so far; a number is at most ten million ticks.
+    pub bound: Bound,
 }
 
 /// The work of a window's events, each of which takes so long, in ticks.

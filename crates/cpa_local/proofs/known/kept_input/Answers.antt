@@ -1,4 +1,4 @@
-use Rattle.std.proofs.Common.{◌≡◌, ◌<◌, ◌∙◌, length, Option, None, sym, subst, arith}
+use Rattle.std.proofs.Common.{◌<◌, ◌∙◌, length, Option, None, sym, subst, arith}
 use Rattle.std.specs.Prelude.{IfSome}
 use Rattle.std.proofs.lemmas.List.{get_or_default}
 use Rattle.cpa_events.specs.Events.{Model, IsModelInRange}

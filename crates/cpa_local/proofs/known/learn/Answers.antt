@@ -1,4 +1,4 @@
-use Rattle.std.proofs.Common.{◌≡◌, ◌<◌, ◌+◌, ◌∙◌, Bool, set, true, false, length, get_or, refl, sym, subst, inl, inr, arith, get_or-set_same, get_or-set_other, length-set, ℕ, None}
+use Rattle.std.proofs.Common.{◌≡◌, ◌<◌, ◌+◌, ◌∙◌, Bool, set, true, false, length, get_or, refl, sym, subst, inl, inr, arith, get_or-set_same, length-set, ℕ, None}
 use Rattle.std.proofs.lemmas.Bool.{true≢false, cases_eq}
 use Rattle.cpa_model.proofs.SystemLaws.{no_id}
 use Rattle.cpa_model.proofs.RosterLaws.{on-found}

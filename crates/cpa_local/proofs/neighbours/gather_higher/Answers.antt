@@ -8,14 +8,14 @@ use Rattle.cpa_model.specs.SystemLists.{is_on, task_at, task_places, tasks_on, i
 use Rattle.cpa_model.proofs.SystemLaws.{no_id}
 use Rattle.cpa_model.proofs.RosterLaws.{roster-few}
 use Rattle.cpa_local.specs.Local.{rival_of}
-use Rattle.cpa_local.proofs.RivalLaws.{higher-on, higher-few, passing-more, failing-more, found-all}
+use Rattle.cpa_local.proofs.RivalLaws.{places-long, higher-on, higher-few, passing-more, failing-more, found-all}
 use Rattle.cpa_local.proofs.neighbours.gather_higher.Goals as goal
 use Rattle.cpa_local.proofs.neighbours.gather_higher.Goals.{then-is_higher, else-is_higher}
 
 pub bounds-rivals-count : goal.bounds-rivals-count
 bounds-rivals-count c =
-    let few = roster-few (is_on c.args.system.now c.task.result.now.res.0) (length c.args.system.now.tasks) c.tasks_on-other-items.result.now c.tasks_on-other-items.ensures.places in
-    omega (arith, c.loop-other.invariant.few, c.loop-other.invariant.room, c.loop-other-test.true, c.requires.room)
+    let long = places-long c.tasks_on-other-items.result.now _ (c.tasks_on-other-items.ensures.places ∙ ap (tasks_on c.args.system.now) (ap (λ (t : Task). t.res.0) c.task.ensures.value)) in
+    omega (arith, c.loop-other.invariant.few, c.loop-other.invariant.room, c.loop-other-test.true, c.requires.room, long)
 
 pub offset_bounds-rivals-count : goal.offset_bounds-rivals-count
 offset_bounds-rivals-count c =
@@ -28,9 +28,9 @@ loop-other-preserved c =
     let s = c.args.system.now in
     let ids = c.tasks_on-other-items.result.now in
     let k = c.loop-other.other-index in
-    let few = roster-few (is_on s c.task.result.now.res.0) (length s.tasks) ids c.tasks_on-other-items.ensures.places in
+    let long = places-long ids _ (c.tasks_on-other-items.ensures.places ∙ ap (tasks_on s) (ap (λ (t : Task). t.res.0) c.task.ensures.value)) in
     let less : c.loop-other.count < length c.loop-other.rivals =
-    omega (arith, c.loop-other.invariant.few, c.loop-other.invariant.room, c.loop-other-test.true, c.requires.room, few) in
+    omega (arith, c.loop-other.invariant.few, c.loop-other.invariant.room, c.loop-other-test.true, c.requires.room, long) in
     elim c.if-is_higher.branch [
       | then-is_higher w ↦
           let chosen = sym c.is_higher.ensures ∙ w.if-is_higher.true in
@@ -77,5 +77,5 @@ returns-clause-in_range c =
 
 pub returns-clause-few : goal.returns-clause-few
 returns-clause-few c =
-    let few = roster-few (is_on c.args.system.now c.task.result.now.res.0) (length c.args.system.now.tasks) c.tasks_on-other-items.result.now c.tasks_on-other-items.ensures.places in
-    omega (arith, c.loop-other.invariant.few, c.loop-other.invariant.room, c.loop-other.auto.other-index-end, c.requires.room)
+    let long = places-long c.tasks_on-other-items.result.now _ (c.tasks_on-other-items.ensures.places ∙ ap (tasks_on c.args.system.now) (ap (λ (t : Task). t.res.0) c.task.ensures.value)) in
+    omega (arith, c.loop-other.invariant.few, c.loop-other.invariant.room, c.loop-other.auto.other-index-end, c.requires.room, long)

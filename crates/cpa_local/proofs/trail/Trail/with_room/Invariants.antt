@@ -4,8 +4,6 @@ use Rattle.cpa_local.proofs.trail.Trail.with_room.Given as goal
 
 abbrev pub invariant-loop : goal.invariant-loop
 invariant-loop l = record {
-  rivals : length l.rivals.items ≡ l.counter;
   inputs : length l.inputs.items ≡ l.counter;
-  rival_room : vec_capacity l.rivals ≡ l.tasks;
   input_room : vec_capacity l.inputs ≡ l.tasks;
 }
