@@ -13,7 +13,7 @@ use std::alloc::Global;
 
 /// The names of a system's resources, sources and tasks, made once for all rows.
 #[derive(Drop)]
-pub(crate) struct Index {
+pub struct Index {
     resources: Names,
     sources: Names,
     tasks: Names,
@@ -53,7 +53,7 @@ impl Index {
     ghost use Rattle.cpa_model.specs.SystemLists.{resource_named, source_named, task_named};
 
     /// The index of a system.
-    pub(crate) fn of(alloc: Global, system: &System) -> Result<Index, NoMemory>
+    pub fn of(alloc: Global, system: &System) -> Result<Index, NoMemory>
         ensures { IfOk result (λ index. IsIndex system.now index) }
     {
         Ok(Index {
@@ -64,7 +64,7 @@ impl Index {
     }
 
     /// The resource with a name.
-    pub(crate) fn resource(&self, system: &System, name: &[u8]) -> Option<ResId>
+    pub fn resource(&self, system: &System, name: &[u8]) -> Option<ResId>
         requires { IsIndex system.now self.now }
         ensures value { result ≡ resource_named system.now name.now }
         ensures there { IfSome result (λ r. r.0 < length system.now.resources) }
@@ -76,7 +76,7 @@ impl Index {
     }
 
     /// The source with a name.
-    pub(crate) fn source(&self, system: &System, name: &[u8]) -> Option<SourceId>
+    pub fn source(&self, system: &System, name: &[u8]) -> Option<SourceId>
         requires { IsIndex system.now self.now }
         ensures value { result ≡ source_named system.now name.now }
         ensures there { IfSome result (λ k. k.0 < length system.now.sources) }
@@ -88,7 +88,7 @@ impl Index {
     }
 
     /// The task with a name.
-    pub(crate) fn task(&self, system: &System, name: &[u8]) -> Option<TaskId>
+    pub fn task(&self, system: &System, name: &[u8]) -> Option<TaskId>
         requires { IsIndex system.now self.now }
         ensures value { result ≡ task_named system.now name.now }
         ensures there { IfSome result (λ i. i.0 < length system.now.tasks) }

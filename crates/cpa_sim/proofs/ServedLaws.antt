@@ -1,0 +1,128 @@
+-- Which job gets the ticks of a jump.
+use Rattle.std.proofs.Common.{◌≡◌, ℕ, zero, suc, ◌+◌, ◌-◌, ◌<◌, ◌≤◌, length, List, [], ◌∷◌, Bool, true, cond, eqb, nat_le, Option, Some, None, option_map, refl, sym, ◌∙◌, ap, subst, inl, inr, arith, add-one}
+use Rattle.std.proofs.lemmas.Bool.{cases_Bool, eqb-true, eq-eqb, cond-true}
+use Rattle.std.proofs.lemmas.Option.{none-some}
+use Rattle.cpa_model.specs.SystemLists.{SystemLists, place_of, task_at}
+use Rattle.cpa_trace.specs.Trace.{TraceLists, times_of, phase_of}
+use Rattle.cpa_sched.specs.Steps.{Choice, kind_of}
+use Rattle.cpa_sched.specs.States.{IsOn}
+use Rattle.cpa_sim.specs.declared.desks.Desk.{Desk}
+use Rattle.cpa_sim.specs.declared.feeds.Feed.{Feed}
+use Rattle.cpa_sim.specs.declared.jobs.Progress.{Progress}
+use Rattle.cpa_sim.specs.declared.jobs.Served.{Served}
+use Rattle.cpa_sim.specs.Run.{is_open, waits, is_chosen, choice_at, run}
+use Rattle.cpa_sim.specs.Arrivals.{AreGiven}
+use Rattle.cpa_sim.specs.Feeds.{IsAhead}
+use Rattle.cpa_sim.specs.Lines.{LineLists, AreInOrder, left_of, worked, served_line}
+use Rattle.cpa_sim.specs.Simulation.{line_at, desk_at, feed_at, runner, runs_at, waiting, state_now, Foresees, HasEnough, IsServed, IsAt}
+use Rattle.cpa_sim.specs.Served.{first_open, numbered, served_at, last_of, ran_by, RanWithin}
+use Rattle.cpa_sim.proofs.LineLaws.{ordered-more}
+use Rattle.cpa_sim.proofs.GlideLaws.{Glides, chosen, jobs_at, left_at, picked, chosen-pending, after, task}
+use Rattle.cpa_sim.proofs.KeptLaws.{CanRun, kept}
+use Rattle.cpa_sim.proofs.ChoiceLaws.{step-picks}
+use Rattle.cpa_sim.proofs.RunLaws.{choice-is}
+use Rattle.cpa_sim.proofs.SimLaws.{glides, who-waits}
+
+pub first-open : (d : ℕ) (js : List Progress) → AreInOrder d js → first_open js ≡ d
+first-open zero [] a = refl
+first-open zero (job ∷ js) a = let e : is_open job ≡ true = rw a.0.open_now refl in rw e refl
+first-open (suc d) [] a = absurd a
+first-open (suc d) (job ∷ js) a = rw (a.0, first-open d js a.1) (add-one d)
+
+pub served-is : (s : SystemLists) (tr : TraceLists) (t r : ℕ) (o : Option ℕ) → (choice_at s tr t (run s tr t) r).task ≡ o → served_at s tr t r ≡ option_map (numbered (λ i. first_open ((run s tr t).jobs i))) o
+unfolding served_at
+served-is s tr t r o e = rw e refl
+
+-- whoever gets a tick is one of the resource's tasks
+pub served-on : (s : SystemLists) (tr : TraceLists) → CanRun s tr → (t r : ℕ) (j : Served) → r < length s.resources → served_at s tr t r ≡ Some j → IsOn s r j.task.0
+served-on s tr can t r j there got =
+    of-choice (choice_at s tr t (run s tr t) r).task refl (sym (served-is s tr t r (choice_at s tr t (run s tr t) r).task refl) ∙ got)
+  where
+    of-choice : (o : Option ℕ) → (choice_at s tr t (run s tr t) r).task ≡ o → option_map (numbered (λ i. first_open ((run s tr t).jobs i))) o ≡ Some j → IsOn s r j.task.0
+    of-choice None chosen e = absurd (none-some j e)
+    of-choice (Some i) chosen e =
+        let k = kept s tr can t in
+        let w : ℕ → Bool = λ i. waits ((run s tr t).jobs i) in
+        let p = step-picks s r w ((run s tr t).resources r) t (phase_of tr r) (k.held r there) (k.frames r there) in
+        let on = (p.task i (ap (λ (c : Choice). c.task) (sym (choice-is s tr t r)) ∙ chosen)).on in
+        let job : Served = numbered (λ i. first_open ((run s tr t).jobs i)) i in
+        let same : job ≡ j = cc in
+        subst (λ (x : Served). IsOn s r x.task.0) same on
+
+numbered-agree : (f g : ℕ → ℕ) (o : Option ℕ) → ((i : ℕ) → o ≡ Some i → f i ≡ g i) → option_map (numbered f) o ≡ option_map (numbered g) o
+numbered-agree f g None agree = refl
+numbered-agree f g (Some i) agree = ap (λ n. let made : Served = record { task = record { 0 = i }; job = n } in Some made) (agree i refl)
+
+last-worked : (ticks now : ℕ) (line : LineLists) → (worked ticks now line).done - cond (nat_le (left_of line) ticks) 1 0 ≡ line.done
+last-worked ticks now line =
+    elim (cases_Bool (nat_le (left_of line) ticks)) [
+      | inl e ↦ rw e (omega arith)
+      | inr e ↦ rw e (omega arith)
+    ]
+
+-- who runs on a resource is chosen there
+passes-is : (o : ℕ → Option ℕ) (q r i : ℕ) → eqb q r ≡ true → o r ≡ Some i → is_chosen (o q) i ≡ true
+passes-is o q r i same e = rw (eqb-true q r same, e) (eq-eqb i i refl)
+
+module _ (s : SystemLists) (tr : TraceLists) (t n : ℕ) (w : ℕ → Bool) (d : ℕ → ℕ) (o : ℕ → Option ℕ) (g : Glides s tr t n w d o) where
+  -- in each of the ticks the earliest pending job is the one that was at first
+  order-in : (u i : ℕ) → u < n → i < length s.tasks → chosen s tr t n w d o i ≡ true → AreInOrder (d i) ((run s tr (t + u)).jobs i)
+  order-in u i less there passes =
+      let a = after s tr t n w d o g u less in
+      let h = chosen-pending s tr t n w d o g i there passes in
+      let l : u < left_at s tr t n w d o i = omega (arith, g.enough i there passes) in
+      let e = a.jobs i there ∙ cond-true (chosen s tr t n w d o i) _ _ passes in
+      rw e (ordered-more u (t + u) (d i) (jobs_at s tr t n w d o i) (g.ordered i there) h l)
+
+  pub served-in : (r u : ℕ) → r < length s.resources → u < n → served_at s tr (t + u) r ≡ option_map (numbered d) (o r)
+  served-in r u there less =
+      let a = after s tr t n w d o g u less in
+      served-is s tr (t + u) r (o r) (task s tr t n w d o g u less a r there)
+      ∙ numbered-agree (λ i. first_open ((run s tr (t + u)).jobs i)) d (o r)
+      (λ i e.
+      let p = picked s tr t n w d o g r i there e in
+      let passes : chosen s tr t n w d o i ≡ true = passes-is o (task_at s i).res.0 r i p.on.here e in
+      first-open (d i) ((run s tr (t + u)).jobs i) (order-in u i less p.on.task passes))
+
+-- ---- as the simulator has it
+
+module _ (s : SystemLists) (tr : TraceLists) (can : CanRun s tr) (t : ℕ) (lines : List LineLists) (desks : List Desk) (feeds : List Feed) (at : IsAt s tr t lines desks feeds) (n : ℕ) (some : 1 ≤ n) (ran : List Desk)
+    (foreseen : (r : ℕ) → r < length s.resources → Foresees s r (state_now (kind_of s r) (desk_at desks r)) (waiting lines) t (phase_of tr r) (desk_at ran r))
+    (fits : (r : ℕ) → r < length s.resources → (desk_at ran r).gone + n ≤ (desk_at ran r).ticks)
+    (enough : (r : ℕ) → r < length s.resources → HasEnough lines (desk_at ran r))
+    (ahead : (k : ℕ) → k < length s.sources → IsAhead (times_of tr k) (t + n) (feed_at feeds k).next)
+    (sources : length tr.times ≡ length s.sources)
+    (served_lines : List LineLists) (served : (i : ℕ) → i < length s.tasks → line_at served_lines i ≡ served_line (runs_at (desk_at ran (task_at s i).res.0) i) n (t + n) (line_at lines i))
+    (served_desks : List Desk) (serves : (r : ℕ) → r < length s.resources → IsServed s r lines n (desk_at ran r) (desk_at served_desks r))
+    (count : ℕ → ℕ) (next_lines : List LineLists) (next_desks : List Desk) (given : AreGiven s tr (t + n) count served_lines served_desks next_lines next_desks) where
+  -- the job that ran on a resource
+  last-is : (r i : ℕ) → r < length s.resources → runner (desk_at ran r) ≡ Some i → last_of (line_at next_lines i) (desk_at next_desks r).ends ≡ (line_at lines i).done
+  last-is r i there e =
+      let w = who-waits s tr can t lines desks feeds at n some ran foreseen fits enough ahead sources r i there e in
+      let passes : runs_at (desk_at ran (task_at s i).res.0) i ≡ true = passes-is (λ q. runner (desk_at ran q)) (task_at s i).res.0 r i w.on.here e in
+      let ends : (desk_at next_desks r).ends ≡ nat_le (left_of (line_at lines i)) n = (given.kept r there).ends ∙ (serves r there).ends i e in
+      let done : (line_at next_lines i).done ≡ (worked n (t + n) (line_at lines i)).done =
+      ap (λ (l : LineLists). l.done) (given.arrived i w.on.task)
+      ∙ (ap (λ (l : LineLists). l.done) (served i w.on.task) ∙ ap (λ b. (served_line b n (t + n) (line_at lines i)).done) passes) in
+      ap (λ b. (line_at next_lines i).done - cond b 1 0) ends
+      ∙ (ap (λ m. m - cond (nat_le (left_of (line_at lines i)) n) 1 0) done ∙ last-worked n (t + n) (line_at lines i))
+
+  runner-is : (r : ℕ) → r < length s.resources → runner (desk_at next_desks r) ≡ runner (desk_at ran r)
+  runner-is r there = ap (option_map place_of) ((given.kept r there).running ∙ (serves r there).running)
+
+  -- who gets each tick of the jump
+  pub jump-ran : (r u : ℕ) → r < length s.resources → t ≤ u → u < t + n → served_at s tr u r ≡ ran_by next_lines next_desks r
+  jump-ran r u there from before =
+      let e : t + (u - t) ≡ u = omega arith in
+      let g = glides s tr can t lines desks feeds at n some ran foreseen fits enough ahead sources in
+      let h = served-in s tr t n (waiting lines) (λ i. (line_at lines i).done) (λ r. runner (desk_at ran r)) g r (u - t) there (omega arith) in
+      let h' : served_at s tr u r ≡ option_map (numbered (λ i. (line_at lines i).done)) (runner (desk_at ran r)) = rw e at h in
+      h'
+      ∙ (sym (numbered-agree (λ i. last_of (line_at next_lines i) (desk_at next_desks r).ends) (λ i. (line_at lines i).done) (runner (desk_at ran r)) (λ i o. last-is r i there o))
+      ∙ ap (option_map (numbered (λ i. last_of (line_at next_lines i) (desk_at next_desks r).ends))) (sym (runner-is r there)))
+
+  pub jump-within : RanWithin next_lines next_desks
+  jump-within r i there e =
+      let less : r < length s.resources = omega (arith, there, given.count_desks) in
+      let w = who-waits s tr can t lines desks feeds at n some ran foreseen fits enough ahead sources r i less (sym (runner-is r less) ∙ e) in
+      omega (arith, given.count_lines, w.on.task)

@@ -1,0 +1,14 @@
+use Rattle.std.proofs.Common.{◌≤◌, ◌-◌}
+use Rattle.cpa_units.specs.declared.limits.TheConstants.{HORIZON}
+use Rattle.cpa_sim.specs.Outcome.{end_of}
+use Rattle.cpa_sim.specs.Replays.{IsReplay}
+use Rattle.cpa_sim.proofs.whole.replay.Given as goal
+
+abbrev pub invariant-moments : goal.invariant-moments
+invariant-moments l = record {
+  run : IsReplay l.system l.trace l.run;
+  within : l.run.time ≤ end_of l.system l.trace;
+}
+
+abbrev pub decreases-moments : goal.decreases-moments
+decreases-moments l = HORIZON - l.run.time

@@ -1,0 +1,38 @@
+-- A run that is followed from one moment to the next.
+use Rattle.std.specs.Prelude.{ℕ, ◌≡◌, ◌<◌, ◌≤◌, ◌+◌, false, nat_lt, List, Option}
+use Rattle.cpa_units.specs.declared.limits.TheConstants.{HORIZON, MAX_TRACE_TIME}
+use Rattle.cpa_units.specs.declared.places.TaskId.{TaskId}
+use Rattle.cpa_model.specs.SystemLists.{SystemLists}
+use Rattle.cpa_model.specs.Rules.{IsSystem}
+use Rattle.cpa_trace.specs.Trace.{TraceLists}
+use Rattle.cpa_sim.specs.declared.desks.Desk.{Desk}
+use Rattle.cpa_sim.specs.declared.feeds.Feed.{Feed}
+use Rattle.cpa_sim.specs.Arrivals.{AreFollowers}
+use Rattle.cpa_sim.specs.Lines.{LineLists}
+use Rattle.cpa_sim.specs.Outcome.{CanReplay, events_from, is_over}
+use Rattle.cpa_sim.specs.Simulation.{IsAt, IsSoon}
+use Rattle.cpa_sim.specs.Served.{RanWithin}
+
+-- what is known of a run as far as it was followed
+pub record ReplayLists : Type 0 where
+  pub firsts : List (Option TaskId)
+  pub nexts : List (Option TaskId)
+  pub lines : List LineLists
+  pub desks : List Desk
+  pub feeds : List Feed
+  pub time : ℕ
+  pub soon : ℕ
+  pub quiet : ℕ
+
+-- it is the run of a system under a trace, up to its time, before which the run isn't over
+pub record IsReplay (s : SystemLists) (tr : TraceLists) (p : ReplayLists) : Type 0 where
+  pub rules : IsSystem s
+  pub can : CanReplay s tr
+  pub followers : AreFollowers s 0 p.firsts p.nexts
+  pub at : IsAt s tr p.time p.lines p.desks p.feeds
+  pub coming : IsSoon s tr p.time p.soon p.feeds
+  pub ran : RanWithin p.lines p.desks
+  pub events : (u : ℕ) → events_from tr u ≡ nat_lt u p.quiet
+  pub last : p.quiet ≤ MAX_TRACE_TIME + 1
+  pub before : (u : ℕ) → u < p.time → is_over s tr u ≡ false
+  pub within : p.time ≤ HORIZON

@@ -1,0 +1,108 @@
+//! A run that is followed from one moment to the next. Times are in ticks.
+
+ghost use Rattle.std.specs.Prelude.{◌≡◌, ◌<◌, ◌≤◌, ℕ, length, map, nat_lt, IfOk, OnOk};
+ghost use Rattle.cpa_model.specs.SystemLists.{SystemLists};
+ghost use Rattle.cpa_trace.specs.Trace.{TraceLists};
+ghost use Rattle.cpa_sim.specs.Lines.{LineLists};
+ghost use Rattle.cpa_sim.specs.Outcome.{CanReplay, end_of, job_of};
+ghost use Rattle.cpa_sim.specs.Served.{served_at, ran_by, RanWithin};
+ghost use Rattle.cpa_sim.specs.Replays.{IsReplay};
+
+use crate::feeds::quiet_from;
+use crate::followers::{Followers, find_followers};
+use crate::jobs::Served;
+use crate::outcome::Outcome;
+use crate::simulation::{Simulation, advance, goes_on, most_ticks, start};
+use cpa_model::System;
+use cpa_trace::Trace;
+use cpa_units::{NoMemory, ResId};
+use std::alloc::Global;
+use std::marker::Model;
+
+/// A run of a system under a trace, as far as it was followed.
+#[derive(Debug, Drop)]
+pub struct Replay {
+    followers: Followers,
+    sim: Simulation,
+    /// From this time on no event comes.
+    quiet: u64,
+}
+
+impl Model for Replay {
+    ghost use Rattle.cpa_sim.specs.Replays.{ReplayLists};
+
+    ghost Value = { ReplayLists };
+
+    ghost view = { λ p. record { firsts = p.followers.firsts.items; nexts = p.followers.nexts.items; lines = p.sim.lines.items; desks = p.sim.desks.items; feeds = p.sim.feeds.items; time = p.sim.time; soon = p.sim.soon; quiet = p.quiet } };
+}
+
+impl Replay {
+    /// The run at tick 0. The condition on the trace is that of `replay`.
+    pub fn start(alloc: Global, system: &System, trace: &Trace) -> Result<Replay, NoMemory>
+        requires { CanReplay system.now trace.now }
+        ensures run { IfOk result (λ p. IsReplay system.now trace.now p) }
+        ensures time { IfOk result (λ p. p.time ≡ 0) }
+    {
+        let quiet = quiet_from(system, trace);
+        let followers = find_followers(alloc, system)?;
+        let sim = start(alloc, system, trace, &followers)?;
+        Ok(Replay {
+            followers,
+            sim,
+            quiet,
+        })
+    }
+
+    /// The time up to which the run was followed.
+    pub fn time(&self) -> u64
+        ensures { result ≡ self.now.time }
+    {
+        self.sim.time
+    }
+
+    /// Whether the run goes on from here: its end isn't reached.
+    pub fn goes_on(&self) -> bool
+        ensures { (s : SystemLists) (tr : TraceLists) → IsReplay s tr self.now → result ≡ nat_lt self.now.time (end_of s tr) }
+    {
+        goes_on(self.sim.time, self.quiet, self.sim.lines.as_slice())
+    }
+
+    /// Follows the run to the next moment at which something can change. On each resource the same job
+    /// gets all ticks up to it, or none does.
+    pub fn advance(&mut self, system: &System, trace: &Trace) -> Result<(), NoMemory>
+        requires run { IsReplay system.now trace.now self.old }
+        requires more { self.old.time < end_of system.now trace.now }
+        ensures run { OnOk result (IsReplay system.now trace.now self.new) }
+        ensures later { OnOk result (self.old.time < self.new.time) }
+        ensures within { OnOk result (self.new.time ≤ end_of system.now trace.now) }
+        ensures ran { OnOk result ((r u : ℕ) → r < length system.now.resources → self.old.time ≤ u → u < self.new.time → served_at system.now trace.now u r ≡ ran_by self.new.lines self.new.desks r) }
+    {
+        let most = most_ticks(self.sim.time, self.quiet);
+        advance(system, trace, &self.followers, &mut self.sim, most)?;
+        Ok(())
+    }
+
+    /// The job that got the ticks of a resource since the moment before; none where nobody did.
+    pub fn ran(&self, res: ResId) -> Option<Served>
+        requires there { res.0 < length self.now.desks }
+        requires within { RanWithin self.now.lines self.now.desks }
+        ensures { result ≡ ran_by self.now.lines self.now.desks res.0 }
+    {
+        let desk = self.sim.desks[res.0 as usize];
+        let task = desk.running?;
+        let done = self.sim.lines[task.0 as usize].done();
+        let job = done.saturating_sub(u64::from(desk.ends));
+        Some(Served { task, job })
+    }
+
+    /// What is seen of a run that ends here.
+    pub(crate) fn seen(self) -> Outcome
+        ensures { result ≡ record { jobs = map (λ (l : LineLists). map job_of l.jobs) self.lines; end = self.time } }
+    {
+        let sim = self.sim;
+        Outcome {
+            lines: sim.lines,
+            end: sim.time,
+        }
+    }
+}
