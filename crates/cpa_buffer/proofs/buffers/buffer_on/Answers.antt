@@ -1,0 +1,33 @@
+use Rattle.std.proofs.Common.{◌≤◌, ◌*◌, ◌+◌, ◌∙◌, length, ap, arith}
+use Rattle.cpa_units.specs.Bounds.{sum_bounds}
+use Rattle.cpa_model.specs.SystemLists.{is_on, tasks_on}
+use Rattle.cpa_model.proofs.SystemLaws.{no_id}
+use Rattle.cpa_model.proofs.RosterLaws.{roster-few}
+use Rattle.cpa_local.proofs.VectorLaws.{weaker_limit}
+use Rattle.cpa_report.proofs.PathLaws.{plus-limit}
+use Rattle.cpa_buffer.specs.Buffers.{buffer_of, buffer_on}
+use Rattle.cpa_buffer.proofs.LoopLaws.{sum-next, taken-all}
+use Rattle.cpa_buffer.proofs.buffers.buffer_on.Goals as goal
+
+pub plus-sum-requires-clause-sum : goal.plus-sum-requires-clause-sum
+plus-sum-requires-clause-sum c =
+    let s = c.args.system.now in
+    let few : length c.tasks_on-task-items.result.now ≤ length s.tasks = roster-few (is_on s c.args.res.0) (length s.tasks) c.tasks_on-task-items.result.now c.tasks_on-task-items.ensures.places in
+    weaker_limit (c.loop-task.task-index * 68719476736) 35184372088832 c.loop-task.sum (omega (arith, few, c.loop-task-test.true, c.tasks_on-task-items.ensures.rules.few_tasks)) c.loop-task.invariant.few
+
+pub loop-task-preserved : goal.loop-task-preserved
+loop-task-preserved c =
+    let k = c.loop-task.task-index in
+    record {
+      sum = sum-next c.tasks_on-task-items.result.now k no_id c.loop-task-test.true (buffer_of c.args.system.now c.args.x.now) c.loop-task.sum c.buffer.result c.plus-sum.result
+          c.loop-task.invariant.sum c.buffer.ensures.value c.plus-sum.ensures;
+      few = rw c.plus-sum.ensures
+          (weaker_limit (k * 68719476736 + 68719476736) ((k + 1) * 68719476736) _ (omega arith) (plus-limit (k * 68719476736) 68719476736 c.loop-task.sum c.buffer.result c.loop-task.invariant.few c.buffer.ensures.few));
+    }
+
+pub returns : goal.returns
+unfolding buffer_on
+returns c =
+    c.loop-task.invariant.sum
+    ∙ ap (sum_bounds (buffer_of c.args.system.now c.args.x.now))
+    (taken-all c.tasks_on-task-items.result.now (tasks_on c.args.system.now c.args.res.0) c.loop-task.task-index c.loop-task-test.false c.tasks_on-task-items.ensures.places)

@@ -1,0 +1,32 @@
+-- The text that tells buffers beside peaks.
+use Rattle.std.specs.Prelude.{ℕ, ◌++◌, List, length, count_by, codes, slice_index_or}
+use Rattle.std.specs.List.{flat_map, range_with_len}
+use Rattle.std.specs.Fmt.{decimal}
+use Rattle.cpa_units.specs.declared.bound.Bound.{Bound}
+use Rattle.cpa_model.specs.SystemLists.{SystemLists, task_at, resource_at, task_places}
+use Rattle.cpa_report.specs.Report.{bound_text, is_overload}
+use Rattle.cpa_buffer.specs.Buffers.{buffer_of, buffer_on}
+use Rattle.cpa_buffer.specs.Peaks.{PeakLists}
+
+-- a buffer and the peak beside it
+unfoldable pub line : List ℕ → List ℕ → Bound → ℕ → List ℕ
+line label name bound peak = label ++ name ++ codes " bound " ++ bound_text bound ++ codes " peak " ++ decimal peak ++ codes "\n"
+
+unfoldable pub task_line : SystemLists → List Bound → PeakLists → ℕ → List ℕ
+task_line s x p i = line (codes "buffer ") (task_at s i).name (buffer_of s x i) (slice_index_or p.tasks i 0)
+
+unfoldable pub resource_line : SystemLists → List Bound → PeakLists → ℕ → List ℕ
+resource_line s x p r = line (codes "resource ") (resource_at s r).name (buffer_on s x r) (slice_index_or p.resources r 0)
+
+-- how many buffers of some tasks are no number
+abbrev pub overloads : SystemLists → List Bound → List ℕ → ℕ
+overloads s x is = count_by (λ i. is_overload (buffer_of s x i)) is
+
+unfoldable pub summary_line : ℕ → ℕ → List ℕ
+summary_line tasks overload = codes "summary tasks " ++ decimal tasks ++ codes " overload " ++ decimal overload ++ codes "\n"
+
+-- a line per task, a line per resource, and the counts
+unfoldable pub buffer_text : SystemLists → List Bound → PeakLists → List ℕ
+buffer_text s x p =
+    flat_map (task_line s x p) (task_places s) ++ flat_map (resource_line s x p) (range_with_len 0 (length s.resources))
+    ++ summary_line (length s.tasks) (overloads s x (task_places s))
