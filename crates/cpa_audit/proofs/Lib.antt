@@ -1,0 +1,9 @@
+pub mod EntryLaws
+pub mod ReadingLaws
+pub mod ListLaws
+pub mod SegmentLaws
+pub mod FindingLaws
+pub mod AuditLaws
+pub mod FollowLaws
+pub mod RunLaws
+pub mod AllLaws
