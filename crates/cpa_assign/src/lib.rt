@@ -11,8 +11,6 @@ mod laws;
 mod numbers;
 mod order;
 mod placing;
-#[cfg(test)]
-mod tests;
 mod text;
 
 pub use able::{has_priorities, is_fed_by_sources};

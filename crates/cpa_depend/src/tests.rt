@@ -1,4 +1,4 @@
-ghost use Rattle.std.specs.Prelude.{◌≡◌, ◌<◌, All, IfOk, length, true};
+ghost use Rattle.std.specs.Prelude.{◌≡◌, ◌<◌, ◌≤◌, All, IfOk, length, true};
 ghost use Rattle.cpa_model.specs.Built.{has_executions};
 
 use crate::{cone, reads, reads_of_all};
@@ -95,21 +95,35 @@ fn around(system: &System, res: ResId) -> ([bool; 4], [bool; 4])
     (members(reads(system, res)), members(cone(system, from)))
 }
 
+/// The same of the first four resources, and what the table has of them.
+fn all_around(system: &System) -> [([bool; 4], [bool; 4]); 4]
+    requires { 4 ≤ length system.now.resources }
+{
+    [
+        around(system, ResId(0)),
+        around(system, ResId(1)),
+        around(system, ResId(2)),
+        around(system, ResId(3)),
+    ]
+}
+
+/// What the table has of two resources.
+fn read_by(system: &System) -> [[bool; 4]; 2] {
+    let table = reads_of_all(system);
+    [members(table[2]), members(table[3])]
+}
+
 #[test]
 fn crossing_chains(rt: HostRuntime) -> Result<(), Fail> {
     let alloc = rt.alloc();
     let system = System::build(alloc, crossing(alloc)?)?;
-    assert_eq!(rt; system.resources(), 4);
     let both = [true, true, false, false];
     let all = [true, true, true, false];
     let third = [false, false, true, false];
     let last = [false, false, false, true];
-    assert_eq!(rt; around(&system, ResId(0)), (both, all));
-    assert_eq!(rt; around(&system, ResId(1)), (both, all));
-    assert_eq!(rt; around(&system, ResId(2)), (all, third));
-    assert_eq!(rt; around(&system, ResId(3)), (last, last));
-    let table = reads_of_all(&system);
-    assert_eq!(rt; members(table[2]), all);
-    assert_eq!(rt; members(table[3]), last);
+    let wanted = [(both, all), (both, all), (all, third), (last, last)];
+    assert!(rt;
+        system.resources() == 4 && all_around(&system) == wanted && read_by(&system) == [all, last]
+    );
     Ok(())
 }

@@ -107,45 +107,102 @@ fn wanted(reason: u8, part: Part, place: u64) -> Option<(u8, Part, u64)> {
     }
 }
 
-#[test]
-fn refuses_entries(rt: HostRuntime) -> Result<(), Fail> {
-    let alloc = rt.alloc();
-    for (given, reason) in RESOURCES {
-        let mut draft = draft(alloc, &BASE)?;
-        draft.resources.push(resource(alloc, given)?)?;
-        let want = wanted(*reason, Part::Resource, 5);
-        assert_eq!(rt; told(alloc, &draft), want, "{given:?}");
+/// The base with one more resource.
+fn with_resource(alloc: Global, given: &Res) -> Result<Draft, AllocError> {
+    let mut draft = draft(alloc, &BASE)?;
+    draft.resources.push(resource(alloc, given)?)?;
+    Ok(draft)
+}
+
+fn with_source(alloc: Global, given: &Src) -> Result<Draft, AllocError> {
+    let mut draft = draft(alloc, &BASE)?;
+    draft.sources.push(source(alloc, given)?)?;
+    Ok(draft)
+}
+
+fn with_task(alloc: Global, given: &Job) -> Result<Draft, AllocError> {
+    let mut draft = draft(alloc, &BASE)?;
+    draft.tasks.push(task(alloc, given)?)?;
+    Ok(draft)
+}
+
+fn with_path(alloc: Global, given: &Way) -> Result<Draft, AllocError> {
+    let mut draft = draft(alloc, &BASE)?;
+    draft.paths.push(path(alloc, given)?)?;
+    Ok(draft)
+}
+
+/// The place of the first entry of a table of which something else is told than is wanted.
+fn wrong_resource(alloc: Global) -> Result<Option<usize>, AllocError> {
+    for (place, (given, reason)) in RESOURCES.iter().enumerate() {
+        if told(alloc, &with_resource(alloc, given)?) != wanted(*reason, Part::Resource, 5) {
+            return Ok(Some(place));
+        }
     }
-    for (given, reason) in SOURCES {
-        let mut draft = draft(alloc, &BASE)?;
-        draft.sources.push(source(alloc, given)?)?;
-        let want = wanted(*reason, Part::Source, 2);
-        assert_eq!(rt; told(alloc, &draft), want, "{given:?}");
+    Ok(None)
+}
+
+fn wrong_source(alloc: Global) -> Result<Option<usize>, AllocError> {
+    for (place, (given, reason)) in SOURCES.iter().enumerate() {
+        if told(alloc, &with_source(alloc, given)?) != wanted(*reason, Part::Source, 2) {
+            return Ok(Some(place));
+        }
     }
-    for (given, reason) in TASKS {
-        let mut draft = draft(alloc, &BASE)?;
-        draft.tasks.push(task(alloc, given)?)?;
-        let want = wanted(*reason, Part::Task, 3);
-        assert_eq!(rt; told(alloc, &draft), want, "{given:?}");
+    Ok(None)
+}
+
+fn wrong_task(alloc: Global) -> Result<Option<usize>, AllocError> {
+    for (place, (given, reason)) in TASKS.iter().enumerate() {
+        if told(alloc, &with_task(alloc, given)?) != wanted(*reason, Part::Task, 3) {
+            return Ok(Some(place));
+        }
     }
-    for (given, reason) in PATHS {
-        let mut draft = draft(alloc, &BASE)?;
-        draft.paths.push(path(alloc, given)?)?;
-        let want = wanted(*reason, Part::Path, 2);
-        assert_eq!(rt; told(alloc, &draft), want, "{given:?}");
+    Ok(None)
+}
+
+fn wrong_path(alloc: Global) -> Result<Option<usize>, AllocError> {
+    for (place, (given, reason)) in PATHS.iter().enumerate() {
+        if told(alloc, &with_path(alloc, given)?) != wanted(*reason, Part::Path, 2) {
+            return Ok(Some(place));
+        }
     }
-    Ok(())
+    Ok(None)
+}
+
+/// The same of the drafts that are told whole.
+fn wrong_case(alloc: Global) -> Result<Option<usize>, AllocError> {
+    for (place, case) in CASES.iter().enumerate() {
+        if told(alloc, &draft(alloc, case)?) != case.want {
+            return Ok(Some(place));
+        }
+    }
+    Ok(None)
 }
 
 #[test]
 fn refuses_the_first(rt: HostRuntime) -> Result<(), Fail> {
     let alloc = rt.alloc();
-    for (place, case) in CASES.iter().enumerate() {
-        let draft = draft(alloc, case)?;
-        needs_shared(&draft);
-        assert_eq!(rt; told(alloc, &draft), case.want, "case {place}");
-    }
+    let wrong = [
+        wrong_resource(alloc)?,
+        wrong_source(alloc)?,
+        wrong_task(alloc)?,
+        wrong_path(alloc)?,
+        wrong_case(alloc)?,
+    ];
+    assert_eq!(rt; wrong, [None; 5]);
     Ok(())
+}
+
+/// The base without its tasks and paths.
+fn without_tasks(alloc: Global) -> Result<Draft, AllocError> {
+    draft(
+        alloc,
+        &Case {
+            tasks: &[],
+            paths: &[],
+            ..BASE
+        },
+    )
 }
 
 /// The name of an entry by its place.
@@ -153,66 +210,66 @@ fn numbered(alloc: Global, letter: &str, place: u32) -> Result<Raw, AllocError> 
     Ok(Raw::new(format!(in alloc; "{letter}{place}")?.into_bytes()))
 }
 
-/// A chain of tasks, the first of which is activated by a source.
+/// A task of a chain, the first of which is activated by a source.
+fn link(alloc: Global, place: u32) -> Result<DraftTask, AllocError> {
+    Ok(DraftTask {
+        name: numbered(alloc, "t", place)?,
+        after: match place.checked_sub(1) {
+            None => raw(alloc, "s")?,
+            Some(before) => numbered(alloc, "t", before)?,
+        },
+        priority: Some(place as i64),
+        ..task(alloc, &A)?
+    })
+}
+
+/// What is told of a chain of so many tasks.
+fn told_of_chain(alloc: Global, tasks: u32) -> Result<Option<(u8, Part, u64)>, AllocError> {
+    let mut draft = without_tasks(alloc)?;
+    for place in 0..tasks {
+        draft.tasks.push(link(alloc, place)?)?;
+    }
+    needs_shared(&draft);
+    Ok(told(alloc, &draft))
+}
+
 #[test]
 fn refuses_long_chains(rt: HostRuntime) -> Result<(), Fail> {
     let alloc = rt.alloc();
-    for (tasks, want) in [
-        (32, None),
-        (33, Some((7, Part::Task, 33))),
-        (600, Some((7, Part::Task, 33))),
-    ] {
-        let mut draft = draft(
-            alloc,
-            &Case {
-                tasks: &[],
-                paths: &[],
-                ..BASE
-            },
-        )?;
-        for place in 0..tasks {
-            draft.tasks.push(DraftTask {
-                name: numbered(alloc, "t", place)?,
-                after: match place.checked_sub(1) {
-                    None => raw(alloc, "s")?,
-                    Some(before) => numbered(alloc, "t", before)?,
-                },
-                priority: Some(place as i64),
-                ..task(alloc, &A)?
-            })?;
-        }
-        assert_eq!(rt; told(alloc, &draft), want, "{tasks} tasks");
-    }
+    let seen = [
+        told_of_chain(alloc, 32)?,
+        told_of_chain(alloc, 33)?,
+        told_of_chain(alloc, 600)?,
+    ];
+    let long = Some((7, Part::Task, 33));
+    assert_eq!(rt; seen, [None, long, long]);
     Ok(())
 }
 
-/// As many entries of each part as there may be, and one more.
-#[test]
-fn refuses_too_many(rt: HostRuntime) -> Result<(), Fail> {
-    let alloc = rt.alloc();
-    let mut draft = draft(
-        alloc,
-        &Case {
-            tasks: &[],
-            paths: &[],
-            ..BASE
-        },
-    )?;
-    for place in 0..60 {
+fn add_resources(alloc: Global, draft: &mut Draft, count: u32) -> Result<(), AllocError> {
+    for place in 0..count {
         let name = numbered(alloc, "r", place)?;
         draft.resources.push(DraftResource {
             name,
             ..resource(alloc, &CPU)?
         })?;
     }
-    for place in 0..127 {
+    Ok(())
+}
+
+fn add_sources(alloc: Global, draft: &mut Draft, count: u32) -> Result<(), AllocError> {
+    for place in 0..count {
         let name = numbered(alloc, "s", place)?;
         draft.sources.push(DraftSource {
             name,
             ..source(alloc, &S)?
         })?;
     }
-    for place in 0..512 {
+    Ok(())
+}
+
+fn add_tasks(alloc: Global, draft: &mut Draft, count: u32) -> Result<(), AllocError> {
+    for place in 0..count {
         let name = numbered(alloc, "t", place)?;
         let priority = Some(place as i64);
         draft.tasks.push(DraftTask {
@@ -221,41 +278,52 @@ fn refuses_too_many(rt: HostRuntime) -> Result<(), Fail> {
             ..task(alloc, &A)?
         })?;
     }
-    for place in 0..128 {
+    Ok(())
+}
+
+fn add_paths(alloc: Global, draft: &mut Draft, count: u32) -> Result<(), AllocError> {
+    let way = Way {
+        tasks: &["t0"],
+        ..W
+    };
+    for place in 0..count {
         let name = numbered(alloc, "w", place)?;
         draft.paths.push(DraftPath {
             name,
-            ..path(
-                alloc,
-                &Way {
-                    tasks: &["t0"],
-                    ..W
-                },
-            )?
+            ..path(alloc, &way)?
         })?;
     }
-    assert_eq!(rt; told(alloc, &draft), None);
-    draft.paths.push(path(
-        alloc,
-        &Way {
-            tasks: &["t0"],
-            ..W
-        },
-    )?)?;
-    assert_eq!(rt; told(alloc, &draft), Some((12, Part::Path, 129)));
-    draft.tasks.push(task(
-        alloc,
-        &Job {
-            priority: Some(512),
-            ..A
-        },
-    )?)?;
-    assert_eq!(rt; told(alloc, &draft), Some((12, Part::Task, 513)));
-    draft.sources.push(source(alloc, &Src { name: "t", ..S })?)?;
-    assert_eq!(rt; told(alloc, &draft), Some((12, Part::Source, 129)));
-    draft
-        .resources
-        .push(resource(alloc, &Res { name: "r", ..CPU })?)?;
-    assert_eq!(rt; told(alloc, &draft), Some((12, Part::Resource, 65)));
+    Ok(())
+}
+
+/// So many resources, sources, tasks and paths beside the four resources and the source of the base.
+fn told_of_many(alloc: Global, counts: [u32; 4]) -> Result<Option<(u8, Part, u64)>, AllocError> {
+    let mut draft = without_tasks(alloc)?;
+    add_resources(alloc, &mut draft, counts[0])?;
+    add_sources(alloc, &mut draft, counts[1])?;
+    add_tasks(alloc, &mut draft, counts[2])?;
+    add_paths(alloc, &mut draft, counts[3])?;
+    Ok(told(alloc, &draft))
+}
+
+/// As many entries of each part as there may be, and one more of one after the other.
+#[test]
+fn refuses_too_many(rt: HostRuntime) -> Result<(), Fail> {
+    let alloc = rt.alloc();
+    let seen = [
+        told_of_many(alloc, [60, 127, 512, 128])?,
+        told_of_many(alloc, [60, 127, 512, 129])?,
+        told_of_many(alloc, [60, 127, 513, 129])?,
+        told_of_many(alloc, [60, 128, 513, 129])?,
+        told_of_many(alloc, [61, 128, 513, 129])?,
+    ];
+    let wanted = [
+        None,
+        Some((12, Part::Path, 129)),
+        Some((12, Part::Task, 513)),
+        Some((12, Part::Source, 129)),
+        Some((12, Part::Resource, 65)),
+    ];
+    assert_eq!(rt; seen, wanted);
     Ok(())
 }

@@ -9,6 +9,3 @@ mod read;
 
 pub use print::print_system;
 pub use read::{FileRefusal, read_system};
-
-#[cfg(test)]
-mod tests;

@@ -7,8 +7,6 @@ mod hammering;
 mod laws;
 mod seen;
 mod systems;
-#[cfg(test)]
-mod tests;
 mod texts;
 mod traces;
 

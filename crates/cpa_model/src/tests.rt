@@ -138,114 +138,184 @@ fn only_stream(system: &System, task: TaskId) -> Option<SourceId>
     }
 }
 
+/// The place, the kind and the limit of the resource with a name.
+fn resource_of(system: &System, name: &str) -> Option<(ResId, Kind, u64)> {
+    let res = system.find_resource(name.as_bytes())?;
+    if system.resources() <= res.0 {
+        return None;
+    }
+    let resource = system.resource(res);
+    Some((res, resource.kind, resource.limit))
+}
+
+/// What a system has of a task: how it is activated, how long it runs, its turn, and the beginning and the length of its chain.
+#[derive(Clone, Copy, Debug, PartialEq)]
+struct Seen {
+    task: TaskId,
+    after: Activator,
+    executions: (u64, u64),
+    turn: Turn,
+    root: SourceId,
+    depth: u32,
+}
+
+/// What it has of the task with a name, where the task's one stream comes from the beginning of its chain.
+fn task_of(system: &System, name: &str) -> Option<Seen> {
+    let task = system.find_task(name.as_bytes())?;
+    if system.tasks() <= task.0 || only_stream(system, task) != Some(system.root(task)) {
+        return None;
+    }
+    let it = system.task(task);
+    Some(Seen {
+        task,
+        after: it.after,
+        executions: (it.best, it.worst),
+        turn: it.turn,
+        root: system.root(task),
+        depth: system.depth(task),
+    })
+}
+
+/// The cycle of the third resource, and its tasks.
+fn table_of(system: &System) -> Option<(u64, bool)> {
+    if system.resources() != 3 {
+        return None;
+    }
+    let tasks = system.tasks_on(ResId(2));
+    Some((
+        system.cycle(ResId(2)),
+        tasks == [TaskId(4), TaskId(5)].as_slice(),
+    ))
+}
+
+/// The deadline of the first path, how many tasks it has, and the third of them.
+fn path_of(system: &System) -> Option<(Option<u64>, u32, TaskId)> {
+    if system.paths() == 0 {
+        return None;
+    }
+    let path = system.path(PathId(0));
+    if path.tasks.len() < 3 {
+        return None;
+    }
+    Some((path.deadline, path.tasks.len(), path.tasks.get(2)))
+}
+
 #[test]
 fn builds_a_system(rt: HostRuntime) -> Result<(), Fail> {
     let alloc = rt.alloc();
     let system = System::build(alloc, draft(alloc)?)?;
     needs_shared(&system);
-    assert_eq!(rt; system.resources(), 3);
-    assert_eq!(rt; system.sources(), 2);
-    assert_eq!(rt; system.tasks(), 6);
-    assert_eq!(rt; system.paths(), 1);
-    for (name, place, kind) in [
-        ("cpu", 0, Kind::Preemptive),
-        ("bus", 1, Kind::Can { bit: 2 }),
-        ("table", 2, Kind::Tdma { gap: 5 }),
-    ] {
-        assert_eq!(rt; system.find_resource(name.as_bytes()), Some(ResId(place)));
-        assert!(rt; place < system.resources());
-        assert_eq!(rt; system.resource(ResId(place)).kind, kind);
-        assert_eq!(rt; system.resource(ResId(place)).limit, 1_000_000);
-    }
-    assert_eq!(rt; system.find_source("sb".as_bytes()), Some(SourceId(1)));
-    assert_eq!(rt; system.find_source("a".as_bytes()), None);
-    assert_eq!(rt; system.find_task("sa".as_bytes()), None);
-    // The executions of frames are those of the case *frame_lengths*.
-    for (name, place, after, executions, turn, root, depth) in [
-        (
-            "a",
-            0,
-            Activator::Source(SourceId(0)),
-            (2, 7),
-            Turn::Priority(1),
-            0,
-            1,
-        ),
-        (
-            "f",
-            1,
-            Activator::Task(TaskId(0)),
-            (222, 270),
-            Turn::Priority(1),
-            0,
-            2,
-        ),
-        (
-            "b",
-            2,
-            Activator::Task(TaskId(1)),
-            (2, 7),
-            Turn::Priority(2),
-            0,
-            3,
-        ),
-        (
-            "g",
-            3,
-            Activator::Source(SourceId(1)),
-            (134, 160),
-            Turn::Priority(2),
-            1,
-            1,
-        ),
-        (
-            "x",
-            4,
-            Activator::Source(SourceId(1)),
-            (2, 7),
-            Turn::Slot(30),
-            1,
-            1,
-        ),
-        (
-            "y",
-            5,
-            Activator::Task(TaskId(3)),
-            (2, 7),
-            Turn::Slot(12),
-            1,
-            2,
-        ),
-    ] {
-        assert_eq!(rt;
-            system.find_task(name.as_bytes()),
-            Some(TaskId(place)),
-            "{name}"
-        );
-        assert!(rt; place < system.tasks());
-        let task = system.task(TaskId(place));
-        assert_eq!(rt; task.after, after, "{name}");
-        assert_eq!(rt; (task.best, task.worst), executions, "{name}");
-        assert_eq!(rt; task.turn, turn, "{name}");
-        assert_eq!(rt; system.root(TaskId(place)), SourceId(root), "{name}");
-        assert_eq!(rt;
-            only_stream(&system, TaskId(place)),
-            Some(SourceId(root)),
-            "{name}"
-        );
-        assert_eq!(rt; system.depth(TaskId(place)), depth, "{name}");
-    }
-    assert!(rt; 2 < system.resources());
-    assert_eq!(rt; system.cycle(ResId(2)), 47);
-    assert!(rt; system.tasks_on(ResId(2)) == [TaskId(4), TaskId(5)].as_slice());
-    assert!(rt; 0 < system.paths());
-    let path = system.path(PathId(0));
-    assert_eq!(rt; path.deadline, Some(40));
-    assert_eq!(rt; path.tasks.len(), 3);
-    assert!(rt; 2 < path.tasks.len());
-    assert_eq!(rt; path.tasks.get(2), TaskId(2));
     let copy = system.copy(alloc)?;
-    assert_eq!(rt; copy.find_task("y".as_bytes()), Some(TaskId(5)));
+    let resources = [
+        resource_of(&system, "cpu"),
+        resource_of(&system, "bus"),
+        resource_of(&system, "table"),
+    ];
+    assert!(rt;
+        resources
+            == [
+                Some((ResId(0), Kind::Preemptive, 1_000_000)),
+                Some((ResId(1), Kind::Can { bit: 2 }, 1_000_000)),
+                Some((ResId(2), Kind::Tdma { gap: 5 }, 1_000_000)),
+            ]
+            && (system.sources(), system.tasks(), system.paths()) == (2, 6, 1)
+            && system.find_source("sb".as_bytes()) == Some(SourceId(1))
+            && system.find_source("a".as_bytes()).is_none()
+            && system.find_task("sa".as_bytes()).is_none()
+            && table_of(&system) == Some((47, true))
+            && path_of(&system) == Some((Some(40), 3, TaskId(2)))
+            && copy.find_task("y".as_bytes()) == Some(TaskId(5))
+    );
+    Ok(())
+}
+
+/// The name of each task of the system, its place, its activator, its executions, its turn, its source and the length of its
+/// chain. The executions of frames are those of the case *frame_lengths*.
+const TASKS: [(&str, Seen); 6] = [
+    (
+        "a",
+        Seen {
+            task: TaskId(0),
+            after: Activator::Source(SourceId(0)),
+            executions: (2, 7),
+            turn: Turn::Priority(1),
+            root: SourceId(0),
+            depth: 1,
+        },
+    ),
+    (
+        "f",
+        Seen {
+            task: TaskId(1),
+            after: Activator::Task(TaskId(0)),
+            executions: (222, 270),
+            turn: Turn::Priority(1),
+            root: SourceId(0),
+            depth: 2,
+        },
+    ),
+    (
+        "b",
+        Seen {
+            task: TaskId(2),
+            after: Activator::Task(TaskId(1)),
+            executions: (2, 7),
+            turn: Turn::Priority(2),
+            root: SourceId(0),
+            depth: 3,
+        },
+    ),
+    (
+        "g",
+        Seen {
+            task: TaskId(3),
+            after: Activator::Source(SourceId(1)),
+            executions: (134, 160),
+            turn: Turn::Priority(2),
+            root: SourceId(1),
+            depth: 1,
+        },
+    ),
+    (
+        "x",
+        Seen {
+            task: TaskId(4),
+            after: Activator::Source(SourceId(1)),
+            executions: (2, 7),
+            turn: Turn::Slot(30),
+            root: SourceId(1),
+            depth: 1,
+        },
+    ),
+    (
+        "y",
+        Seen {
+            task: TaskId(5),
+            after: Activator::Task(TaskId(3)),
+            executions: (2, 7),
+            turn: Turn::Slot(12),
+            root: SourceId(1),
+            depth: 2,
+        },
+    ),
+];
+
+/// The name of the first task of which the system has something else.
+fn wrong_task(system: &System) -> Option<&'static str> {
+    for (name, seen) in &TASKS {
+        if task_of(system, name) != Some(*seen) {
+            return Some(*name);
+        }
+    }
+    None
+}
+
+#[test]
+fn builds_tasks(rt: HostRuntime) -> Result<(), Fail> {
+    let alloc = rt.alloc();
+    let system = System::build(alloc, draft(alloc)?)?;
+    let wrong = wrong_task(&system);
+    assert!(rt; wrong.is_none(), "{wrong:?}");
     Ok(())
 }
 

@@ -1,0 +1,239 @@
+mod systems;
+
+use cpa_edit::{Edit, EditFault, EditRefusal, Step, read_script};
+use cpa_fix::OneByOne;
+use cpa_local::Trail;
+use cpa_model::System;
+use cpa_session::Session;
+use cpa_units::Bound::{Overload, Within};
+use cpa_units::{Bound, Name, TaskId};
+use std::alloc::{AllocError, Global};
+use std::test::Fail;
+use std::thread::Threads;
+use systems::{Executions, crossing};
+
+/// Edits in turn from the same system, and what is seen after the last.
+struct Case {
+    executions: Executions,
+    script: &'static str,
+    /// The rule that the last edit breaks, 0 where it is made.
+    broken: u8,
+    /// The tasks that the last edit marks, or the start where there is no edit.
+    marks: &'static [u32],
+    /// The greatest execution and the bound of each task.
+    tasks: &'static [(u64, Bound)],
+}
+
+/// The chains meet two fixed points.
+const NARROW: Executions = Executions {
+    first: (1, 20),
+    second: (10, 30),
+};
+
+/// The jitters of the chains feed each other without end.
+const ENDLESS: Executions = Executions {
+    first: (1, 30),
+    second: (1, 60),
+};
+
+/// The tasks of the narrow system.
+const AT_START: &[(u64, Bound)] = &[
+    (20, Within(50)),
+    (30, Within(30)),
+    (20, Within(50)),
+    (30, Within(30)),
+    (4, Within(4)),
+];
+
+/// The same tasks, where `a1` takes up to 22.
+const RAISED: &[(u64, Bound)] = &[
+    (22, Within(82)),
+    (30, Within(41)),
+    (20, Within(80)),
+    (30, Within(39)),
+    (4, Within(4)),
+];
+
+const CASES: &[Case] = &[
+    Case {
+        executions: NARROW,
+        script: "",
+        broken: 0,
+        marks: &[0, 1, 2, 3, 4],
+        tasks: AT_START,
+    },
+    // An execution rises, and falls again: the greater of two fixed points, and the least once more.
+    Case {
+        executions: NARROW,
+        script: "exec a1 1 22",
+        broken: 0,
+        marks: &[0, 1, 2, 3],
+        tasks: RAISED,
+    },
+    Case {
+        executions: NARROW,
+        script: "exec a1 1 22\nexec a1 1 20",
+        broken: 0,
+        marks: &[0, 1, 2, 3],
+        tasks: AT_START,
+    },
+    // The edit reaches every resource that has tasks.
+    Case {
+        executions: NARROW,
+        script: "remove c\nexec a1 1 22",
+        broken: 0,
+        marks: &[0, 1, 2, 3],
+        tasks: &[
+            (22, Within(82)),
+            (30, Within(41)),
+            (20, Within(80)),
+            (30, Within(39)),
+        ],
+    },
+    Case {
+        executions: NARROW,
+        script: "remove c",
+        broken: 0,
+        marks: &[],
+        tasks: &[
+            (20, Within(50)),
+            (30, Within(30)),
+            (20, Within(50)),
+            (30, Within(30)),
+        ],
+    },
+    Case {
+        executions: NARROW,
+        script: "add d r sc 1 2 3",
+        broken: 0,
+        marks: &[4, 5],
+        tasks: &[
+            (20, Within(50)),
+            (30, Within(30)),
+            (20, Within(50)),
+            (30, Within(30)),
+            (4, Within(4)),
+            (2, Within(6)),
+        ],
+    },
+    // The edit reaches one task alone.
+    Case {
+        executions: ENDLESS,
+        script: "exec c 2 5",
+        broken: 0,
+        marks: &[4],
+        tasks: &[
+            (30, Overload),
+            (60, Overload),
+            (30, Overload),
+            (60, Overload),
+            (5, Within(5)),
+        ],
+    },
+    // The last edit is refused.
+    Case {
+        executions: NARROW,
+        script: "exec c 2 5\nexec a1 23 22",
+        broken: 5,
+        marks: &[],
+        tasks: &[
+            (20, Within(50)),
+            (30, Within(30)),
+            (20, Within(50)),
+            (30, Within(30)),
+            (5, Within(5)),
+        ],
+    },
+];
+
+/// A session on a system, and the tasks that its start marks.
+fn start<H: Threads + Sync>(
+    rt: &H,
+    alloc: Global,
+    executions: Executions,
+) -> Result<(Session, Vec<u32>), Fail> {
+    let system = System::build(alloc, crossing(alloc, executions)?)?;
+    let mut trail = Trail::with_room(alloc, 512)?;
+    let session = Session::start(rt, alloc, system, &mut OneByOne, &mut trail)?;
+    Ok((session, marked(alloc, &trail)?))
+}
+
+/// Makes an edit. Answers the rule that it breaks, else 0, and the tasks that it marks.
+fn make<H: Threads + Sync>(
+    rt: &H,
+    alloc: Global,
+    session: &mut Session,
+    edit: &Edit,
+) -> Result<(u8, Vec<u32>), Fail> {
+    let mut trail = Trail::with_room(alloc, 512)?;
+    let broken = match session.edit(rt, alloc, edit, &mut OneByOne, &mut trail) {
+        Ok(()) => 0,
+        Err(EditFault::Refused(EditRefusal(number))) => number,
+        Err(EditFault::Memory) => return Err(Fail::from(AllocError)),
+    };
+    Ok((broken, marked(alloc, &trail)?))
+}
+
+/// The places of the tasks that are marked.
+fn marked(alloc: Global, trail: &Trail) -> Result<Vec<u32>, AllocError> {
+    let mut places = Vec::new(alloc);
+    for place in 0..512 {
+        if trail.marked(TaskId(place)) {
+            places.push(place)?;
+        }
+    }
+    Ok(places)
+}
+
+/// The greatest execution and the bound of each task.
+fn tasks_of(alloc: Global, session: &Session) -> Result<Vec<(u64, Bound)>, AllocError> {
+    let system = session.system();
+    let bounds = session.bounds();
+    let mut tasks = Vec::new(alloc);
+    for place in 0..system.tasks().min(bounds.len()) {
+        let task = TaskId(place);
+        tasks.push((system.task(task).worst, bounds.get(task)))?;
+    }
+    Ok(tasks)
+}
+
+fn is_met<H: Threads + Sync>(rt: &H, alloc: Global, case: &Case) -> Result<bool, Fail> {
+    let script = read_script(alloc, case.script.as_bytes())?;
+    let (mut session, mut marks) = start(rt, alloc, case.executions)?;
+    let mut broken = 0;
+    for k in 0..script.len() {
+        if let Step::Change(edit) = script.step(k) {
+            (broken, marks) = make(rt, alloc, &mut session, edit)?;
+        }
+    }
+    let tasks = tasks_of(alloc, &session)?;
+    Ok(broken == case.broken && marks.as_slice() == case.marks && tasks.as_slice() == case.tasks)
+}
+
+#[test]
+fn edits(rt: HostRuntime) -> Result<(), Fail> {
+    let alloc = rt.alloc();
+    for case in CASES {
+        assert!(rt; is_met(&rt, alloc, case)?, "{}", case.script);
+    }
+    Ok(())
+}
+
+/// Where an edit meets want of memory the session is as before (run with each allocation refused in turn).
+#[test]
+fn edit_without_memory(rt: HostRuntime) -> Result<(), Fail> {
+    let alloc = rt.alloc();
+    let (mut session, _marks) = start(&rt, alloc, NARROW)?;
+    let edit = Edit::Exec {
+        task: Name::read(alloc, b"a1")?,
+        best: 1,
+        worst: 22,
+    };
+    let mut trail = Trail::with_room(alloc, 512)?;
+    let wanted = match session.edit(&rt, alloc, &edit, &mut OneByOne, &mut trail) {
+        Ok(()) => RAISED,
+        Err(_) => AT_START,
+    };
+    assert!(rt; tasks_of(alloc, &session)?.as_slice() == wanted);
+    Ok(())
+}

@@ -1,0 +1,17 @@
+//! Tests of crates by their public calls: edits, system files, traces, step rules, runs, and audits of schedules.
+//!
+//! They stand here, above those crates, so that what they try isn't proved once more with them.
+#![tactic(auto)]
+
+#[cfg(test)]
+mod audits;
+#[cfg(test)]
+mod edits;
+#[cfg(test)]
+mod files;
+#[cfg(test)]
+mod runs;
+#[cfg(test)]
+mod steps;
+#[cfg(test)]
+mod traces;
