@@ -1,4 +1,5 @@
 pub mod GrowthLaws
+pub mod BufferLaws
 pub mod MadeLaws
 pub mod OutputLaws
 pub mod PlanLaws

@@ -19,16 +19,21 @@ use Rattle.cpa_units.specs.declared.limits.TheConstants.{MAX_SYSTEM_FILE, MAX_SC
 use Rattle.cpa_sim.specs.Outcome.{outcome_of}
 use Rattle.cpa_sim.specs.SimText.{sim_text}
 use Rattle.cpa_cli.specs.declared.work.Work.TheVariants as work
-use Rattle.cpa_words.specs.Words.{Asked, Analyse, Session, Simulate, Generate, Load, Hammer, Assign, Slack, IsWithin, accepted}
+use Rattle.cpa_words.specs.Words.{Asked, Analyse, Session, Simulate, Generate, Load, Hammer, Assign, Slack, Buffers, Audit, IsWithin, accepted}
 use Rattle.cpa_words.proofs.WithinLaws.{accepted_within}
 use Rattle.cpa_gen.specs.MadeSystems.{made_system}
-use Rattle.cpa_cli.specs.Lines.{words_refused, too_long, not_toml, system_refused, script_refused, trace_refused, trace_disobeys, assign_refused, slack_refused}
+use Rattle.cpa_cli.specs.Lines.{words_refused, too_long, not_toml, system_refused, script_refused, trace_refused, trace_disobeys, assign_refused, slack_refused, schedule_refused}
 use Rattle.cpa_cli.specs.Answers.{Answer, reply}
-use Rattle.cpa_cli.specs.Plan.{Held, Plan, Do, Refuse, Missing, with_content, with_reading, with_system, with_steps, with_script, unless_breach, with_entries, with_trace, with_resource, with_task, plan_for, plan_by, plan_of}
+use Rattle.cpa_cli.specs.Plan.{Held, Plan, Do, Refuse, Missing, with_content, with_reading, with_system, with_steps, with_script, unless_breach, with_entries, with_trace, with_traced, with_segments, with_schedule, with_resource, with_task, plan_for, plan_by, plan_of}
 use Rattle.cpa_cli.specs.Output.{IsAnswerTo, IsOutput, HasAnswer, AreAlike, SendsSome}
 use Rattle.cpa_assign.specs.Orders.{has_priorities, is_fed_by_sources, IsOrderable}
 use Rattle.cpa_assign.proofs.AbleLaws.{orderable-from}
+use Rattle.cpa_audit.specs.declared.fault.ScheduleFault.{ScheduleFault}
+use Rattle.cpa_audit.specs.declared.schedule.Segment.{Segment}
+use Rattle.cpa_audit.specs.ScheduleReading.{schedule_of}
+use Rattle.cpa_cli.specs.Work.{audited}
 use Rattle.cpa_cli.proofs.SendLaws.{nothing-sent}
+use Rattle.cpa_cli.proofs.BufferLaws.{some-buffered, one-buffered}
 use Rattle.cpa_cli.proofs.GrowthLaws.{resource-there, task-there, some-assigned, one-assigned, some-growth, one-growth}
 use Rattle.cpa_cli.proofs.MadeLaws.{some-summary, one-summary, some-hammered, one-hammered}
 use Rattle.cpa_cli.proofs.ReportLaws.{some-report, one-report}
@@ -74,6 +79,17 @@ some-system : (held : Held) (file : List ℕ) (next : SystemLists → Plan) → 
 some-system held file next each =
     some-content file MAX_SYSTEM_FILE (held file) (λ bytes. with_reading file (reading_of bytes) next) (λ bytes. some-reading file (reading_of bytes) next (accepted-is_system bytes) each)
 
+some-traced : (held : Held) (file trace : List ℕ) (next : SystemLists → TraceLists → Plan) → ((s : SystemLists) → IsSystem s → (tr : TraceLists) → HasAnswer (next s tr)) → HasAnswer (with_traced held file trace next)
+some-traced held file trace next each = some-system held file (λ s. with_trace held s trace (next s)) (λ s rules. some-trace held s trace (next s) (each s rules))
+
+some-segments : (r : Result (List Segment) ScheduleFault) (next : List Segment → Plan) → ((schedule : List Segment) → HasAnswer (next schedule)) → HasAnswer (with_segments r next)
+some-segments (Ok schedule) next each = each schedule
+some-segments (Err fault) next each = (reply 19 (schedule_refused fault), refl)
+
+some-schedule : (held : Held) (s : SystemLists) (file : List ℕ) (next : List Segment → Plan) → ((schedule : List Segment) → HasAnswer (next schedule)) → HasAnswer (with_schedule held s file next)
+some-schedule held s file next each =
+    some-content file MAX_TRACE_FILE (held file) (λ bytes. with_segments (schedule_of s bytes) next) (λ bytes. some-segments (schedule_of s bytes) next each)
+
 some-resource : (s : SystemLists) (o : Option ResId) (next : ResId → Plan) → ((r : ResId) → o ≡ Some r → r.0 < length s.resources) → ((r : ResId) → IsOrderable s r.0 → HasAnswer (next r)) → HasAnswer (with_resource s o next)
 some-resource s None next there each = (reply 18 (assign_refused 1), refl)
 some-resource s (Some r) next there each = by (has_priorities (resource_at s r.0).kind) refl (is_fed_by_sources s r.0) refl
@@ -91,13 +107,16 @@ some-task s (Some i) next there each = each i (there i refl)
 some-run : (s : SystemLists) (tr : TraceLists) → HasAnswer (Do (work.Simulate s tr))
 some-run s tr = (reply 0 (sim_text s (outcome_of s tr)), refl)
 
+some-audit : (s : SystemLists) (tr : TraceLists) (schedule : List Segment) → HasAnswer (Do (work.Audit s tr schedule))
+some-audit s tr schedule = (audited s tr schedule, refl)
+
 some-for : (held : Held) (asked : Asked) → IsWithin asked → HasAnswer (plan_for held asked)
 some-for held (Analyse file workers) within = some-system held file (λ s. Do (work.Analyse s workers)) some-report
 some-for held (Session file script workers) within =
     some-system held file (λ s. with_script held script (λ steps. Do (work.Session s steps workers)))
     (λ s rules. some-script held script (λ steps. Do (work.Session s steps workers)) (λ steps named. some-session steps s rules named))
 some-for held (Simulate file trace) within =
-    some-system held file (λ s. with_trace held s trace (λ tr. Do (work.Simulate s tr))) (λ s rules. some-trace held s trace (λ tr. Do (work.Simulate s tr)) (some-run s))
+    some-traced held file trace (λ s tr. Do (work.Simulate s tr)) (λ s rules. some-run s)
 some-for held (Generate number size) within = tt
 some-for held (Load number size workers) within = some-summary number size within.1
 some-for held (Hammer file number traces) within = some-system held file (λ s. Do (work.Hammer s number traces)) (λ s rules. some-hammered s number traces rules)
@@ -107,6 +126,11 @@ some-for held (Assign file resource) within =
 some-for held (Slack file task workers) within =
     some-system held file (λ s. with_task (task_named s task) (λ i. Do (work.Slack s i workers)))
     (λ s rules. some-task s (task_named s task) (λ i. Do (work.Slack s i workers)) (task-there s task) (λ i there. some-growth s i.0 rules there))
+some-for held (Buffers file trace workers) within =
+    some-traced held file trace (λ s tr. Do (work.Buffers s tr workers)) (λ s rules tr. some-buffered s tr rules)
+some-for held (Audit file trace schedule) within =
+    some-traced held file trace (λ s tr. with_schedule held s schedule (λ segments. Do (work.Audit s tr segments)))
+    (λ s rules tr. some-schedule held s schedule (λ segments. Do (work.Audit s tr segments)) (some-audit s tr))
 
 some-by : (held : Held) (o : Option Asked) → IfSome o IsWithin → HasAnswer (plan_by held o)
 some-by held None within = (reply 10 words_refused, refl)
@@ -126,6 +150,8 @@ nothing-of (Do (work.Load number size workers)) sent some = nothing-sent (IsAnsw
 nothing-of (Do (work.Hammer s number traces)) sent some = nothing-sent (IsAnswerTo (Do (work.Hammer s number traces))) some sent
 nothing-of (Do (work.Assign s r)) sent some = nothing-sent (IsAnswerTo (Do (work.Assign s r))) some sent
 nothing-of (Do (work.Slack s i workers)) sent some = nothing-sent (IsAnswerTo (Do (work.Slack s i workers))) some sent
+nothing-of (Do (work.Buffers s tr workers)) sent some = nothing-sent (IsAnswerTo (Do (work.Buffers s tr workers))) some sent
+nothing-of (Do (work.Audit s tr schedule)) sent some = nothing-sent (IsAnswerTo (Do (work.Audit s tr schedule))) some sent
 nothing-of (Refuse status line) sent some = nothing-sent (IsAnswerTo (Refuse status line)) some sent
 nothing-of Missing sent some = nothing-sent (IsAnswerTo Missing) some sent
 
@@ -143,6 +169,8 @@ one-answer (Do (work.Load number size workers)) a b h k = one-summary number siz
 one-answer (Do (work.Hammer s number traces)) a b h k = one-hammered s number traces a b h k
 one-answer (Do (work.Assign s r)) a b h k = one-assigned s r.0 a b h k
 one-answer (Do (work.Slack s i workers)) a b h k = one-growth s i.0 a b h k
+one-answer (Do (work.Buffers s tr workers)) a b h k = one-buffered s tr a b h k
+one-answer (Do (work.Audit s tr schedule)) a b h k = h ∙ sym k
 one-answer (Refuse status line) a b h k = h ∙ sym k
 one-answer Missing a b h k = h ∙ sym k
 

@@ -10,6 +10,8 @@ use Rattle.cpa_edit.specs.declared.script.ScriptFault.{ScriptFault}
 use Rattle.cpa_edit.specs.declared.script.ScriptFault.TheVariants as script
 use Rattle.cpa_trace.specs.declared.fault.TraceFault.{TraceFault}
 use Rattle.cpa_trace.specs.declared.fault.TraceFault.TheVariants as trace
+use Rattle.cpa_audit.specs.declared.fault.ScheduleFault.{ScheduleFault}
+use Rattle.cpa_audit.specs.declared.fault.ScheduleFault.TheVariants as schedule
 use Rattle.cpa_trace.specs.declared.breach.Breach.{Breach}
 use Rattle.cpa_trace.specs.declared.breach.Breach.TheVariants as breach
 
@@ -59,6 +61,17 @@ breach_text s (breach.Phase r) = codes "resource " ++ (resource_at s r.0).name
 
 abbrev pub trace_disobeys : SystemLists → Breach → List ℕ
 trace_disobeys s b = codes "trace disobeys " ++ breach_text s b ++ codes "\n"
+
+abbrev pub schedule_row_refused : ℕ → List ℕ → List ℕ
+schedule_row_refused row why = codes "schedule refused row " ++ decimal row ++ why
+
+-- want of memory has no line
+abbrev pub schedule_refused : ScheduleFault → List ℕ
+schedule_refused (schedule.BadRow row) = schedule_row_refused row (codes " malformed\n")
+schedule_refused (schedule.UnknownName row) = schedule_row_refused row (codes " name\n")
+schedule_refused (schedule.OutOfRange row) = schedule_row_refused row (codes " range\n")
+schedule_refused schedule.TooMany = codes "schedule refused too many\n"
+schedule_refused schedule.Memory = []
 
 -- the line of a resource that can't be given an order
 abbrev pub assign_refused : ℕ → List ℕ

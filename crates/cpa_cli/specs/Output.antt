@@ -2,9 +2,9 @@
 use Rattle.std.specs.Prelude.{◌≡◌, ◌≢◌, ◌⊎◌, ℕ, Bool, true, List, [], Option, Some, None}
 use Rattle.cpa_io.specs.Causes.{grown, Rose, SentPart}
 use Rattle.cpa_file.specs.Reading.{reading_of}
-use Rattle.cpa_words.specs.Words.{Asked, accepted, Analyse, Session, Simulate, Generate, Load, Hammer, Assign, Slack}
+use Rattle.cpa_words.specs.Words.{Asked, accepted, Analyse, Session, Simulate, Generate, Load, Hammer, Assign, Slack, Buffers, Audit}
 use Rattle.cpa_cli.specs.declared.work.Work.TheVariants as work
-use Rattle.cpa_cli.specs.Plan.{Held, Plan, Do, Refuse, Missing, plan_of, IsAccepted}
+use Rattle.cpa_cli.specs.Plan.{Held, Plan, Do, Refuse, Missing, plan_of, IsAccepted, AreAccepted}
 use Rattle.cpa_cli.specs.Answers.{Answer, reply}
 use Rattle.cpa_cli.specs.Work.{IsDone}
 
@@ -62,6 +62,10 @@ OutputsAreOne = (words : List (List ℕ)) (held : Held) (a b : Answer) → IsOut
 abbrev pub IsSecond : Bool → Held → List ℕ → List ℕ → List ℕ → Type 0
 IsSecond told held file second last = (last ≡ file) ⊎ ((last ≡ second) × (told ≡ true → IsAccepted held file))
 
+-- a third file is loaded once the trace obeys
+abbrev pub IsThird : Bool → Held → List ℕ → List ℕ → List ℕ → List ℕ → Type 0
+IsThird told held file trace third last = IsSecond told held file trace last ⊎ ((last ≡ third) × (told ≡ true → AreAccepted held file trace))
+
 -- the file whose load may have been the last that failed
 abbrev pub IsNamed : Bool → Held → Asked → List ℕ → Type 0
 IsNamed told held (Analyse file workers) last = last ≡ file
@@ -72,6 +76,8 @@ IsNamed told held (Load number size workers) last = ⊥
 IsNamed told held (Hammer file number traces) last = last ≡ file
 IsNamed told held (Assign file resource) last = last ≡ file
 IsNamed told held (Slack file task workers) last = last ≡ file
+IsNamed told held (Buffers file trace workers) last = IsSecond told held file trace last
+IsNamed told held (Audit file trace schedule) last = IsThird told held file trace schedule last
 
 -- a file that the words name is the one whose load failed last, and the count of faults rose
 pub record IsUnread (words : List (List ℕ)) (told : Bool) (held : Held) (before now : ℕ) (last : List ℕ) : Type 0 where

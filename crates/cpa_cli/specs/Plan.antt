@@ -12,9 +12,12 @@ use Rattle.cpa_trace.specs.declared.fault.TraceFault.{TraceFault}
 use Rattle.cpa_trace.specs.Trace.{TraceLists}
 use Rattle.cpa_trace.specs.Reading.{trace_of}
 use Rattle.cpa_trace.specs.Breaches.{first_breach}
-use Rattle.cpa_words.specs.Words.{Asked, accepted, Analyse, Session, Simulate, Generate, Load, Hammer, Assign, Slack}
+use Rattle.cpa_words.specs.Words.{Asked, accepted, Analyse, Session, Simulate, Generate, Load, Hammer, Assign, Slack, Buffers, Audit}
 use Rattle.cpa_assign.specs.Orders.{has_priorities, is_fed_by_sources}
-use Rattle.cpa_cli.specs.Lines.{words_refused, too_long, not_toml, system_refused, script_refused, trace_refused, trace_disobeys, assign_refused, slack_refused}
+use Rattle.cpa_audit.specs.declared.fault.ScheduleFault.{ScheduleFault}
+use Rattle.cpa_audit.specs.declared.schedule.Segment.{Segment}
+use Rattle.cpa_audit.specs.ScheduleReading.{schedule_of}
+use Rattle.cpa_cli.specs.Lines.{words_refused, too_long, not_toml, system_refused, script_refused, trace_refused, trace_disobeys, assign_refused, slack_refused, schedule_refused}
 use Rattle.cpa_cli.specs.declared.work.Work.{Work}
 use Rattle.cpa_cli.specs.declared.work.Work.TheVariants as work
 
@@ -64,6 +67,18 @@ with_entries s (Err fault) next = Refuse 16 (trace_refused fault)
 abbrev pub with_trace : Held → SystemLists → List ℕ → (TraceLists → Plan) → Plan
 with_trace held s file next = with_content file MAX_TRACE_FILE (held file) (λ bytes. with_entries s (trace_of s bytes) next)
 
+-- a system, and a trace that obeys it
+abbrev pub with_traced : Held → List ℕ → List ℕ → (SystemLists → TraceLists → Plan) → Plan
+with_traced held file trace next = with_system held file (λ s. with_trace held s trace (next s))
+
+-- the schedule that a file is, which is no longer than a trace's
+abbrev pub with_segments : Result (List Segment) ScheduleFault → (List Segment → Plan) → Plan
+with_segments (Ok schedule) next = next schedule
+with_segments (Err fault) next = Refuse 19 (schedule_refused fault)
+
+abbrev pub with_schedule : Held → SystemLists → List ℕ → (List Segment → Plan) → Plan
+with_schedule held s file next = with_content file MAX_TRACE_FILE (held file) (λ bytes. with_segments (schedule_of s bytes) next)
+
 -- a resource that can be given an order
 abbrev pub with_resource : SystemLists → Option ResId → (ResId → Plan) → Plan
 with_resource s None next = Refuse 18 (assign_refused 1)
@@ -80,12 +95,14 @@ with_task (Some i) next = next i
 abbrev pub plan_for : Held → Asked → Plan
 plan_for held (Analyse file workers) = with_system held file (λ s. Do (work.Analyse s workers))
 plan_for held (Session file script workers) = with_system held file (λ s. with_script held script (λ steps. Do (work.Session s steps workers)))
-plan_for held (Simulate file trace) = with_system held file (λ s. with_trace held s trace (λ tr. Do (work.Simulate s tr)))
+plan_for held (Simulate file trace) = with_traced held file trace (λ s tr. Do (work.Simulate s tr))
 plan_for held (Generate number size) = Do (work.Generate number size)
 plan_for held (Load number size workers) = Do (work.Load number size workers)
 plan_for held (Hammer file number traces) = with_system held file (λ s. Do (work.Hammer s number traces))
 plan_for held (Assign file resource) = with_system held file (λ s. with_resource s (resource_named s resource) (λ r. Do (work.Assign s r)))
 plan_for held (Slack file task workers) = with_system held file (λ s. with_task (task_named s task) (λ i. Do (work.Slack s i workers)))
+plan_for held (Buffers file trace workers) = with_traced held file trace (λ s tr. Do (work.Buffers s tr workers))
+plan_for held (Audit file trace schedule) = with_traced held file trace (λ s tr. with_schedule held s schedule (λ segments. Do (work.Audit s tr segments)))
 
 abbrev pub plan_by : Held → Option Asked → Plan
 plan_by held None = Refuse 10 words_refused
@@ -95,9 +112,24 @@ unfoldable pub plan_of : List (List ℕ) → Held → Plan
 plan_of words held = plan_by held (accepted words)
 
 -- a file that is held stands for a system
-pub record IsAccepted (held : Held) (file : List ℕ) : Type 0 where
+pub record StandsFor (held : Held) (file : List ℕ) (s : SystemLists) : Type 0 where
   pub bytes : List ℕ
-  pub system : SystemLists
   pub content : held file ≡ Some bytes
   pub short : length bytes ≤ MAX_SYSTEM_FILE
-  pub reading : reading_of bytes ≡ Accepted system
+  pub reading : reading_of bytes ≡ Accepted s
+
+abbrev pub IsAccepted : Held → List ℕ → Type 0
+IsAccepted held file = (s : SystemLists) × StandsFor held file s
+
+-- a file that is held is a trace, which obeys the system
+pub record IsObeyed (held : Held) (s : SystemLists) (file : List ℕ) : Type 0 where
+  pub bytes : List ℕ
+  pub trace : TraceLists
+  pub content : held file ≡ Some bytes
+  pub short : length bytes ≤ MAX_TRACE_FILE
+  pub reading : trace_of s bytes ≡ Ok trace
+  pub obeys : first_breach s trace ≡ None
+
+-- so two files are accepted, one after the other
+abbrev pub AreAccepted : Held → List ℕ → List ℕ → Type 0
+AreAccepted held file trace = (s : SystemLists) × StandsFor held file s × IsObeyed held s trace

@@ -21,8 +21,18 @@ use Rattle.cpa_slack.specs.declared.slack.Slack.{Slack}
 use Rattle.cpa_slack.specs.declared.slack.Slack.TheVariants.{Missed, Add}
 use Rattle.cpa_slack.specs.Slack.{IsSlack}
 use Rattle.cpa_slack.specs.SlackText.{slack_text}
+use Rattle.cpa_trace.specs.Trace.{TraceLists, Obeys}
+use Rattle.cpa_buffer.specs.Laws.{BuffersSuffice}
+use Rattle.cpa_buffer.specs.Peaks.{peaks_of}
+use Rattle.cpa_buffer.specs.BufferText.{buffer_text}
+use Rattle.cpa_audit.specs.declared.finding.Finding.{Finding}
+use Rattle.cpa_audit.specs.declared.finding.Finding.TheVariants.{Same, Wrong}
+use Rattle.cpa_audit.specs.declared.schedule.Segment.{Segment}
+use Rattle.cpa_audit.specs.Segments.{segments}
+use Rattle.cpa_audit.specs.Findings.{finding_of}
+use Rattle.cpa_audit.specs.AuditText.{audit_text}
 use Rattle.cpa_cli.specs.declared.work.Work.{Work}
-use Rattle.cpa_cli.specs.declared.work.Work.TheVariants.{Analyse, Session, Simulate, Generate, Load, Hammer, Assign, Slack as SlackOf}
+use Rattle.cpa_cli.specs.declared.work.Work.TheVariants.{Analyse, Session, Simulate, Generate, Load, Hammer, Assign, Slack as SlackOf, Buffers, Audit}
 use Rattle.cpa_cli.specs.Answers.{Answer, reply, IsReport}
 use Rattle.cpa_cli.specs.Session.{IsSession}
 
@@ -74,6 +84,24 @@ pub record IsGrowth (s : SystemLists) (i : ℕ) (answer : Answer) : Type 0 where
   pub status_is : answer.status ≡ Some (slack_status slack)
   pub text_is : answer.text ≡ slack_text s i slack
 
+-- how many jobs can wait, at the least solution, and how many do under a trace
+pub record IsBuffered (s : SystemLists) (tr : TraceLists) (answer : Answer) : Type 0 where
+  pub bounds : List Bound
+  pub least : IsLeast s bounds
+  -- in no run whose trace obeys, however long, do more jobs wait
+  pub suffice : (obeying : TraceLists) → Obeys s obeying → BuffersSuffice s bounds obeying
+  pub status_is : answer.status ≡ Some 0
+  pub text_is : answer.text ≡ buffer_text s bounds (peaks_of s tr)
+
+-- a schedule is that of the run, or isn't
+abbrev pub finding_status : Finding → ℕ
+finding_status Same = 0
+finding_status (Wrong segment expected) = 4
+
+-- what there is to say of a schedule
+abbrev pub audited : SystemLists → TraceLists → List Segment → Answer
+audited s tr schedule = reply (finding_status (finding_of schedule (segments s tr))) (audit_text s (length schedule) (finding_of schedule (segments s tr)))
+
 -- the number of workers is in no answer
 abbrev pub IsDone : Work → Answer → Type 0
 IsDone (Analyse s workers) answer = IsReport s answer
@@ -84,6 +112,8 @@ IsDone (Load number size workers) answer = IsSummary number size (made_system nu
 IsDone (Hammer s number traces) answer = IsHammered s number traces answer
 IsDone (Assign s r) answer = IsAssigned s r.0 answer
 IsDone (SlackOf s i workers) answer = IsGrowth s i.0 answer
+IsDone (Buffers s tr workers) answer = IsBuffered s tr answer
+IsDone (Audit s tr schedule) answer = answer ≡ audited s tr schedule
 
 -- its numbers are within the limits, and its names are names
 abbrev pub IsWithinLimits : Work → Type 0
@@ -95,3 +125,5 @@ IsWithinLimits (Load number size workers) = IsSize size × AreWorkers workers
 IsWithinLimits (Hammer s number traces) = AreTraces traces
 IsWithinLimits (Assign s r) = IsOrderable s r.0
 IsWithinLimits (SlackOf s i workers) = (i.0 < length s.tasks) × AreWorkers workers
+IsWithinLimits (Buffers s tr workers) = CanReplay s tr × AreWorkers workers
+IsWithinLimits (Audit s tr schedule) = CanReplay s tr

@@ -47,7 +47,8 @@ where
 /// Does what the words ask for, and answers the status.
 ///
 /// The words are those after the program's name. The statuses: 0 to 2 the verdict of a report or a summary, 3 where no
-/// order meets or a deadline is missed already, 0 besides for what has none; 10 and 12 to 18 a refusal, 11 a file that
+/// order meets or a deadline is missed already, 4 where a schedule isn't that of the run, 0 besides for what has none;
+/// 10 and 12 to 19 a refusal, 11 a file that
 /// couldn't be read, each with its line sent; 20 a fault of the sink; 30 want of memory.
 pub fn run<H: Threads + Sync, F: Files, K: Sink>(
     rt: &H,
@@ -75,8 +76,8 @@ pub fn run<H: Threads + Sync, F: Files, K: Sink>(
     run_with(rt, alloc, words, files, sink, NoGate)
 }
 
-/// The same, where each worker passes a gate before each analysis. The rounds of `analyse`, `session`, `load` and
-/// `slack` are those of `Shared`, by as many workers as the words ask for; the gate, and the order in which workers run,
+/// The same, where each worker passes a gate before each analysis. The rounds of `analyse`, `session`, `load`,
+/// `slack` and `buffers` are those of `Shared`, by as many workers as the words ask for; the gate, and the order in which workers run,
 /// are in no answer.
 pub fn run_with<H: Threads + Sync, F: Files, K: Sink, G: Gate>(
     rt: &H,

@@ -2,8 +2,9 @@
 
 ghost use Rattle.std.specs.Prelude.{◌≡◌, ◌++◌, codes, IfOk, OnOk};
 ghost use Rattle.cpa_trace.specs.Breaches.{IsBreachOf};
-ghost use Rattle.cpa_cli.specs.Lines.{words_refused, part_word, system_refused, script_refused, trace_refused, row_refused, breach_text, trace_disobeys, edit_refused, assign_refused, slack_refused};
+ghost use Rattle.cpa_cli.specs.Lines.{words_refused, part_word, system_refused, script_refused, trace_refused, row_refused, breach_text, trace_disobeys, edit_refused, assign_refused, slack_refused, schedule_refused, schedule_row_refused};
 
+use cpa_audit::ScheduleFault;
 use cpa_edit::{EditRefusal, ScriptFault};
 use cpa_model::{Part, Refusal, System};
 use cpa_text::Text;
@@ -106,6 +107,28 @@ pub fn trace_line(alloc: Global, fault: TraceFault) -> Result<Vec<u8>, NoMemory>
         TraceFault::OutOfRange(row) => row_line(alloc, row, b" range\n"),
         TraceFault::TooMany => Ok(Vec::from_slice(alloc, b"trace refused too many\n")?),
         TraceFault::Memory => Ok(Vec::new(alloc)),
+    }
+}
+
+fn schedule_row_line(alloc: Global, row: u32, why: &[u8]) -> Result<Vec<u8>, NoMemory>
+    ensures { IfOk result (λ v. v.items ≡ schedule_row_refused row why.now) }
+{
+    let mut text = Text::new(alloc);
+    text.put_count(b"schedule refused row ", u64::from(row))?;
+    text.put(why)?;
+    Ok(text.into_bytes())
+}
+
+/// The line of a schedule that is refused; want of memory has none.
+pub fn schedule_line(alloc: Global, fault: ScheduleFault) -> Result<Vec<u8>, NoMemory>
+    ensures { IfOk result (λ v. v.items ≡ schedule_refused fault) }
+{
+    match fault {
+        ScheduleFault::BadRow(row) => schedule_row_line(alloc, row, b" malformed\n"),
+        ScheduleFault::UnknownName(row) => schedule_row_line(alloc, row, b" name\n"),
+        ScheduleFault::OutOfRange(row) => schedule_row_line(alloc, row, b" range\n"),
+        ScheduleFault::TooMany => Ok(Vec::from_slice(alloc, b"schedule refused too many\n")?),
+        ScheduleFault::Memory => Ok(Vec::new(alloc)),
     }
 }
 

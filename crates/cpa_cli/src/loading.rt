@@ -1,11 +1,14 @@
 //! What the words ask for, with the files that they name.
 
-ghost use Rattle.std.specs.Prelude.{◌≡◌, ◌<◌, ◌≤◌, ℕ, true, List, map, string_bytes, length, Some, IfOk, IfErr};
+ghost use Rattle.std.specs.Prelude.{◌≡◌, ◌<◌, ◌≤◌, ℕ, true, List, map, string_bytes, length, Some, None, Ok, IfOk, IfErr};
 ghost use Rattle.cpa_units.specs.declared.limits.TheConstants.{MAX_TRACE_FILE};
 ghost use Rattle.cpa_file.specs.Reading.{Accepted, reading_of};
 ghost use Rattle.cpa_edit.specs.declared.script.Step.{Step};
 ghost use Rattle.cpa_edit.specs.Script.{script_of, AreNamed};
+ghost use Rattle.cpa_trace.specs.Breaches.{first_breach};
 ghost use Rattle.cpa_trace.specs.Reading.{trace_of};
+ghost use Rattle.cpa_audit.specs.declared.schedule.Segment.{Segment};
+ghost use Rattle.cpa_audit.specs.ScheduleReading.{schedule_of};
 ghost use Rattle.cpa_units.specs.declared.places.ResId.{ResId};
 ghost use Rattle.cpa_units.specs.declared.places.TaskId.{TaskId};
 ghost use Rattle.cpa_model.specs.SystemLists.{SystemLists, resource_named, task_named};
@@ -13,20 +16,21 @@ ghost use Rattle.cpa_assign.specs.Orders.{IsOrderable};
 ghost use Rattle.cpa_cli.specs.declared.ended.Ended.TheVariants.{Refused};
 ghost use Rattle.cpa_trace.specs.Trace.{TraceLists};
 ghost use Rattle.cpa_sim.specs.Outcome.{CanReplay};
-ghost use Rattle.cpa_words.specs.Words.{Analyse, Session, Simulate, Hammer, Assign, Slack, AreWorkers, AreTraces, IsWithin};
+ghost use Rattle.cpa_words.specs.Words.{Analyse, Session, Simulate, Hammer, Assign, Slack, Buffers, Audit, AreWorkers, AreTraces, IsWithin};
 ghost use Rattle.cpa_words.specs.Commands.{asked};
-ghost use Rattle.cpa_cli.specs.Plan.{Plan, Do, with_content, with_reading, with_system, with_steps, with_script, with_entries, with_trace, with_resource, with_task, plan_for, plan_of, IsAccepted};
+ghost use Rattle.cpa_cli.specs.Plan.{Plan, Do, with_content, with_reading, with_system, with_steps, with_script, with_entries, with_trace, with_traced, with_segments, with_schedule, with_resource, with_task, plan_for, plan_of, AreAccepted, IsObeyed, StandsFor};
 ghost use Rattle.cpa_cli.specs.Work.{IsWithinLimits};
-ghost use Rattle.cpa_cli.specs.Output.{IsNamed, IsSecond};
+ghost use Rattle.cpa_cli.specs.Output.{IsNamed, IsSecond, IsThird};
 ghost use Rattle.cpa_cli.specs.Ends.{IsEndOf, HasStatus, IsUnreadFile, IsNoUnread, IsUnreadCall};
 
 use crate::ended::{Ended, Reply};
 use crate::lines::{
-    assign_line, breach_line, file_line, refusal_line, script_line, slack_line, trace_line,
-    words_line,
+    assign_line, breach_line, file_line, refusal_line, schedule_line, script_line, slack_line,
+    trace_line, words_line,
 };
 use crate::work::Work;
 use cpa_assign::{has_priorities, is_fed_by_sources};
+use cpa_audit::{Schedule, ScheduleFault, read_schedule};
 use cpa_edit::{Script, ScriptFault, read_script};
 use cpa_file::{FileRefusal, read_system};
 use cpa_io::{Files, LoadFault};
@@ -93,7 +97,7 @@ fn read_system_file(alloc: Global, file: &str, bytes: &[u8]) -> Result<System, E
 /// The system that a file stands for.
 fn load_system<F: Files>(alloc: Global, files: &mut F, file: &str) -> Result<System, Ended>
     ensures planned { F.told files.old ≡ true → (next : SystemLists → Plan) → IfOk result (λ s. with_system (F.held files.old) file.now next ≡ next s) }
-    ensures accepted { F.told files.old ≡ true → IfOk result (λ s. IsAccepted (F.held files.old) file.now) }
+    ensures accepted { F.told files.old ≡ true → IfOk result (StandsFor (F.held files.old) file.now) }
     ensures ended { F.told files.old ≡ true → (next : SystemLists → Plan) → IfErr result (IsEndOf (with_system (F.held files.old) file.now next)) }
     ensures status { IfErr result HasStatus }
     ensures unread { IfErr result (IsUnreadFile (λ last. last ≡ file.now) (F.faults files.old) (F.faults files.new) (F.last_failed files.new)) }
@@ -140,6 +144,7 @@ fn load_script<F: Files>(alloc: Global, files: &mut F, file: &str) -> Result<Scr
 fn read_trace_file(alloc: Global, system: &System, bytes: &[u8]) -> Result<Trace, Ended>
     ensures planned { (next : TraceLists → Plan) → IfOk result (λ tr. with_entries system.now (trace_of system.now bytes.now) next ≡ next tr) }
     ensures replay { IfOk result (CanReplay system.now) }
+    ensures reading { IfOk result (λ tr. (trace_of system.now bytes.now ≡ Ok tr) × (first_breach system.now tr ≡ None)) }
     ensures ended { (next : TraceLists → Plan) → IfErr result (IsEndOf (with_entries system.now (trace_of system.now bytes.now) next)) }
     ensures status { IfErr result HasStatus }
     ensures unread { IfErr result IsNoUnread }
@@ -170,13 +175,79 @@ fn load_trace<F: Files>(
 ) -> Result<Trace, Ended>
     ensures planned { F.told files.old ≡ true → (next : TraceLists → Plan) → IfOk result (λ tr. with_trace (F.held files.old) system.now file.now next ≡ next tr) }
     ensures replay { IfOk result (CanReplay system.now) }
+    ensures obeyed { F.told files.old ≡ true → IfOk result (λ tr. IsObeyed (F.held files.old) system.now file.now) }
     ensures ended { F.told files.old ≡ true → (next : TraceLists → Plan) → IfErr result (IsEndOf (with_trace (F.held files.old) system.now file.now next)) }
+    ensures status { IfErr result HasStatus }
+    ensures unread { IfErr result (IsUnreadFile (λ last. last ≡ file.now) (F.faults files.old) (F.faults files.new) (F.last_failed files.new)) }
+    ensures told { F.told files.new ≡ F.told files.old }
+    ensures held { F.held files.new ≡ F.held files.old }
+    ensures rises { F.faults files.old ≤ F.faults files.new }
+{
+    let bytes = load_file(alloc, files, file, MAX_TRACE_FILE)?;
+    read_trace_file(alloc, system, bytes.as_slice())
+}
+
+/// A system, with a trace that obeys it.
+#[derive(Drop)]
+struct Traced {
+    system: System,
+    trace: Trace,
+}
+
+/// The system that a file stands for, and the trace that another is, where it obeys the system.
+fn load_traced<F: Files>(
+    alloc: Global,
+    files: &mut F,
+    file: &str,
+    trace: &str,
+) -> Result<Traced, Ended>
+    ensures planned { F.told files.old ≡ true → (next : SystemLists → TraceLists → Plan) → IfOk result (λ t. with_traced (F.held files.old) file.now trace.now next ≡ next t.system t.trace) }
+    ensures replay { IfOk result (λ t. CanReplay t.system t.trace) }
+    ensures accepted { F.told files.old ≡ true → IfOk result (λ t. AreAccepted (F.held files.old) file.now trace.now) }
+    ensures ended { F.told files.old ≡ true → (next : SystemLists → TraceLists → Plan) → IfErr result (IsEndOf (with_traced (F.held files.old) file.now trace.now next)) }
+    ensures status { IfErr result HasStatus }
+    ensures unread { IfErr result (IsUnreadFile (IsSecond (F.told files.old) (F.held files.old) file.now trace.now) (F.faults files.old) (F.faults files.new) (F.last_failed files.new)) }
+    ensures told { F.told files.new ≡ F.told files.old }
+    ensures held { F.held files.new ≡ F.held files.old }
+    ensures rises { F.faults files.old ≤ F.faults files.new }
+{
+    let system = load_system(alloc, files, file)?;
+    let trace = load_trace(alloc, files, &system, trace)?;
+    Ok(Traced { system, trace })
+}
+
+/// The schedule that the bytes of a file are.
+fn read_schedule_file(alloc: Global, system: &System, bytes: &[u8]) -> Result<Schedule, Ended>
+    ensures planned { (next : List Segment → Plan) → IfOk result (λ schedule. with_segments (schedule_of system.now bytes.now) next ≡ next schedule) }
+    ensures ended { (next : List Segment → Plan) → IfErr result (IsEndOf (with_segments (schedule_of system.now bytes.now) next)) }
+    ensures status { IfErr result HasStatus }
+    ensures unread { IfErr result IsNoUnread }
+{
+    match read_schedule(alloc, system, bytes) {
+        Ok(schedule) => Ok(schedule),
+        Err(ScheduleFault::Memory) => Err(Ended::Memory),
+        Err(fault) => Err(Ended::Refused(Reply {
+            status: 19,
+            text: schedule_line(alloc, fault)?,
+        })),
+    }
+}
+
+/// The schedule that a file is, which is no longer than a trace's.
+fn load_schedule<F: Files>(
+    alloc: Global,
+    files: &mut F,
+    system: &System,
+    file: &str,
+) -> Result<Schedule, Ended>
+    ensures planned { F.told files.old ≡ true → (next : List Segment → Plan) → IfOk result (λ schedule. with_schedule (F.held files.old) system.now file.now next ≡ next schedule) }
+    ensures ended { F.told files.old ≡ true → (next : List Segment → Plan) → IfErr result (IsEndOf (with_schedule (F.held files.old) system.now file.now next)) }
     ensures status { IfErr result HasStatus }
     ensures unread { IfErr result (IsUnreadFile (λ last. last ≡ file.now) (F.faults files.old) (F.faults files.new) (F.last_failed files.new)) }
     ensures rises { F.faults files.old ≤ F.faults files.new }
 {
     let bytes = load_file(alloc, files, file, MAX_TRACE_FILE)?;
-    read_trace_file(alloc, system, bytes.as_slice())
+    read_schedule_file(alloc, system, bytes.as_slice())
 }
 
 /// A session's work.
@@ -216,9 +287,11 @@ fn plan_simulation<F: Files>(
     ensures status { IfErr result HasStatus }
     ensures unread { IfErr result (IsUnreadFile (IsSecond (F.told files.old) (F.held files.old) file.now trace.now) (F.faults files.old) (F.faults files.new) (F.last_failed files.new)) }
 {
-    let system = load_system(alloc, files, file)?;
-    let trace = load_trace(alloc, files, &system, trace)?;
-    Ok(Work::Simulate { system, trace })
+    let traced = load_traced(alloc, files, file, trace)?;
+    Ok(Work::Simulate {
+        system: traced.system,
+        trace: traced.trace,
+    })
 }
 
 /// An analysis's work.
@@ -348,6 +421,52 @@ fn plan_slack<F: Files>(
     })
 }
 
+/// The work of bounds on the jobs that wait.
+fn plan_buffers<F: Files>(
+    alloc: Global,
+    files: &mut F,
+    file: &str,
+    trace: &str,
+    workers: u32,
+) -> Result<Work, Ended>
+    requires { AreWorkers workers }
+    ensures planned { F.told files.old ≡ true → IfOk result (λ work. plan_for (F.held files.old) (Buffers file.now trace.now workers) ≡ Do work) }
+    ensures limits { IfOk result IsWithinLimits }
+    ensures ended { F.told files.old ≡ true → IfErr result (IsEndOf (plan_for (F.held files.old) (Buffers file.now trace.now workers))) }
+    ensures status { IfErr result HasStatus }
+    ensures unread { IfErr result (IsUnreadFile (IsSecond (F.told files.old) (F.held files.old) file.now trace.now) (F.faults files.old) (F.faults files.new) (F.last_failed files.new)) }
+{
+    let traced = load_traced(alloc, files, file, trace)?;
+    Ok(Work::Buffers {
+        system: traced.system,
+        trace: traced.trace,
+        workers,
+    })
+}
+
+/// An audit's work.
+fn plan_audit<F: Files>(
+    alloc: Global,
+    files: &mut F,
+    file: &str,
+    trace: &str,
+    schedule: &str,
+) -> Result<Work, Ended>
+    ensures planned { F.told files.old ≡ true → IfOk result (λ work. plan_for (F.held files.old) (Audit file.now trace.now schedule.now) ≡ Do work) }
+    ensures limits { IfOk result IsWithinLimits }
+    ensures ended { F.told files.old ≡ true → IfErr result (IsEndOf (plan_for (F.held files.old) (Audit file.now trace.now schedule.now))) }
+    ensures status { IfErr result HasStatus }
+    ensures unread { IfErr result (IsUnreadFile (IsThird (F.told files.old) (F.held files.old) file.now trace.now schedule.now) (F.faults files.old) (F.faults files.new) (F.last_failed files.new)) }
+{
+    let traced = load_traced(alloc, files, file, trace)?;
+    let schedule = load_schedule(alloc, files, &traced.system, schedule)?;
+    Ok(Work::Audit {
+        system: traced.system,
+        trace: traced.trace,
+        schedule,
+    })
+}
+
 /// What a command asks for.
 fn plan_command<F: Files>(alloc: Global, files: &mut F, command: Command) -> Result<Work, Ended>
     requires { IsWithin (asked command) }
@@ -386,6 +505,16 @@ fn plan_command<F: Files>(alloc: Global, files: &mut F, command: Command) -> Res
             task,
             workers,
         } => plan_slack(alloc, files, file, task, workers),
+        Command::Buffers {
+            file,
+            trace,
+            workers,
+        } => plan_buffers(alloc, files, file, trace, workers),
+        Command::Audit {
+            file,
+            trace,
+            schedule,
+        } => plan_audit(alloc, files, file, trace, schedule),
     }
 }
 

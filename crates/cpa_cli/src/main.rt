@@ -5,6 +5,8 @@ mod analysis;
 #[cfg(test)]
 mod anew;
 #[cfg(test)]
+mod audits;
+#[cfg(test)]
 mod car;
 #[cfg(test)]
 mod cases;
@@ -31,6 +33,8 @@ mod session;
 mod sessions;
 #[cfg(test)]
 mod tests;
+#[cfg(test)]
+mod waiting;
 mod work;
 
 use cpa_io::{RealFiles, RealSink};

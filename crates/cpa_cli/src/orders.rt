@@ -23,7 +23,7 @@ path = [
 "#;
 
 /// A processor without tasks.
-const IDLE: &str = r#"format = 1
+pub const IDLE: &str = r#"format = 1
 resource = [{ name = "p", kind = "preemptive" }]
 "#;
 

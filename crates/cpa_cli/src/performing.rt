@@ -10,7 +10,7 @@ ghost use Rattle.cpa_sim.specs.SimText.{sim_text};
 ghost use Rattle.cpa_cli.specs.declared.ended.Stopped.TheVariants as stopped;
 ghost use Rattle.cpa_cli.specs.Answers.{reply, IsReport};
 ghost use Rattle.cpa_cli.specs.Plan.{Do};
-ghost use Rattle.cpa_cli.specs.Work.{IsAssigned, IsDone, IsFileOf, IsGrowth, IsHammered, IsSummary, IsWithinLimits, order_status, slack_status};
+ghost use Rattle.cpa_cli.specs.Work.{IsAssigned, IsBuffered, IsDone, IsFileOf, IsGrowth, IsHammered, IsSummary, IsWithinLimits, audited, finding_status, order_status, slack_status};
 ghost use Rattle.cpa_cli.specs.Output.{IsOfOutput, Sends, SendsPart, SendsSome};
 
 use crate::analysis::least_bounds;
@@ -19,6 +19,8 @@ use crate::sending::{send, send_report};
 use crate::session::run_session;
 use crate::work::Work;
 use cpa_assign::{Order, assign_text};
+use cpa_audit::{Finding, Schedule, audit_text};
+use cpa_buffer::{buffer_text, find_peaks};
 use cpa_file::print_system;
 use cpa_fix::{OneByOne, Round};
 use cpa_gen::{hammer_text, load_text, make_system};
@@ -190,6 +192,63 @@ fn slack<H: Threads + Sync, R: Round, K: Sink>(
     send(sink, slack_status(&slack), text.as_slice())
 }
 
+/// Sends how many jobs wait under a trace, and how many can.
+fn buffers<H: Threads + Sync, R: Round, K: Sink>(
+    rt: &H,
+    alloc: Global,
+    system: &System,
+    trace: &Trace,
+    round: &mut R,
+    sink: &mut K,
+) -> Result<u8, Stopped>
+    requires { CanReplay system.now trace.now }
+    ensures sends { IfOk result (λ status. Sends (IsBuffered system.now trace.now) status (K.sent sink.old) (K.sent sink.new)) }
+    ensures status { IfOk result IsOfOutput }
+    ensures part { OnErr result (SendsPart (IsBuffered system.now trace.now) (K.sent sink.old) (K.sent sink.new)) }
+    ensures rises { K.faults sink.old ≤ K.faults sink.new }
+    ensures failed { result ≡ Err stopped.Sink → Rose (K.faults sink.old) (K.faults sink.new) }
+{
+    system.has_rules();
+    let bounds = least_bounds(rt, alloc, system, round)?;
+    let outcome = replay(alloc, system, trace)?;
+    let peaks = find_peaks(alloc, system, &outcome)?;
+    let text = buffer_text(alloc, system, &bounds, &peaks)?;
+    send(sink, 0, text.as_slice())
+}
+
+/// Whether a schedule is that of the run, as a status.
+fn finding_status(finding: &Finding) -> u8
+    ensures { result ≡ finding_status finding.now }
+{
+    match finding {
+        Finding::Same => 0,
+        Finding::Wrong {
+            segment: _,
+            expected: _,
+        } => 4,
+    }
+}
+
+/// Sends what there is to say of a schedule.
+fn audit<K: Sink>(
+    alloc: Global,
+    system: &System,
+    trace: &Trace,
+    schedule: &Schedule,
+    sink: &mut K,
+) -> Result<u8, Stopped>
+    requires { CanReplay system.now trace.now }
+    ensures sends { IfOk result (λ status. Sends (λ a. a ≡ audited system.now trace.now schedule.now) status (K.sent sink.old) (K.sent sink.new)) }
+    ensures status { IfOk result IsOfOutput }
+    ensures part { OnErr result (SendsPart (λ a. a ≡ audited system.now trace.now schedule.now) (K.sent sink.old) (K.sent sink.new)) }
+    ensures rises { K.faults sink.old ≤ K.faults sink.new }
+    ensures failed { result ≡ Err stopped.Sink → Rose (K.faults sink.old) (K.faults sink.new) }
+{
+    let finding = cpa_audit::audit(alloc, system, trace, schedule)?;
+    let text = audit_text(alloc, system, schedule, &finding)?;
+    send(sink, finding_status(&finding), text.as_slice())
+}
+
 /// Does the work, and sends what comes of it. Workers pass the gate before each analysis.
 pub fn perform<H: Threads + Sync, K: Sink, G: Gate>(
     rt: &H,
@@ -244,5 +303,18 @@ where
             let mut round = Shared::new(workers, gate);
             slack(rt, alloc, &system, task, &mut round, sink)
         }
+        Work::Buffers {
+            system,
+            trace,
+            workers,
+        } => {
+            let mut round = Shared::new(workers, gate);
+            buffers(rt, alloc, &system, &trace, &mut round, sink)
+        }
+        Work::Audit {
+            system,
+            trace,
+            schedule,
+        } => audit(alloc, &system, &trace, &schedule, sink),
     }
 }

@@ -20,10 +20,14 @@ task = [
 ]
 "#;
 
+/// Events of both sources as often as they come.
+pub const LONG_WINDOW_TRACE: &str =
+    "event,sa,0\nevent,sa,70\nevent,sa,140\nevent,sa,210\nevent,sa,280\nevent,sa,350\nevent,sa,420\nevent,sa,490\nevent,sa,560\nevent,sa,630\nevent,sb,0\nevent,sb,100\nevent,sb,200\nevent,sb,300\nevent,sb,400\nevent,sb,500\nevent,sb,600\n";
+
 pub const RUNS: [Run; 16] = [
     Run {
         system: LONG_WINDOW,
-        trace: "event,sa,0\nevent,sa,70\nevent,sa,140\nevent,sa,210\nevent,sa,280\nevent,sa,350\nevent,sa,420\nevent,sa,490\nevent,sa,560\nevent,sa,630\nevent,sb,0\nevent,sb,100\nevent,sb,200\nevent,sb,300\nevent,sb,400\nevent,sb,500\nevent,sb,600\n",
+        trace: LONG_WINDOW_TRACE,
         status: 0,
         text: "task a jobs 10 done 10 worst 26\ntask b jobs 7 done 7 worst 118\nsummary jobs 17 done 17 end 694\n",
     },

@@ -1,5 +1,6 @@
 //! What a call has to do.
 
+use cpa_audit::Schedule;
 use cpa_edit::Script;
 use cpa_model::System;
 use cpa_trace::Trace;
@@ -51,5 +52,17 @@ pub enum Work {
         system: System,
         task: TaskId,
         workers: u32,
+    },
+    /// How many jobs wait under a trace and how many can, by 1 to 64 workers.
+    Buffers {
+        system: System,
+        trace: Trace,
+        workers: u32,
+    },
+    /// Whether a schedule is that of a system under a trace.
+    Audit {
+        system: System,
+        trace: Trace,
+        schedule: Schedule,
     },
 }

@@ -47,6 +47,8 @@ words_arranged verb.Load words = arranged words
 words_arranged verb.Hammer words = nowhere words
 words_arranged verb.Assign words = nowhere words
 words_arranged verb.Slack words = arranged words
+words_arranged verb.Buffers words = arranged words
+words_arranged verb.Audit words = nowhere words
 
 counted : (n : ℕ) (s : Sorted) → is_regular n s ≡ true → length s.operands ≡ n
 counted n s e = (Decides-eqb (length s.operands) n).0 (both (length s.operands == n) (list_all is_operand s.operands && option_map_or is_operand s.workers true) e).0
@@ -67,6 +69,8 @@ words_readable verb.Load words e = readable 2 _ (omega arith) (omega arith) (λ 
 words_readable verb.Hammer words e = readable 3 _ (omega arith) (omega arith) (λ h. refl) e
 words_readable verb.Assign words e = readable 2 _ (omega arith) (omega arith) (λ h. refl) e
 words_readable verb.Slack words e = readable 2 _ (omega arith) (omega arith) (λ h. absurd (omega (arith, h))) e
+words_readable verb.Buffers words e = readable 2 _ (omega arith) (omega arith) (λ h. absurd (omega (arith, h))) e
+words_readable verb.Audit words e = readable 3 _ (omega arith) (omega arith) (λ h. refl) e
 
 abbrev Regular : Verb → List (List ℕ) → Bool
 Regular verb words = is_regular (operands_of verb) (words_of verb words)

@@ -5,7 +5,7 @@ use Rattle.cpa_units.specs.Digits.{number_of}
 use Rattle.cpa_words.specs.declared.verb.Verb.{Verb}
 use Rattle.cpa_words.specs.declared.verb.Verb.TheVariants as verb
 use Rattle.cpa_words.specs.Numbers.{number_within}
-use Rattle.cpa_words.specs.Words.{Sorted, AreTraces, AreWorkers, IsNumber, IsSize, IsWithin, Analyse, Generate, Hammer, Session, Slack, accepted, asked_by, asked_for, is_regular, loaded, operand, operands_of, verb_of, with_numbers, words_of, workers_of}
+use Rattle.cpa_words.specs.Words.{Sorted, AreTraces, AreWorkers, IsNumber, IsSize, IsWithin, Analyse, Buffers, Generate, Hammer, Session, Slack, accepted, asked_by, asked_for, is_regular, loaded, operand, operands_of, verb_of, with_numbers, words_of, workers_of}
 
 if_within : (least most n : ℕ) (b : Bool) → nat_le least n && nat_le n most ≡ b → IfSome (if b then Some n else None) (λ n. (least ≤ n) × (n ≤ most))
 if_within least most n true e = search rules
@@ -34,6 +34,10 @@ slack_within : (file task : List ℕ) (workers : Option ℕ) → IfSome workers 
 slack_within file task None h = search rules
 slack_within file task (Some n) h = h
 
+buffers_within : (file trace : List ℕ) (workers : Option ℕ) → IfSome workers AreWorkers → IfSome (option_map (Buffers file trace) workers) IsWithin
+buffers_within file trace None h = search rules
+buffers_within file trace (Some n) h = h
+
 generate_within : (number size : Option ℕ) → IfSome number (λ n. (0 ≤ n) × IsNumber n) → IfSome size (λ n. (0 ≤ n) × IsSize n) → IfSome (with_numbers Generate number size) IsWithin
 generate_within None size h k = search rules
 generate_within (Some n) None h k = search rules
@@ -59,6 +63,8 @@ asked_within verb.Load s = load_within _ _ _ (is_within 0 MAX_NUMBER (operand s 
 asked_within verb.Hammer s = hammer_within (operand s 0) _ _ (is_within 0 MAX_NUMBER (operand s 1)) (is_within 1 MAX_TRACES (operand s 2))
 asked_within verb.Assign s = search rules
 asked_within verb.Slack s = slack_within (operand s 0) (operand s 1) (workers_of s.workers) (workers_within s.workers)
+asked_within verb.Buffers s = buffers_within (operand s 0) (operand s 1) (workers_of s.workers) (workers_within s.workers)
+asked_within verb.Audit s = search rules
 
 if_regular : (verb : Verb) (s : Sorted) (b : Bool) → IfSome (if b then asked_for verb s else None) IsWithin
 if_regular verb s true = asked_within verb s

@@ -26,6 +26,10 @@ pub data Asked : Type 0 where
   Assign : List ℕ → List ℕ → Asked
   -- by how much the task with a name may grow, of the system in a file, by so many workers
   Slack : List ℕ → List ℕ → ℕ → Asked
+  -- how many jobs wait of a system under the trace in a second file, and how many can, by so many workers
+  Buffers : List ℕ → List ℕ → ℕ → Asked
+  -- whether the schedule in a third file is that of a system under the trace in a second
+  Audit : List ℕ → List ℕ → List ℕ → Asked
 
 -- so many workers, numbers, sizes and traces as there may be
 abbrev pub AreWorkers : ℕ → Type 0
@@ -50,6 +54,8 @@ IsWithin (Load number size workers) = IsNumber number × IsSize size × AreWorke
 IsWithin (Hammer file number traces) = IsNumber number × AreTraces traces
 IsWithin (Assign file resource) = Unit {0}
 IsWithin (Slack file task workers) = AreWorkers workers
+IsWithin (Buffers file trace workers) = AreWorkers workers
+IsWithin (Audit file trace schedule) = Unit {0}
 
 -- the command of a name
 abbrev pub verb_of : List ℕ → Option Verb
@@ -60,12 +66,15 @@ verb_of word = if bytes_eq word (codes "analyse") then Some verb.Analyse
     else (if bytes_eq word (codes "load") then Some verb.Load
     else (if bytes_eq word (codes "hammer") then Some verb.Hammer
     else (if bytes_eq word (codes "assign") then Some verb.Assign
-    else (if bytes_eq word (codes "slack") then Some verb.Slack else None)))))))
+    else (if bytes_eq word (codes "slack") then Some verb.Slack
+    else (if bytes_eq word (codes "buffers") then Some verb.Buffers
+    else (if bytes_eq word (codes "audit") then Some verb.Audit else None)))))))))
 
 -- how many operands it has
 abbrev pub operands_of : Verb → ℕ
 operands_of verb.Analyse = 1
 operands_of verb.Hammer = 3
+operands_of verb.Audit = 3
 operands_of _ = 2
 
 -- whether it takes the number of workers
@@ -74,6 +83,7 @@ takes_workers verb.Analyse = true
 takes_workers verb.Session = true
 takes_workers verb.Load = true
 takes_workers verb.Slack = true
+takes_workers verb.Buffers = true
 takes_workers _ = false
 
 -- a word that isn't empty and doesn't begin with a dash
@@ -143,6 +153,8 @@ asked_for verb.Load s = loaded (number_within 0 MAX_NUMBER (operand s 0)) (numbe
 asked_for verb.Hammer s = with_numbers (Hammer (operand s 0)) (number_within 0 MAX_NUMBER (operand s 1)) (number_within 1 MAX_TRACES (operand s 2))
 asked_for verb.Assign s = Some (Assign (operand s 0) (operand s 1))
 asked_for verb.Slack s = option_map (Slack (operand s 0) (operand s 1)) (workers_of s.workers)
+asked_for verb.Buffers s = option_map (Buffers (operand s 0) (operand s 1)) (workers_of s.workers)
+asked_for verb.Audit s = Some (Audit (operand s 0) (operand s 1) (operand s 2))
 
 -- what the words after a command ask for
 abbrev pub asked_by : List (List ℕ) → Verb → Option Asked

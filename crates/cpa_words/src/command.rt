@@ -60,6 +60,18 @@ pub enum Command<'a> {
         task: &'a str,
         workers: u32,
     },
+    /// How many jobs of a system wait under a trace, and how many can, by 1 to 64 workers.
+    Buffers {
+        file: &'a str,
+        trace: &'a str,
+        workers: u32,
+    },
+    /// Whether a schedule is that of a system under a trace.
+    Audit {
+        file: &'a str,
+        trace: &'a str,
+        schedule: &'a str,
+    },
 }
 
 /// The number of workers, 1 where it isn't given.
@@ -122,6 +134,16 @@ fn command_of<'a>(verb: Verb, found: Operands<'a>) -> Option<Command<'a>>
             file: found.first?,
             task: found.second?,
             workers: workers_of(found.workers)?,
+        }),
+        Verb::Buffers => Some(Command::Buffers {
+            file: found.first?,
+            trace: found.second?,
+            workers: workers_of(found.workers)?,
+        }),
+        Verb::Audit => Some(Command::Audit {
+            file: found.first?,
+            trace: found.second?,
+            schedule: found.third?,
         }),
     }
 }

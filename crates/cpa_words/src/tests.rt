@@ -128,6 +128,30 @@ const ACCEPTED: &[(&str, Command<'static>)] = &[
             workers: 2,
         },
     ),
+    (
+        "buffers sys rows",
+        Command::Buffers {
+            file: "sys",
+            trace: "rows",
+            workers: 1,
+        },
+    ),
+    (
+        "buffers --workers 64 buffers rows",
+        Command::Buffers {
+            file: "buffers",
+            trace: "rows",
+            workers: 64,
+        },
+    ),
+    (
+        "audit sys rows ran",
+        Command::Audit {
+            file: "sys",
+            trace: "rows",
+            schedule: "ran",
+        },
+    ),
 ];
 
 /// Words with a blank between each two that ask for nothing.
@@ -154,6 +178,8 @@ const REFUSED: &[&str] = &[
     "hammer sys 1",
     "assign sys",
     "slack sys",
+    "buffers sys",
+    "audit sys rows",
     // A word too many.
     "analyse sys sys",
     "session sys edits 1",
@@ -163,6 +189,8 @@ const REFUSED: &[&str] = &[
     "hammer sys 1 2 3",
     "assign sys bus 1",
     "slack sys b 1",
+    "buffers sys rows 1",
+    "audit sys rows ran 1",
     // A word that is empty.
     " analyse sys",
     "analyse ",
@@ -175,6 +203,8 @@ const REFUSED: &[&str] = &[
     "hammer  1 2",
     "assign sys ",
     "slack  b",
+    "buffers sys ",
+    "audit sys  ran",
     // A word that begins with a dash.
     "analyse -",
     "analyse -sys",
@@ -191,6 +221,8 @@ const REFUSED: &[&str] = &[
     "hammer sys 1 -",
     "assign sys -x",
     "slack sys -x",
+    "buffers sys -rows",
+    "audit sys rows -",
     "analyse -- sys",
     "analyse sys --",
     "analyse sys -h",
@@ -233,6 +265,9 @@ const REFUSED: &[&str] = &[
     "assign sys bus --workers 2",
     "slack sys b --workers 0",
     "slack sys --workers 2",
+    "buffers sys rows --workers=65",
+    "audit sys rows ran --workers 1",
+    "audit sys --workers=1 rows",
     // Numbers that aren't one, or are past their range.
     "generate +1 2",
     "generate 1 +2",

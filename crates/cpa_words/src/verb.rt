@@ -14,6 +14,8 @@ pub enum Verb {
     Hammer,
     Assign,
     Slack,
+    Buffers,
+    Audit,
 }
 
 impl Verb {
@@ -37,6 +39,10 @@ impl Verb {
             Some(Verb::Assign)
         } else if word == "slack" {
             Some(Verb::Slack)
+        } else if word == "buffers" {
+            Some(Verb::Buffers)
+        } else if word == "audit" {
+            Some(Verb::Audit)
         } else {
             None
         }
@@ -53,8 +59,9 @@ impl Verb {
             | Verb::Generate
             | Verb::Load
             | Verb::Assign
-            | Verb::Slack => 2,
-            Verb::Hammer => 3,
+            | Verb::Slack
+            | Verb::Buffers => 2,
+            Verb::Hammer | Verb::Audit => 3,
         }
     }
 
@@ -64,7 +71,7 @@ impl Verb {
     {
         matches!(
             self,
-            Verb::Analyse | Verb::Session | Verb::Load | Verb::Slack
+            Verb::Analyse | Verb::Session | Verb::Load | Verb::Slack | Verb::Buffers
         )
     }
 }

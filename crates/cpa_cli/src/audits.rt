@@ -1,0 +1,217 @@
+//! Recorded schedules.
+
+use crate::cases::ROUND_ROBIN;
+use crate::tests::{NO_FAULTS, call_over};
+use std::process::Abort;
+use std::test::Fail;
+use std::thread::Threads;
+
+/// All four kinds of resource.
+const FOUR_KINDS: &str = r#"format = 1
+resource = [
+  { name = "cpu", kind = "preemptive" },
+  { name = "rr", kind = "round-robin" },
+  { name = "ring", kind = "tdma", gap = 8 },
+  { name = "bus", kind = "can", bit = 1 },
+]
+source = [
+  { name = "slow", period = 100 },
+  { name = "fast", period = 10 },
+  { name = "sa", period = 20 },
+  { name = "sb", period = 20 },
+  { name = "s", period = 40 },
+  { name = "s1", period = 4 },
+  { name = "s2", period = 100 },
+]
+task = [
+  { name = "low", on = "cpu", after = "slow", best = 5, worst = 5, priority = 2 },
+  { name = "high", on = "cpu", after = "fast", best = 2, worst = 2, priority = 1 },
+  { name = "a", on = "rr", after = "sa", best = 3, worst = 3, slot = 2 },
+  { name = "b", on = "rr", after = "sb", best = 1, worst = 1, slot = 4 },
+  { name = "t", on = "ring", after = "s", best = 3, worst = 3, slot = 2 },
+  { name = "m1", on = "bus", after = "s1", best = 4, worst = 4, priority = 1 },
+  { name = "m2", on = "bus", after = "s2", best = 6, worst = 6, priority = 2 },
+]
+"#;
+
+/// `high` preempts `low`; `m1` waits for the frame of `m2`, and its second job follows the first; the phase of the ring
+/// lets `t` run in ticks 10, 11 and 20.
+const FOUR_KINDS_TRACE: &str =
+    "event,slow,0\nevent,fast,2\nevent,sa,0\nevent,sb,0\nevent,s,2\nevent,s1,1\nevent,s1,5\nevent,s2,0\nexec,t,3\nphase,ring,0\n";
+
+const FOUR_KINDS_RUN: &str =
+    "low,0,2\na,0,2\nm2,0,6\nhigh,2,4\nb,2,3\na,3,4\nlow,4,7\nm1,6,10\nt,10,12\nm1,10,14\nt,20,21\n";
+
+/// The same with the two jobs of `m1` as one.
+const FOUR_KINDS_JOINED: &str =
+    "low,0,2\na,0,2\nm2,0,6\nhigh,2,4\nb,2,3\na,3,4\nlow,4,7\nm1,6,14\nt,10,12\nt,20,21\n";
+
+/// Eleven jobs at once, of which the horizon cuts the last.
+const LATE_JOBS: &str = r#"format = 1
+resource = [{ name = "cpu", kind = "preemptive" }]
+source = [{ name = "s", period = 1, jitter = 30 }]
+task = [{ name = "t", on = "cpu", after = "s", best = 1, worst = 999999, priority = 1 }]
+"#;
+
+const LATE_TRACE: &str =
+    "event,s,10000000\nevent,s,10000000\nevent,s,10000000\nevent,s,10000000\nevent,s,10000000\nevent,s,10000000\nevent,s,10000000\nevent,s,10000000\nevent,s,10000000\nevent,s,10000000\nevent,s,10000000\n";
+
+const LATE_RUN: &str =
+    "t,10000000,10999999\nt,10999999,11999998\nt,11999998,12999997\nt,12999997,13999996\nt,13999996,14999995\nt,14999995,15999994\nt,15999994,16999993\nt,16999993,17999992\nt,17999992,18999991\nt,18999991,19999990\nt,19999990,20000000\n";
+
+const RING_TRACE: &str = "event,sa,0\nevent,sb,0\n";
+
+/// A schedule that is held as `ran`, the status and the text, for the tasks that take turns.
+const RINGS: [(&[u8], u8, &str); 13] = [
+    (b"a,0,2\nb,2,3\na,3,4\n", 0, "audit same segments 3\n"),
+    (
+        b"a,0,2\nb,2,4\na,3,4\n",
+        4,
+        "audit wrong segment 2 expected b 2 3\n",
+    ),
+    (
+        b"a,0,2\nb,2,3\n",
+        4,
+        "audit wrong segment 3 expected a 3 4\n",
+    ),
+    (
+        b"a,0,2\nb,2,3\na,3,4\na,9,10\n",
+        4,
+        "audit wrong segment 4 expected none\n",
+    ),
+    (b"a,0,2\nb,3,3\n", 19, "schedule refused row 2 range\n"),
+    (b"zz,5,3\n", 19, "schedule refused row 1 name\n"),
+    (b"zz,x,3\n", 19, "schedule refused row 1 malformed\n"),
+    (b"a,0,20000001\n", 19, "schedule refused row 1 range\n"),
+    (b"a,0\n", 19, "schedule refused row 1 malformed\n"),
+    (
+        b"a,00000000000,3\n",
+        19,
+        "schedule refused row 1 malformed\n",
+    ),
+    (b"\xff,5,3\n", 19, "schedule refused row 1 name\n"),
+    (
+        b"\xef\xbb\xbfa,0,2\nb,2,3\na,3,4\n",
+        0,
+        "audit same segments 3\n",
+    ),
+    (b"", 4, "audit wrong segment 1 expected a 0 2\n"),
+];
+
+/// A system, a trace and a schedule, the status and the text.
+const RUNS: [(&str, &str, &str, u8, &str); 4] = [
+    (
+        FOUR_KINDS,
+        FOUR_KINDS_TRACE,
+        FOUR_KINDS_RUN,
+        0,
+        "audit same segments 11\n",
+    ),
+    (
+        FOUR_KINDS,
+        FOUR_KINDS_TRACE,
+        FOUR_KINDS_JOINED,
+        4,
+        "audit wrong segment 8 expected m1 6 10\n",
+    ),
+    (
+        LATE_JOBS,
+        LATE_TRACE,
+        LATE_RUN,
+        0,
+        "audit same segments 11\n",
+    ),
+    ("format = 1", "", "", 0, "audit same segments 0\n"),
+];
+
+/// Words over the tasks that take turns and files beside them, the status and the text.
+const THIRDS: [(&[&str], u8, &str); 5] = [
+    (
+        &["audit", "sys", "short", "zz"],
+        16,
+        "trace refused row 1 malformed\n",
+    ),
+    (&["audit", "sys", "tr", "zz"], 11, "cannot read zz\n"),
+    (&["audit", "sys", "zz", "long"], 11, "cannot read zz\n"),
+    (&["audit", "sys", "tr", "long"], 12, "too long long\n"),
+    (
+        &["audit", "sys", "close", "long"],
+        17,
+        "trace disobeys source sa times 0 1\n",
+    ),
+];
+
+/// Audits a schedule, and compares status and text.
+fn check<R: Abort + AllocGlobal + Threads + Sync>(
+    rt: &R,
+    held: (&str, &str, &[u8]),
+    status: u8,
+    text: &str,
+) -> Result<(), Fail> {
+    let named: [(&str, &[u8]); 3] = [
+        ("sys", held.0.as_bytes()),
+        ("tr", held.1.as_bytes()),
+        ("ran", held.2),
+    ];
+    let answer = call_over(rt, &["audit", "sys", "tr", "ran"], &named, &NO_FAULTS)?;
+    assert!(rt;
+        answer.0 == status && answer.1.as_slice() == text.as_bytes(),
+        "{text}"
+    );
+    Ok(())
+}
+
+/// Each schedule of the tables.
+#[test]
+fn audits(rt: HostRuntime) -> Result<(), Fail> {
+    for (schedule, status, text) in &RINGS {
+        check(&rt, (ROUND_ROBIN, RING_TRACE, schedule), *status, text)?;
+    }
+    for (system, trace, schedule, status, text) in &RUNS {
+        check(&rt, (system, trace, schedule.as_bytes()), *status, text)?;
+    }
+    Ok(())
+}
+
+/// As many rows as there may be, and one more.
+#[test]
+fn reads_many_rows(rt: HostRuntime) -> Result<(), Fail> {
+    let mut rows = Vec::new(rt.alloc());
+    for _ in 0..200_000 {
+        rows.extend_from_slice(b"a,0,2\n")?;
+    }
+    check(
+        &rt,
+        (ROUND_ROBIN, RING_TRACE, rows.as_slice()),
+        4,
+        "audit wrong segment 2 expected b 2 3\n",
+    )?;
+    rows.extend_from_slice(b"a,0,1\n")?;
+    check(
+        &rt,
+        (ROUND_ROBIN, RING_TRACE, rows.as_slice()),
+        19,
+        "schedule refused too many\n",
+    )
+}
+
+/// The third file is loaded once the trace obeys.
+#[test]
+fn loads_the_schedule_third(rt: HostRuntime) -> Result<(), Fail> {
+    let long = vec![in rt.alloc(); b'x'; 16_777_217]?;
+    let named: [(&str, &[u8]); 5] = [
+        ("sys", ROUND_ROBIN.as_bytes()),
+        ("tr", RING_TRACE.as_bytes()),
+        ("short", b"event,sa\n"),
+        ("close", b"event,sa,0\nevent,sa,1\n"),
+        ("long", long.as_slice()),
+    ];
+    for (words, status, text) in &THIRDS {
+        let answer = call_over(&rt, words, &named, &NO_FAULTS)?;
+        assert!(rt;
+            answer.0 == *status && answer.1.as_slice() == text.as_bytes(),
+            "{text}"
+        );
+    }
+    Ok(())
+}

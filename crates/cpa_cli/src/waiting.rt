@@ -1,0 +1,91 @@
+//! How many jobs wait, and how many can.
+
+use crate::cases::{BURST, CUT_NAME, ENDLESS_JITTER, LONG_WINDOW, TWO_TASKS};
+use crate::orders::IDLE;
+use crate::runs::LONG_WINDOW_TRACE;
+use crate::tests::{NO_FAULTS, call_over};
+use std::test::Fail;
+
+/// A task that takes longer than its events are apart: of 30 jobs the run has time for 20, up to the horizon.
+const BACKLOG: &str = r#"format = 1
+resource = [{ name = "cpu", kind = "preemptive" }]
+source = [{ name = "s", period = 1, jitter = 30 }]
+task = [{ name = "t", on = "cpu", after = "s", best = 1, worst = 1000000, priority = 1 }]
+"#;
+
+const BACKLOG_TRACE: &str =
+    "event,s,0\nevent,s,1\nevent,s,2\nevent,s,3\nevent,s,4\nevent,s,5\nevent,s,6\nevent,s,7\nevent,s,8\nevent,s,9\nevent,s,10\nevent,s,11\nevent,s,12\nevent,s,13\nevent,s,14\nevent,s,15\nevent,s,16\nevent,s,17\nevent,s,18\nevent,s,19\nevent,s,20\nevent,s,21\nevent,s,22\nevent,s,23\nevent,s,24\nevent,s,25\nevent,s,26\nevent,s,27\nevent,s,28\nevent,s,29\n";
+
+/// A system that is held as `sys`, a trace that is held as `tr`, the status and the text.
+const ANSWERS: [(&str, &str, u8, &str); 9] = [
+    (
+        LONG_WINDOW,
+        LONG_WINDOW_TRACE,
+        0,
+        "buffer a bound 1 peak 1\nbuffer b bound 2 peak 2\nresource cpu bound 3 peak 3\nsummary tasks 2 overload 0\n",
+    ),
+    (
+        BURST,
+        "event,s,25\nevent,s,25\nevent,s,25\nevent,s,30\n",
+        0,
+        "buffer t bound 4 peak 3\nresource cpu bound 4 peak 3\nsummary tasks 1 overload 0\n",
+    ),
+    (
+        ENDLESS_JITTER,
+        "",
+        0,
+        "buffer a1 bound overload peak 0\nbuffer a2 bound overload peak 0\nbuffer b1 bound overload peak 0\nbuffer b2 bound overload peak 0\nbuffer c bound 1 peak 0\nresource p bound overload peak 0\nresource q bound overload peak 0\nresource r bound 1 peak 0\nsummary tasks 5 overload 4\n",
+    ),
+    (
+        IDLE,
+        "",
+        0,
+        "resource p bound 0 peak 0\nsummary tasks 0 overload 0\n",
+    ),
+    // The tasks wait at different times.
+    (
+        TWO_TASKS,
+        "event,sa,0\nevent,sb,5\n",
+        0,
+        "buffer a bound 1 peak 1\nbuffer b bound 1 peak 1\nresource cpu bound 2 peak 1\nsummary tasks 2 overload 0\n",
+    ),
+    (
+        BACKLOG,
+        BACKLOG_TRACE,
+        0,
+        "buffer t bound overload peak 30\nresource cpu bound overload peak 30\nsummary tasks 1 overload 1\n",
+    ),
+    (CUT_NAME, "", 13, "not TOML sys\n"),
+    (
+        TWO_TASKS,
+        "event,sa\n",
+        16,
+        "trace refused row 1 malformed\n",
+    ),
+    (
+        TWO_TASKS,
+        "event,sa,0\nevent,sa,9\n",
+        17,
+        "trace disobeys source sa times 0 9\n",
+    ),
+];
+
+/// Each row of the table, by several numbers of workers: the bytes are the same.
+#[test]
+fn tells_buffers(rt: HostRuntime) -> Result<(), Fail> {
+    for (system, trace, status, text) in &ANSWERS {
+        for workers in &["1", "2", "8"] {
+            let answer = call_over(
+                &rt,
+                &["buffers", "sys", "tr", "--workers", workers],
+                &[("sys", system.as_bytes()), ("tr", trace.as_bytes())],
+                &NO_FAULTS,
+            )?;
+            assert!(rt;
+                answer.0 == *status && answer.1.as_slice() == text.as_bytes(),
+                "{text}"
+            );
+        }
+    }
+    Ok(())
+}
