@@ -50,11 +50,11 @@ def least(command, calls):
     return min(seconds), int(done.stderr.split()[-1]) / 1024, lines[-1]
 
 
-def least_over(program, command, first, second, calls):
-    """The same for a command of a program over two files with these texts."""
+def least_over(program, command, texts, calls):
+    """The same for a command of a program over files with these texts."""
     with tempfile.TemporaryDirectory() as folder:
-        files = [os.path.join(folder, "first"), os.path.join(folder, "second")]
-        for path, text in zip(files, (first, second)):
+        files = [os.path.join(folder, str(k)) for k in range(len(texts))]
+        for path, text in zip(files, texts):
             with open(path, "w") as file:
                 file.write(text)
         return least([program, command, *files], calls)

@@ -54,6 +54,10 @@ expect_status 20 $? 'a full disk, assign'
 expect_status 20 $? 'a full disk, a refused resource'
 "$program" slack car.toml sense0 --workers 8 >/dev/full
 expect_status 20 $? 'a full disk, slack'
+"$program" buffers two.toml /dev/null >/dev/full
+expect_status 20 $? 'a full disk, buffers'
+"$program" audit two.toml /dev/null /dev/null >/dev/full
+expect_status 20 $? 'a full disk, audit'
 "$program" help >/dev/full
 expect_status 20 $? 'a full disk, refused words'
 
@@ -64,6 +68,9 @@ expect 11 'cannot read none' analyse none
 expect 11 'cannot read none' session two.toml none
 expect 11 'cannot read folder' assign folder cpu
 expect 11 'cannot read none' slack none a
+expect 11 'cannot read none' buffers two.toml none
+expect 11 'cannot read folder' audit two.toml folder none
+expect 11 'cannot read none' audit two.toml /dev/null none
 expect 18 'assign refused 1' assign two.toml "$(printf '%0100000d' 0)"
 expect 18 'assign refused 1' assign two.toml $'c\npu'
 expect 18 'slack refused 1' slack two.toml sa
@@ -96,6 +103,8 @@ write("more_lines", "report\n" * 10_001)
 write("one_line", "exec " + "a" * (most - 5))
 write("words", "a " * (most // 2))
 write("rows", "".join(f"event,sa,{10 * k}\n" for k in range(200_000)))
+write("ran", "".join(f"a,{10 * k},{10 * k + 3}\n" for k in range(200_000)))
+write("more_ran", "".join(f"a,{10 * k},{10 * k + 3}\n" for k in range(200_001)))
 write("many", "".join(f"event,sa,{10 * k}\n" for k in range(200_001)))
 write("late", "".join(f"event,sa,{10 * k}\n" for k in range(1_000_001)))
 write("quotes", '"' * most)
@@ -151,6 +160,16 @@ expect 16 'trace refused too many' simulate two.toml many
 expect 16 'trace refused row' simulate two.toml quotes
 expect 16 'trace refused row 1 malformed' simulate two.toml commas
 expect 16 'trace refused row 1 malformed' simulate two.toml fields
+expect 0 'summary tasks 2 overload 0' buffers two.toml rows
+expect 12 'too long late' buffers two.toml late
+expect 16 'trace refused too many' buffers two.toml many
+expect 0 'audit same segments 200000' audit two.toml rows ran
+expect 12 'too long late' audit two.toml rows late
+expect 19 'schedule refused too many' audit two.toml rows more_ran
+expect 19 'schedule refused row' audit two.toml rows quotes
+expect 19 'schedule refused row 1 malformed' audit two.toml rows commas
+expect 19 'schedule refused row 1 malformed' audit two.toml rows fields
+expect 16 'trace refused too many' audit two.toml many late
 
 # ---- largest numbers
 for kind in preemptive round-robin tdma can; do expect 0 'summary tasks 512 overload 0' analyse "crowd_$kind"; done
@@ -166,6 +185,12 @@ expect 3 'slack t1 none' slack late_crowd t1
 expect 0 'slack t0 0 next limit' slack chains t0
 expect 0 'slack t31 0 next limit' slack chains t31 --workers 64
 expect 0 'summary jobs 1 done 1 end 11000000' simulate end.toml end.csv
+expect 0 'summary tasks 1 overload 0' buffers end.toml end.csv
+printf 't,10000000,11000000\n' >end.ran
+expect 0 'audit same segments 1' audit end.toml end.csv end.ran
+for kind in preemptive round-robin tdma can; do expect 0 'summary tasks 512 overload 0' buffers "crowd_$kind" /dev/null; done
+expect 0 'summary tasks 512 overload 0' buffers chains /dev/null --workers 64
+expect 4 'audit wrong segment 1 expected none' audit two.toml /dev/null ran
 expect 0 'summary tasks 2' analyse two.toml --workers 64
 expect 0 'summary tasks 384 overload 0' load 4294967295 128
 exit $wrong

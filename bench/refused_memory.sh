@@ -69,6 +69,7 @@ fi
 cd "$top/examples" || exit 1
 printf 'report\nexec b 2 8\nreport\nexec b 2 7\nadd c cpu sb 1 2 3\nremove c\nreport\n' >"$work/script.txt"
 printf 'event,sa,0\nevent,sa,10\nevent,sb,0\nexec,b,5\n' >"$work/trace.csv"
+printf 'a,0,3\nb,3,8\na,10,13\n' >"$work/schedule.csv"
 try 100000 1 analyse two_tasks.toml
 try 100000 1 analyse car_network.toml
 try 100000 1 analyse crossing_chains.toml --workers 2
@@ -83,6 +84,10 @@ try 100000 1 assign deadline_order.toml cpu
 try 100000 1 assign sae_can.toml can
 try 100000 1 slack two_tasks.toml b
 try 100000 1 slack sae_can.toml m16 --workers 2
+try 100000 1 buffers two_tasks.toml "$work/trace.csv"
+try 100000 1 buffers car_network.toml car_network.trace.csv --workers 2
+try 100000 1 audit two_tasks.toml "$work/trace.csv" "$work/schedule.csv"
+try 100000 1 audit crossing_chains.toml crossing_chains.trace.csv crossing_chains.schedule.csv
 try 1000 7 slack car_network.toml sense0
 try 1000 7 generate 1 128
 try 1000 7 load 1 128

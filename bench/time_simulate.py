@@ -1,5 +1,5 @@
 #!/usr/bin/env python3
-"""Measures how long `lokwurmi simulate` takes from its two files to the text, and how much memory.
+"""Measures how long `simulate`, `buffers` and `audit` take from their files to the text, and how much memory.
 
 Makes traces as text and prints a line a case: the least time of some calls, the peak memory, the last line.
 
@@ -9,12 +9,17 @@ Makes traces as text and prints a line a case: the least time of some calls, the
   times differ by what the reading of a few bytes takes, as no step is made for a tick in which nothing changes;
 - car network: the network of a car with all its sources at their periods, over 1,000,000 ticks.
 
+Each case goes to `simulate` and to `buffers`; the chain also to `audit`, with the first 200,000 segments of its run as the
+schedule, as many as one may have, and with one of which the first is wrong.
+
     python3 bench/time_simulate.py [NAME ..]
 """
 import os
 import sys
+import tomllib
 
 from calls import least_over
+from check_runs import Run
 
 TOP = os.path.join(os.path.dirname(os.path.abspath(__file__)), "..")
 PROGRAM = os.path.join(TOP, "crates/cpa_cli/out/cpa_cli")
@@ -35,6 +40,22 @@ def chain():
     text += ["]", 'path = [{ name = "whole", tasks = [' + ", ".join(f'"t{k}"' for k in range(10)) + "] }]"]
     rows = "".join(f"event,s,{50 * n}\n" for n in range(200_000))
     return "\n".join(text) + "\n", rows
+
+
+def chain_schedule(system):
+    """The first 200,000 segments of that run: from tick 1,000 on the same 100 ticks come again and again."""
+    lists = tomllib.loads(system)
+    for resource in lists["resource"]:
+        resource["gap"] = 0
+    phases = {resource["name"]: 0 for resource in lists["resource"]}
+    run = Run(lists, ({"s": [50 * n for n in range(40)]}, {task["name"]: [] for task in lists["task"]}, phases))
+    segments = [it for it in run.segments if it[1] < 1000]
+    again = [it for it in run.segments if 1000 <= it[1] < 1100]
+    turn = 0
+    while len(segments) < 200_000:
+        segments += [[task, start + 100 * turn, end + 100 * turn] for task, start, end in again]
+        turn += 1
+    return "".join(f"{task},{start},{end}\n" for task, start, end in segments[:200_000])
 
 
 TDMA = """format = 1
@@ -65,10 +86,20 @@ CASES = {
 }
 
 
+def show(what, seconds, peak, last):
+    print(f"{what:22} {seconds:.3f} s {peak:6.1f} MB  {last}")
+
+
 def main():
     for name in sys.argv[1:] or CASES:
-        seconds, peak, last = least_over(PROGRAM, "simulate", *CASES[name](), 5)
-        print(f"{name:12} {seconds:.3f} s {peak:6.1f} MB  {last}")
+        texts = CASES[name]()
+        for command in ("simulate", "buffers"):
+            show(f"{command} {name}", *least_over(PROGRAM, command, texts, 5))
+    if not sys.argv[1:] or "chain" in sys.argv[1:]:
+        system, trace = chain()
+        schedule = chain_schedule(system)
+        show("audit chain", *least_over(PROGRAM, "audit", (system, trace, schedule), 5))
+        show("audit wrong", *least_over(PROGRAM, "audit", (system, trace, schedule.replace(",0,", ",1,", 1)), 5))
 
 
 if __name__ == "__main__":

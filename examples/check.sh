@@ -1,6 +1,6 @@
 #!/usr/bin/env bash
-# Analyses each system of this folder, replays each trace and takes each script beside one, makes and hammers systems, looks for
-# priority orders and room to grow, and compares what is printed with what stands beside it. It ends with 1 where something
+# Analyses each system of this folder, replays each trace, audits each schedule and takes each script beside one, makes and
+# hammers systems, looks for priority orders, room to grow and jobs that wait, and compares what is printed with what stands beside it. It ends with 1 where something
 # differs.
 cd "$(dirname "$0")" || exit 1
 status=0
@@ -21,6 +21,14 @@ done
 for trace in *.trace.csv; do
   name=${trace%.trace.csv}
   tell "$trace" "$name.run.txt" simulate "$name.toml" "$trace"
+done
+for schedule in *.schedule.csv; do
+  name=${schedule%.schedule.csv}
+  tell "$schedule" "$name.audit.txt" audit "$name.toml" "$name.trace.csv" "$schedule"
+done
+for buffers in *.buffers.txt; do
+  name=${buffers%.buffers.txt}
+  tell "$buffers" "$buffers" buffers "$name.toml" "$name.trace.csv" --workers 2
 done
 for script in *.script.txt; do
   name=${script%.script.txt}

@@ -1,0 +1,296 @@
+#!/usr/bin/env python3
+"""Compares `simulate`, `buffers` and `audit` with runs that are followed plainly, tick by tick. Outside the gate.
+
+Random systems with all four kinds of resource get random traces that obey. The step rules of docs/FILES.md and
+docs/DEFINITIONS.md are followed here once more: what is seen of each task, how many jobs are pending at each time, and who
+gets which tick. `buffers` must tell those peaks, none of them above its bound, and each bound must be the most events of the
+task's line of `analyse` in its greatest response. `audit` must take the schedule that was recorded here, and of one with a
+row changed, left out, added or exchanged it must tell the first place that differs, with what is expected there.
+
+    python3 bench/check_runs.py [COUNT, 300 if absent] [SEED, 1 if absent]
+"""
+import os
+import random
+import sys
+import tempfile
+
+from calls import built
+
+import subprocess
+
+PROGRAM = built("cpa_cli")
+KINDS = ("preemptive", "round-robin", "tdma", "can")
+
+
+def made(draw):
+    """A system: its resources, sources and tasks; a task comes after a source or after an earlier task."""
+    resources = [{"name": f"r{k}", "kind": draw.choice(KINDS)} for k in range(draw.randint(1, 4))]
+    for it in resources:
+        it["gap"] = draw.randint(0, 5) if it["kind"] == "tdma" else 0
+    sources = []
+    for k in range(draw.randint(1, 3)):
+        period = draw.randint(4, 40)
+        sources.append({"name": f"s{k}", "period": period, "jitter": draw.choice((0, 0, draw.randint(0, 60))), "distance": draw.choice((0, draw.randint(0, period)))})
+    tasks = []
+    for k in range(draw.randint(1, 8)):
+        on, after = draw.choice(resources), draw.choice(sources + tasks[-3:])
+        worst = draw.randint(1, 9)
+        tasks.append({"name": f"t{k}", "on": on["name"], "after": after["name"], "best": draw.randint(1, worst), "worst": worst, "priority": k, "slot": draw.randint(1, 4)})
+    order = list(range(len(tasks)))
+    draw.shuffle(order)
+    for task, priority in zip(tasks, order):
+        task["priority"] = priority
+    return {"resource": resources, "source": sources, "task": tasks}
+
+
+def file_of(system):
+    kinds = {it["name"]: it["kind"] for it in system["resource"]}
+    rows = ["format = 1"]
+    for it in system["resource"]:
+        rows += ["[[resource]]", f"name = \"{it['name']}\"", f"kind = \"{it['kind']}\"", "limit = 2000"] + ([f"gap = {it['gap']}"] if it["kind"] == "tdma" else [])
+    for it in system["source"]:
+        rows += ["[[source]]", f"name = \"{it['name']}\"", *(f"{key} = {it[key]}" for key in ("period", "jitter", "distance"))]
+    for it in system["task"]:
+        turn = "priority" if kinds[it["on"]] in ("preemptive", "can") else "slot"
+        rows += ["[[task]]", *(f"{key} = \"{it[key]}\"" for key in ("name", "on", "after")), *(f"{key} = {it[key]}" for key in ("best", "worst", turn))]
+    return "\n".join(rows) + "\n"
+
+
+def least_apart(source, count):
+    return max(0, (count - 1) * source["distance"], (count - 1) * source["period"] - source["jitter"])
+
+
+def traced(draw, system):
+    """A trace that obeys: the times of each source, the executions of each task, the phase of each TDMA resource."""
+    events = {}
+    for it in system["source"]:
+        times = []
+        for _ in range(draw.randint(0, 9)):
+            least = max((times[-count] + least_apart(it, count + 1) for count in range(1, len(times) + 1)), default=0)
+            least = max(least, times[-1] if times else 0)
+            times.append(least + draw.choice((0, 0, draw.randint(0, 30))))
+        events[it["name"]] = times
+    executions = {it["name"]: [draw.randint(it["best"], it["worst"]) for _ in range(draw.randint(0, 9))] for it in system["task"]}
+    phases = {}
+    for it in system["resource"]:
+        slots = [task["slot"] for task in system["task"] if task["on"] == it["name"]]
+        if it["kind"] == "tdma":
+            phases[it["name"]] = draw.randrange(sum(slots) + it["gap"]) if slots else 0
+    return events, executions, phases
+
+
+def rows_of(trace):
+    events, executions, phases = trace
+    rows = [f"event,{name},{time}" for name, times in events.items() for time in times]
+    rows += [f"exec,{name},{ticks}" for name, several in executions.items() for ticks in several]
+    rows += [f"phase,{name},{ticks}" for name, ticks in phases.items()]
+    return "".join(row + "\n" for row in rows)
+
+
+class Run:
+    """The run of a system under a trace, tick by tick."""
+
+    def __init__(self, system, trace):
+        self.system, (self.events, self.executions, self.phases) = system, trace
+        self.tasks = {it["name"]: it for it in system["task"]}
+        self.jobs = {name: [] for name in self.tasks}
+        self.on = {it["name"]: [task["name"] for task in system["task"] if task["on"] == it["name"]] for it in system["resource"]}
+        self.holder = {name: (several[-1] if several else None) for name, several in self.on.items()}
+        self.left = dict.fromkeys(self.on, 0)
+        self.frame = dict.fromkeys(self.on)
+        self.peaks = dict.fromkeys(self.tasks, 0)
+        self.peaks_on = dict.fromkeys(self.on, 0)
+        self.segments = []
+        self.time = 0
+        self.go()
+
+    def arrive(self, task):
+        several = self.jobs[task]
+        given = self.executions[task]
+        needs = given[len(several)] if len(several) < len(given) else self.tasks[task]["worst"]
+        several.append({"arrival": self.time, "needs": needs, "end": None})
+
+    def activate(self, name):
+        for task in self.tasks.values():
+            if task["after"] == name:
+                self.arrive(task["name"])
+
+    def come(self):
+        for name, times in self.events.items():
+            for _ in range(times.count(self.time)):
+                self.activate(name)
+
+    def pending(self, task):
+        return [place for place, job in enumerate(self.jobs[task]) if job["end"] is None]
+
+    def pick(self, resource):
+        """Who runs on a resource in this tick."""
+        name, ring = resource["name"], self.on[resource["name"]]
+        waiting = [task for task in ring if self.pending(task)]
+        if resource["kind"] == "tdma":
+            if not ring:
+                return None
+            place = (self.time + self.phases[name]) % (sum(self.tasks[task]["slot"] for task in ring) + resource["gap"])
+            for task in ring:
+                if place < self.tasks[task]["slot"]:
+                    return task if task in waiting else None
+                place -= self.tasks[task]["slot"]
+            return None
+        if not waiting:
+            return None
+        if resource["kind"] == "round-robin":
+            if not (self.holder[name] in waiting and self.left[name]):
+                after = ring.index(self.holder[name]) + 1
+                self.holder[name] = next(task for task in ring[after:] + ring[:after] if task in waiting)
+                self.left[name] = self.tasks[self.holder[name]]["slot"]
+            self.left[name] -= 1
+            return self.holder[name]
+        if resource["kind"] == "can" and self.frame[name]:
+            return self.frame[name]
+        first = min(waiting, key=lambda task: self.tasks[task]["priority"])
+        self.frame[name] = first
+        return first
+
+    def see(self):
+        for task in self.tasks:
+            self.peaks[task] = max(self.peaks[task], len(self.pending(task)))
+        for name, several in self.on.items():
+            self.peaks_on[name] = max(self.peaks_on[name], sum(len(self.pending(task)) for task in several))
+
+    def goes_on(self):
+        return any(self.pending(task) for task in self.tasks) or any(time >= self.time for times in self.events.values() for time in times)
+
+    def tick(self, going):
+        ended = []
+        for resource in self.system["resource"]:
+            name, task = resource["name"], self.pick(resource)
+            job = (task, self.pending(task)[0]) if task else None
+            if job and going.get(name, (None,))[0] == job:
+                going[name][1][2] = self.time + 1
+            elif job:
+                going[name] = (job, [task, self.time, self.time + 1])
+                self.segments.append(going[name][1])
+            else:
+                going.pop(name, None)
+            if job:
+                it = self.jobs[task][job[1]]
+                it["needs"] -= 1
+                if it["needs"] == 0:
+                    ended.append((name, it, task))
+        self.time += 1
+        for name, it, _ in ended:
+            it["end"], self.frame[name] = self.time, None
+        for _, _, task in ended:
+            self.activate(task)
+        self.come()
+        self.see()
+
+    def go(self):
+        going = {}
+        self.come()
+        self.see()
+        while self.goes_on():
+            self.tick(going)
+
+
+def tell(system, run):
+    """What `simulate` writes of the tasks."""
+    text = ""
+    for it in system["task"]:
+        jobs = run.jobs[it["name"]]
+        worst = max((job["end"] - job["arrival"] for job in jobs), default="none")
+        text += f"task {it['name']} jobs {len(jobs)} done {len(jobs)} worst {worst}\n"
+    every = sum(len(jobs) for jobs in run.jobs.values())
+    return text + f"summary jobs {every} done {every} end {run.time}\n"
+
+
+def most_events(line, window):
+    """The most events of a task's line in a window that is as long as its bound."""
+    period, jitter, distance = (int(line[place]) for place in (4, 6, 8))
+    most = -(-(window + jitter) // period)
+    return min(most, -(-window // distance)) if distance else most
+
+
+def tell_buffers(system, run, report):
+    lines = {line[1]: line for line in (row.split() for row in report.splitlines()) if line[0] == "task"}
+    bounds = {name: "overload" if "overload" in line else most_events(line, int(line[-1])) for name, line in lines.items()}
+    text = ""
+    for name, bound in bounds.items():
+        text += f"buffer {name} bound {bound} peak {run.peaks[name]}\n"
+        assert bound == "overload" or run.peaks[name] <= bound
+    for it in system["resource"]:
+        several = [bounds[task] for task in run.on[it["name"]]]
+        text += f"resource {it['name']} bound {'overload' if 'overload' in several else sum(several)} peak {run.peaks_on[it['name']]}\n"
+    return text + f"summary tasks {len(bounds)} overload {list(bounds.values()).count('overload')}\n"
+
+
+def changed(draw, segments, tasks):
+    """A schedule that may differ in one place."""
+    rows = [list(it) for it in segments]
+    place = draw.randrange(len(rows) + 1)
+    kind = draw.randrange(6)
+    if kind == 0 and place < len(rows):
+        rows.pop(place)
+    elif kind == 1:
+        start = draw.randint(0, 200)
+        rows.insert(place, [draw.choice(tasks), start, start + draw.randint(1, 5)])
+    elif kind == 2 and place < len(rows):
+        rows[place][2] += draw.randint(1, 3)
+    elif kind == 3 and place < len(rows):
+        rows[place][0] = draw.choice(tasks)
+    elif kind == 4 and place + 1 < len(rows):
+        rows[place], rows[place + 1] = rows[place + 1], rows[place]
+    elif kind == 5 and place + 1 < len(rows):
+        rows[place][2] = rows.pop(place + 1)[2]
+        rows[place][2] = max(rows[place][2], rows[place][1] + 1)
+    return rows
+
+
+def tell_audit(rows, segments):
+    for place in range(max(len(rows), len(segments))):
+        if place >= len(segments):
+            return f"audit wrong segment {place + 1} expected none\n", 4
+        if place >= len(rows) or rows[place] != segments[place]:
+            task, start, end = segments[place]
+            return f"audit wrong segment {place + 1} expected {task} {start} {end}\n", 4
+    return f"audit same segments {len(segments)}\n", 0
+
+
+def write(path, text):
+    with open(path, "w", encoding="ascii") as file:
+        file.write(text)
+
+
+def main():
+    count = int(sys.argv[1]) if len(sys.argv) > 1 else 300
+    draw = random.Random(int(sys.argv[2]) if len(sys.argv) > 2 else 1)
+    audits = 0
+    with tempfile.TemporaryDirectory() as room:
+        file, rows, recorded = (os.path.join(room, name) for name in ("system.toml", "trace.csv", "schedule.csv"))
+
+        def compare(told, *words):
+            done = subprocess.run([PROGRAM, *words], capture_output=True, text=True, check=False)
+            if (done.stdout, done.returncode) != told:
+                with open(file, encoding="ascii") as system, open(rows, encoding="ascii") as trace:
+                    sys.exit(f"{words[0]} differs:\n{system.read()}\n{trace.read()}\nby the rules:\n{told}\nby the program:\n{done.stdout}{done.returncode}")
+
+        for _ in range(count):
+            system = made(draw)
+            trace = traced(draw, system)
+            write(file, file_of(system))
+            write(rows, rows_of(trace))
+            run = Run(system, trace)
+            segments = [list(it) for it in run.segments]
+            report = subprocess.run([PROGRAM, "analyse", file], capture_output=True, text=True, check=False).stdout
+            compare((tell(system, run), 0), "simulate", file, rows)
+            compare((tell_buffers(system, run, report), 0), "buffers", file, rows, "--workers", str(draw.randint(1, 4)))
+            names = [it["name"] for it in system["task"]]
+            for schedule in (segments, changed(draw, segments, names), changed(draw, segments, names)):
+                write(recorded, "".join(f"{task},{start},{end}\n" for task, start, end in schedule))
+                compare(tell_audit(schedule, segments), "audit", file, rows, recorded)
+                audits += 1
+    print(f"{count} runs and buffers and {audits} audits alike")
+
+
+if __name__ == "__main__":
+    main()
