@@ -2,82 +2,83 @@
 use Rattle.std.proofs.Common.{◌≡◌, ◌≢◌, ℕ, zero, suc, ◌+◌, ◌-◌, ◌<◌, ◌≤◌, ◌++◌, length, List, ◌∷◌, true, false, cond, eqb, ltb, ◌&&◌, Option, Some, None, option_map, refl, sym, ◌∙◌, ap, subst, inl, inr, arith}
 use Rattle.std.proofs.lemmas.Bool.{cases_lt, cases_Bool, lt-ltb, le-ltb, eq-eqb, eqb-true}
 use Rattle.std.proofs.lemmas.List.{append-nil, append_assoc}
-use Rattle.std.proofs.lemmas.List.{length-append}
 use Rattle.std.specs.Prelude.{count_by, ◌==◌}
 use Rattle.cpa_model.specs.declared.entries.Activator.{Activator}
 use Rattle.cpa_model.specs.declared.entries.Activator.TheVariants.{Source, Task}
 use Rattle.cpa_model.specs.SystemLists.{SystemLists, task_at, place_of}
-use Rattle.cpa_trace.specs.Trace.{TraceLists, times_of, need}
+use Rattle.cpa_trace.specs.Trace.{TraceLists, times_of}
 use Rattle.cpa_sched.specs.Steps.{kind_of}
 use Rattle.cpa_sched.specs.States.{IsOn}
 use Rattle.cpa_sim.specs.declared.desks.Desk.{Desk}
-use Rattle.cpa_sim.specs.declared.jobs.Progress.{Progress}
-use Rattle.cpa_sim.specs.Run.{new_jobs, arriving, is_chosen}
-use Rattle.cpa_sim.specs.Lines.{LineLists}
-use Rattle.cpa_sim.specs.Simulation.{line_at, desk_at, runner, ends_at, ends_of, with_arrivals, IsKept}
-use Rattle.cpa_sim.specs.Arrivals.{number_of, number_at, IsNext, AreGiven, by_desk}
-use Rattle.cpa_sim.proofs.LineLaws.{length-new}
+use Rattle.cpa_sim.specs.declared.jobs.Job.{Job}
+use Rattle.cpa_sim.specs.Run.{arriving, is_chosen}
+use Rattle.cpa_sim.specs.Lines.{LineLists, new_seen, with_arrivals}
+use Rattle.cpa_sim.specs.Simulation.{line_at, desk_at, runner, ends_at, ends_of, IsKept}
+use Rattle.cpa_sim.specs.Arrivals.{number_of, number_at, IsNext, AreGiven, by_events, by_desk, by_ends}
 use Rattle.cpa_sim.proofs.DeskLaws.{kept-same, kept-then, ends-kept}
 use Rattle.cpa_sim.proofs.GlideLaws.{chosen-is}
-use Rattle.cpa_sim.proofs.KeptLaws.{CanRun}
+use Rattle.cpa_sim.proofs.FollowerLaws.{AreLinked}
 
 zero-plus : (m : ℕ) → 0 + m ≡ m
 zero-plus m = omega arith
 
 -- ---- jobs that arrive in two parts
 
-new-add : (needs : ℕ → ℕ) (k now a b : ℕ) → new_jobs needs k now (a + b) ≡ new_jobs needs k now a ++ new_jobs needs (k + a) now b
-new-add needs k now zero b =
-    let e : k ≡ k + 0 = omega arith in
-    let z : 0 + b ≡ b = omega arith in
-    ap (new_jobs needs k now) z ∙ ap (λ m. new_jobs needs m now b) e
-new-add needs k now (suc a) b =
+new-seen-add : (now a b : ℕ) → new_seen now (a + b) ≡ new_seen now a ++ new_seen now b
+new-seen-add now zero b = ap (new_seen now) (zero-plus b)
+new-seen-add now (suc a) b =
     let e : suc a + b ≡ suc (a + b) = omega arith in
-    let f : k + 1 + a ≡ k + suc a = omega arith in
-    let job : Progress = record { arrival = now; left = needs k; end = None } in
-    ap (new_jobs needs k now) e ∙ (ap (λ js. job ∷ js) (new-add needs (k + 1) now a b) ∙ ap (λ m. job ∷ (new_jobs needs (k + 1) now a ++ new_jobs needs m now b)) f)
+    let job : Job = record { arrival = now; end = None } in
+    ap (new_seen now) e ∙ ap (λ js. job ∷ js) (new-seen-add now a b)
 
-pub arrivals-none : (needs : ℕ → ℕ) (now : ℕ) (line : LineLists) → with_arrivals needs now 0 line ≡ line
-arrivals-none needs now line = ap (λ js. let made : LineLists = record { jobs = js; done = line.done } in made) (append-nil line.jobs)
+seen-none : (now : ℕ) (kept : Option (List Job)) → option_map (λ js. js ++ new_seen now 0) kept ≡ kept
+seen-none now None = refl
+seen-none now (Some js) = ap Some (append-nil js)
 
-arrivals-add : (needs : ℕ → ℕ) (now a b : ℕ) (line : LineLists) → with_arrivals needs now b (with_arrivals needs now a line) ≡ with_arrivals needs now (a + b) line
-arrivals-add needs now a b line =
-    let js = line.jobs in
-    let new = new_jobs needs (length js) now a in
-    let long : length (js ++ new) ≡ length js + a = length-append js new ∙ ap (λ m. length js + m) (length-new needs (length js) now a) in
-    ap (λ ks. let made : LineLists = record { jobs = ks; done = line.done } in made)
-    (ap (λ m. (js ++ new) ++ new_jobs needs m now b) long
-    ∙ (append_assoc js new (new_jobs needs (length js + a) now b)
-    ∙ ap (λ ks. js ++ ks) (sym (new-add needs (length js) now a b))))
+seen-add : (now a b : ℕ) (kept : Option (List Job)) → option_map (λ js. js ++ new_seen now b) (option_map (λ js. js ++ new_seen now a) kept) ≡ option_map (λ js. js ++ new_seen now (a + b)) kept
+seen-add now a b None = refl
+seen-add now a b (Some js) = ap Some (append_assoc js (new_seen now a) (new_seen now b) ∙ ap (λ ks. js ++ ks) (sym (new-seen-add now a b)))
 
-module _ (s : SystemLists) (tr : TraceLists) (now : ℕ) where
-  pub given-none : (lines : List LineLists) (desks : List Desk) → length lines ≡ length s.tasks → length desks ≡ length s.resources → AreGiven s tr now (λ i. 0) lines desks lines desks
+pub arrivals-none : (now : ℕ) (line : LineLists) → with_arrivals now 0 line ≡ line
+arrivals-none now line =
+    let e : line.count + 0 ≡ line.count = omega arith in
+    ap (λ n. let made : LineLists = record { count = n; done = line.done; left = line.left; kept = option_map (λ js. js ++ new_seen now 0) line.kept } in made) e
+    ∙ ap (λ k. let made : LineLists = record { count = line.count; done = line.done; left = line.left; kept = k } in made) (seen-none now line.kept)
+
+arrivals-add : (now a b : ℕ) (line : LineLists) → with_arrivals now b (with_arrivals now a line) ≡ with_arrivals now (a + b) line
+arrivals-add now a b line =
+    let e : line.count + a + b ≡ line.count + (a + b) = omega arith in
+    ap (λ n. let made : LineLists = record { count = n; done = line.done; left = line.left; kept = option_map (λ js. js ++ new_seen now b) (option_map (λ js. js ++ new_seen now a) line.kept) } in made) e
+    ∙ ap (λ k. let made : LineLists = record { count = line.count + (a + b); done = line.done; left = line.left; kept = k } in made) (seen-add now a b line.kept)
+
+module _ (s : SystemLists) (now : ℕ) where
+  pub given-none : (lines : List LineLists) (desks : List Desk) → length lines ≡ length s.tasks → length desks ≡ length s.resources → AreGiven s now (λ i. 0) lines desks lines desks
   given-none lines desks count_lines count_desks =
       record {
         count_lines = count_lines;
         count_desks = count_desks;
-        arrived = λ i less. sym (arrivals-none (need s tr i) now (line_at lines i));
+        arrived = λ i less. sym (arrivals-none now (line_at lines i));
         kept = λ r less. kept-same (kind_of s r) (desk_at desks r) (desk_at desks r) refl;
         asked = λ i less more. refl;
       }
 
-  pub given-same : (c d : ℕ → ℕ) (l1 : List LineLists) (d1 : List Desk) (l2 : List LineLists) (d2 : List Desk) → AreGiven s tr now c l1 d1 l2 d2 → ((i : ℕ) → i < length s.tasks → c i ≡ d i) → AreGiven s tr now d l1 d1 l2 d2
+  pub given-same : (c d : ℕ → ℕ) (l1 : List LineLists) (d1 : List Desk) (l2 : List LineLists) (d2 : List Desk) → AreGiven s now c l1 d1 l2 d2 → ((i : ℕ) → i < length s.tasks → c i ≡ d i) → AreGiven s now d l1 d1 l2 d2
   given-same c d l1 d1 l2 d2 h same =
       record {
         count_lines = h.count_lines;
         count_desks = h.count_desks;
-        arrived = λ i less. h.arrived i less ∙ ap (λ m. with_arrivals (need s tr i) now m (line_at l1 i)) (same i less);
+        arrived = λ i less. h.arrived i less ∙ ap (λ m. with_arrivals now m (line_at l1 i)) (same i less);
         kept = h.kept;
         asked = λ i less more. sym (same i less) ∙ h.asked i less more;
       }
 
   module _ (placed : (i : ℕ) → i < length s.tasks → (task_at s i).res.0 < length s.resources) where
-    pub given-then : (c d : ℕ → ℕ) (l1 : List LineLists) (d1 : List Desk) (l2 : List LineLists) (d2 : List Desk) (l3 : List LineLists) (d3 : List Desk) → AreGiven s tr now c l1 d1 l2 d2 → AreGiven s tr now d l2 d2 l3 d3 → AreGiven s tr now (λ i. c i + d i) l1 d1 l3 d3
+    pub given-then : (c d : ℕ → ℕ) (l1 : List LineLists) (d1 : List Desk) (l2 : List LineLists) (d2 : List Desk) (l3 : List LineLists) (d3 : List Desk) → AreGiven s now c l1 d1 l2 d2 → AreGiven s now d l2 d2 l3 d3 → AreGiven s now (λ i. c i + d i) l1 d1 l3 d3
     given-then c d l1 d1 l2 d2 l3 d3 first then =
         record {
           count_lines = then.count_lines;
           count_desks = then.count_desks;
-          arrived = λ i less. then.arrived i less ∙ (ap (with_arrivals (need s tr i) now (d i)) (first.arrived i less) ∙ arrivals-add (need s tr i) now (c i) (d i) (line_at l1 i));
+          arrived = λ i less. then.arrived i less ∙ (ap (with_arrivals now (d i)) (first.arrived i less) ∙ arrivals-add now (c i) (d i) (line_at l1 i));
           kept = λ r less. kept-then (kind_of s r) (desk_at d1 r) (desk_at d2 r) (desk_at d3 r) (first.kept r less) (then.kept r less);
           asked = λ i less more.
               let r = (task_at s i).res.0 in
@@ -88,14 +89,14 @@ module _ (s : SystemLists) (tr : TraceLists) (now : ℕ) where
 
 -- ---- the tasks that follow one activator
 
-module _ (s : SystemLists) (tr : TraceLists) (now number count : ℕ) (l0 : List LineLists) (d0 : List Desk) where
+module _ (s : SystemLists) (now number count : ℕ) (l0 : List LineLists) (d0 : List Desk) where
   -- those before the next one have got their jobs
   pub record IsHalfway (next : Option ℕ) (lines : List LineLists) (desks : List Desk) : Type 0 where
     pub count_lines : length lines ≡ length s.tasks
     pub count_desks : length desks ≡ length s.resources
     pub there : (j : ℕ) → next ≡ Some j → j < length s.tasks
     pub follows : (j : ℕ) → next ≡ Some j → number_at s j ≡ number
-    pub arrived : (i : ℕ) → i < length s.tasks → number_at s i ≡ number → ((j : ℕ) → next ≡ Some j → i < j) → line_at lines i ≡ with_arrivals (need s tr i) now count (line_at l0 i)
+    pub arrived : (i : ℕ) → i < length s.tasks → number_at s i ≡ number → ((j : ℕ) → next ≡ Some j → i < j) → line_at lines i ≡ with_arrivals now count (line_at l0 i)
     pub later : (i j : ℕ) → next ≡ Some j → j ≤ i → line_at lines i ≡ line_at l0 i
     pub others : (i : ℕ) → number_at s i ≢ number → line_at lines i ≡ line_at l0 i
     pub kept : (r : ℕ) → r < length s.resources → IsKept (kind_of s r) (desk_at d0 r) (desk_at desks r)
@@ -120,7 +121,7 @@ module _ (s : SystemLists) (tr : TraceLists) (now number count : ℕ) (l0 : List
 
   pub halfway-more : (placed : (i : ℕ) → i < length s.tasks → (task_at s i).res.0 < length s.resources) (t : ℕ) (next : Option ℕ) (l1 : List LineLists) (d1 : List Desk) (l2 : List LineLists) (d2 : List Desk)
       → IsHalfway (Some t) l1 d1 → IsNext s number (t + 1) next → length l2 ≡ length s.tasks → length d2 ≡ length s.resources
-      → line_at l2 t ≡ with_arrivals (need s tr t) now count (line_at l1 t) → ((i : ℕ) → i ≢ t → line_at l2 i ≡ line_at l1 i)
+      → line_at l2 t ≡ with_arrivals now count (line_at l1 t) → ((i : ℕ) → i ≢ t → line_at l2 i ≡ line_at l1 i)
       → ((r : ℕ) → r < length s.resources → IsKept (kind_of s r) (desk_at d1 r) (desk_at d2 r))
       → ((desk_at d2 (task_at s t).res.0).gone < (desk_at d2 (task_at s t).res.0).ticks → count ≡ 0) → IsHalfway next l2 d2
   halfway-more placed t next l1 d1 l2 d2 h after count_lines count_desks here elsewhere keeps asks =
@@ -137,7 +138,7 @@ module _ (s : SystemLists) (tr : TraceLists) (now number count : ℕ) (l0 : List
                 | inl more ↦ absurd (after.none i (omega arith) less before e)
                 | inr same ↦
                     let f : t ≡ i = omega arith in
-                    subst (λ k. line_at l2 k ≡ with_arrivals (need s tr k) now count (line_at l0 k)) f (here ∙ ap (with_arrivals (need s tr t) now count) (h.later t t refl (omega arith)))
+                    subst (λ k. line_at l2 k ≡ with_arrivals now count (line_at l0 k)) f (here ∙ ap (with_arrivals now count) (h.later t t refl (omega arith)))
               ]
             ];
         later = λ i j e more.
@@ -159,7 +160,7 @@ module _ (s : SystemLists) (tr : TraceLists) (now number count : ℕ) (l0 : List
             ];
       }
 
-  pub halfway-end : (l1 : List LineLists) (d1 : List Desk) → IsHalfway None l1 d1 → AreGiven s tr now (λ i. cond (eqb (number_at s i) number) count 0) l0 d0 l1 d1
+  pub halfway-end : (l1 : List LineLists) (d1 : List Desk) → IsHalfway None l1 d1 → AreGiven s now (λ i. cond (eqb (number_at s i) number) count 0) l0 d0 l1 d1
   halfway-end l1 d1 h =
       record {
         count_lines = h.count_lines;
@@ -167,7 +168,7 @@ module _ (s : SystemLists) (tr : TraceLists) (now number count : ℕ) (l0 : List
         arrived = λ i less.
             elim (cases_Bool (eqb (number_at s i) number)) [
               | inl same ↦ rw same (h.arrived i less (eqb-true (number_at s i) number same) (λ j e. cc))
-              | inr differs ↦ rw differs (h.others i (λ e. absurd (apart i differs e)) ∙ sym (arrivals-none (need s tr i) now (line_at l0 i)))
+              | inr differs ↦ rw differs (h.others i (λ e. absurd (apart i differs e)) ∙ sym (arrivals-none now (line_at l0 i)))
             ];
         kept = h.kept;
         asked = λ i less more.
@@ -218,6 +219,20 @@ module _ (s : SystemLists) (tr : TraceLists) (now : ℕ) where
             | inr apart ↦ apart
           ]
 
+  -- they are no more than those of all sources
+  pub events-le : (k i : ℕ) → k ≤ length s.sources → events_below k i ≤ by_events s tr now i
+  events-le k i within =
+      let n = number_at s i in
+      let S = length s.sources in
+      elim (cases_lt n k) [
+        | inl below ↦
+            let a : ltb n k ≡ true = lt-ltb n k below in
+            let b : ltb n S ≡ true = lt-ltb n S (omega arith) in
+            rw (a, b) (omega arith)
+        | inr above ↦ let a : ltb n k ≡ false = le-ltb n k above in rw a (omega arith)
+      ]
+
+module _ (s : SystemLists) where
   -- of the jobs that ran on the first so many resources
   abbrev pub ends_below : List Desk → ℕ → ℕ → ℕ
   ends_below desks r i =
@@ -262,7 +277,7 @@ module _ (s : SystemLists) (tr : TraceLists) (now : ℕ) where
             | inr rests ↦ rw rests refl
           ]
 
-  pub ends-all : (can : CanRun s tr) (desks : List Desk) (i : ℕ) → i < length s.tasks → (a : Activator) → (task_at s i).after ≡ a
+  pub ends-all : (can : AreLinked s) (desks : List Desk) (i : ℕ) → i < length s.tasks → (a : Activator) → (task_at s i).after ≡ a
       → cond (ltb (number_of s a) (length s.sources)) 0 (cond (ltb (task_at s (number_of s a - length s.sources)).res.0 (length s.resources)) (ends_of s desks (number_of s a - length s.sources)) 0) ≡ cond (ltb (number_of s a) (length s.sources)) 0 (ends_of s desks (number_of s a - length s.sources))
   ends-all can desks i there (Source k) e = let a : ltb k.0 (length s.sources) ≡ true = lt-ltb k.0 (length s.sources) (can.sourced i k.0 there e) in rw a refl
   ends-all can desks i there (Task j) e =
@@ -271,8 +286,32 @@ module _ (s : SystemLists) (tr : TraceLists) (now : ℕ) where
       ap (λ m. ltb (task_at s m).res.0 (length s.resources)) same ∙ lt-ltb (task_at s j.0).res.0 (length s.resources) (can.placed j.0 (can.fed i j.0 there e)) in
       rw placed refl
 
+  pub ends-none : (desks : List Desk) (i : ℕ) → 0 ≡ ends_below desks 0 i
+  ends-none desks i =
+      let n = number_at s i in
+      elim (cases_Bool (ltb n (length s.sources))) [
+        | inl source ↦ rw source refl
+        | inr task ↦
+            let q = (task_at s (n - length s.sources)).res.0 in
+            let above : ltb q 0 ≡ false = le-ltb q 0 (omega arith) in
+            rw (task, above) refl
+      ]
+
+  -- they are no more than those of all resources
+  pub ends-le : (desks : List Desk) (r i : ℕ) → ends_below desks r i ≤ by_ends s desks i
+  ends-le desks r i =
+      let n = number_at s i in
+      elim (cases_Bool (ltb n (length s.sources))) [
+        | inl source ↦ rw source (omega arith)
+        | inr task ↦ elim (cases_Bool (ltb (task_at s (n - length s.sources)).res.0 r)) [
+          | inl below ↦ rw (task, below) (omega arith)
+          | inr above ↦ rw (task, above) (omega arith)
+        ]
+      ]
+
+module _ (s : SystemLists) (tr : TraceLists) (now : ℕ) where
   -- what arrives in all
-  pub arrives : (can : CanRun s tr) (olds news : List Desk) → ((r : ℕ) → r < length s.resources → IsKept (kind_of s r) (desk_at olds r) (desk_at news r))
+  pub arrives : (can : AreLinked s) (olds news : List Desk) → ((r : ℕ) → r < length s.resources → IsKept (kind_of s r) (desk_at olds r) (desk_at news r))
       → (i : ℕ) → i < length s.tasks → (a : Activator) → (task_at s i).after ≡ a
       → cond (ltb (number_of s a) (length s.sources)) (count_by (λ time. time == now) (times_of tr (number_of s a))) 0 + cond (ltb (number_of s a) (length s.sources)) 0 (ends_of s news (number_of s a - length s.sources)) ≡ arriving tr now (ends_of s olds) a
   arrives can olds news keeps i there (Source k) e = let a : ltb k.0 (length s.sources) ≡ true = lt-ltb k.0 (length s.sources) (can.sourced i k.0 there e) in rw a (omega arith)

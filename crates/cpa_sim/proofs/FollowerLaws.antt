@@ -1,10 +1,30 @@
 -- The lists of the tasks that follow each activator, from the last task to the first.
 use Rattle.std.proofs.Common.{◌≡◌, ◌≢◌, ℕ, ◌+◌, ◌<◌, ◌≤◌, length, List, Option, Some, None, option_map, replicate, refl, sym, ◌∙◌, ap, subst, inl, inr, arith, get_or, set}
 use Rattle.std.proofs.lemmas.Bool.{cases_lt}
+use Rattle.std.proofs.lemmas.List.Elements.{All-get_or}
 use Rattle.std.proofs.lemmas.List.{get_or-set_same, get_or-set_other, get_or-replicate, length-replicate, length-set}
 use Rattle.cpa_units.specs.declared.places.TaskId.{TaskId}
-use Rattle.cpa_model.specs.SystemLists.{SystemLists, place_of}
+use Rattle.cpa_model.specs.declared.entries.Activator.TheVariants.{Source, Task}
+use Rattle.cpa_model.specs.Rules.{IsSystem, IsTask, IsActivator}
+use Rattle.cpa_model.specs.SystemLists.{SystemLists, place_of, task_at, no_task}
 use Rattle.cpa_sim.specs.Arrivals.{number_at, IsNext, entry_at, AreFollowers}
+
+-- where the resource and the activator of each task stand
+pub record AreLinked (s : SystemLists) : Type 0 where
+  pub placed : (i : ℕ) → i < length s.tasks → (task_at s i).res.0 < length s.resources
+  pub fed : (i j : ℕ) → i < length s.tasks → (task_at s i).after ≡ Task (record { 0 = j }) → j < length s.tasks
+  pub sourced : (i k : ℕ) → i < length s.tasks → (task_at s i).after ≡ Source (record { 0 = k }) → k < length s.sources
+
+pub is-task : (s : SystemLists) → IsSystem s → (i : ℕ) → i < length s.tasks → IsTask s (task_at s i)
+is-task s rules i there = All-get_or (IsTask s) s.tasks i no_task there rules.tasks
+
+pub linked : (s : SystemLists) → IsSystem s → AreLinked s
+linked s rules =
+    record {
+      placed = λ i there. (is-task s rules i there).placed;
+      fed = λ i j there e. subst (IsActivator s) e (is-task s rules i there).activated;
+      sourced = λ i k there e. subst (IsActivator s) e (is-task s rules i there).activated;
+    }
 
 some-same : (x y : ℕ) → Some x ≡ Some y → x ≡ y
 some-same x y e = cc

@@ -1,5 +1,5 @@
 -- A run has at most as many jobs as the events of its trace start.
-use Rattle.std.proofs.Common.{◌≡◌, ℕ, zero, suc, ◌+◌, ◌-◌, ◌<◌, ◌≤◌, ◌++◌, length, List, [], ◌∷◌, map, cond, not, eqb, ltb, true, Option, Some, None, option_map, is_some, refl, sym, ◌∙◌, ap, subst, inl, inr, arith, get_or, length-append}
+use Rattle.std.proofs.Common.{◌≡◌, ℕ, zero, suc, ◌+◌, ◌-◌, ◌<◌, ◌≤◌, length, List, [], ◌∷◌, map, cond, not, eqb, ltb, true, Option, Some, None, option_map, is_some, refl, sym, ◌∙◌, ap, subst, inl, inr, arith, get_or, length-append}
 use Rattle.std.specs.Prelude.{sum, sum_by, count_by}
 use Rattle.std.specs.List.{AllByRecursion, range_with_len}
 use Rattle.std.proofs.lemmas.Bool.{cases_lt, cases_Bool, cases_order, lt-ltb, le-ltb, eq-eqb, ne_eqb, cond-true, cond-false, false≢true}
@@ -7,7 +7,7 @@ use Rattle.std.proofs.lemmas.List.{get_or-map, length-map}
 use Rattle.std.proofs.lemmas.List.Elements.{All-get_or}
 use Rattle.std.proofs.lemmas.List.FromFn.{get_or-map-range_with_len, length-map-range_with_len}
 use Rattle.std.proofs.lemmas.List.Sums.{sum_by-cons, sum_by-append, sum-map}
-use Rattle.cpa_units.specs.declared.limits.TheConstants.{MAX_CHAIN}
+use Rattle.cpa_units.specs.declared.limits.TheConstants.{MAX_CHAIN, MAX_TRACE_JOBS}
 use Rattle.cpa_units.specs.declared.places.SourceId.{SourceId}
 use Rattle.cpa_units.proofs.PlaceLaws.{places, places-more, map-all_places}
 use Rattle.cpa_model.specs.declared.entries.Activator.{Activator}
@@ -23,25 +23,10 @@ use Rattle.cpa_sim.specs.declared.jobs.Progress.{Progress}
 use Rattle.cpa_sim.specs.Run.{is_open, ended_count, after_tick, serve, new_jobs, arriving, is_chosen, choice_at, served, ends_in, run}
 use Rattle.cpa_sim.specs.Outcome.{CanReplay, IsOutcome, jobs_seen, job_of, end_of, outcome_of}
 use Rattle.cpa_sched.proofs.StepLaws.{all_range}
-use Rattle.cpa_sim.proofs.LineLaws.{serve-here, serve-there, ended-open, ended-closed, length-new}
+use Rattle.cpa_sim.proofs.LineLaws.{serve-here, serve-there, ended-open, ended-closed, ended-append, ended-new, ended-le, length-new}
 use Rattle.cpa_sim.proofs.RunLaws.{jobs-zero, jobs-suc, served-is, ends-is}
 
 -- ---- one task's jobs
-
-pub ended-append : (js ks : List Progress) → ended_count (js ++ ks) ≡ ended_count js + ended_count ks
-ended-append js ks = sum_by-append (λ (job : Progress). cond (not (is_open job)) 1 0) js ks
-
-pub ended-new : (needs : ℕ → ℕ) (k now n : ℕ) → ended_count (new_jobs needs k now n) ≡ 0
-ended-new needs k now zero = refl
-ended-new needs k now (suc n) = omega (arith, ended-open (record { arrival = now; left = needs k; end = None }) (new_jobs needs (k + 1) now n) refl, ended-new needs (k + 1) now n)
-
-pub ended-le : (js : List Progress) → ended_count js ≤ length js
-ended-le [] = omega arith
-ended-le (job ∷ js) =
-    elim (cases_Bool (is_open job)) [
-      | inl here ↦ omega (arith, ended-open job js here, ended-le js)
-      | inr closed ↦ omega (arith, ended-closed job js closed, ended-le js)
-    ]
 
 pub length-serve : (now : ℕ) (js : List Progress) → length (serve now js) ≡ length js
 length-serve now [] = refl
@@ -208,6 +193,19 @@ module _ (s : SystemLists) (tr : TraceLists) where
         let more : sum_by g (places ((k + m) + 1)) ≡ sum_by g (places (k + m)) + sum_by g ((k + m) ∷ []) = ap (sum_by g) (places-more (k + m)) ∙ sum_by-append g (places (k + m)) ((k + m) ∷ []) in
         let less : sum_by g (places k) ≤ sum_by g (places ((k + m) + 1)) = omega (arith, more, sum-grows g k m) in
         subst (λ n. sum_by g (places k) ≤ sum_by g (places n)) (sym e) less
+
+    -- so a task has no more jobs than a trace may have
+    task-le : (i : ℕ) → i < length s.tasks → task_jobs s tr i ≤ jobs_of s tr
+    task-le i there =
+        let g : ℕ → ℕ = task_jobs s tr in
+        let last : sum_by g (places (i + 1)) ≡ sum_by g (places i) + sum_by g (i ∷ []) = ap (sum_by g) (places-more i) ∙ sum_by-append g (places i) (i ∷ []) in
+        let one : sum_by g (i ∷ []) ≡ g i + 0 = sum_by-cons g i [] in
+        let e : (i + 1) + (length s.tasks - (i + 1)) ≡ length s.tasks = omega arith in
+        let all = rw e at (sum-grows g (i + 1) (length s.tasks - (i + 1))) in
+        omega (arith, last, one, all)
+
+    pub jobs-few : CanReplay s tr → (t i : ℕ) → i < length s.tasks → length ((run s tr t).jobs i) ≤ MAX_TRACE_JOBS
+    jobs-few can t i there = omega (arith, jobs-le i t there, task-le i there, can.few)
 
     -- nor have the first tasks together
     pub few_jobs : (k : ℕ) → k ≤ length s.tasks → sum_by (λ i. length (jobs_seen (outcome_of s tr) i)) (range_with_len 0 k) ≤ jobs_of s tr

@@ -7,15 +7,16 @@ use Rattle.cpa_units.specs.Search.{least_from}
 use Rattle.cpa_units.proofs.SearchLaws.{least_from-le, least_from-passes}
 use Rattle.cpa_model.specs.SystemLists.{SystemLists}
 use Rattle.cpa_trace.specs.Trace.{TraceLists}
-use Rattle.cpa_sim.specs.Run.{run, waits}
-use Rattle.cpa_sim.specs.Lines.{LineLists}
+use Rattle.cpa_sim.specs.Run.{run}
+use Rattle.cpa_sim.specs.Lines.{has_pending}
 use Rattle.cpa_sim.specs.Outcome.{someone_waits, is_over, end_of}
 use Rattle.cpa_sim.specs.Replays.{ReplayLists, IsReplay}
+use Rattle.cpa_sim.proofs.StartLaws.{can-run}
 use Rattle.cpa_sim.proofs.EndLaws.{goes-on-events, goes-on-waits, over-at, below-horizon, end-is, someone-is, before-more}
 
 -- the test by which the simulator goes on
 abbrev pub on_of : ReplayLists → Bool
-on_of p = nat_lt p.time HORIZON && (nat_lt p.time p.quiet || list_any (λ (l : LineLists). waits l.jobs) p.lines)
+on_of p = nat_lt p.time HORIZON && (nat_lt p.time p.quiet || list_any has_pending p.lines)
 
 second : (a b c : Bool) → (a && (b || c)) ≡ true → b ≡ false → c ≡ true
 second true true c e none = absurd (false≢true (sym none))
@@ -28,8 +29,8 @@ unfolding end_of
 end-within s tr = omega (arith, least_from-le (is_over s tr) 0 HORIZON)
 
 module _ (s : SystemLists) (tr : TraceLists) (p : ReplayLists) (is : IsReplay s tr p) where
-  someone : someone_waits s (run s tr p.time) ≡ list_any (λ (l : LineLists). waits l.jobs) p.lines
-  someone = someone-is s tr p.time p.lines p.desks p.feeds is.at
+  someone : someone_waits s (run s tr p.time) ≡ list_any has_pending p.lines
+  someone = someone-is s tr (can-run s tr is.rules is.can) p.time p.keeps p.lines p.desks p.feeds is.at
 
   not-yet : on_of p ≡ true → is_over s tr p.time ≡ false
   not-yet on =

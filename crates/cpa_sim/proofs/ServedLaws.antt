@@ -3,7 +3,7 @@ use Rattle.std.proofs.Common.{◌≡◌, ℕ, zero, suc, ◌+◌, ◌-◌, ◌<�
 use Rattle.std.proofs.lemmas.Bool.{cases_Bool, eqb-true, eq-eqb, cond-true}
 use Rattle.std.proofs.lemmas.Option.{none-some}
 use Rattle.cpa_model.specs.SystemLists.{SystemLists, place_of, task_at}
-use Rattle.cpa_trace.specs.Trace.{TraceLists, times_of, phase_of}
+use Rattle.cpa_trace.specs.Trace.{TraceLists, times_of, phase_of, need}
 use Rattle.cpa_sched.specs.Steps.{Choice, kind_of}
 use Rattle.cpa_sched.specs.States.{IsOn}
 use Rattle.cpa_sim.specs.declared.desks.Desk.{Desk}
@@ -13,7 +13,7 @@ use Rattle.cpa_sim.specs.declared.jobs.Served.{Served}
 use Rattle.cpa_sim.specs.Run.{is_open, waits, is_chosen, choice_at, run}
 use Rattle.cpa_sim.specs.Arrivals.{AreGiven}
 use Rattle.cpa_sim.specs.Feeds.{IsAhead}
-use Rattle.cpa_sim.specs.Lines.{LineLists, AreInOrder, left_of, worked, served_line}
+use Rattle.cpa_sim.specs.Lines.{LineLists, AreInOrder, worked, served_line}
 use Rattle.cpa_sim.specs.Simulation.{line_at, desk_at, feed_at, runner, runs_at, waiting, state_now, Foresees, HasEnough, IsServed, IsAt}
 use Rattle.cpa_sim.specs.Served.{first_open, numbered, served_at, last_of, ran_by, RanWithin}
 use Rattle.cpa_sim.proofs.LineLaws.{ordered-more}
@@ -21,7 +21,7 @@ use Rattle.cpa_sim.proofs.GlideLaws.{Glides, chosen, jobs_at, left_at, picked, c
 use Rattle.cpa_sim.proofs.KeptLaws.{CanRun, kept}
 use Rattle.cpa_sim.proofs.ChoiceLaws.{step-picks}
 use Rattle.cpa_sim.proofs.RunLaws.{choice-is}
-use Rattle.cpa_sim.proofs.SimLaws.{glides, who-waits}
+use Rattle.cpa_sim.proofs.SimLaws.{done_at, done-is, glides, who-waits}
 
 pub first-open : (d : ℕ) (js : List Progress) → AreInOrder d js → first_open js ≡ d
 first-open zero [] a = refl
@@ -53,9 +53,9 @@ numbered-agree : (f g : ℕ → ℕ) (o : Option ℕ) → ((i : ℕ) → o ≡ S
 numbered-agree f g None agree = refl
 numbered-agree f g (Some i) agree = ap (λ n. let made : Served = record { task = record { 0 = i }; job = n } in Some made) (agree i refl)
 
-last-worked : (ticks now : ℕ) (line : LineLists) → (worked ticks now line).done - cond (nat_le (left_of line) ticks) 1 0 ≡ line.done
-last-worked ticks now line =
-    elim (cases_Bool (nat_le (left_of line) ticks)) [
+last-worked : (needs : ℕ → ℕ) (ticks now : ℕ) (line : LineLists) → (worked needs ticks now line).done - cond (nat_le line.left ticks) 1 0 ≡ line.done
+last-worked needs ticks now line =
+    elim (cases_Bool (nat_le line.left ticks)) [
       | inl e ↦ rw e (omega arith)
       | inr e ↦ rw e (omega arith)
     ]
@@ -86,26 +86,26 @@ module _ (s : SystemLists) (tr : TraceLists) (t n : ℕ) (w : ℕ → Bool) (d :
 
 -- ---- as the simulator has it
 
-module _ (s : SystemLists) (tr : TraceLists) (can : CanRun s tr) (t : ℕ) (lines : List LineLists) (desks : List Desk) (feeds : List Feed) (at : IsAt s tr t lines desks feeds) (n : ℕ) (some : 1 ≤ n) (ran : List Desk)
+module _ (s : SystemLists) (tr : TraceLists) (can : CanRun s tr) (t : ℕ) (keeping : Bool) (lines : List LineLists) (desks : List Desk) (feeds : List Feed) (at : IsAt s tr t keeping lines desks feeds) (n : ℕ) (some : 1 ≤ n) (ran : List Desk)
     (foreseen : (r : ℕ) → r < length s.resources → Foresees s r (state_now (kind_of s r) (desk_at desks r)) (waiting lines) t (phase_of tr r) (desk_at ran r))
     (fits : (r : ℕ) → r < length s.resources → (desk_at ran r).gone + n ≤ (desk_at ran r).ticks)
     (enough : (r : ℕ) → r < length s.resources → HasEnough lines (desk_at ran r))
     (ahead : (k : ℕ) → k < length s.sources → IsAhead (times_of tr k) (t + n) (feed_at feeds k).next)
     (sources : length tr.times ≡ length s.sources)
-    (served_lines : List LineLists) (served : (i : ℕ) → i < length s.tasks → line_at served_lines i ≡ served_line (runs_at (desk_at ran (task_at s i).res.0) i) n (t + n) (line_at lines i))
+    (served_lines : List LineLists) (served : (i : ℕ) → i < length s.tasks → line_at served_lines i ≡ served_line (need s tr i) (runs_at (desk_at ran (task_at s i).res.0) i) n (t + n) (line_at lines i))
     (served_desks : List Desk) (serves : (r : ℕ) → r < length s.resources → IsServed s r lines n (desk_at ran r) (desk_at served_desks r))
-    (count : ℕ → ℕ) (next_lines : List LineLists) (next_desks : List Desk) (given : AreGiven s tr (t + n) count served_lines served_desks next_lines next_desks) where
+    (count : ℕ → ℕ) (next_lines : List LineLists) (next_desks : List Desk) (given : AreGiven s (t + n) count served_lines served_desks next_lines next_desks) where
   -- the job that ran on a resource
-  last-is : (r i : ℕ) → r < length s.resources → runner (desk_at ran r) ≡ Some i → last_of (line_at next_lines i) (desk_at next_desks r).ends ≡ (line_at lines i).done
+  last-is : (r i : ℕ) → r < length s.resources → runner (desk_at ran r) ≡ Some i → last_of (line_at next_lines i) (desk_at next_desks r).ends ≡ done_at s tr t i
   last-is r i there e =
-      let w = who-waits s tr can t lines desks feeds at n some ran foreseen fits enough ahead sources r i there e in
+      let w = who-waits s tr can t keeping lines desks feeds at n some ran foreseen fits enough ahead sources r i there e in
       let passes : runs_at (desk_at ran (task_at s i).res.0) i ≡ true = passes-is (λ q. runner (desk_at ran q)) (task_at s i).res.0 r i w.on.here e in
-      let ends : (desk_at next_desks r).ends ≡ nat_le (left_of (line_at lines i)) n = (given.kept r there).ends ∙ (serves r there).ends i e in
-      let done : (line_at next_lines i).done ≡ (worked n (t + n) (line_at lines i)).done =
+      let ends : (desk_at next_desks r).ends ≡ nat_le (line_at lines i).left n = (given.kept r there).ends ∙ (serves r there).ends i e in
+      let done : (line_at next_lines i).done ≡ (worked (need s tr i) n (t + n) (line_at lines i)).done =
       ap (λ (l : LineLists). l.done) (given.arrived i w.on.task)
-      ∙ (ap (λ (l : LineLists). l.done) (served i w.on.task) ∙ ap (λ b. (served_line b n (t + n) (line_at lines i)).done) passes) in
+      ∙ (ap (λ (l : LineLists). l.done) (served i w.on.task) ∙ ap (λ b. (served_line (need s tr i) b n (t + n) (line_at lines i)).done) passes) in
       ap (λ b. (line_at next_lines i).done - cond b 1 0) ends
-      ∙ (ap (λ m. m - cond (nat_le (left_of (line_at lines i)) n) 1 0) done ∙ last-worked n (t + n) (line_at lines i))
+      ∙ (ap (λ m. m - cond (nat_le (line_at lines i).left n) 1 0) done ∙ (last-worked (need s tr i) n (t + n) (line_at lines i) ∙ done-is s tr can t keeping lines desks feeds at i w.on.task))
 
   runner-is : (r : ℕ) → r < length s.resources → runner (desk_at next_desks r) ≡ runner (desk_at ran r)
   runner-is r there = ap (option_map place_of) ((given.kept r there).running ∙ (serves r there).running)
@@ -114,15 +114,15 @@ module _ (s : SystemLists) (tr : TraceLists) (can : CanRun s tr) (t : ℕ) (line
   pub jump-ran : (r u : ℕ) → r < length s.resources → t ≤ u → u < t + n → served_at s tr u r ≡ ran_by next_lines next_desks r
   jump-ran r u there from before =
       let e : t + (u - t) ≡ u = omega arith in
-      let g = glides s tr can t lines desks feeds at n some ran foreseen fits enough ahead sources in
-      let h = served-in s tr t n (waiting lines) (λ i. (line_at lines i).done) (λ r. runner (desk_at ran r)) g r (u - t) there (omega arith) in
-      let h' : served_at s tr u r ≡ option_map (numbered (λ i. (line_at lines i).done)) (runner (desk_at ran r)) = rw e at h in
+      let g = glides s tr can t keeping lines desks feeds at n some ran foreseen fits enough ahead sources in
+      let h = served-in s tr t n (waiting lines) (done_at s tr t) (λ r. runner (desk_at ran r)) g r (u - t) there (omega arith) in
+      let h' : served_at s tr u r ≡ option_map (numbered (done_at s tr t)) (runner (desk_at ran r)) = rw e at h in
       h'
-      ∙ (sym (numbered-agree (λ i. last_of (line_at next_lines i) (desk_at next_desks r).ends) (λ i. (line_at lines i).done) (runner (desk_at ran r)) (λ i o. last-is r i there o))
+      ∙ (sym (numbered-agree (λ i. last_of (line_at next_lines i) (desk_at next_desks r).ends) (done_at s tr t) (runner (desk_at ran r)) (λ i o. last-is r i there o))
       ∙ ap (option_map (numbered (λ i. last_of (line_at next_lines i) (desk_at next_desks r).ends))) (sym (runner-is r there)))
 
   pub jump-within : RanWithin next_lines next_desks
   jump-within r i there e =
       let less : r < length s.resources = omega (arith, there, given.count_desks) in
-      let w = who-waits s tr can t lines desks feeds at n some ran foreseen fits enough ahead sources r i less (sym (runner-is r less) ∙ e) in
+      let w = who-waits s tr can t keeping lines desks feeds at n some ran foreseen fits enough ahead sources r i less (sym (runner-is r less) ∙ e) in
       omega (arith, given.count_lines, w.on.task)

@@ -1,5 +1,5 @@
 -- A run that is followed from one moment to the next.
-use Rattle.std.specs.Prelude.{ℕ, ◌≡◌, ◌<◌, ◌≤◌, ◌+◌, false, nat_lt, List, Option}
+use Rattle.std.specs.Prelude.{ℕ, ◌≡◌, ◌<◌, ◌≤◌, ◌+◌, Bool, false, nat_lt, List, Option}
 use Rattle.cpa_units.specs.declared.limits.TheConstants.{HORIZON, MAX_TRACE_TIME}
 use Rattle.cpa_units.specs.declared.places.TaskId.{TaskId}
 use Rattle.cpa_model.specs.SystemLists.{SystemLists}
@@ -13,10 +13,11 @@ use Rattle.cpa_sim.specs.Outcome.{CanReplay, events_from, is_over}
 use Rattle.cpa_sim.specs.Simulation.{IsAt, IsSoon}
 use Rattle.cpa_sim.specs.Served.{RanWithin}
 
--- what is known of a run as far as it was followed
+-- what is known of a run as far as it was followed, where its jobs are kept or not
 pub record ReplayLists : Type 0 where
   pub firsts : List (Option TaskId)
   pub nexts : List (Option TaskId)
+  pub keeps : Bool
   pub lines : List LineLists
   pub desks : List Desk
   pub feeds : List Feed
@@ -29,7 +30,7 @@ pub record IsReplay (s : SystemLists) (tr : TraceLists) (p : ReplayLists) : Type
   pub rules : IsSystem s
   pub can : CanReplay s tr
   pub followers : AreFollowers s 0 p.firsts p.nexts
-  pub at : IsAt s tr p.time p.lines p.desks p.feeds
+  pub at : IsAt s tr p.time p.keeps p.lines p.desks p.feeds
   pub coming : IsSoon s tr p.time p.soon p.feeds
   pub ran : RanWithin p.lines p.desks
   pub events : (u : ℕ) → events_from tr u ≡ nat_lt u p.quiet

@@ -3,8 +3,8 @@
 ghost use Rattle.std.specs.Prelude.{◌≡◌, ◌<◌, ◌≤◌, ℕ, length, map, nat_lt, IfOk, OnOk};
 ghost use Rattle.cpa_model.specs.SystemLists.{SystemLists};
 ghost use Rattle.cpa_trace.specs.Trace.{TraceLists};
-ghost use Rattle.cpa_sim.specs.Lines.{LineLists};
-ghost use Rattle.cpa_sim.specs.Outcome.{CanReplay, end_of, job_of};
+ghost use Rattle.cpa_sim.specs.Lines.{kept_of};
+ghost use Rattle.cpa_sim.specs.Outcome.{CanReplay, end_of};
 ghost use Rattle.cpa_sim.specs.Served.{served_at, ran_by, RanWithin};
 ghost use Rattle.cpa_sim.specs.Replays.{IsReplay};
 
@@ -19,7 +19,8 @@ use cpa_units::{NoMemory, ResId};
 use std::alloc::Global;
 use std::marker::Model;
 
-/// A run of a system under a trace, as far as it was followed.
+/// A run of a system under a trace, as far as it was followed. What is seen of its jobs is kept where that
+/// is asked for; all else takes room for the system alone, however many jobs there are.
 #[derive(Debug, Drop)]
 pub struct Replay {
     followers: Followers,
@@ -33,19 +34,34 @@ impl Model for Replay {
 
     ghost Value = { ReplayLists };
 
-    ghost view = { λ p. record { firsts = p.followers.firsts.items; nexts = p.followers.nexts.items; lines = p.sim.lines.items; desks = p.sim.desks.items; feeds = p.sim.feeds.items; time = p.sim.time; soon = p.sim.soon; quiet = p.quiet } };
+    ghost view = { λ p. record { firsts = p.followers.firsts.items; nexts = p.followers.nexts.items; keeps = p.sim.keeps; lines = p.sim.lines.items; desks = p.sim.desks.items; feeds = p.sim.feeds.items; time = p.sim.time; soon = p.sim.soon; quiet = p.quiet } };
 }
 
 impl Replay {
-    /// The run at tick 0. The condition on the trace is that of `replay`.
+    /// The run at tick 0, of which no job is kept. The condition on the trace is that of `replay`.
     pub fn start(alloc: Global, system: &System, trace: &Trace) -> Result<Replay, NoMemory>
         requires { CanReplay system.now trace.now }
         ensures run { IfOk result (λ p. IsReplay system.now trace.now p) }
         ensures time { IfOk result (λ p. p.time ≡ 0) }
     {
+        Replay::begin(alloc, system, trace, false)
+    }
+
+    /// The run at tick 0, where what is seen of its jobs is kept or not.
+    pub(crate) fn begin(
+        alloc: Global,
+        system: &System,
+        trace: &Trace,
+        keeps: bool,
+    ) -> Result<Replay, NoMemory>
+        requires { CanReplay system.now trace.now }
+        ensures run { IfOk result (λ p. IsReplay system.now trace.now p) }
+        ensures time { IfOk result (λ p. p.time ≡ 0) }
+        ensures keeps { IfOk result (λ p. p.keeps ≡ keeps) }
+    {
         let quiet = quiet_from(system, trace);
         let followers = find_followers(alloc, system)?;
-        let sim = start(alloc, system, trace, &followers)?;
+        let sim = start(alloc, system, trace, &followers, keeps)?;
         Ok(Replay {
             followers,
             sim,
@@ -73,6 +89,7 @@ impl Replay {
         requires run { IsReplay system.now trace.now self.old }
         requires more { self.old.time < end_of system.now trace.now }
         ensures run { OnOk result (IsReplay system.now trace.now self.new) }
+        ensures keeps { OnOk result (self.new.keeps ≡ self.old.keeps) }
         ensures later { OnOk result (self.old.time < self.new.time) }
         ensures within { OnOk result (self.new.time ≤ end_of system.now trace.now) }
         ensures ran { OnOk result ((r u : ℕ) → r < length system.now.resources → self.old.time ≤ u → u < self.new.time → served_at system.now trace.now u r ≡ ran_by self.new.lines self.new.desks r) }
@@ -95,9 +112,9 @@ impl Replay {
         Some(Served { task, job })
     }
 
-    /// What is seen of a run that ends here.
+    /// What is seen of a run that ends here, as far as it was kept.
     pub(crate) fn seen(self) -> Outcome
-        ensures { result ≡ record { jobs = map (λ (l : LineLists). map job_of l.jobs) self.lines; end = self.time } }
+        ensures { result ≡ record { jobs = map kept_of self.lines; end = self.time } }
     {
         let sim = self.sim;
         Outcome {

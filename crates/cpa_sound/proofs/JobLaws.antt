@@ -5,7 +5,7 @@ use Rattle.cpa_sound.proofs.Serving.{work}
 use Rattle.cpa_sound.specs.BoundsHold.{no_job}
 use Rattle.cpa_sim.specs.declared.jobs.Progress.{Progress}
 use Rattle.cpa_sim.proofs.LineLaws.{serve-here, serve-there, ended-closed, ended-open}
-use Rattle.cpa_sim.proofs.JobCount.{ended-le}
+use Rattle.cpa_sim.proofs.LineLaws.{ended-le}
 use Rattle.cpa_sim.specs.Run.{is_open, waits, ended_count, after_tick, serve, new_jobs}
 use Rattle.cpa_sound.proofs.CourseLaws.{work-one, work-mono}
 

@@ -1,5 +1,6 @@
 use Rattle.std.proofs.Common.{◌≡◌, ℕ, ◌<◌, ◌≤◌, length}
 use Rattle.cpa_model.specs.SystemLists.{task_at}
+use Rattle.cpa_trace.specs.Trace.{need}
 use Rattle.cpa_sim.specs.Lines.{served_line}
 use Rattle.cpa_sim.specs.Simulation.{line_at, desk_at, runs_at, IsServed}
 use Rattle.cpa_sim.proofs.desks.serve_all.Given as goal
@@ -8,7 +9,7 @@ abbrev pub invariant-loop-k : goal.invariant-loop-k
 invariant-loop-k l = record {
   count : length l.lines.items ≡ length l.system.tasks;
   count_desks : length l.desks.items ≡ length l.system.resources;
-  ran : (i : ℕ) → i < length l.system.tasks → (task_at l.system i).res.0 < l.k → line_at l.lines.items i ≡ served_line (runs_at (desk_at l.initial.desks.items (task_at l.system i).res.0) i) l.ticks l.now (line_at l.initial.lines.items i);
+  ran : (i : ℕ) → i < length l.system.tasks → (task_at l.system i).res.0 < l.k → line_at l.lines.items i ≡ served_line (need l.system l.trace i) (runs_at (desk_at l.initial.desks.items (task_at l.system i).res.0) i) l.ticks l.now (line_at l.initial.lines.items i);
   still : (i : ℕ) → i < length l.system.tasks → l.k ≤ (task_at l.system i).res.0 → line_at l.lines.items i ≡ line_at l.initial.lines.items i;
   served : (r : ℕ) → r < l.k → IsServed l.system r l.initial.lines.items l.ticks (desk_at l.initial.desks.items r) (desk_at l.desks.items r);
   same : (r : ℕ) → l.k ≤ r → desk_at l.desks.items r ≡ desk_at l.initial.desks.items r;

@@ -1,8 +1,7 @@
-use Rattle.std.proofs.Common.{◌∙◌, ◌&&◌, ◌||◌, nat_lt, sym, ap, subst, List}
+use Rattle.std.proofs.Common.{◌∙◌, ◌&&◌, ◌||◌, nat_lt, sym, ap, subst}
 use Rattle.std.specs.List.{list_any}
 use Rattle.cpa_units.specs.declared.limits.TheConstants.{HORIZON}
-use Rattle.cpa_sim.specs.Lines.{LineLists}
-use Rattle.cpa_sim.specs.Run.{waits}
+use Rattle.cpa_sim.specs.Lines.{has_pending}
 use Rattle.cpa_sim.specs.Outcome.{end_of}
 use Rattle.cpa_sim.specs.Replays.{ReplayLists, IsReplay}
 use Rattle.cpa_sim.proofs.ReplayLaws.{on-is}
@@ -13,5 +12,5 @@ returns c = λ s tr is.
     let is' = subst (IsReplay s tr) (sym c.self.view_is) is in
     let time = c.self.inside.sim.time in
     c.goes_on.ensures
-    ∙ (ap (λ (v : List LineLists). nat_lt time HORIZON && (nat_lt time c.self.inside.quiet || list_any (λ (l : LineLists). waits l.jobs) v)) c.as_slice.ensures.value
+    ∙ (ap (λ v. nat_lt time HORIZON && (nat_lt time c.self.inside.quiet || list_any has_pending v)) c.as_slice.ensures.value
     ∙ (on-is s tr _ is' ∙ ap (λ (p : ReplayLists). nat_lt p.time (end_of s tr)) c.self.view_is))
