@@ -1,6 +1,6 @@
 -- Jobs that arrive at one time, activator by activator.
 use Rattle.std.proofs.Common.{◌≡◌, ◌≢◌, ℕ, zero, suc, ◌+◌, ◌-◌, ◌<◌, ◌≤◌, ◌++◌, length, List, ◌∷◌, true, false, cond, eqb, ltb, ◌&&◌, Option, Some, None, option_map, refl, sym, ◌∙◌, ap, subst, inl, inr, arith}
-use Rattle.std.proofs.lemmas.Bool.{cases_lt, cases_Bool, lt-ltb, le-ltb, eq-eqb, eqb-true}
+use Rattle.std.proofs.lemmas.Bool.{cases_lt, cases_Bool, lt-ltb, le-ltb, eq-eqb, eqb-true, ne_eqb, false≢true}
 use Rattle.std.proofs.lemmas.List.{append-nil, append_assoc}
 use Rattle.std.specs.Prelude.{count_by, ◌==◌}
 use Rattle.cpa_model.specs.declared.entries.Activator.{Activator}
@@ -233,6 +233,26 @@ module _ (s : SystemLists) (tr : TraceLists) (now : ℕ) where
       ]
 
 module _ (s : SystemLists) where
+  -- the job that ends on a resource sends one to each task that follows its own
+  pub ends-one : (desk : Desk) (task i : ℕ) → ((j : ℕ) → ends_at desk j ≡ cond (eqb task j) 1 0) → cond (eqb (number_at s i) (length s.sources + task)) 1 0 ≡ by_desk s desk i
+  ends-one desk task i ends =
+      let n = number_at s i in
+      let S = length s.sources in
+      elim (cases_lt n S) [
+        | inl source ↦
+            let a : ltb n S ≡ true = lt-ltb n S source in
+            let b : eqb n (S + task) ≡ false = ne_eqb n (S + task) (λ e. absurd (omega arith)) in
+            rw (a, b) refl
+        | inr fed ↦
+            let a : ltb n S ≡ false = le-ltb n S fed in
+            let same : eqb n (S + task) ≡ eqb task (n - S) =
+            elim (cases_Bool (eqb task (n - S))) [
+              | inl e ↦ let f = eqb-true task (n - S) e in eq-eqb n (S + task) (omega (arith, f)) ∙ sym e
+              | inr differs ↦ ne_eqb n (S + task) (λ e. absurd (false≢true (sym differs ∙ eq-eqb task (n - S) (omega (arith, e))))) ∙ sym differs
+            ] in
+            rw a (ap (λ b. cond b 1 0) same ∙ sym (ends (n - S)))
+      ]
+
   -- of the jobs that ran on the first so many resources
   abbrev pub ends_below : List Desk → ℕ → ℕ → ℕ
   ends_below desks r i =

@@ -1,6 +1,6 @@
 //! A run that is followed from one moment to the next. Times are in ticks.
 
-ghost use Rattle.std.specs.Prelude.{◌≡◌, ◌<◌, ◌≤◌, ℕ, length, map, nat_lt, IfOk, OnOk};
+ghost use Rattle.std.specs.Prelude.{◌≡◌, ◌<◌, ◌≤◌, ℕ, length, map, nat_lt, false, IfOk, OnOk, IsOk};
 ghost use Rattle.cpa_model.specs.SystemLists.{SystemLists};
 ghost use Rattle.cpa_trace.specs.Trace.{TraceLists};
 ghost use Rattle.cpa_sim.specs.Lines.{kept_of};
@@ -43,6 +43,7 @@ impl Replay {
         requires { CanReplay system.now trace.now }
         ensures run { IfOk result (λ p. IsReplay system.now trace.now p) }
         ensures time { IfOk result (λ p. p.time ≡ 0) }
+        ensures keeps { IfOk result (λ p. p.keeps ≡ false) }
     {
         Replay::begin(alloc, system, trace, false)
     }
@@ -84,12 +85,13 @@ impl Replay {
     }
 
     /// Follows the run to the next moment at which something can change. On each resource the same job
-    /// gets all ticks up to it, or none does.
+    /// gets all ticks up to it, or none does. Where no job is kept this takes no memory.
     pub fn advance(&mut self, system: &System, trace: &Trace) -> Result<(), NoMemory>
         requires run { IsReplay system.now trace.now self.old }
         requires more { self.old.time < end_of system.now trace.now }
         ensures run { OnOk result (IsReplay system.now trace.now self.new) }
         ensures keeps { OnOk result (self.new.keeps ≡ self.old.keeps) }
+        ensures memory { self.old.keeps ≡ false → IsOk result }
         ensures later { OnOk result (self.old.time < self.new.time) }
         ensures within { OnOk result (self.new.time ≤ end_of system.now trace.now) }
         ensures ran { OnOk result ((r u : ℕ) → r < length system.now.resources → self.old.time ≤ u → u < self.new.time → served_at system.now trace.now u r ≡ ran_by self.new.lines self.new.desks r) }

@@ -49,12 +49,12 @@ loop-k-preserved c =
     let links = linked s c.resources-k-end.ensures.rules in
     let there : k < length s.resources = omega (arith, c.resources-k-end.ensures.count) in
     let kept = c.loop-k.invariant.kept k there in
-    let whole = given-then s now links.placed (ends_below s d0 k) (by_desk s (desk_at d1 k)) l0 d0 l1 d1 l2 d2 c.loop-k.invariant c.in_ok-arrive_by_desk.ensures in
+    let whole = given-then s now links.placed (ends_below s d0 k) (by_desk s (desk_at d1 k)) l0 d0 l1 d1 l2 d2 c.loop-k.invariant c.in_ok-arrive_by_desk.ensures.given in
     given-same s now (λ i. ends_below s d0 k i + by_desk s (desk_at d1 k) i) (ends_below s d0 (k + 1)) l0 d0 l2 d2 whole
     (λ i less. ends-more s d0 (desk_at d1 k) k i kept.running kept.ends (λ j e. c.requires.runs k j there e))
 
-pub returns : goal.returns
-returns c =
+pub returns-clause-given : goal.returns-clause-given
+returns-clause-given c =
     let s = c.args.system.now in
     let now = c.args.now in
     let d0 = c.args.desks.now.items in
