@@ -7,10 +7,12 @@ Makes traces as text and prints a line a case: the least time of some calls, the
   jobs and end at the horizon or before;
 - far event and near events: a TDMA resource with two events, 10,000,000 ticks apart, and with two that are near; their
   times differ by what the reading of a few bytes takes, as no step is made for a tick in which nothing changes;
+- burst: 3,900 events of one source at once, which 512 tasks of one processor follow: 1,996,800 jobs that all wait;
 - car network: the network of a car with all its sources at their periods, over 1,000,000 ticks.
 
 Each case goes to `simulate` and to `buffers`; the chain also to `audit`, with the first 200,000 segments of its run as the
-schedule, as many as one may have, and with one of which the first is wrong.
+schedule, as many as one may have, and with one of which the first is wrong. So that it is seen what an audit takes beside its
+trace and its schedule, chains of ten tasks and of one and the burst go to it with an empty schedule.
 
     python3 bench/time_simulate.py [NAME ..]
 """
@@ -27,17 +29,17 @@ PROGRAM = os.path.join(TOP, "crates/cpa_cli/out/cpa_cli")
 CHAIN_KINDS = ["preemptive", "can", "round-robin", "tdma", "preemptive", "can", "round-robin", "tdma"]
 
 
-def chain():
-    """Ten tasks in a chain over eight resources, two of each kind; the first two resources have two tasks each."""
+def chain(tasks=10):
+    """So many tasks in a chain over eight resources, two of each kind; ten have two tasks each on the first two."""
     text = ["format = 1", "resource = ["]
     text += [f'{{ name = "r{r}", kind = "{kind}" }},' for r, kind in enumerate(CHAIN_KINDS)]
     text += ["]", 'source = [{ name = "s", period = 50 }]', "task = ["]
-    for k in range(10):
+    for k in range(tasks):
         kind = CHAIN_KINDS[k % 8]
         turn = "slot = 4" if kind in ("round-robin", "tdma") else f"priority = {k}"
         after = f"t{k - 1}" if k else "s"
         text.append(f'{{ name = "t{k}", on = "r{k % 8}", after = "{after}", best = 1, worst = 4, {turn} }},')
-    text += ["]", 'path = [{ name = "whole", tasks = [' + ", ".join(f'"t{k}"' for k in range(10)) + "] }]"]
+    text += ["]", 'path = [{ name = "whole", tasks = [' + ", ".join(f'"t{k}"' for k in range(tasks)) + "] }]"]
     rows = "".join(f"event,s,{50 * n}\n" for n in range(200_000))
     return "\n".join(text) + "\n", rows
 
@@ -65,6 +67,13 @@ task = [{ name = "t", on = "ring", after = "s", best = 3, worst = 3, slot = 2 }]
 """
 
 
+def burst():
+    text = ["format = 1", 'resource = [{ name = "cpu", kind = "preemptive" }]']
+    text += ['source = [{ name = "s", period = 10, jitter = 1_000_000 }]', "task = ["]
+    text += [f'{{ name = "t{k}", on = "cpu", after = "s", best = 1, worst = 1, priority = {k} }},' for k in range(512)]
+    return "\n".join(text) + "\n]\n", "event,s,0\n" * 3900
+
+
 def car():
     with open(os.path.join(TOP, "examples/car_network.toml")) as file:
         system = file.read()
@@ -82,6 +91,7 @@ CASES = {
     "chain": chain,
     "far event": lambda: (TDMA, "event,s,0\nevent,s,10000000\n"),
     "near events": lambda: (TDMA, "event,s,0\nevent,s,40\n"),
+    "burst": burst,
     "car network": car,
 }
 
@@ -100,6 +110,10 @@ def main():
         schedule = chain_schedule(system)
         show("audit chain", *least_over(PROGRAM, "audit", (system, trace, schedule), 5))
         show("audit wrong", *least_over(PROGRAM, "audit", (system, trace, schedule.replace(",0,", ",1,", 1)), 5))
+        show("audit chain, empty", *least_over(PROGRAM, "audit", (system, trace, ""), 5))
+        show("audit one task, empty", *least_over(PROGRAM, "audit", (*chain(1), ""), 5))
+    if not sys.argv[1:] or "burst" in sys.argv[1:]:
+        show("audit burst, empty", *least_over(PROGRAM, "audit", (*burst(), ""), 5))
 
 
 if __name__ == "__main__":

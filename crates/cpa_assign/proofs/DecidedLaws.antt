@@ -11,8 +11,8 @@ use Rattle.cpa_units.specs.declared.bound.Bound.TheVariants.{Within}
 use Rattle.cpa_units.specs.declared.places.TaskId.{TaskId}
 use Rattle.cpa_units.specs.Bounds.{IsAtMost, fits}
 use Rattle.cpa_units.specs.Search.{least_from}
-use Rattle.cpa_units.proofs.BoundLaws.{fits-true, fits-from}
-use Rattle.cpa_units.proofs.SearchLaws.{least_from-passes, least_from-above}
+use Rattle.cpa_units.proofs.DeadlineLaws.{meets_deadline, deadline-decides}
+use Rattle.cpa_units.proofs.SearchLaws.{all_pass, least_from-passes, least_from-above}
 use Rattle.cpa_model.specs.declared.entries.Path.{Path}
 use Rattle.cpa_model.specs.SystemLists.{SystemLists, path_at, task_places}
 use Rattle.cpa_model.specs.Rules.{IsSystem}
@@ -40,17 +40,6 @@ alone-decides (t ∷ []) i = (
     first_place (t ∷ ts) = t.0
 alone-decides (t ∷ u ∷ ts) i = (λ told. absurd (false≢true told), λ alone. let long = ap length alone in absurd (omega (arith, long)))
 
-abbrev meets_deadline : Option ℕ → Bound → Bool
-meets_deadline None bound = true
-meets_deadline (Some d) bound = fits bound d
-
-deadline-decides : (deadline : Option ℕ) (bound : Bound) → Decides (meets_deadline deadline bound) (ForSome deadline (λ d. IsAtMost bound (Within d)))
-deadline-decides None bound = (λ told d is. absurd (none-some d is), λ h. refl)
-deadline-decides (Some d) bound = (
-  λ told e is. subst (λ (n : ℕ). IsAtMost bound (Within n)) (same_Some d e is) (fits-true bound d told),
-  λ h. fits-from bound d (h d refl),
-)
-
 -- whether the bound is at most the deadline, where the path is of this task alone
 abbrev path_in_time : Path → ℕ → Bound → Bool
 path_in_time p i bound = not (is_alone p.tasks i) || meets_deadline p.deadline bound
@@ -61,11 +50,6 @@ then-decides false b first second = (λ told p. absurd (false≢true (first.1 p)
 
 path-decides : (p : Path) (i : ℕ) (bound : Bound) → Decides (path_in_time p i bound) (IsPathInTime p i bound)
 path-decides p i bound = then-decides (is_alone p.tasks i) (meets_deadline p.deadline bound) (alone-decides p.tasks i) (deadline-decides p.deadline bound)
-
--- whether all below a number pass
-abbrev all_pass : (ℕ → Bool) → ℕ → Bool
-all_pass p zero = true
-all_pass p (suc n) = p n && all_pass p n
 
 module _ (s : SystemLists) (r : ℕ) where
   -- whether a task is in time below those that `above` tells

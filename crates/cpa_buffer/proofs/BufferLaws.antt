@@ -17,8 +17,7 @@ use Rattle.cpa_local.proofs.ResponseLaws.{input-is_input}
 use Rattle.cpa_trace.specs.Trace.{TraceLists}
 use Rattle.cpa_model.specs.SystemLists.{tasks_on}
 use Rattle.cpa_sched.specs.States.{IsOn}
-use Rattle.cpa_sim.specs.declared.jobs.Progress.{Progress}
-use Rattle.cpa_sim.specs.Run.{is_unset, is_open, run}
+use Rattle.cpa_sim.specs.Run.{Progress, is_unset, is_open, run}
 use Rattle.cpa_sim.specs.Outcome.{end_of}
 use Rattle.cpa_sched.proofs.StepLaws.{tasks_on-are}
 use Rattle.cpa_sound.specs.BoundsHold.{no_job, job_at, HasJob, HoldIn}

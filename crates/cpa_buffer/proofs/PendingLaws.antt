@@ -10,8 +10,7 @@ use Rattle.std.proofs.lemmas.List.FromFn.{get_or-map-range_with_len, length-map-
 use Rattle.cpa_model.specs.SystemLists.{SystemLists, task_at}
 use Rattle.cpa_trace.specs.Trace.{TraceLists, need}
 use Rattle.cpa_sim.specs.declared.jobs.Job.{Job}
-use Rattle.cpa_sim.specs.declared.jobs.Progress.{Progress}
-use Rattle.cpa_sim.specs.Run.{is_open, after_tick, serve, new_jobs, arriving, runs_in, served, ends_in, run}
+use Rattle.cpa_sim.specs.Run.{Progress, is_open, after_tick, serve, new_jobs, arriving, runs_in, served, ends_in, run}
 use Rattle.cpa_sim.specs.Outcome.{job_of, jobs_seen, end_of, outcome_of}
 use Rattle.cpa_sim.proofs.LineLaws.{serve-here, serve-there}
 use Rattle.cpa_sound.proofs.JobLaws.{tick-last, tick-more}

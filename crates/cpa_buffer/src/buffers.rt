@@ -27,18 +27,6 @@ pub fn buffer(system: &System, task: TaskId, x: &Vector) -> Bound
     }
 }
 
-/// The sum of two bounds.
-fn plus(sum: Bound, more: Bound) -> Bound
-    requires sum { RespectsLimit (2 ^ 45) sum }
-    requires more { RespectsLimit (2 ^ 36) more }
-    ensures { result ≡ bound_plus sum more }
-{
-    match (sum, more) {
-        (Bound::Within(sum), Bound::Within(more)) => Bound::Within(sum + more),
-        _ => Bound::Overload,
-    }
-}
-
 /// How many jobs of all tasks of a resource can be pending at once: the sum of their buffers, which is 0
 /// where there are no tasks and `Overload` where one of them is.
 #[tactic(auto, unfolding(crate::specs::Buffers::buffer_on))]
@@ -49,7 +37,7 @@ pub fn buffer_on(system: &System, res: ResId, x: &Vector) -> Bound
 {
     let mut sum = Bound::Within(0);
     for task in system.tasks_on(res) {
-        sum = plus(sum, buffer(system, *task, x));
+        sum = sum.plus(buffer(system, *task, x));
     }
     sum
 }

@@ -9,4 +9,5 @@ pub mod RedraftRanks
 pub mod RedraftUnrefused
 pub mod SystemLaws
 pub mod ChangedLaws
+pub mod KeptRules
 pub mod RosterLaws

@@ -39,20 +39,6 @@ pub fn path_best(system: &System, path: PathId) -> u64
     sum_best(system, &system.path(path).tasks)
 }
 
-fn plus(sum: Bound, more: Bound) -> Bound
-    requires sum { RespectsLimit (2 ^ 32 * MAX_LIMIT) sum }
-    requires more { RespectsLimit MAX_LIMIT more }
-    ensures { result ≡ bound_plus sum more }
-{
-    match sum {
-        Bound::Overload => Bound::Overload,
-        Bound::Within(sum) => match more {
-            Bound::Overload => Bound::Overload,
-            Bound::Within(more) => Bound::Within(sum + more),
-        },
-    }
-}
-
 fn sum_worst(system: &System, tasks: &TaskList, x: &Vector) -> Bound
     requires there { All (λ i. i.0 < length system.now.tasks) tasks.now }
     requires vector { IsVector system.now x.now }
@@ -60,7 +46,7 @@ fn sum_worst(system: &System, tasks: &TaskList, x: &Vector) -> Bound
 {
     let mut sum = Bound::Within(0);
     for k in 0..tasks.len() {
-        sum = plus(sum, x.get(tasks.get(k)));
+        sum = sum.plus(x.get(tasks.get(k)));
     }
     sum
 }

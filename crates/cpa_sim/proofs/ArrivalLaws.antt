@@ -12,7 +12,7 @@ use Rattle.cpa_sched.specs.States.{IsOn}
 use Rattle.cpa_sim.specs.declared.desks.Desk.{Desk}
 use Rattle.cpa_sim.specs.declared.jobs.Job.{Job}
 use Rattle.cpa_sim.specs.Run.{arriving, is_chosen}
-use Rattle.cpa_sim.specs.Lines.{LineLists, new_seen, with_arrivals}
+use Rattle.cpa_sim.specs.Lines.{LineCounts, new_seen, with_arrivals}
 use Rattle.cpa_sim.specs.Simulation.{line_at, desk_at, runner, ends_at, ends_of, IsKept}
 use Rattle.cpa_sim.specs.Arrivals.{number_of, number_at, IsNext, AreGiven, by_events, by_desk, by_ends}
 use Rattle.cpa_sim.proofs.DeskLaws.{kept-same, kept-then, ends-kept}
@@ -39,20 +39,20 @@ seen-add : (now a b : ℕ) (kept : Option (List Job)) → option_map (λ js. js 
 seen-add now a b None = refl
 seen-add now a b (Some js) = ap Some (append_assoc js (new_seen now a) (new_seen now b) ∙ ap (λ ks. js ++ ks) (sym (new-seen-add now a b)))
 
-pub arrivals-none : (now : ℕ) (line : LineLists) → with_arrivals now 0 line ≡ line
+pub arrivals-none : (now : ℕ) (line : LineCounts) → with_arrivals now 0 line ≡ line
 arrivals-none now line =
     let e : line.count + 0 ≡ line.count = omega arith in
-    ap (λ n. let made : LineLists = record { count = n; done = line.done; left = line.left; kept = option_map (λ js. js ++ new_seen now 0) line.kept } in made) e
-    ∙ ap (λ k. let made : LineLists = record { count = line.count; done = line.done; left = line.left; kept = k } in made) (seen-none now line.kept)
+    ap (λ n. let made : LineCounts = record { count = n; done = line.done; left = line.left; kept = option_map (λ js. js ++ new_seen now 0) line.kept } in made) e
+    ∙ ap (λ k. let made : LineCounts = record { count = line.count; done = line.done; left = line.left; kept = k } in made) (seen-none now line.kept)
 
-arrivals-add : (now a b : ℕ) (line : LineLists) → with_arrivals now b (with_arrivals now a line) ≡ with_arrivals now (a + b) line
+arrivals-add : (now a b : ℕ) (line : LineCounts) → with_arrivals now b (with_arrivals now a line) ≡ with_arrivals now (a + b) line
 arrivals-add now a b line =
     let e : line.count + a + b ≡ line.count + (a + b) = omega arith in
-    ap (λ n. let made : LineLists = record { count = n; done = line.done; left = line.left; kept = option_map (λ js. js ++ new_seen now b) (option_map (λ js. js ++ new_seen now a) line.kept) } in made) e
-    ∙ ap (λ k. let made : LineLists = record { count = line.count + (a + b); done = line.done; left = line.left; kept = k } in made) (seen-add now a b line.kept)
+    ap (λ n. let made : LineCounts = record { count = n; done = line.done; left = line.left; kept = option_map (λ js. js ++ new_seen now b) (option_map (λ js. js ++ new_seen now a) line.kept) } in made) e
+    ∙ ap (λ k. let made : LineCounts = record { count = line.count + (a + b); done = line.done; left = line.left; kept = k } in made) (seen-add now a b line.kept)
 
 module _ (s : SystemLists) (now : ℕ) where
-  pub given-none : (lines : List LineLists) (desks : List Desk) → length lines ≡ length s.tasks → length desks ≡ length s.resources → AreGiven s now (λ i. 0) lines desks lines desks
+  pub given-none : (lines : List LineCounts) (desks : List Desk) → length lines ≡ length s.tasks → length desks ≡ length s.resources → AreGiven s now (λ i. 0) lines desks lines desks
   given-none lines desks count_lines count_desks =
       record {
         count_lines = count_lines;
@@ -62,7 +62,7 @@ module _ (s : SystemLists) (now : ℕ) where
         asked = λ i less more. refl;
       }
 
-  pub given-same : (c d : ℕ → ℕ) (l1 : List LineLists) (d1 : List Desk) (l2 : List LineLists) (d2 : List Desk) → AreGiven s now c l1 d1 l2 d2 → ((i : ℕ) → i < length s.tasks → c i ≡ d i) → AreGiven s now d l1 d1 l2 d2
+  pub given-same : (c d : ℕ → ℕ) (l1 : List LineCounts) (d1 : List Desk) (l2 : List LineCounts) (d2 : List Desk) → AreGiven s now c l1 d1 l2 d2 → ((i : ℕ) → i < length s.tasks → c i ≡ d i) → AreGiven s now d l1 d1 l2 d2
   given-same c d l1 d1 l2 d2 h same =
       record {
         count_lines = h.count_lines;
@@ -73,7 +73,7 @@ module _ (s : SystemLists) (now : ℕ) where
       }
 
   module _ (placed : (i : ℕ) → i < length s.tasks → (task_at s i).res.0 < length s.resources) where
-    pub given-then : (c d : ℕ → ℕ) (l1 : List LineLists) (d1 : List Desk) (l2 : List LineLists) (d2 : List Desk) (l3 : List LineLists) (d3 : List Desk) → AreGiven s now c l1 d1 l2 d2 → AreGiven s now d l2 d2 l3 d3 → AreGiven s now (λ i. c i + d i) l1 d1 l3 d3
+    pub given-then : (c d : ℕ → ℕ) (l1 : List LineCounts) (d1 : List Desk) (l2 : List LineCounts) (d2 : List Desk) (l3 : List LineCounts) (d3 : List Desk) → AreGiven s now c l1 d1 l2 d2 → AreGiven s now d l2 d2 l3 d3 → AreGiven s now (λ i. c i + d i) l1 d1 l3 d3
     given-then c d l1 d1 l2 d2 l3 d3 first then =
         record {
           count_lines = then.count_lines;
@@ -89,9 +89,9 @@ module _ (s : SystemLists) (now : ℕ) where
 
 -- ---- the tasks that follow one activator
 
-module _ (s : SystemLists) (now number count : ℕ) (l0 : List LineLists) (d0 : List Desk) where
+module _ (s : SystemLists) (now number count : ℕ) (l0 : List LineCounts) (d0 : List Desk) where
   -- those before the next one have got their jobs
-  pub record IsHalfway (next : Option ℕ) (lines : List LineLists) (desks : List Desk) : Type 0 where
+  pub record IsHalfway (next : Option ℕ) (lines : List LineCounts) (desks : List Desk) : Type 0 where
     pub count_lines : length lines ≡ length s.tasks
     pub count_desks : length desks ≡ length s.resources
     pub there : (j : ℕ) → next ≡ Some j → j < length s.tasks
@@ -119,7 +119,7 @@ module _ (s : SystemLists) (now number count : ℕ) (l0 : List LineLists) (d0 : 
   some-same : (x y : ℕ) → Some x ≡ Some y → x ≡ y
   some-same x y e = cc
 
-  pub halfway-more : (placed : (i : ℕ) → i < length s.tasks → (task_at s i).res.0 < length s.resources) (t : ℕ) (next : Option ℕ) (l1 : List LineLists) (d1 : List Desk) (l2 : List LineLists) (d2 : List Desk)
+  pub halfway-more : (placed : (i : ℕ) → i < length s.tasks → (task_at s i).res.0 < length s.resources) (t : ℕ) (next : Option ℕ) (l1 : List LineCounts) (d1 : List Desk) (l2 : List LineCounts) (d2 : List Desk)
       → IsHalfway (Some t) l1 d1 → IsNext s number (t + 1) next → length l2 ≡ length s.tasks → length d2 ≡ length s.resources
       → line_at l2 t ≡ with_arrivals now count (line_at l1 t) → ((i : ℕ) → i ≢ t → line_at l2 i ≡ line_at l1 i)
       → ((r : ℕ) → r < length s.resources → IsKept (kind_of s r) (desk_at d1 r) (desk_at d2 r))
@@ -160,7 +160,7 @@ module _ (s : SystemLists) (now number count : ℕ) (l0 : List LineLists) (d0 : 
             ];
       }
 
-  pub halfway-end : (l1 : List LineLists) (d1 : List Desk) → IsHalfway None l1 d1 → AreGiven s now (λ i. cond (eqb (number_at s i) number) count 0) l0 d0 l1 d1
+  pub halfway-end : (l1 : List LineCounts) (d1 : List Desk) → IsHalfway None l1 d1 → AreGiven s now (λ i. cond (eqb (number_at s i) number) count 0) l0 d0 l1 d1
   halfway-end l1 d1 h =
       record {
         count_lines = h.count_lines;

@@ -19,8 +19,7 @@ use Rattle.cpa_model.specs.SystemLists.{SystemLists, task_at, no_task}
 use Rattle.cpa_trace.specs.Trace.{TraceLists, times_of, need}
 use Rattle.cpa_trace.specs.Reading.{jobs_of, task_jobs}
 use Rattle.cpa_sim.specs.declared.jobs.Job.{Job}
-use Rattle.cpa_sim.specs.declared.jobs.Progress.{Progress}
-use Rattle.cpa_sim.specs.Run.{is_open, ended_count, after_tick, serve, new_jobs, arriving, is_chosen, choice_at, served, ends_in, run}
+use Rattle.cpa_sim.specs.Run.{Progress, is_open, ended_count, after_tick, serve, new_jobs, arriving, is_chosen, choice_at, served, ends_in, run}
 use Rattle.cpa_sim.specs.Outcome.{CanReplay, IsOutcome, jobs_seen, job_of, end_of, outcome_of}
 use Rattle.cpa_sched.proofs.StepLaws.{all_range}
 use Rattle.cpa_sim.proofs.LineLaws.{serve-here, serve-there, ended-open, ended-closed, ended-append, ended-new, ended-le, length-new}

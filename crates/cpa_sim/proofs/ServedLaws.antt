@@ -8,12 +8,11 @@ use Rattle.cpa_sched.specs.Steps.{Choice, kind_of}
 use Rattle.cpa_sched.specs.States.{IsOn}
 use Rattle.cpa_sim.specs.declared.desks.Desk.{Desk}
 use Rattle.cpa_sim.specs.declared.feeds.Feed.{Feed}
-use Rattle.cpa_sim.specs.declared.jobs.Progress.{Progress}
 use Rattle.cpa_sim.specs.declared.jobs.Served.{Served}
-use Rattle.cpa_sim.specs.Run.{is_open, waits, is_chosen, choice_at, run}
+use Rattle.cpa_sim.specs.Run.{Progress, is_open, waits, is_chosen, choice_at, run}
 use Rattle.cpa_sim.specs.Arrivals.{AreGiven}
 use Rattle.cpa_sim.specs.Feeds.{IsAhead}
-use Rattle.cpa_sim.specs.Lines.{LineLists, AreInOrder, worked, served_line}
+use Rattle.cpa_sim.specs.Lines.{LineCounts, AreInOrder, worked, served_line}
 use Rattle.cpa_sim.specs.Simulation.{line_at, desk_at, feed_at, runner, runs_at, waiting, state_now, Foresees, HasEnough, IsServed, IsAt}
 use Rattle.cpa_sim.specs.Served.{first_open, numbered, served_at, last_of, ran_by, RanWithin}
 use Rattle.cpa_sim.proofs.LineLaws.{ordered-more}
@@ -21,7 +20,7 @@ use Rattle.cpa_sim.proofs.GlideLaws.{Glides, chosen, jobs_at, left_at, picked, c
 use Rattle.cpa_sim.proofs.KeptLaws.{CanRun, kept}
 use Rattle.cpa_sim.proofs.ChoiceLaws.{step-picks}
 use Rattle.cpa_sim.proofs.RunLaws.{choice-is}
-use Rattle.cpa_sim.proofs.SimLaws.{done_at, done-is, glides, who-waits}
+use Rattle.cpa_sim.proofs.SimLaws.{IsJump, done_at, done-is, glides, who-waits}
 
 pub first-open : (d : ℕ) (js : List Progress) → AreInOrder d js → first_open js ≡ d
 first-open zero [] a = refl
@@ -53,7 +52,7 @@ numbered-agree : (f g : ℕ → ℕ) (o : Option ℕ) → ((i : ℕ) → o ≡ S
 numbered-agree f g None agree = refl
 numbered-agree f g (Some i) agree = ap (λ n. let made : Served = record { task = record { 0 = i }; job = n } in Some made) (agree i refl)
 
-last-worked : (needs : ℕ → ℕ) (ticks now : ℕ) (line : LineLists) → (worked needs ticks now line).done - cond (nat_le line.left ticks) 1 0 ≡ line.done
+last-worked : (needs : ℕ → ℕ) (ticks now : ℕ) (line : LineCounts) → (worked needs ticks now line).done - cond (nat_le line.left ticks) 1 0 ≡ line.done
 last-worked needs ticks now line =
     elim (cases_Bool (nat_le line.left ticks)) [
       | inl e ↦ rw e (omega arith)
@@ -86,24 +85,19 @@ module _ (s : SystemLists) (tr : TraceLists) (t n : ℕ) (w : ℕ → Bool) (d :
 
 -- ---- as the simulator has it
 
-module _ (s : SystemLists) (tr : TraceLists) (can : CanRun s tr) (t : ℕ) (keeping : Bool) (lines : List LineLists) (desks : List Desk) (feeds : List Feed) (at : IsAt s tr t keeping lines desks feeds) (n : ℕ) (some : 1 ≤ n) (ran : List Desk)
-    (foreseen : (r : ℕ) → r < length s.resources → Foresees s r (state_now (kind_of s r) (desk_at desks r)) (waiting lines) t (phase_of tr r) (desk_at ran r))
-    (fits : (r : ℕ) → r < length s.resources → (desk_at ran r).gone + n ≤ (desk_at ran r).ticks)
-    (enough : (r : ℕ) → r < length s.resources → HasEnough lines (desk_at ran r))
-    (ahead : (k : ℕ) → k < length s.sources → IsAhead (times_of tr k) (t + n) (feed_at feeds k).next)
-    (sources : length tr.times ≡ length s.sources)
-    (served_lines : List LineLists) (served : (i : ℕ) → i < length s.tasks → line_at served_lines i ≡ served_line (need s tr i) (runs_at (desk_at ran (task_at s i).res.0) i) n (t + n) (line_at lines i))
+module _ (s : SystemLists) (tr : TraceLists) (can : CanRun s tr) (t : ℕ) (keeping : Bool) (lines : List LineCounts) (desks : List Desk) (feeds : List Feed) (at : IsAt s tr t keeping lines desks feeds) (n : ℕ) (ran : List Desk) (jump : IsJump s tr t lines desks feeds n ran)
+    (served_lines : List LineCounts) (served : (i : ℕ) → i < length s.tasks → line_at served_lines i ≡ served_line (need s tr i) (runs_at (desk_at ran (task_at s i).res.0) i) n (t + n) (line_at lines i))
     (served_desks : List Desk) (serves : (r : ℕ) → r < length s.resources → IsServed s r lines n (desk_at ran r) (desk_at served_desks r))
-    (count : ℕ → ℕ) (next_lines : List LineLists) (next_desks : List Desk) (given : AreGiven s (t + n) count served_lines served_desks next_lines next_desks) where
+    (count : ℕ → ℕ) (next_lines : List LineCounts) (next_desks : List Desk) (given : AreGiven s (t + n) count served_lines served_desks next_lines next_desks) where
   -- the job that ran on a resource
   last-is : (r i : ℕ) → r < length s.resources → runner (desk_at ran r) ≡ Some i → last_of (line_at next_lines i) (desk_at next_desks r).ends ≡ done_at s tr t i
   last-is r i there e =
-      let w = who-waits s tr can t keeping lines desks feeds at n some ran foreseen fits enough ahead sources r i there e in
+      let w = who-waits s tr can t keeping lines desks feeds at n ran jump r i there e in
       let passes : runs_at (desk_at ran (task_at s i).res.0) i ≡ true = passes-is (λ q. runner (desk_at ran q)) (task_at s i).res.0 r i w.on.here e in
       let ends : (desk_at next_desks r).ends ≡ nat_le (line_at lines i).left n = (given.kept r there).ends ∙ (serves r there).ends i e in
       let done : (line_at next_lines i).done ≡ (worked (need s tr i) n (t + n) (line_at lines i)).done =
-      ap (λ (l : LineLists). l.done) (given.arrived i w.on.task)
-      ∙ (ap (λ (l : LineLists). l.done) (served i w.on.task) ∙ ap (λ b. (served_line (need s tr i) b n (t + n) (line_at lines i)).done) passes) in
+      ap (λ (l : LineCounts). l.done) (given.arrived i w.on.task)
+      ∙ (ap (λ (l : LineCounts). l.done) (served i w.on.task) ∙ ap (λ b. (served_line (need s tr i) b n (t + n) (line_at lines i)).done) passes) in
       ap (λ b. (line_at next_lines i).done - cond b 1 0) ends
       ∙ (ap (λ m. m - cond (nat_le (line_at lines i).left n) 1 0) done ∙ (last-worked (need s tr i) n (t + n) (line_at lines i) ∙ done-is s tr can t keeping lines desks feeds at i w.on.task))
 
@@ -114,7 +108,7 @@ module _ (s : SystemLists) (tr : TraceLists) (can : CanRun s tr) (t : ℕ) (keep
   pub jump-ran : (r u : ℕ) → r < length s.resources → t ≤ u → u < t + n → served_at s tr u r ≡ ran_by next_lines next_desks r
   jump-ran r u there from before =
       let e : t + (u - t) ≡ u = omega arith in
-      let g = glides s tr can t keeping lines desks feeds at n some ran foreseen fits enough ahead sources in
+      let g = glides s tr can t keeping lines desks feeds at n ran jump in
       let h = served-in s tr t n (waiting lines) (done_at s tr t) (λ r. runner (desk_at ran r)) g r (u - t) there (omega arith) in
       let h' : served_at s tr u r ≡ option_map (numbered (done_at s tr t)) (runner (desk_at ran r)) = rw e at h in
       h'
@@ -124,5 +118,5 @@ module _ (s : SystemLists) (tr : TraceLists) (can : CanRun s tr) (t : ℕ) (keep
   pub jump-within : RanWithin next_lines next_desks
   jump-within r i there e =
       let less : r < length s.resources = omega (arith, there, given.count_desks) in
-      let w = who-waits s tr can t keeping lines desks feeds at n some ran foreseen fits enough ahead sources r i less (sym (runner-is r less) ∙ e) in
+      let w = who-waits s tr can t keeping lines desks feeds at n ran jump r i less (sym (runner-is r less) ∙ e) in
       omega (arith, given.count_lines, w.on.task)

@@ -7,7 +7,7 @@ use Rattle.cpa_model.specs.SystemLists.{SystemLists, place_of, task_at}
 use Rattle.cpa_trace.specs.Trace.{TraceLists, times_of}
 use Rattle.cpa_sched.specs.Steps.{kind_of}
 use Rattle.cpa_sim.specs.declared.desks.Desk.{Desk}
-use Rattle.cpa_sim.specs.Lines.{LineLists, with_arrivals}
+use Rattle.cpa_sim.specs.Lines.{LineCounts, with_arrivals}
 use Rattle.cpa_sim.specs.Simulation.{line_at, desk_at, ends_at, ends_of, IsKept}
 
 -- activators by number: first the sources, then the tasks
@@ -38,7 +38,7 @@ pub record AreFollowers (s : SystemLists) (from : ℕ) (firsts nexts : List (Opt
   pub nexts_are : (i : ℕ) → from ≤ i → i < length s.tasks → IsNext s (number_at s i) (i + 1) (entry_at nexts i)
 
 -- each task has got so many jobs, and where it has got one, nothing is foreseen of its resource any more
-pub record AreGiven (s : SystemLists) (now : ℕ) (count : ℕ → ℕ) (lines : List LineLists) (desks : List Desk) (next_lines : List LineLists) (next_desks : List Desk) : Type 0 where
+pub record AreGiven (s : SystemLists) (now : ℕ) (count : ℕ → ℕ) (lines : List LineCounts) (desks : List Desk) (next_lines : List LineCounts) (next_desks : List Desk) : Type 0 where
   pub count_lines : length next_lines ≡ length s.tasks
   pub count_desks : length next_desks ≡ length s.resources
   pub arrived : (i : ℕ) → i < length s.tasks → line_at next_lines i ≡ with_arrivals now (count i) (line_at lines i)

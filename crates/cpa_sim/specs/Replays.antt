@@ -8,7 +8,7 @@ use Rattle.cpa_trace.specs.Trace.{TraceLists}
 use Rattle.cpa_sim.specs.declared.desks.Desk.{Desk}
 use Rattle.cpa_sim.specs.declared.feeds.Feed.{Feed}
 use Rattle.cpa_sim.specs.Arrivals.{AreFollowers}
-use Rattle.cpa_sim.specs.Lines.{LineLists}
+use Rattle.cpa_sim.specs.Lines.{LineCounts}
 use Rattle.cpa_sim.specs.Outcome.{CanReplay, events_from, is_over}
 use Rattle.cpa_sim.specs.Simulation.{IsAt, IsSoon}
 use Rattle.cpa_sim.specs.Served.{RanWithin}
@@ -18,7 +18,7 @@ pub record ReplayLists : Type 0 where
   pub firsts : List (Option TaskId)
   pub nexts : List (Option TaskId)
   pub keeps : Bool
-  pub lines : List LineLists
+  pub lines : List LineCounts
   pub desks : List Desk
   pub feeds : List Feed
   pub time : ℕ

@@ -3,10 +3,9 @@ use Rattle.std.specs.Prelude.{ℕ, ◌≡◌, ◌<◌, ◌+◌, ◌-◌, Bool, i
 use Rattle.cpa_model.specs.SystemLists.{SystemLists}
 use Rattle.cpa_trace.specs.Trace.{TraceLists}
 use Rattle.cpa_sim.specs.declared.desks.Desk.{Desk}
-use Rattle.cpa_sim.specs.declared.jobs.Progress.{Progress}
 use Rattle.cpa_sim.specs.declared.jobs.Served.{Served}
-use Rattle.cpa_sim.specs.Run.{is_open, choice_at, run}
-use Rattle.cpa_sim.specs.Lines.{LineLists}
+use Rattle.cpa_sim.specs.Run.{Progress, is_open, choice_at, run}
+use Rattle.cpa_sim.specs.Lines.{LineCounts}
 use Rattle.cpa_sim.specs.Simulation.{line_at, desk_at, runner}
 
 -- the number of the earliest job that isn't complete
@@ -23,13 +22,13 @@ unfoldable pub served_at : SystemLists → TraceLists → ℕ → ℕ → Option
 served_at s tr t r = option_map (numbered (λ i. first_open ((run s tr t).jobs i))) (choice_at s tr t (run s tr t) r).task
 
 -- the number of the job of a task that ran last: the earliest pending one, or the one before it if that ends now
-abbrev pub last_of : LineLists → Bool → ℕ
+abbrev pub last_of : LineCounts → Bool → ℕ
 last_of line ends = line.done - (if ends then 1 else 0)
 
 -- the job that the simulator gave the ticks that it passed last
-abbrev pub ran_by : List LineLists → List Desk → ℕ → Option Served
+abbrev pub ran_by : List LineCounts → List Desk → ℕ → Option Served
 ran_by lines desks r = option_map (numbered (λ i. last_of (line_at lines i) (desk_at desks r).ends)) (runner (desk_at desks r))
 
 -- the tasks that run are in the list
-abbrev pub RanWithin : List LineLists → List Desk → Type 0
+abbrev pub RanWithin : List LineCounts → List Desk → Type 0
 RanWithin lines desks = (r i : ℕ) → r < length desks → runner (desk_at desks r) ≡ Some i → i < length lines

@@ -10,8 +10,8 @@ use Rattle.cpa_units.specs.declared.bound.Bound.TheVariants.{Within}
 use Rattle.cpa_units.specs.declared.limits.TheConstants.{MAX_EXECUTION}
 use Rattle.cpa_units.specs.Bounds.{IsAtMost, fits}
 use Rattle.cpa_units.specs.Search.{greatest_to}
-use Rattle.cpa_units.proofs.BoundLaws.{fits-true, fits-from}
-use Rattle.cpa_units.proofs.SearchLaws.{greatest_to-le, greatest_to-passes, greatest_to-greatest}
+use Rattle.cpa_units.proofs.DeadlineLaws.{meets_deadline, deadline-decides}
+use Rattle.cpa_units.proofs.SearchLaws.{all_pass, greatest_to-le, greatest_to-passes, greatest_to-greatest}
 use Rattle.cpa_model.specs.declared.entries.Path.{Path}
 use Rattle.cpa_model.specs.SystemLists.{SystemLists, task_at, path_at, no_task}
 use Rattle.cpa_model.specs.Rules.{IsSystem, IsTask}
@@ -23,21 +23,6 @@ use Rattle.cpa_slack.specs.Slack.{longer, HoldsPath, Holds, IsMost, IsMostUpTo, 
 use Rattle.cpa_slack.proofs.SlackLaws.{longer-none, less-holds, most-of_all}
 
 -- ---- whether a system holds
-
-abbrev meets_deadline : Option ℕ → Bound → Bool
-meets_deadline None bound = true
-meets_deadline (Some d) bound = fits bound d
-
-deadline-decides : (deadline : Option ℕ) (bound : Bound) → Decides (meets_deadline deadline bound) (ForSome deadline (λ d. IsAtMost bound (Within d)))
-deadline-decides None bound = (λ told d is. absurd (none-some d is), λ h. refl)
-deadline-decides (Some d) bound = (
-  λ told e is. subst (λ (n : ℕ). IsAtMost bound (Within n)) (same_Some d e is) (fits-true bound d told),
-  λ h. fits-from bound d (h d refl),
-)
-
-abbrev all_pass : (ℕ → Bool) → ℕ → Bool
-all_pass p zero = true
-all_pass p (suc n) = p n && all_pass p n
 
 path_meets : List Bound → Path → Bool
 path_meets x p = meets_deadline p.deadline (path_worst x p)

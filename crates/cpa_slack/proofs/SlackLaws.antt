@@ -9,7 +9,7 @@ use Rattle.cpa_units.specs.declared.limits.TheConstants.{MAX_EXECUTION}
 use Rattle.cpa_units.specs.declared.places.TaskId.{TaskId}
 use Rattle.cpa_units.specs.Bounds.{IsAtMost, fits, IsNowhereAbove, bound_of, sum_bounds}
 use Rattle.cpa_units.proofs.BoundLaws.{IsAtMost_trans, IsAtMost_refl, fits-true, fits-from, bound_plus-mono}
-use Rattle.cpa_edit.proofs.ChangeLaws.{exec-kept}
+use Rattle.cpa_model.proofs.KeptRules.{exec-kept}
 use Rattle.cpa_model.specs.declared.entries.Path.{Path}
 use Rattle.cpa_model.specs.declared.entries.Task.{Task}
 use Rattle.cpa_model.specs.SystemLists.{SystemLists, task_at, path_at, no_task, no_path}

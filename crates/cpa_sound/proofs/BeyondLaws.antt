@@ -14,8 +14,7 @@ use Rattle.cpa_model.specs.SystemLists.{SystemLists, task_at, task_places}
 use Rattle.cpa_local.specs.Solution.{IsClosed}
 use Rattle.cpa_trace.specs.Trace.{TraceLists, Obeys}
 use Rattle.cpa_sim.specs.declared.jobs.Job.{Job}
-use Rattle.cpa_sim.specs.declared.jobs.Progress.{Progress}
-use Rattle.cpa_sim.specs.Run.{run}
+use Rattle.cpa_sim.specs.Run.{Progress, run}
 use Rattle.cpa_units.specs.declared.limits.TheConstants.{MAX_TRACE_JOBS}
 use Rattle.cpa_trace.specs.Reading.{jobs_of}
 use Rattle.cpa_sim.specs.Outcome.{OutcomeLists, jobs_seen, job_of, end_of, outcome_of, CanReplay}

@@ -4,10 +4,9 @@ use Rattle.std.proofs.lemmas.Bool.{cases_Bool, cond-true, cond-false}
 use Rattle.cpa_model.specs.SystemLists.{SystemLists, task_at}
 use Rattle.cpa_sound.proofs.Serving.{work, IsInOrder}
 use Rattle.cpa_trace.specs.Trace.{TraceLists, need}
-use Rattle.cpa_sim.specs.declared.jobs.Progress.{Progress}
 use Rattle.cpa_sim.proofs.JobCount.{length-serve, length-served}
 use Rattle.cpa_sim.proofs.RunLaws.{jobs-zero, jobs-suc}
-use Rattle.cpa_sim.specs.Run.{is_open, waits, ended_count, serve, new_jobs, arriving, runs_in, served, ends_in, run}
+use Rattle.cpa_sim.specs.Run.{Progress, is_open, waits, ended_count, serve, new_jobs, arriving, runs_in, served, ends_in, run}
 use Rattle.cpa_sound.specs.RunCourse.{received_before, arrived_before, course_of}
 use Rattle.cpa_sound.specs.BoundsHold.{no_job}
 use Rattle.cpa_sound.proofs.CourseLaws.{work-zero, work-mono}

@@ -13,8 +13,7 @@ use Rattle.cpa_sound.proofs.Serving.{work, EndsAfter}
 use Rattle.cpa_trace.specs.Trace.{TraceLists, need, Obeys}
 use Rattle.cpa_model.specs.Rules.{IsSystem}
 use Rattle.cpa_sound.proofs.RuleLaws.{feeder_there, bit-some}
-use Rattle.cpa_sim.specs.declared.jobs.Progress.{Progress}
-use Rattle.cpa_sim.specs.Run.{is_unset, is_open, ended_count, runs_in, served, run}
+use Rattle.cpa_sim.specs.Run.{Progress, is_unset, is_open, ended_count, runs_in, served, run}
 use Rattle.cpa_sound.specs.RunCourse.{received_before, course_of}
 use Rattle.cpa_sound.proofs.KeepsLaws.{RunsByKind, ComesFrom, KeepsLaws}
 use Rattle.cpa_sound.proofs.CoursesHold.{SourcesAreNear, IsChain, last_task, CoursesHold}

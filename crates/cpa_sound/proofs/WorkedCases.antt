@@ -23,8 +23,7 @@ use Rattle.cpa_local.specs.Local.{response, responses}
 use Rattle.cpa_model.specs.Streams.{source_stream}
 use Rattle.cpa_trace.specs.Trace.{TraceLists, times_of, time_of, phase_of, Obeys}
 use Rattle.cpa_sched.specs.Steps.{step}
-use Rattle.cpa_sim.specs.declared.jobs.Progress.{Progress}
-use Rattle.cpa_sim.specs.Run.{choice_at, runs_in, served, ends_in, advance, run}
+use Rattle.cpa_sim.specs.Run.{Progress, choice_at, runs_in, served, ends_in, advance, run}
 use Rattle.cpa_sound.specs.BoundsHold.{no_job, job_at, HasJob, BoundsHold}
 
 abbrev resource : Kind → Resource

@@ -17,8 +17,7 @@ use Rattle.cpa_model.specs.Streams.{source_stream}
 use Rattle.cpa_model.specs.SystemLists.{SystemLists, task_at}
 use Rattle.cpa_local.specs.Inputs.{input}
 use Rattle.cpa_trace.specs.Trace.{TraceLists, times_of, time_of, Obeys}
-use Rattle.cpa_sim.specs.declared.jobs.Progress.{Progress}
-use Rattle.cpa_sim.specs.Run.{run}
+use Rattle.cpa_sim.specs.Run.{Progress, run}
 
 -- what a place outside the list of jobs reads as
 abbrev pub no_job : Progress

@@ -1,7 +1,7 @@
 //! A bound on a response time.
 
-ghost use Rattle.std.specs.Prelude.{◌≡◌};
-ghost use Rattle.cpa_units.specs.Bounds.{bound_max};
+ghost use Rattle.std.specs.Prelude.{◌≡◌, ◌^◌};
+ghost use Rattle.cpa_units.specs.Bounds.{RespectsLimit, bound_max, bound_plus};
 ghost use Rattle.cpa_units.specs.Words.{IsWordable, word_of, bound_of_word, WordsComeBack, WordsKeepOrder};
 
 /// A number of ticks, or no bound, which is above every number.
@@ -18,6 +18,18 @@ impl Bound {
     {
         match (self, other) {
             (Bound::Within(a), Bound::Within(b)) => Bound::Within(a.max(b)),
+            _ => Bound::Overload,
+        }
+    }
+
+    /// The sum of two bounds, neither of which is above 2^62.
+    pub fn plus(self, other: Bound) -> Bound
+        requires small { RespectsLimit (2 ^ 62) self }
+        requires other { RespectsLimit (2 ^ 62) other }
+        ensures { result ≡ bound_plus self other }
+    {
+        match (self, other) {
+            (Bound::Within(a), Bound::Within(b)) => Bound::Within(a + b),
             _ => Bound::Overload,
         }
     }

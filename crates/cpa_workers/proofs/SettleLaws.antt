@@ -1,6 +1,5 @@
 -- What comes of a round once the workers are through.
-use Rattle.std.proofs.Common.{◌≡◌, ℕ, ◌+◌, ◌<◌, ◌≤◌, Bool, false, length, get_or, set, take, List, ◌++◌, Option, Some, None, Result, Ok, Err, refl, sym, ap, ◌∙◌, inl, inr, ◌⊎◌, subst, arith, get_or-set_same, get_or-set_other, length-set}
-use Rattle.std.specs.Result.{OnOk}
+use Rattle.std.proofs.Common.{◌≡◌, ℕ, ◌+◌, ◌<◌, ◌≤◌, Bool, false, length, get_or, set, take, List, ◌++◌, Option, Some, None, refl, sym, ap, ◌∙◌, inl, inr, ◌⊎◌, subst, arith, get_or-set_same, get_or-set_other, length-set}
 use Rattle.std.proofs.lemmas.Bool.{cases_eq, cases_lt, cases_Bool, false≢true}
 use Rattle.std.proofs.lemmas.List.{get_or_past}
 use Rattle.std.proofs.Math.Seq.{take-append_seam}
@@ -229,10 +228,6 @@ whole-marked s dirty missing old mid found before half trail marks joined after 
           let reading = lacks.has (task_at s i).res.0 on.1 there in
           kept.marks i (h.marked (task_at s i).res.0 reading.0 reading.1 i (on.0, refl))
     ]
-
-pub OnOk-weaker : {A B : Type 0} (P Q : Type 0) (r : Result A B) → (P → Q) → OnOk r P → OnOk r Q
-OnOk-weaker P Q (Ok a) f h = f h
-OnOk-weaker P Q (Err e) f h = tt
 
 -- the front of a list that was written at its front
 pub take-front : (xs ys : List ℕ) (n : ℕ) → length xs ≡ n → take n (xs ++ ys) ≡ xs

@@ -2,7 +2,7 @@ use Rattle.std.proofs.Common.{◌≡◌, ◌+◌, Some, None, cond, eqb, refl, g
 use Rattle.std.proofs.lemmas.Bool.{cond-true, eq-eqb}
 use Rattle.std.proofs.lemmas.List.{get_or_read}
 use Rattle.cpa_model.specs.SystemLists.{place_of}
-use Rattle.cpa_sim.specs.Lines.{LineLists}
+use Rattle.cpa_sim.specs.Lines.{LineCounts}
 use Rattle.cpa_sim.specs.Simulation.{line_at}
 use Rattle.cpa_sim.specs.Arrivals.{number_at, IsNext}
 use Rattle.cpa_sim.proofs.ArrivalLaws.{IsHalfway, halfway-more}
@@ -18,7 +18,7 @@ arrive_at-requires-clause-few c =
     let d0 = c.args.desks.now.items in
     let l1 = c.followers.lines.items in
     let here : IsHalfway s c.args.now c.args.number c.args.count l0 d0 (Some t) l1 c.followers.desks.items = subst (λ o. IsHalfway s c.args.now c.args.number c.args.count l0 d0 o l1 c.followers.desks.items) (ap (option_map place_of) c.in-Some.is) c.followers.invariant in
-    let same : (line_at l1 t).count ≡ (line_at l0 t).count = ap (λ (l : LineLists). l.count) (here.later t t refl (omega arith)) in
+    let same : (line_at l1 t).count ≡ (line_at l0 t).count = ap (λ (l : LineCounts). l.count) (here.later t t refl (omega arith)) in
     let all : cond (eqb (number_at s t) c.args.number) c.args.count 0 ≡ c.args.count = cond-true (eqb (number_at s t) c.args.number) _ _ (eq-eqb (number_at s t) c.args.number (here.follows t refl)) in
     omega (arith, same, all, c.requires.few t (here.there t refl))
 

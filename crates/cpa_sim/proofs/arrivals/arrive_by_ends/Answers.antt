@@ -1,6 +1,6 @@
 use Rattle.std.proofs.Common.{◌≡◌, ◌∙◌, ◌+◌, ◌<◌, length, option_map, ap, sym, subst, refl, arith}
 use Rattle.cpa_model.specs.SystemLists.{place_of, task_at}
-use Rattle.cpa_sim.specs.Lines.{LineLists}
+use Rattle.cpa_sim.specs.Lines.{LineCounts}
 use Rattle.cpa_sim.specs.Simulation.{desk_at}
 use Rattle.cpa_sim.specs.Arrivals.{AreGiven, by_desk, by_ends}
 use Rattle.cpa_sim.proofs.ArrivalLaws.{ends_below, ends-more, ends-all, ends-none, ends-le, given-none, given-same, given-then}
@@ -23,7 +23,7 @@ arrive_by_desk-requires-clause-few c = λ i less.
     let d1 = c.loop-k.desks.items in
     let there : k < length s.resources = omega (arith, c.resources-k-end.ensures.count) in
     let kept = c.loop-k.invariant.kept k there in
-    let so_far = ap (λ (l : LineLists). l.count) (c.loop-k.invariant.arrived i less) in
+    let so_far = ap (λ (l : LineCounts). l.count) (c.loop-k.invariant.arrived i less) in
     let more = ends-more s d0 (desk_at d1 k) k i kept.running kept.ends (λ j e. c.requires.runs k j there e) in
     omega (arith, so_far, more, ends-le s d0 (k + 1) i, c.requires.few i less)
 

@@ -4,7 +4,7 @@ use Rattle.std.specs.Prelude.{count_by, ◌==◌}
 use Rattle.cpa_trace.specs.Trace.{times_of}
 use Rattle.cpa_sim.specs.declared.feeds.Feed.{Feed}
 use Rattle.cpa_sim.specs.Feeds.{no_feed, IsPassed, IsAhead}
-use Rattle.cpa_sim.specs.Lines.{LineLists}
+use Rattle.cpa_sim.specs.Lines.{LineCounts}
 use Rattle.cpa_sim.specs.Arrivals.{number_at}
 use Rattle.cpa_sim.proofs.PlaceLaws.{below-more, above-same}
 use Rattle.cpa_sim.proofs.ArrivalLaws.{events_below, events-more, events-le, given-same, given-then}
@@ -19,7 +19,7 @@ take_event-requires-clause-few c = λ i there.
     let now = c.args.now in
     let k = c.loop-k.k in
     let l0 = c.args.lines.now.items in
-    let so_far = ap (λ (l : LineLists). l.count) (c.loop-k.invariant.given.arrived i there) in
+    let so_far = ap (λ (l : LineCounts). l.count) (c.loop-k.invariant.given.arrived i there) in
     let more = events-more s tr now k i (count_by (λ time. time == now) (times_of tr k)) refl in
     let all = events-le s tr now (k + 1) i (omega (arith, c.sources-k-end.ensures.count)) in
     omega (arith, so_far, more, all, c.requires.few i there)

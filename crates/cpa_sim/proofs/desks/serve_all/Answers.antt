@@ -5,7 +5,7 @@ use Rattle.cpa_model.specs.SystemLists.{task_at}
 use Rattle.cpa_sched.specs.States.{IsWaiting}
 use Rattle.cpa_sim.specs.declared.desks.Desk.{Desk}
 use Rattle.cpa_trace.specs.Trace.{need}
-use Rattle.cpa_sim.specs.Lines.{LineLists, has_pending, served_line}
+use Rattle.cpa_sim.specs.Lines.{LineCounts, has_pending, served_line}
 use Rattle.cpa_sim.specs.Simulation.{line_at, desk_at, no_desk, runner, runs_at, waiting, IsServed}
 use Rattle.cpa_sim.proofs.PlaceLaws.{below-more, above-same}
 use Rattle.cpa_sim.proofs.DeskLaws.{runs-elsewhere}
@@ -59,7 +59,7 @@ loop-k-preserved c =
             ends = λ i e.
                 let p = waits i e in
                 let on : (task_at s i).res.0 ≡ k = eqb-true (task_at s i).res.0 k p.on.here in
-                h.ends i e ∙ ap (λ (l : LineLists). nat_le l.left c.args.ticks) (inv.still i p.on.task (omega (arith, on)));
+                h.ends i e ∙ ap (λ (l : LineCounts). nat_le l.left c.args.ticks) (inv.still i p.on.task (omega (arith, on)));
             state = h.state;
             kept = h.kept;
           });
