@@ -68,6 +68,7 @@ task = [{ name = "t", on = "ring", after = "s", best = 3, worst = 3, slot = 2 }]
 
 
 def burst():
+    """One processor with 512 tasks, all of which follow each event of one source."""
     text = ["format = 1", 'resource = [{ name = "cpu", kind = "preemptive" }]']
     text += ['source = [{ name = "s", period = 10, jitter = 1_000_000 }]', "task = ["]
     text += [f'{{ name = "t{k}", on = "cpu", after = "s", best = 1, worst = 1, priority = {k} }},' for k in range(512)]

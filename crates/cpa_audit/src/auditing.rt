@@ -220,7 +220,8 @@ fn close_all(system: &System, trace: &Trace, schedule: &Schedule, so_far: &mut S
 }
 
 /// What there is to say of a schedule, beside the segments of the run of a trace. The condition on the
-/// trace is that of `replay`.
+/// trace is that of `replay`. Memory is wanted at its start alone, for the resources and tasks of the
+/// system, however many jobs the run has.
 pub fn audit(
     alloc: Global,
     system: &System,
@@ -235,7 +236,7 @@ pub fn audit(
     let mut so_far = start(alloc, system)?;
     'moments: while replay.goes_on() {
         let time = replay.time();
-        replay.advance(system, trace)?;
+        replay.advance(system, trace);
         follow_all(system, trace, schedule, &mut so_far, &replay, time);
     }
     close_all(system, trace, schedule, &mut so_far, replay.time());

@@ -17,10 +17,10 @@ use Rattle.cpa_local.proofs.ResponseLaws.{input-is_input}
 use Rattle.cpa_trace.specs.Trace.{TraceLists}
 use Rattle.cpa_model.specs.SystemLists.{tasks_on}
 use Rattle.cpa_sched.specs.States.{IsOn}
-use Rattle.cpa_sim.specs.Run.{Progress, is_unset, is_open, run}
+use Rattle.cpa_sim.specs.Run.{no_job, Progress, is_unset, is_open, run}
 use Rattle.cpa_sim.specs.Outcome.{end_of}
 use Rattle.cpa_sched.proofs.StepLaws.{tasks_on-are}
-use Rattle.cpa_sound.specs.BoundsHold.{no_job, job_at, HasJob, HoldIn}
+use Rattle.cpa_sound.specs.BoundsHold.{job_at, HasJob, HoldIn}
 use Rattle.cpa_sound.proofs.FieldLaws.{arrival-is}
 use Rattle.cpa_sound.proofs.Soundness.{closed_vectors_bound_every_run, least_solutions_bound_every_run}
 use Rattle.cpa_buffer.specs.Buffers.{buffer_at, buffer_of, buffer_on, pending_at, pending_on, highest, peak_of, peak_on}

@@ -1,7 +1,7 @@
 //! Bounds on how many jobs wait. Times are in ticks.
 
 ghost use Rattle.std.specs.Prelude.{◌≡◌, ◌<◌, ◌^◌, length};
-ghost use Rattle.cpa_units.specs.Bounds.{RespectsLimit, bound_plus};
+ghost use Rattle.cpa_units.specs.Bounds.{RespectsLimit};
 ghost use Rattle.cpa_local.specs.Solution.{IsVector};
 ghost use Rattle.cpa_buffer.specs.Buffers.{buffer_of, buffer_on};
 

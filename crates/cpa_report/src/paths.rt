@@ -1,8 +1,7 @@
 //! The times of paths from end to end, and what they say of deadlines. All times are in ticks.
 
-ghost use Rattle.std.specs.Prelude.{◌≡◌, ◌<◌, ◌*◌, ◌^◌, length, All};
-ghost use Rattle.cpa_units.specs.declared.limits.TheConstants.{MAX_LIMIT};
-ghost use Rattle.cpa_units.specs.Bounds.{RespectsLimit, bound_of, bound_plus, sum_bounds};
+ghost use Rattle.std.specs.Prelude.{◌≡◌, ◌<◌, length, All};
+ghost use Rattle.cpa_units.specs.Bounds.{bound_of, sum_bounds};
 ghost use Rattle.cpa_model.specs.SystemLists.{task_at, path_at};
 ghost use Rattle.cpa_local.specs.Solution.{IsVector};
 ghost use Rattle.std.specs.List.{sum_by};

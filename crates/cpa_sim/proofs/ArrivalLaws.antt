@@ -2,6 +2,7 @@
 use Rattle.std.proofs.Common.{◌≡◌, ◌≢◌, ℕ, zero, suc, ◌+◌, ◌-◌, ◌<◌, ◌≤◌, ◌++◌, length, List, ◌∷◌, true, false, cond, eqb, ltb, ◌&&◌, Option, Some, None, option_map, refl, sym, ◌∙◌, ap, subst, inl, inr, arith}
 use Rattle.std.proofs.lemmas.Bool.{cases_lt, cases_Bool, lt-ltb, le-ltb, eq-eqb, eqb-true, ne_eqb, false≢true}
 use Rattle.std.proofs.lemmas.List.{append-nil, append_assoc}
+use Rattle.std.proofs.lemmas.Option.{same_Some}
 use Rattle.std.specs.Prelude.{count_by, ◌==◌}
 use Rattle.cpa_model.specs.declared.entries.Activator.{Activator}
 use Rattle.cpa_model.specs.declared.entries.Activator.TheVariants.{Source, Task}
@@ -116,9 +117,6 @@ module _ (s : SystemLists) (now number count : ℕ) (l0 : List LineCounts) (d0 :
         asked = λ i less e before more. absurd (first.none i (omega arith) less before e);
       }
 
-  some-same : (x y : ℕ) → Some x ≡ Some y → x ≡ y
-  some-same x y e = cc
-
   pub halfway-more : (placed : (i : ℕ) → i < length s.tasks → (task_at s i).res.0 < length s.resources) (t : ℕ) (next : Option ℕ) (l1 : List LineCounts) (d1 : List Desk) (l2 : List LineCounts) (d2 : List Desk)
       → IsHalfway (Some t) l1 d1 → IsNext s number (t + 1) next → length l2 ≡ length s.tasks → length d2 ≡ length s.resources
       → line_at l2 t ≡ with_arrivals now count (line_at l1 t) → ((i : ℕ) → i ≢ t → line_at l2 i ≡ line_at l1 i)
@@ -133,7 +131,7 @@ module _ (s : SystemLists) (now number count : ℕ) (l0 : List LineCounts) (d0 :
         follows = after.follows;
         arrived = λ i less e before.
             elim (cases_lt i t) [
-              | inl early ↦ elsewhere i (λ f. absurd (omega arith)) ∙ h.arrived i less e (λ j f. let same = some-same t j f in omega arith)
+              | inl early ↦ elsewhere i (λ f. absurd (omega arith)) ∙ h.arrived i less e (λ j f. let same = same_Some t j f in omega arith)
               | inr late ↦ elim (cases_lt t i) [
                 | inl more ↦ absurd (after.none i (omega arith) less before e)
                 | inr same ↦
@@ -150,7 +148,7 @@ module _ (s : SystemLists) (now number count : ℕ) (l0 : List LineCounts) (d0 :
             elim (cases_lt i t) [
               | inl early ↦
                   let same = (keeps (task_at s i).res.0 (placed i less)).same more in
-                  h.asked i less e (λ j f. let same = some-same t j f in omega arith) (subst (λ (x : Desk). x.gone < x.ticks) same more)
+                  h.asked i less e (λ j f. let same = same_Some t j f in omega arith) (subst (λ (x : Desk). x.gone < x.ticks) same more)
               | inr late ↦ elim (cases_lt t i) [
                 | inl more' ↦ absurd (after.none i (omega arith) less before e)
                 | inr same ↦
@@ -297,13 +295,13 @@ module _ (s : SystemLists) where
             | inr rests ↦ rw rests refl
           ]
 
-  pub ends-all : (can : AreLinked s) (desks : List Desk) (i : ℕ) → i < length s.tasks → (a : Activator) → (task_at s i).after ≡ a
+  pub ends-all : (links : AreLinked s) (desks : List Desk) (i : ℕ) → i < length s.tasks → (a : Activator) → (task_at s i).after ≡ a
       → cond (ltb (number_of s a) (length s.sources)) 0 (cond (ltb (task_at s (number_of s a - length s.sources)).res.0 (length s.resources)) (ends_of s desks (number_of s a - length s.sources)) 0) ≡ cond (ltb (number_of s a) (length s.sources)) 0 (ends_of s desks (number_of s a - length s.sources))
-  ends-all can desks i there (Source k) e = let a : ltb k.0 (length s.sources) ≡ true = lt-ltb k.0 (length s.sources) (can.sourced i k.0 there e) in rw a refl
-  ends-all can desks i there (Task j) e =
+  ends-all links desks i there (Source k) e = let a : ltb k.0 (length s.sources) ≡ true = lt-ltb k.0 (length s.sources) (links.sourced i k.0 there e) in rw a refl
+  ends-all links desks i there (Task j) e =
       let same : length s.sources + j.0 - length s.sources ≡ j.0 = omega arith in
       let placed : ltb (task_at s (length s.sources + j.0 - length s.sources)).res.0 (length s.resources) ≡ true =
-      ap (λ m. ltb (task_at s m).res.0 (length s.resources)) same ∙ lt-ltb (task_at s j.0).res.0 (length s.resources) (can.placed j.0 (can.fed i j.0 there e)) in
+      ap (λ m. ltb (task_at s m).res.0 (length s.resources)) same ∙ lt-ltb (task_at s j.0).res.0 (length s.resources) (links.placed j.0 (links.fed i j.0 there e)) in
       rw placed refl
 
   pub ends-none : (desks : List Desk) (i : ℕ) → 0 ≡ ends_below desks 0 i
@@ -331,11 +329,11 @@ module _ (s : SystemLists) where
 
 module _ (s : SystemLists) (tr : TraceLists) (now : ℕ) where
   -- what arrives in all
-  pub arrives : (can : AreLinked s) (olds news : List Desk) → ((r : ℕ) → r < length s.resources → IsKept (kind_of s r) (desk_at olds r) (desk_at news r))
+  pub arrives : (links : AreLinked s) (olds news : List Desk) → ((r : ℕ) → r < length s.resources → IsKept (kind_of s r) (desk_at olds r) (desk_at news r))
       → (i : ℕ) → i < length s.tasks → (a : Activator) → (task_at s i).after ≡ a
       → cond (ltb (number_of s a) (length s.sources)) (count_by (λ time. time == now) (times_of tr (number_of s a))) 0 + cond (ltb (number_of s a) (length s.sources)) 0 (ends_of s news (number_of s a - length s.sources)) ≡ arriving tr now (ends_of s olds) a
-  arrives can olds news keeps i there (Source k) e = let a : ltb k.0 (length s.sources) ≡ true = lt-ltb k.0 (length s.sources) (can.sourced i k.0 there e) in rw a (omega arith)
-  arrives can olds news keeps i there (Task j) e =
+  arrives links olds news keeps i there (Source k) e = let a : ltb k.0 (length s.sources) ≡ true = lt-ltb k.0 (length s.sources) (links.sourced i k.0 there e) in rw a (omega arith)
+  arrives links olds news keeps i there (Task j) e =
       let a : ltb (length s.sources + j.0) (length s.sources) ≡ false = le-ltb (length s.sources + j.0) (length s.sources) (omega arith) in
       let same : length s.sources + j.0 - length s.sources ≡ j.0 = omega arith in
-      rw (a, same) (zero-plus (ends_of s news j.0) ∙ ends-kept s olds news keeps j.0 (can.placed j.0 (can.fed i j.0 there e)))
+      rw (a, same) (zero-plus (ends_of s news j.0) ∙ ends-kept s olds news keeps j.0 (links.placed j.0 (links.fed i j.0 there e)))

@@ -2,14 +2,11 @@
 use Rattle.std.proofs.Common.{◌≡◌, ◌≢◌, ℕ, ◌<◌, length, List, Bool, false, cond, ◌&&◌, Some, option_map, refl, sym, ◌∙◌, ap, subst, inl, inr}
 use Rattle.std.proofs.lemmas.Bool.{cases_Bool, eqb-true}
 use Rattle.cpa_model.specs.declared.entries.Kind.{Kind}
-use Rattle.cpa_model.specs.declared.entries.Activator.{Activator}
-use Rattle.cpa_model.specs.declared.entries.Activator.TheVariants.{Source, Task}
 use Rattle.cpa_model.specs.SystemLists.{SystemLists, task_at, place_of}
-use Rattle.cpa_trace.specs.Trace.{TraceLists}
 use Rattle.cpa_sched.specs.Steps.{kind_of}
 use Rattle.cpa_sched.specs.States.{IsWaiting}
 use Rattle.cpa_sim.specs.declared.desks.Desk.{Desk}
-use Rattle.cpa_sim.specs.Run.{arriving, is_chosen}
+use Rattle.cpa_sim.specs.Run.{is_chosen}
 use Rattle.cpa_sim.specs.Simulation.{desk_at, runner, runs_at, ends_of, IsKept}
 use Rattle.cpa_sim.proofs.GlideLaws.{chosen-is}
 
@@ -39,8 +36,3 @@ ends-kept s olds news keeps j placed =
     let k = keeps (task_at s j).res.0 placed in
     ap (λ o. cond (is_chosen (option_map place_of o) j && (desk_at news (task_at s j).res.0).ends) 1 0) k.running
     ∙ ap (λ b. cond (is_chosen (runner (desk_at olds (task_at s j).res.0)) j && b) 1 0) k.ends
-
-pub arriving-kept : (s : SystemLists) (tr : TraceLists) (now : ℕ) (olds news : List Desk) → ((r : ℕ) → r < length s.resources → IsKept (kind_of s r) (desk_at olds r) (desk_at news r))
-    → (a : Activator) → ((j : ℕ) → a ≡ Task (record { 0 = j }) → (task_at s j).res.0 < length s.resources) → arriving tr now (ends_of s news) a ≡ arriving tr now (ends_of s olds) a
-arriving-kept s tr now olds news keeps (Source k) placed = refl
-arriving-kept s tr now olds news keeps (Task j) placed = ends-kept s olds news keeps j.0 (placed j.0 refl)

@@ -1,8 +1,9 @@
--- The lists of the tasks that follow each activator, from the last task to the first.
-use Rattle.std.proofs.Common.{◌≡◌, ◌≢◌, ℕ, ◌+◌, ◌<◌, ◌≤◌, length, List, Option, Some, None, option_map, replicate, refl, sym, ◌∙◌, ap, subst, inl, inr, arith, get_or, set}
+-- Where the resource and the activator of each task stand, and the lists of the tasks that follow each activator, from the last task to the first.
+use Rattle.std.proofs.Common.{◌≡◌, ◌≢◌, ℕ, ◌+◌, ◌<◌, length, List, Option, Some, None, option_map, refl, sym, ◌∙◌, ap, subst, inl, inr, arith, get_or, set}
 use Rattle.std.proofs.lemmas.Bool.{cases_lt}
+use Rattle.std.proofs.lemmas.Option.{same_Some}
 use Rattle.std.proofs.lemmas.List.Elements.{All-get_or}
-use Rattle.std.proofs.lemmas.List.{get_or-set_same, get_or-set_other, get_or-replicate, length-replicate, length-set}
+use Rattle.std.proofs.lemmas.List.{get_or-set_same, get_or-set_other, length-set}
 use Rattle.cpa_units.specs.declared.places.TaskId.{TaskId}
 use Rattle.cpa_model.specs.declared.entries.Activator.TheVariants.{Source, Task}
 use Rattle.cpa_model.specs.Rules.{IsSystem, IsTask, IsActivator}
@@ -26,32 +27,14 @@ linked s rules =
       sourced = λ i k there e. subst (IsActivator s) e (is-task s rules i there).activated;
     }
 
-some-same : (x y : ℕ) → Some x ≡ Some y → x ≡ y
-some-same x y e = cc
-
--- none so far
-pub none-yet : (s : SystemLists) (p from : ℕ) → length s.tasks ≤ from → IsNext s p from None
-none-yet s p from end = record { from_on = λ j e. cc; there = λ j e. cc; follows = λ j e. cc; none = λ i low high before. absurd (omega arith) }
-
-pub no-followers : (s : SystemLists) (from : ℕ) (firsts nexts : List (Option TaskId)) → firsts ≡ replicate (length s.sources + length s.tasks) None → nexts ≡ replicate (length s.tasks) None → length s.tasks ≤ from → AreFollowers s from firsts nexts
-no-followers s from firsts nexts f n end =
-    record {
-      count_firsts = ap length f ∙ length-replicate (length s.sources + length s.tasks) None;
-      count_nexts = ap length n ∙ length-replicate (length s.tasks) None;
-      firsts_are = λ p less.
-          let e : entry_at firsts p ≡ None = ap (λ xs. entry_at xs p) f ∙ ap (option_map place_of) (get_or-replicate (length s.sources + length s.tasks) p None None less) in
-          subst (IsNext s p from) (sym e) (none-yet s p from end);
-      nexts_are = λ i low high. absurd (omega arith);
-    }
-
 module _ (s : SystemLists) (task : TaskId) (there : task.0 < length s.tasks) (firsts nexts : List (Option TaskId)) (so_far : AreFollowers s (task.0 + 1) firsts nexts) (number : ℕ) (is : number ≡ number_at s task.0) (within : number < length s.sources + length s.tasks) (first : Option TaskId) (reads : first ≡ get_or firsts number None) where
   -- the task itself is the first
   itself : IsNext s number task.0 (Some task.0)
   itself =
       record {
-        from_on = λ j e. let same = some-same task.0 j e in omega (arith, same);
-        there = λ j e. subst (λ k. k < length s.tasks) (some-same task.0 j e) there;
-        follows = λ j e. subst (λ k. number_at s k ≡ number) (some-same task.0 j e) (sym is);
+        from_on = λ j e. let same = same_Some task.0 j e in omega (arith, same);
+        there = λ j e. subst (λ k. k < length s.tasks) (same_Some task.0 j e) there;
+        follows = λ j e. subst (λ k. number_at s k ≡ number) (same_Some task.0 j e) (sym is);
         none = λ i low high before. let less = before task.0 refl in absurd (omega arith);
       }
 

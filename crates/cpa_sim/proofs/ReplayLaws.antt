@@ -4,7 +4,7 @@ use Rattle.std.specs.List.{list_any}
 use Rattle.std.proofs.lemmas.Bool.{cases_lt, cases_Bool, lt-ltb, le-ltb, false≢true}
 use Rattle.cpa_units.specs.declared.limits.TheConstants.{HORIZON}
 use Rattle.cpa_units.specs.Search.{least_from}
-use Rattle.cpa_units.proofs.SearchLaws.{least_from-le, least_from-passes}
+use Rattle.cpa_units.proofs.SearchLaws.{least_from-passes}
 use Rattle.cpa_model.specs.SystemLists.{SystemLists}
 use Rattle.cpa_trace.specs.Trace.{TraceLists}
 use Rattle.cpa_sim.specs.Run.{run}
@@ -22,11 +22,6 @@ second : (a b c : Bool) → (a && (b || c)) ≡ true → b ≡ false → c ≡ t
 second true true c e none = absurd (false≢true (sym none))
 second true false c e none = e
 second false b c e none = absurd (false≢true e)
-
--- a run ends at the horizon at the latest
-pub end-within : (s : SystemLists) (tr : TraceLists) → end_of s tr ≤ HORIZON
-unfolding end_of
-end-within s tr = omega (arith, least_from-le (is_over s tr) 0 HORIZON)
 
 module _ (s : SystemLists) (tr : TraceLists) (p : ReplayLists) (is : IsReplay s tr p) where
   someone : someone_waits s (run s tr p.time) ≡ list_any has_pending p.lines

@@ -3,17 +3,17 @@ use Rattle.std.proofs.Common.{◌≡◌, ℕ, zero, suc, ◌+◌, ◌-◌, ◌<�
 use Rattle.std.proofs.lemmas.Bool.{cases_Bool, eqb-true, eq-eqb, cond-true}
 use Rattle.std.proofs.lemmas.Option.{none-some}
 use Rattle.cpa_model.specs.SystemLists.{SystemLists, place_of, task_at}
-use Rattle.cpa_trace.specs.Trace.{TraceLists, times_of, phase_of, need}
-use Rattle.cpa_sched.specs.Steps.{Choice, kind_of}
+use Rattle.cpa_trace.specs.Trace.{TraceLists, phase_of, need}
+use Rattle.cpa_sched.specs.Steps.{Choice}
 use Rattle.cpa_sched.specs.States.{IsOn}
 use Rattle.cpa_sim.specs.declared.desks.Desk.{Desk}
 use Rattle.cpa_sim.specs.declared.feeds.Feed.{Feed}
 use Rattle.cpa_sim.specs.declared.jobs.Served.{Served}
 use Rattle.cpa_sim.specs.Run.{Progress, is_open, waits, is_chosen, choice_at, run}
 use Rattle.cpa_sim.specs.Arrivals.{AreGiven}
-use Rattle.cpa_sim.specs.Feeds.{IsAhead}
-use Rattle.cpa_sim.specs.Lines.{LineCounts, AreInOrder, worked, served_line}
-use Rattle.cpa_sim.specs.Simulation.{line_at, desk_at, feed_at, runner, runs_at, waiting, state_now, Foresees, HasEnough, IsServed, IsAt}
+use Rattle.cpa_sim.specs.Lines.{LineCounts, worked, served_line}
+use Rattle.cpa_sim.proofs.JobLists.{AreInOrder}
+use Rattle.cpa_sim.specs.Simulation.{line_at, desk_at, runner, runs_at, waiting, IsServed, IsAt}
 use Rattle.cpa_sim.specs.Served.{first_open, numbered, served_at, last_of, ran_by, RanWithin}
 use Rattle.cpa_sim.proofs.LineLaws.{ordered-more}
 use Rattle.cpa_sim.proofs.GlideLaws.{Glides, chosen, jobs_at, left_at, picked, chosen-pending, after, task}

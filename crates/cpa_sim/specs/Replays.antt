@@ -13,7 +13,7 @@ use Rattle.cpa_sim.specs.Outcome.{CanReplay, events_from, is_over}
 use Rattle.cpa_sim.specs.Simulation.{IsAt, IsSoon}
 use Rattle.cpa_sim.specs.Served.{RanWithin}
 
--- what is known of a run as far as it was followed, where its jobs are kept or not
+-- what is known of a run as far as it was followed, and whether its jobs are kept
 pub record ReplayLists : Type 0 where
   pub firsts : List (Option TaskId)
   pub nexts : List (Option TaskId)

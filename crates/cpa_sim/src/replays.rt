@@ -1,6 +1,6 @@
 //! A run that is followed from one moment to the next. Times are in ticks.
 
-ghost use Rattle.std.specs.Prelude.{◌≡◌, ◌<◌, ◌≤◌, ℕ, length, map, nat_lt, false, IfOk, OnOk, IsOk};
+ghost use Rattle.std.specs.Prelude.{◌≡◌, ◌<◌, ◌≤◌, ℕ, length, map, nat_lt, true, false, IfOk, OnOk, IsOk};
 ghost use Rattle.cpa_model.specs.SystemLists.{SystemLists};
 ghost use Rattle.cpa_trace.specs.Trace.{TraceLists};
 ghost use Rattle.cpa_sim.specs.Lines.{kept_of};
@@ -38,18 +38,18 @@ impl Model for Replay {
 }
 
 impl Replay {
-    /// The run at tick 0, of which no job is kept. The condition on the trace is that of `replay`.
+    /// The run at tick 0, whose jobs aren't kept. The condition on the trace is that of `replay`.
     pub fn start(alloc: Global, system: &System, trace: &Trace) -> Result<Replay, NoMemory>
         requires { CanReplay system.now trace.now }
         ensures run { IfOk result (λ p. IsReplay system.now trace.now p) }
         ensures time { IfOk result (λ p. p.time ≡ 0) }
         ensures keeps { IfOk result (λ p. p.keeps ≡ false) }
     {
-        Replay::begin(alloc, system, trace, false)
+        Replay::start_with(alloc, system, trace, false)
     }
 
     /// The run at tick 0, where what is seen of its jobs is kept or not.
-    pub(crate) fn begin(
+    pub(crate) fn start_with(
         alloc: Global,
         system: &System,
         trace: &Trace,
@@ -85,8 +85,22 @@ impl Replay {
     }
 
     /// Follows the run to the next moment at which something can change. On each resource the same job
-    /// gets all ticks up to it, or none does. Where no job is kept this takes no memory.
-    pub fn advance(&mut self, system: &System, trace: &Trace) -> Result<(), NoMemory>
+    /// gets all ticks up to it, or nobody does. The jobs aren't kept, so that no memory is wanted.
+    pub fn advance(&mut self, system: &System, trace: &Trace)
+        requires run { IsReplay system.now trace.now self.old }
+        requires more { self.old.time < end_of system.now trace.now }
+        requires keeps { self.old.keeps ≡ false }
+        ensures run { IsReplay system.now trace.now self.new }
+        ensures keeps { self.new.keeps ≡ false }
+        ensures later { self.old.time < self.new.time }
+        ensures within { self.new.time ≤ end_of system.now trace.now }
+        ensures ran { (r u : ℕ) → r < length system.now.resources → self.old.time ≤ u → u < self.new.time → served_at system.now trace.now u r ≡ ran_by self.new.lines self.new.desks r }
+    {
+        self.step(system, trace).unwrap();
+    }
+
+    /// The same, where the jobs may be kept; the run is lost where memory is wanting for that.
+    pub(crate) fn step(&mut self, system: &System, trace: &Trace) -> Result<(), NoMemory>
         requires run { IsReplay system.now trace.now self.old }
         requires more { self.old.time < end_of system.now trace.now }
         ensures run { OnOk result (IsReplay system.now trace.now self.new) }
@@ -114,8 +128,9 @@ impl Replay {
         Some(Served { task, job })
     }
 
-    /// What is seen of a run that ends here, as far as it was kept.
+    /// What is seen of a run that ends here, whose jobs were kept.
     pub(crate) fn seen(self) -> Outcome
+        requires { self.keeps ≡ true }
         ensures { result ≡ record { jobs = map kept_of self.lines; end = self.time } }
     {
         let sim = self.sim;

@@ -18,9 +18,9 @@ pub fn replay(alloc: Global, system: &System, trace: &Trace) -> Result<Outcome, 
     ensures run { IfOk result (λ o. o ≡ outcome_of system.now trace.now) }
     ensures seen { IfOk result (λ o. IsOutcome system.now o) }
 {
-    let mut run = Replay::begin(alloc, system, trace, true)?;
+    let mut run = Replay::start_with(alloc, system, trace, true)?;
     'moments: while run.goes_on() {
-        run.advance(system, trace)?;
+        run.step(system, trace)?;
     }
     Ok(run.seen())
 }

@@ -14,13 +14,13 @@ use Rattle.cpa_model.specs.SystemLists.{SystemLists, task_at, task_places}
 use Rattle.cpa_local.specs.Solution.{IsClosed}
 use Rattle.cpa_trace.specs.Trace.{TraceLists, Obeys}
 use Rattle.cpa_sim.specs.declared.jobs.Job.{Job}
-use Rattle.cpa_sim.specs.Run.{Progress, run}
+use Rattle.cpa_sim.specs.Run.{no_job, Progress, run}
 use Rattle.cpa_units.specs.declared.limits.TheConstants.{MAX_TRACE_JOBS}
 use Rattle.cpa_trace.specs.Reading.{jobs_of}
 use Rattle.cpa_sim.specs.Outcome.{OutcomeLists, jobs_seen, job_of, end_of, outcome_of, CanReplay}
 use Rattle.cpa_sim.proofs.JobCount.{few_jobs}
 use Rattle.cpa_sound.specs.RunCourse.{course_of}
-use Rattle.cpa_sound.specs.BoundsHold.{no_job, job_at, HasJob}
+use Rattle.cpa_sound.specs.BoundsHold.{job_at, HasJob}
 use Rattle.cpa_sound.specs.Beyond.{is_beyond, late_jobs, beyond_of}
 use Rattle.cpa_sound.specs.Laws.{NothingIsBeyond}
 use Rattle.cpa_sound.proofs.CourseLaws.{ended-mono}

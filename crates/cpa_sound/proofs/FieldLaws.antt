@@ -4,9 +4,9 @@ use Rattle.std.proofs.lemmas.Bool.{cases_lt, cases_Bool, false≢true}
 use Rattle.cpa_model.specs.SystemLists.{SystemLists, task_at}
 use Rattle.cpa_sound.specs.Course.{Arrives}
 use Rattle.cpa_trace.specs.Trace.{TraceLists, need}
-use Rattle.cpa_sim.specs.Run.{Progress, is_unset, is_open, after_tick, serve, new_jobs, arriving, runs_in, served, ends_in, run}
+use Rattle.cpa_sim.specs.Run.{no_job, Progress, is_unset, is_open, after_tick, serve, new_jobs, arriving, runs_in, served, ends_in, run}
 use Rattle.cpa_sound.specs.RunCourse.{arrived_before, course_of}
-use Rattle.cpa_sound.specs.BoundsHold.{no_job, job_at, HasJob}
+use Rattle.cpa_sound.specs.BoundsHold.{job_at, HasJob}
 use Rattle.cpa_sim.proofs.LineLaws.{serve-here, serve-there, length-new}
 use Rattle.cpa_sound.proofs.JobLaws.{tick-last, tick-more}
 use Rattle.cpa_sim.proofs.RunLaws.{jobs-zero, jobs-suc}

@@ -2,10 +2,9 @@
 use Rattle.std.proofs.Common.{◌≡◌, ℕ, zero, suc, ◌+◌, ◌-◌, ◌<◌, ◌≤◌, ◌++◌, length, List, [], ◌∷◌, true, ltb, min, Some, None, refl, sym, ◌∙◌, inl, inr, arith, get_or}
 use Rattle.std.proofs.lemmas.Bool.{cases_lt, cases_Bool, lt-ltb, le-ltb, le-leb, lt-leb, cond-true, cond-false, false≢true}
 use Rattle.cpa_sound.proofs.Serving.{work}
-use Rattle.cpa_sound.specs.BoundsHold.{no_job}
 use Rattle.cpa_sim.proofs.LineLaws.{serve-here, serve-there, ended-closed, ended-open}
 use Rattle.cpa_sim.proofs.LineLaws.{ended-le}
-use Rattle.cpa_sim.specs.Run.{Progress, is_open, waits, ended_count, after_tick, serve, new_jobs}
+use Rattle.cpa_sim.specs.Run.{no_job, Progress, is_open, waits, ended_count, after_tick, serve, new_jobs}
 use Rattle.cpa_sound.proofs.CourseLaws.{work-one, work-mono}
 
 pub tick-last : (now : ℕ) (job : Progress) → job.left ≤ 1 → after_tick now job ≡ record { arrival = job.arrival; left = 0; end = Some now }

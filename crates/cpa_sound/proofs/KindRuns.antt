@@ -11,10 +11,9 @@ use Rattle.cpa_trace.specs.Trace.{TraceLists, need, Obeys}
 use Rattle.cpa_model.specs.Rules.{IsSystem}
 use Rattle.cpa_sound.proofs.RuleLaws.{HasPriorities, best-some, best-le, slot-some, own_priority}
 use Rattle.cpa_sched.specs.Steps.{ring_after, most_urgent}
-use Rattle.cpa_sim.specs.Run.{is_open, waits, ended_count, runs_in, ends_in, run}
+use Rattle.cpa_sim.specs.Run.{no_job, is_open, waits, ended_count, runs_in, ends_in, run}
 use Rattle.cpa_sched.specs.Steps.{kind_of}
 use Rattle.cpa_sound.specs.RunCourse.{received_before, course_of}
-use Rattle.cpa_sound.specs.BoundsHold.{no_job}
 use Rattle.cpa_sound.proofs.KeepsLaws.{received_by, lower_tasks, RunsByPriority, RunsByFrames, IsOnRing, RunsByTurns}
 use Rattle.cpa_sound.proofs.CourseLaws.{ended-mono, work-mono}
 use Rattle.cpa_sound.proofs.LevelLaws.{sum-lt}

@@ -6,9 +6,8 @@ use Rattle.cpa_sound.proofs.Serving.{work, IsInOrder}
 use Rattle.cpa_trace.specs.Trace.{TraceLists, need}
 use Rattle.cpa_sim.proofs.JobCount.{length-serve, length-served}
 use Rattle.cpa_sim.proofs.RunLaws.{jobs-zero, jobs-suc}
-use Rattle.cpa_sim.specs.Run.{Progress, is_open, waits, ended_count, serve, new_jobs, arriving, runs_in, served, ends_in, run}
+use Rattle.cpa_sim.specs.Run.{no_job, Progress, is_open, waits, ended_count, serve, new_jobs, arriving, runs_in, served, ends_in, run}
 use Rattle.cpa_sound.specs.RunCourse.{received_before, arrived_before, course_of}
-use Rattle.cpa_sound.specs.BoundsHold.{no_job}
 use Rattle.cpa_sound.proofs.CourseLaws.{work-zero, work-mono}
 use Rattle.cpa_sound.proofs.JobLaws.{Fits, fits-new, fits-append, fits-serve, ended_paid, next_unpaid, waits-less, fits-open}
 

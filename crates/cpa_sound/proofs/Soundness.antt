@@ -13,7 +13,7 @@ use Rattle.cpa_sound.proofs.Serving.{work, EndsAfter}
 use Rattle.cpa_trace.specs.Trace.{TraceLists, need, Obeys}
 use Rattle.cpa_model.specs.Rules.{IsSystem}
 use Rattle.cpa_sound.proofs.RuleLaws.{feeder_there, bit-some}
-use Rattle.cpa_sim.specs.Run.{Progress, is_unset, is_open, ended_count, runs_in, served, run}
+use Rattle.cpa_sim.specs.Run.{no_job, Progress, is_unset, is_open, ended_count, runs_in, served, run}
 use Rattle.cpa_sound.specs.RunCourse.{received_before, course_of}
 use Rattle.cpa_sound.proofs.KeepsLaws.{RunsByKind, ComesFrom, KeepsLaws}
 use Rattle.cpa_sound.proofs.CoursesHold.{SourcesAreNear, IsChain, last_task, CoursesHold}
@@ -24,7 +24,7 @@ use Rattle.cpa_units.specs.declared.places.TaskId.{TaskId}
 use Rattle.cpa_units.specs.Bounds.{bound_of, sum_bounds}
 use Rattle.std.specs.Prelude.{All}
 use Rattle.cpa_local.proofs.ResponseLaws.{source-is_stream}
-use Rattle.cpa_sound.specs.BoundsHold.{no_job, job_at, HasJob, IsDoneBy, SourcesStayNear, HoldIn}
+use Rattle.cpa_sound.specs.BoundsHold.{job_at, HasJob, IsDoneBy, SourcesStayNear, HoldIn}
 use Rattle.cpa_sound.proofs.CourseLaws.{ended-mono, ended-le-arrived, complete, paid}
 use Rattle.cpa_sound.proofs.RunLaws.{served-runs, served-idle, arrived-one}
 use Rattle.cpa_sim.proofs.JobCount.{fed}

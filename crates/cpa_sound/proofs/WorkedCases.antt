@@ -23,8 +23,8 @@ use Rattle.cpa_local.specs.Local.{response, responses}
 use Rattle.cpa_model.specs.Streams.{source_stream}
 use Rattle.cpa_trace.specs.Trace.{TraceLists, times_of, time_of, phase_of, Obeys}
 use Rattle.cpa_sched.specs.Steps.{step}
-use Rattle.cpa_sim.specs.Run.{Progress, choice_at, runs_in, served, ends_in, advance, run}
-use Rattle.cpa_sound.specs.BoundsHold.{no_job, job_at, HasJob, BoundsHold}
+use Rattle.cpa_sim.specs.Run.{no_job, Progress, choice_at, runs_in, served, ends_in, advance, run}
+use Rattle.cpa_sound.specs.BoundsHold.{job_at, HasJob, BoundsHold}
 
 abbrev resource : Kind → Resource
 resource kind = record { name = []; kind = kind; limit = 1000000 }

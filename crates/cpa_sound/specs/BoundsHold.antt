@@ -17,11 +17,7 @@ use Rattle.cpa_model.specs.Streams.{source_stream}
 use Rattle.cpa_model.specs.SystemLists.{SystemLists, task_at}
 use Rattle.cpa_local.specs.Inputs.{input}
 use Rattle.cpa_trace.specs.Trace.{TraceLists, times_of, time_of, Obeys}
-use Rattle.cpa_sim.specs.Run.{Progress, run}
-
--- what a place outside the list of jobs reads as
-abbrev pub no_job : Progress
-no_job = record { arrival = 0; left = 0; end = None }
+use Rattle.cpa_sim.specs.Run.{Progress, no_job, run}
 
 -- job k of a task, counted from 0 in the order of arrivals, as it is at a time
 abbrev pub job_at : SystemLists → TraceLists → ℕ → ℕ → ℕ → Progress

@@ -1,6 +1,6 @@
 //! A bound on a response time.
 
-ghost use Rattle.std.specs.Prelude.{◌≡◌, ◌^◌};
+ghost use Rattle.std.specs.Prelude.{◌≡◌, ◌-◌, ◌^◌};
 ghost use Rattle.cpa_units.specs.Bounds.{RespectsLimit, bound_max, bound_plus};
 ghost use Rattle.cpa_units.specs.Words.{IsWordable, word_of, bound_of_word, WordsComeBack, WordsKeepOrder};
 
@@ -22,10 +22,9 @@ impl Bound {
         }
     }
 
-    /// The sum of two bounds, neither of which is above 2^62.
+    /// The sum of two bounds, which is `Overload` or fits into 64 bits.
     pub fn plus(self, other: Bound) -> Bound
-        requires small { RespectsLimit (2 ^ 62) self }
-        requires other { RespectsLimit (2 ^ 62) other }
+        requires { RespectsLimit (2 ^ 64 - 1) (bound_plus self other) }
         ensures { result ≡ bound_plus self other }
     {
         match (self, other) {

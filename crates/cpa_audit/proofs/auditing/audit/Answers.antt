@@ -17,6 +17,7 @@ moments-init c =
     let none = followed-none s tr c.args.schedule.now so_far.opens.items so_far.count so_far.first c.in_ok-so_far.ensures.opens c.in_ok-so_far.ensures.count c.in_ok-so_far.ensures.first in
     record {
       run = c.in_ok-replay.ensures.run;
+      keeps = c.in_ok-replay.ensures.keeps;
       within = omega (arith, c.in_ok-replay.ensures.time);
       followed = subst (λ t. IsFollowed s tr c.args.schedule.now 0 t t so_far.opens.items so_far.count so_far.first) (sym c.in_ok-replay.ensures.time) none;
     }

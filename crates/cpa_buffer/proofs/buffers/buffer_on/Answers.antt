@@ -9,11 +9,13 @@ use Rattle.cpa_buffer.specs.Buffers.{buffer_of, buffer_on}
 use Rattle.cpa_buffer.proofs.LoopLaws.{sum-next, taken-all}
 use Rattle.cpa_buffer.proofs.buffers.buffer_on.Goals as goal
 
-pub plus-sum-requires-clause-small : goal.plus-sum-requires-clause-small
-plus-sum-requires-clause-small c =
+pub plus-sum-requires : goal.plus-sum-requires
+plus-sum-requires c =
     let s = c.args.system.now in
+    let k = c.loop-task.task-index in
     let few : length c.tasks_on-task-items.result.now ≤ length s.tasks = roster-few (is_on s c.args.res.0) (length s.tasks) c.tasks_on-task-items.result.now c.tasks_on-task-items.ensures.places in
-    weaker_limit (c.loop-task.task-index * 68719476736) 4611686018427387904 c.loop-task.sum (omega (arith, few, c.loop-task-test.true, c.tasks_on-task-items.ensures.rules.few_tasks)) c.loop-task.invariant.few
+    weaker_limit (k * 68719476736 + 68719476736) 18446744073709551615 _ (omega (arith, few, c.loop-task-test.true, c.tasks_on-task-items.ensures.rules.few_tasks))
+    (plus-limit (k * 68719476736) 68719476736 c.loop-task.sum c.buffer.result c.loop-task.invariant.few c.buffer.ensures.few)
 
 pub loop-task-preserved : goal.loop-task-preserved
 loop-task-preserved c =

@@ -3,7 +3,7 @@ use Rattle.std.proofs.lemmas.Bool.{cases_lt}
 use Rattle.cpa_sim.specs.Outcome.{end_of}
 use Rattle.cpa_sim.specs.Replays.{ReplayLists, IsReplay}
 use Rattle.cpa_sim.proofs.ReplayLaws.{before-horizon, before-next, not-past}
-use Rattle.cpa_sim.proofs.replays.Replay.advance.Goals as goal
+use Rattle.cpa_sim.proofs.replays.Replay.step.Goals as goal
 
 pub most_ticks-most-requires : goal.most_ticks-most-requires
 most_ticks-most-requires c =
