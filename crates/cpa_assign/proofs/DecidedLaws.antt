@@ -2,14 +2,11 @@
 use Rattle.std.proofs.Common.{◌≡◌, ℕ, zero, suc, ◌<◌, ◌==◌, ◌&&◌, ◌||◌, ◌⊎◌, not, Bool, true, false, List, [], ◌∷◌, Option, Some, None, length, refl, ap, sym, ◌∙◌, subst, inl, inr, arith}
 use Rattle.std.specs.Prelude.{filter}
 use Rattle.std.specs.Bool.{Decides}
-use Rattle.std.specs.Option.{ForSome}
 use Rattle.std.proofs.lemmas.Bool.{and_parts, cases_lt, false≢true, eqb-true, eq-eqb}
 use Rattle.std.proofs.lemmas.Bool.Decides.{Decides-below_and}
-use Rattle.std.proofs.lemmas.Option.{same_Some, none-some}
 use Rattle.cpa_units.specs.declared.bound.Bound.{Bound}
-use Rattle.cpa_units.specs.declared.bound.Bound.TheVariants.{Within}
 use Rattle.cpa_units.specs.declared.places.TaskId.{TaskId}
-use Rattle.cpa_units.specs.Bounds.{IsAtMost, fits}
+use Rattle.cpa_units.specs.Bounds.{fits}
 use Rattle.cpa_units.specs.Search.{least_from}
 use Rattle.cpa_units.proofs.DeadlineLaws.{meets_deadline, deadline-decides}
 use Rattle.cpa_units.proofs.SearchLaws.{all_pass, least_from-passes, least_from-above}

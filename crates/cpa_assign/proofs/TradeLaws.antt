@@ -23,8 +23,8 @@ use Rattle.cpa_spp.specs.Preemptive.{preemptive_demand}
 use Rattle.cpa_can.specs.Can.{can_busy_demand, can_demand, can_response, can_bound, greatest_in_busy_window}
 use Rattle.cpa_model.specs.declared.entries.Kind.{Kind}
 use Rattle.cpa_model.specs.declared.entries.Kind.TheVariants.{Preemptive, RoundRobin, Tdma, Can}
-use Rattle.cpa_model.specs.SystemLists.{SystemLists, task_at, source_at, resource_at, task_places, root_of, no_source, no_resource}
-use Rattle.cpa_model.specs.Rules.{IsSystem, IsSource, IsResource, KindFits}
+use Rattle.cpa_model.specs.SystemLists.{SystemLists, task_at, resource_at, task_places, root_of, no_resource}
+use Rattle.cpa_model.specs.Rules.{IsSystem, IsResource, KindFits}
 use Rattle.cpa_assign.specs.Orders.{is_task_on}
 use Rattle.cpa_events.proofs.EventLaws.{one-is_model}
 use Rattle.cpa_model.specs.Streams.{source_stream}

@@ -1,14 +1,10 @@
 -- A task has exactly one slack.
-use Rattle.std.proofs.Common.{◌≡◌, ℕ, zero, suc, ◌+◌, ◌-◌, ◌<◌, ◌≤◌, ◌==◌, ◌&&◌, Bool, true, List, length, Option, Some, None, refl, sym, subst, inl, inr, arith}
+use Rattle.std.proofs.Common.{◌≡◌, ℕ, ◌+◌, ◌-◌, ◌<◌, ◌≤◌, ◌==◌, Bool, List, length, refl, sym, subst, inl, inr, arith}
 use Rattle.std.specs.Bool.{Decides}
-use Rattle.std.specs.Option.{ForSome}
 use Rattle.std.proofs.lemmas.Bool.{cases_Bool, cases_lt}
 use Rattle.std.proofs.lemmas.Bool.Decides.{Decides-below_and, not_from_Decides, same_from_decides}
-use Rattle.std.proofs.lemmas.Option.{same_Some, none-some}
 use Rattle.cpa_units.specs.declared.bound.Bound.{Bound}
-use Rattle.cpa_units.specs.declared.bound.Bound.TheVariants.{Within}
 use Rattle.cpa_units.specs.declared.limits.TheConstants.{MAX_EXECUTION}
-use Rattle.cpa_units.specs.Bounds.{IsAtMost, fits}
 use Rattle.cpa_units.specs.Search.{greatest_to}
 use Rattle.cpa_units.proofs.DeadlineLaws.{meets_deadline, deadline-decides}
 use Rattle.cpa_units.proofs.SearchLaws.{all_pass, greatest_to-le, greatest_to-passes, greatest_to-greatest}

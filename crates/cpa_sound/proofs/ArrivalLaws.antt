@@ -5,7 +5,6 @@ use Rattle.std.proofs.lemmas.Bool.{cases_lt, cases_order, lt-ltb, le-ltb, eq-eqb
 use Rattle.std.proofs.lemmas.List.Sums.{sum_by-cons}
 use Rattle.std.proofs.lemmas.List.{get_or_past}
 use Rattle.cpa_model.specs.declared.entries.Activator.TheVariants.{Source}
-use Rattle.cpa_events.specs.Events.{delta_plus}
 use Rattle.cpa_events.specs.Streams.{stream_delta_plus, IsStream}
 use Rattle.cpa_events.proofs.EventLaws.{delta_minus-of_one}
 use Rattle.cpa_model.specs.Streams.{source_stream, model_of}
