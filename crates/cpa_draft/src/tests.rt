@@ -60,26 +60,50 @@ fn path(alloc: Global, given: &Way) -> Result<DraftPath, AllocError> {
     })
 }
 
+fn resources(alloc: Global, given: &[Res]) -> Result<Vec<DraftResource>, AllocError> {
+    let mut made = Vec::new(alloc);
+    for one in given {
+        made.push(resource(alloc, one)?)?;
+    }
+    Ok(made)
+}
+
+fn sources(alloc: Global, given: &[Src]) -> Result<Vec<DraftSource>, AllocError> {
+    let mut made = Vec::new(alloc);
+    for one in given {
+        made.push(source(alloc, one)?)?;
+    }
+    Ok(made)
+}
+
+fn tasks(alloc: Global, given: &[Job]) -> Result<Vec<DraftTask>, AllocError> {
+    let mut made = Vec::new(alloc);
+    for one in given {
+        made.push(task(alloc, one)?)?;
+    }
+    Ok(made)
+}
+
+fn paths(alloc: Global, given: &[Way]) -> Result<Vec<DraftPath>, AllocError> {
+    let mut made = Vec::new(alloc);
+    for one in given {
+        made.push(path(alloc, one)?)?;
+    }
+    Ok(made)
+}
+
 fn draft(alloc: Global, case: &Case) -> Result<Draft, AllocError> {
-    let mut draft = Draft {
-        resources: Vec::new(alloc),
-        sources: Vec::new(alloc),
-        tasks: Vec::new(alloc),
-        paths: Vec::new(alloc),
-    };
-    for given in case.resources {
-        draft.resources.push(resource(alloc, given)?)?;
-    }
-    for given in case.sources {
-        draft.sources.push(source(alloc, given)?)?;
-    }
-    for given in case.tasks {
-        draft.tasks.push(task(alloc, given)?)?;
-    }
-    for given in case.paths {
-        draft.paths.push(path(alloc, given)?)?;
-    }
-    Ok(draft)
+    Ok(Draft {
+        resources: resources(alloc, case.resources)?,
+        sources: sources(alloc, case.sources)?,
+        tasks: tasks(alloc, case.tasks)?,
+        paths: paths(alloc, case.paths)?,
+    })
+}
+
+/// The system to which no reason applies.
+fn base(alloc: Global) -> Result<Draft, AllocError> {
+    draft(alloc, &BASE)
 }
 
 /// What the judge says of a draft: the reason, the part and the place.
@@ -109,25 +133,25 @@ fn wanted(reason: u8, part: Part, place: u64) -> Option<(u8, Part, u64)> {
 
 /// The base with one more resource.
 fn with_resource(alloc: Global, given: &Res) -> Result<Draft, AllocError> {
-    let mut draft = draft(alloc, &BASE)?;
+    let mut draft = base(alloc)?;
     draft.resources.push(resource(alloc, given)?)?;
     Ok(draft)
 }
 
 fn with_source(alloc: Global, given: &Src) -> Result<Draft, AllocError> {
-    let mut draft = draft(alloc, &BASE)?;
+    let mut draft = base(alloc)?;
     draft.sources.push(source(alloc, given)?)?;
     Ok(draft)
 }
 
 fn with_task(alloc: Global, given: &Job) -> Result<Draft, AllocError> {
-    let mut draft = draft(alloc, &BASE)?;
+    let mut draft = base(alloc)?;
     draft.tasks.push(task(alloc, given)?)?;
     Ok(draft)
 }
 
 fn with_path(alloc: Global, given: &Way) -> Result<Draft, AllocError> {
-    let mut draft = draft(alloc, &BASE)?;
+    let mut draft = base(alloc)?;
     draft.paths.push(path(alloc, given)?)?;
     Ok(draft)
 }
@@ -195,14 +219,10 @@ fn refuses_the_first(rt: HostRuntime) -> Result<(), Fail> {
 
 /// The base without its tasks and paths.
 fn without_tasks(alloc: Global) -> Result<Draft, AllocError> {
-    draft(
-        alloc,
-        &Case {
-            tasks: &[],
-            paths: &[],
-            ..BASE
-        },
-    )
+    let mut draft = base(alloc)?;
+    draft.tasks.clear();
+    draft.paths.clear();
+    Ok(draft)
 }
 
 /// The name of an entry by its place.

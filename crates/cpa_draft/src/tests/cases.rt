@@ -3,7 +3,7 @@
 use crate::draft::KindWord;
 use crate::refusal::Part;
 
-#[derive(Clone, Copy, Debug)]
+#[derive(Clone, Copy)]
 pub(crate) struct Res {
     pub(crate) name: &'static str,
     pub(crate) kind: KindWord,
@@ -12,7 +12,7 @@ pub(crate) struct Res {
     pub(crate) bit: Option<i64>,
 }
 
-#[derive(Clone, Copy, Debug)]
+#[derive(Clone, Copy)]
 pub(crate) struct Src {
     pub(crate) name: &'static str,
     pub(crate) period: i64,
@@ -20,7 +20,7 @@ pub(crate) struct Src {
     pub(crate) distance: Option<i64>,
 }
 
-#[derive(Clone, Copy, Debug)]
+#[derive(Clone, Copy)]
 pub(crate) struct Job {
     pub(crate) name: &'static str,
     pub(crate) on: &'static str,
@@ -32,7 +32,7 @@ pub(crate) struct Job {
     pub(crate) slot: Option<i64>,
 }
 
-#[derive(Clone, Copy, Debug)]
+#[derive(Clone, Copy)]
 pub(crate) struct Way {
     pub(crate) name: &'static str,
     pub(crate) tasks: &'static [&'static str],
