@@ -52,25 +52,49 @@ fn task(
     })
 }
 
+fn resources(alloc: Global) -> Result<Vec<DraftResource>, AllocError> {
+    let mut made = Vec::new(alloc);
+    for name in ["p", "q", "r", "t"] {
+        made.push(resource(alloc, name)?)?;
+    }
+    Ok(made)
+}
+
+fn sources(alloc: Global) -> Result<Vec<DraftSource>, AllocError> {
+    let mut made = Vec::new(alloc);
+    for name in ["sa", "sb"] {
+        made.push(source(alloc, name)?)?;
+    }
+    Ok(made)
+}
+
+/// The name of each task, its resource, what activates it, and its priority.
+const TASKS: [(&str, &str, &str, i64); 5] = [
+    ("a1", "p", "sa", 1),
+    ("a2", "q", "a1", 1),
+    ("b1", "q", "sb", 2),
+    ("b2", "p", "b1", 2),
+    ("a3", "r", "a2", 1),
+];
+
+fn tasks(alloc: Global) -> Result<Vec<DraftTask>, AllocError>
+    ensures { IfOk result (λ v. All (λ t. has_executions t ≡ true) v.items) }
+{
+    let mut made = Vec::new(alloc);
+    for (name, on, after, priority) in TASKS {
+        made.push(task(alloc, name, on, after, priority)?)?;
+    }
+    Ok(made)
+}
+
 /// Two chains that cross on p and q, the first of which goes on to r; nothing is on t.
 fn crossing(alloc: Global) -> Result<Draft, AllocError>
     ensures { IfOk result (λ d. All (λ t. has_executions t ≡ true) d.tasks) }
 {
     Ok(Draft {
-        resources: vec![in alloc;
-            resource(alloc, "p")?,
-            resource(alloc, "q")?,
-            resource(alloc, "r")?,
-            resource(alloc, "t")?,
-        ]?,
-        sources: vec![in alloc; source(alloc, "sa")?, source(alloc, "sb")?]?,
-        tasks: vec![in alloc;
-            task(alloc, "a1", "p", "sa", 1)?,
-            task(alloc, "a2", "q", "a1", 1)?,
-            task(alloc, "b1", "q", "sb", 2)?,
-            task(alloc, "b2", "p", "b1", 2)?,
-            task(alloc, "a3", "r", "a2", 1)?,
-        ]?,
+        resources: resources(alloc)?,
+        sources: sources(alloc)?,
+        tasks: tasks(alloc)?,
         paths: Vec::new(alloc),
     })
 }
