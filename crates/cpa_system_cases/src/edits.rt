@@ -1,11 +1,12 @@
 mod systems;
 
+use crate::made::build;
 use cpa_edit::{EditFault, EditRefusal, ScriptFault, Step, apply, read_script};
 use cpa_model::{Activator, System, Turn};
 use cpa_units::{PathId, ResId, ResSet, SourceId, TaskId};
 use std::alloc::{AllocError, Global};
 use std::test::Fail;
-use systems::{crossing_chains, works};
+use systems::{CROSSING_CHAINS, WORKS};
 
 fn needs_shared<T: Send + Sync>(_value: &T) {}
 
@@ -269,7 +270,7 @@ fn wrongly_judged(alloc: Global, system: &System) -> Result<Option<&'static str>
 #[test]
 fn accepts_and_refuses(rt: HostRuntime) -> Result<(), Fail> {
     let alloc = rt.alloc();
-    let system = System::build(alloc, works(alloc)?)?;
+    let system = build(alloc, WORKS)?;
     let wrong = wrongly_judged(alloc, &system)?;
     assert!(rt; wrong.is_none(), "{wrong:?}");
     Ok(())
@@ -465,7 +466,7 @@ fn wrongly_changed(alloc: Global, system: &System) -> Result<Option<&'static str
 #[test]
 fn changes_what_is_named(rt: HostRuntime) -> Result<(), Fail> {
     let alloc = rt.alloc();
-    let system = System::build(alloc, works(alloc)?)?;
+    let system = build(alloc, WORKS)?;
     let wrong = wrongly_changed(alloc, &system)?;
     assert!(rt;
         wrong.is_none() && has_numbers(alloc, &system, BEFORE)?,
@@ -504,7 +505,7 @@ const CROSSING: &[(&str, &[u64])] = &[
 #[test]
 fn goes_there_and_back(rt: HostRuntime) -> Result<(), Fail> {
     let alloc = rt.alloc();
-    let mut system = System::build(alloc, crossing_chains(alloc)?)?;
+    let mut system = build(alloc, CROSSING_CHAINS)?;
     let mut right = true;
     for (text, numbers) in CROSSING {
         right = right
@@ -559,7 +560,7 @@ const FULL: &[(&str, Result<[bool; 4], u8>)] = &[
 #[test]
 fn keeps_to_the_limits(rt: HostRuntime) -> Result<(), Fail> {
     let alloc = rt.alloc();
-    let mut system = System::build(alloc, works(alloc)?)?;
+    let mut system = build(alloc, WORKS)?;
     let chain = add_chain(alloc, &mut system, 33)?;
     let many = add_many(alloc, &mut system, 477)?;
     let mut right = (chain, many, system.tasks()) == (32, 476, 512);

@@ -10,6 +10,8 @@ mod edits;
 #[cfg(test)]
 mod files;
 #[cfg(test)]
+mod made;
+#[cfg(test)]
 mod runs;
 #[cfg(test)]
 mod steps;

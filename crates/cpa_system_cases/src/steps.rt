@@ -1,60 +1,32 @@
-ghost use Rattle.std.specs.Prelude.{◌≡◌, ◌<◌, All, IfOk, length, true, false, slice_index_or};
-ghost use Rattle.cpa_model.specs.Built.{has_executions};
+ghost use Rattle.std.specs.Prelude.{◌≡◌, ◌<◌, length, true, false, slice_index_or};
 ghost use Rattle.cpa_sched.specs.Steps.{kind_of};
 ghost use Rattle.cpa_sched.specs.States.{seen, Belongs, FrameWaits};
 
-use cpa_model::{Draft, DraftResource, DraftSource, DraftTask, Kind, KindWord, Raw, System};
+use crate::made::{Made, TaskRow, build};
+use cpa_model::{Kind, KindWord, System};
 use cpa_sched::{Queue, ResState, Stretch, begin, completed, first_state, go_on, pick, span};
 use cpa_units::{ResId, TaskId};
-use std::alloc::{AllocError, Global};
 use std::test::Fail;
 
-fn raw(alloc: Global, text: &str) -> Result<Raw, AllocError> {
-    Ok(Raw::new(Vec::from_slice(alloc, text.as_bytes())?))
-}
-
-fn task(alloc: Global, name: &str, slot: i64) -> Result<DraftTask, AllocError>
-    ensures { IfOk result (λ t. has_executions t ≡ true) }
-{
-    Ok(DraftTask {
-        name: raw(alloc, name)?,
-        on: raw(alloc, "r")?,
-        after: raw(alloc, "s")?,
-        best: Some(2),
-        worst: Some(7),
-        payload: None,
-        extended: None,
-        priority: None,
-        slot: Some(slot),
-    })
-}
-
 /// Two tasks with slots of 3 and 2 ticks.
-fn pair(alloc: Global, kind: KindWord, gap: Option<i64>) -> Result<Draft, AllocError>
-    ensures { IfOk result (λ d. All (λ t. has_executions t ≡ true) d.tasks) }
-{
-    Ok(Draft {
-        resources: vec![in alloc;
-            DraftResource {
-                name: raw(alloc, "r")?,
-                kind,
-                limit: None,
-                gap,
-                bit: None,
-            },
-        ]?,
-        sources: vec![in alloc;
-            DraftSource {
-                name: raw(alloc, "s")?,
-                period: 100,
-                jitter: None,
-                distance: None,
-            },
-        ]?,
-        tasks: vec![in alloc; task(alloc, "a", 3)?, task(alloc, "b", 2)?]?,
-        paths: Vec::new(alloc),
-    })
-}
+const TASKS: &[TaskRow] = &[
+    (["a", "r", "s"], (2, 7), (None, Some(3))),
+    (["b", "r", "s"], (2, 7), (None, Some(2))),
+];
+
+const RING: &Made = &Made {
+    resources: &[("r", KindWord::RoundRobin, None, None)],
+    sources: &[("s", 100, None, None)],
+    tasks: TASKS,
+    paths: &[],
+};
+
+const TABLE: &Made = &Made {
+    resources: &[("r", KindWord::Tdma, None, Some(2))],
+    sources: &[("s", 100, None, None)],
+    tasks: TASKS,
+    paths: &[],
+};
 
 /// The tasks that wait.
 #[derive(Drop)]
@@ -152,7 +124,7 @@ fn first_turn(system: &System, res: ResId, queue: &Waiting) -> (u32, u64, u64, u
 #[test]
 fn turns_are_used_up(rt: HostRuntime) -> Result<(), Fail> {
     let alloc = rt.alloc();
-    let system = System::build(alloc, pair(alloc, KindWord::RoundRobin, None)?)?;
+    let system = build(alloc, RING)?;
     assert_eq!(rt; system.resources(), 1);
     let turn = first_turn(&system, ResId(0), &Waiting([true, true]));
     assert_eq!(rt; turn, (0, 3, 2, 1));
@@ -162,7 +134,7 @@ fn turns_are_used_up(rt: HostRuntime) -> Result<(), Fail> {
 #[test]
 fn turns_go_round(rt: HostRuntime) -> Result<(), Fail> {
     let alloc = rt.alloc();
-    let system = System::build(alloc, pair(alloc, KindWord::RoundRobin, None)?)?;
+    let system = build(alloc, RING)?;
     assert_eq!(rt; system.resources(), 1);
     let ran = eight_ticks(&system, ResId(0), &Waiting([true, true]));
     assert_eq!(rt; ran, [0, 0, 0, 1, 1, 0, 0, 0]);
@@ -172,7 +144,7 @@ fn turns_go_round(rt: HostRuntime) -> Result<(), Fail> {
 #[test]
 fn slots_come_by_the_phase(rt: HostRuntime) -> Result<(), Fail> {
     let alloc = rt.alloc();
-    let system = System::build(alloc, pair(alloc, KindWord::Tdma, Some(2))?)?;
+    let system = build(alloc, TABLE)?;
     assert_eq!(rt; system.resources(), 1);
     let ran = four_stretches(&system, ResId(0), &Waiting([true, true]), 3);
     assert_eq!(rt; ran, [(1, 2), (NOBODY, 2), (0, 3), (1, 2)]);

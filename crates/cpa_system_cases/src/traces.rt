@@ -2,12 +2,13 @@ mod systems;
 
 ghost use Rattle.cpa_trace.specs.Trace.{FitsSystem};
 
+use crate::made::build;
 use cpa_model::System;
 use cpa_trace::{Breach, Trace, TraceFault, obeys, read_trace};
 use cpa_units::{ResId, SourceId, TaskId};
 use std::alloc::{AllocError, Global};
 use std::test::Fail;
-use systems::{crowd, three_tasks};
+use systems::{CROWD, THREE_TASKS};
 
 fn needs_shared<T: Send + Sync>(_value: &T) {}
 
@@ -105,7 +106,7 @@ const REFUSALS: &[(&[u8], TraceFault)] = &[
 #[test]
 fn refuses_the_first_row(rt: HostRuntime) -> Result<(), Fail> {
     let alloc = rt.alloc();
-    let system = System::build(alloc, three_tasks(alloc)?)?;
+    let system = build(alloc, THREE_TASKS)?;
     for (bytes, fault) in REFUSALS {
         let read = read_trace(alloc, &system, bytes);
         assert_eq!(rt; read.err(), Some(*fault), "{bytes:?}");
@@ -131,7 +132,7 @@ const TRACES: &[(&[u8], &[u64])] = &[
 #[test]
 fn reads_a_trace(rt: HostRuntime) -> Result<(), Fail> {
     let alloc = rt.alloc();
-    let system = System::build(alloc, three_tasks(alloc)?)?;
+    let system = build(alloc, THREE_TASKS)?;
     for (bytes, numbers) in TRACES {
         let trace = read_trace(alloc, &system, bytes)?;
         needs_shared(&trace);
@@ -156,7 +157,7 @@ fn rows(alloc: Global, row: &str, count: u32) -> Result<Vec<u8>, AllocError> {
 #[test]
 fn counts_rows(rt: HostRuntime) -> Result<(), Fail> {
     let alloc = rt.alloc();
-    let system = System::build(alloc, three_tasks(alloc)?)?;
+    let system = build(alloc, THREE_TASKS)?;
     for (count, last, fault) in [
         (200_000, "\n\r\n", None),
         (199_999, "x", Some(TraceFault::BadRow(200_000))),
@@ -174,7 +175,7 @@ fn counts_rows(rt: HostRuntime) -> Result<(), Fail> {
 #[test]
 fn counts_jobs(rt: HostRuntime) -> Result<(), Fail> {
     let alloc = rt.alloc();
-    let system = System::build(alloc, crowd(alloc)?)?;
+    let system = build(alloc, CROWD)?;
     for (count, last, fault) in [
         (181_818, "event,sb,0\nevent,sb,0", None),
         (
@@ -308,7 +309,7 @@ const BREACHES: &[(&str, Option<Breach>)] = &[
 #[test]
 fn tells_the_first_breach(rt: HostRuntime) -> Result<(), Fail> {
     let alloc = rt.alloc();
-    let system = System::build(alloc, three_tasks(alloc)?)?;
+    let system = build(alloc, THREE_TASKS)?;
     for (text, breach) in BREACHES {
         let trace = read_trace(alloc, &system, text.as_bytes())?;
         assert_eq!(rt; obeys(&system, &trace), *breach, "{text}");
@@ -320,7 +321,7 @@ fn tells_the_first_breach(rt: HostRuntime) -> Result<(), Fail> {
 #[test]
 fn builds_a_trace(rt: HostRuntime) -> Result<(), Fail> {
     let alloc = rt.alloc();
-    let system = System::build(alloc, three_tasks(alloc)?)?;
+    let system = build(alloc, THREE_TASKS)?;
     assert_eq!(rt;
         (system.sources(), system.tasks(), system.resources()),
         (2, 3, 3)
