@@ -502,15 +502,19 @@ const CROSSING: &[(&str, &[u64])] = &[
     ),
 ];
 
+/// Whether a script touches the processor `p` alone, and the system then has these numbers.
+fn goes_to(alloc: Global, system: &mut System, text: &str, numbers: &[u64]) -> Result<bool, Fail> {
+    let touched = run(alloc, system, text)?;
+    Ok(touched == Ok(CPU) && has_numbers(alloc, system, numbers)?)
+}
+
 #[test]
 fn goes_there_and_back(rt: HostRuntime) -> Result<(), Fail> {
     let alloc = rt.alloc();
     let mut system = build(alloc, CROSSING_CHAINS)?;
     let mut right = true;
     for (text, numbers) in CROSSING {
-        right = right
-            && run(alloc, &mut system, text)? == Ok(CPU)
-            && has_numbers(alloc, &system, numbers)?;
+        right = right && goes_to(alloc, &mut system, text, numbers)?;
     }
     assert!(rt; right);
     Ok(())
@@ -556,6 +560,16 @@ const FULL: &[(&str, Result<[bool; 4], u8>)] = &[
     ("add v table sa 1 1 1", Err(8)),
 ];
 
+/// The first of these edits of which something else comes than is wanted.
+fn wrongly_ended(alloc: Global, system: &mut System) -> Result<Option<&'static str>, Fail> {
+    for (text, wanted) in FULL {
+        if run(alloc, system, text)? != *wanted {
+            return Ok(Some(*text));
+        }
+    }
+    Ok(None)
+}
+
 /// A chain of 32 tasks and 512 tasks are taken, and not one more.
 #[test]
 fn keeps_to_the_limits(rt: HostRuntime) -> Result<(), Fail> {
@@ -563,10 +577,8 @@ fn keeps_to_the_limits(rt: HostRuntime) -> Result<(), Fail> {
     let mut system = build(alloc, WORKS)?;
     let chain = add_chain(alloc, &mut system, 33)?;
     let many = add_many(alloc, &mut system, 477)?;
-    let mut right = (chain, many, system.tasks()) == (32, 476, 512);
-    for (text, wanted) in FULL {
-        right = right && run(alloc, &mut system, text)? == *wanted;
-    }
-    assert!(rt; right);
+    assert_eq!(rt; (chain, many, system.tasks()), (32, 476, 512));
+    let wrong = wrongly_ended(alloc, &mut system)?;
+    assert!(rt; wrong.is_none(), "{wrong:?}");
     Ok(())
 }

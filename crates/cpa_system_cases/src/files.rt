@@ -199,13 +199,25 @@ const OTHER_FORMS: &[(&str, u8, Part, u64)] = &[
     ),
 ];
 
+/// Why a file is refused.
+fn refusal_of(alloc: Global, bytes: &[u8]) -> Option<FileRefusal> {
+    read_system(alloc, bytes).err()
+}
+
+/// The first of these files of which something else is told than is wanted.
+fn wrongly_refused(alloc: Global) -> Option<&'static str> {
+    for (text, reason, part, place) in OTHER_FORMS {
+        if refusal_of(alloc, text.as_bytes()) != refused(*reason, *part, *place) {
+            return Some(*text);
+        }
+    }
+    None
+}
+
 #[test]
 fn refuses_other_forms(rt: HostRuntime) -> Result<(), Fail> {
-    let alloc = rt.alloc();
-    for (text, reason, part, place) in OTHER_FORMS {
-        let read = read_system(alloc, text.as_bytes());
-        assert_eq!(rt; read.err(), refused(*reason, *part, *place), "{text}");
-    }
+    let wrong = wrongly_refused(rt.alloc());
+    assert!(rt; wrong.is_none(), "{wrong:?}");
     Ok(())
 }
 
@@ -219,14 +231,11 @@ fn refuses_other_bytes(rt: HostRuntime) -> Result<(), Fail> {
         "resource = [{ name = \"cp".as_bytes(),
         &[0xff],
     ] {
-        assert_eq!(rt; read_system(alloc, bytes).err(), Some(FileRefusal::NotToml));
+        assert!(rt; refusal_of(alloc, bytes) == Some(FileRefusal::NotToml));
     }
     let mut brackets = Vec::from_slice(alloc, "format = ".as_bytes())?;
     brackets.extend_from_slice(vec![in alloc; b'['; 10_000]?.as_slice())?;
-    assert_eq!(rt;
-        read_system(alloc, brackets.as_slice()).err(),
-        Some(FileRefusal::NotToml)
-    );
+    assert!(rt; refusal_of(alloc, brackets.as_slice()) == Some(FileRefusal::NotToml));
     Ok(())
 }
 

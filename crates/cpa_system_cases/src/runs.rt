@@ -1,5 +1,5 @@
 use crate::made::{Made, build};
-use cpa_model::KindWord;
+use cpa_model::{KindWord, System};
 use cpa_sim::{replay, sim_text};
 use cpa_trace::read_trace;
 use cpa_units::TaskId;
@@ -62,15 +62,19 @@ const CHAIN: &Made = &Made {
     paths: &[("p", &["sense", "send"])],
 };
 
+/// The text of the run of a system under a trace.
+fn text(alloc: Global, system: &System, rows: &str) -> Result<Vec<u8>, Fail> {
+    let trace = read_trace(alloc, system, rows.as_bytes())?;
+    let outcome = replay(alloc, system, &trace)?;
+    Ok(sim_text(alloc, system, &outcome)?)
+}
+
 /// The texts of the runs of a system under some traces, one after the other.
 fn texts(alloc: Global, made: &Made, traces: &[&str]) -> Result<Vec<u8>, Fail> {
     let system = build(alloc, made)?;
     let mut all = Vec::new(alloc);
     for rows in traces {
-        let trace = read_trace(alloc, &system, rows.as_bytes())?;
-        let outcome = replay(alloc, &system, &trace)?;
-        let text = sim_text(alloc, &system, &outcome)?;
-        all.extend_from_slice(text.as_slice())?;
+        all.extend_from_slice(text(alloc, &system, rows)?.as_slice())?;
     }
     Ok(all)
 }

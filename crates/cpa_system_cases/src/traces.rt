@@ -103,13 +103,20 @@ const REFUSALS: &[(&[u8], TraceFault)] = &[
     (b"event,\"s,a\",0", TraceFault::UnknownName(1)),
 ];
 
+/// What is wrong with a file.
+fn fault_of(alloc: Global, system: &System, bytes: &[u8]) -> Option<TraceFault> {
+    read_trace(alloc, system, bytes).err()
+}
+
 #[test]
 fn refuses_the_first_row(rt: HostRuntime) -> Result<(), Fail> {
     let alloc = rt.alloc();
     let system = build(alloc, THREE_TASKS)?;
     for (bytes, fault) in REFUSALS {
-        let read = read_trace(alloc, &system, bytes);
-        assert_eq!(rt; read.err(), Some(*fault), "{bytes:?}");
+        assert!(rt;
+            fault_of(alloc, &system, bytes) == Some(*fault),
+            "{bytes:?}"
+        );
     }
     Ok(())
 }
@@ -129,17 +136,20 @@ const TRACES: &[(&[u8], &[u64])] = &[
     ),
 ];
 
+/// All numbers of the trace of a file.
+fn numbers_read(alloc: Global, system: &System, bytes: &[u8]) -> Result<Vec<u64>, Fail> {
+    let trace = read_trace(alloc, system, bytes)?;
+    needs_shared(&trace);
+    Ok(numbers_of(alloc, system, &trace)?)
+}
+
 #[test]
 fn reads_a_trace(rt: HostRuntime) -> Result<(), Fail> {
     let alloc = rt.alloc();
     let system = build(alloc, THREE_TASKS)?;
     for (bytes, numbers) in TRACES {
-        let trace = read_trace(alloc, &system, bytes)?;
-        needs_shared(&trace);
-        assert!(rt;
-            numbers_of(alloc, &system, &trace)?.as_slice() == *numbers,
-            "{bytes:?}"
-        );
+        let read = numbers_read(alloc, &system, bytes)?;
+        assert!(rt; read.as_slice() == *numbers, "{bytes:?}");
     }
     Ok(())
 }
@@ -153,6 +163,19 @@ fn rows(alloc: Global, row: &str, count: u32) -> Result<Vec<u8>, AllocError> {
     Ok(bytes)
 }
 
+/// What is wrong with a file that has as many copies of a row, and then a last one.
+fn fault_after(
+    alloc: Global,
+    system: &System,
+    row: &str,
+    count: u32,
+    last: &str,
+) -> Result<Option<TraceFault>, AllocError> {
+    let mut bytes = rows(alloc, row, count)?;
+    bytes.extend_from_slice(last.as_bytes())?;
+    Ok(fault_of(alloc, system, bytes.as_slice()))
+}
+
 /// 200,000 rows are taken, and of a further one only that it is there is seen.
 #[test]
 fn counts_rows(rt: HostRuntime) -> Result<(), Fail> {
@@ -163,10 +186,8 @@ fn counts_rows(rt: HostRuntime) -> Result<(), Fail> {
         (199_999, "x", Some(TraceFault::BadRow(200_000))),
         (200_000, "x", Some(TraceFault::TooMany)),
     ] {
-        let mut bytes = rows(alloc, "event,sb,10000000\n", count)?;
-        bytes.extend_from_slice(last.as_bytes())?;
-        let read = read_trace(alloc, &system, bytes.as_slice());
-        assert_eq!(rt; read.err(), fault, "{count}");
+        let told = fault_after(alloc, &system, "event,sb,10000000\n", count, last)?;
+        assert!(rt; told == fault, "{count}");
     }
     Ok(())
 }
@@ -185,10 +206,8 @@ fn counts_jobs(rt: HostRuntime) -> Result<(), Fail> {
         ),
         (181_819, "event,sb", Some(TraceFault::BadRow(181_820))),
     ] {
-        let mut bytes = rows(alloc, "event,sa,0\n", count)?;
-        bytes.extend_from_slice(last.as_bytes())?;
-        let read = read_trace(alloc, &system, bytes.as_slice());
-        assert_eq!(rt; read.err(), fault, "{last}");
+        let told = fault_after(alloc, &system, "event,sa,0\n", count, last)?;
+        assert!(rt; told == fault, "{last}");
     }
     Ok(())
 }
