@@ -1,65 +1,25 @@
-ghost use Rattle.std.specs.Prelude.{◌≡◌, All, IfOk, true};
-ghost use Rattle.cpa_model.specs.Built.{has_executions};
-
+use crate::systems::{Made, PLAIN, build};
 use cpa_local::{Trail, floor, input, respond};
-use cpa_model::{Draft, DraftResource, DraftSource, DraftTask, KindWord, Raw, System};
+use cpa_model::KindWord;
 use cpa_units::{Bound, TaskId};
-use std::alloc::{AllocError, Global};
 use std::test::Fail;
 
 fn needs_shared<T: Send + Sync>(_value: &T) {}
 
-fn raw(alloc: Global, text: &str) -> Result<Raw, AllocError> {
-    Ok(Raw::new(Vec::from_slice(alloc, text.as_bytes())?))
-}
-
-fn task(alloc: Global, name: &str, after: &str, priority: i64) -> Result<DraftTask, AllocError>
-    ensures { IfOk result (λ t. has_executions t ≡ true) }
-{
-    Ok(DraftTask {
-        name: raw(alloc, name)?,
-        on: raw(alloc, "cpu")?,
-        after: raw(alloc, after)?,
-        best: Some(2),
-        worst: Some(7),
-        payload: None,
-        extended: None,
-        priority: Some(priority),
-        slot: None,
-    })
-}
-
 /// A task that a source activates, and a task of lower priority that it activates in turn.
-fn chain(alloc: Global) -> Result<Draft, AllocError>
-    ensures { IfOk result (λ d. All (λ t. has_executions t ≡ true) d.tasks) }
-{
-    Ok(Draft {
-        resources: vec![in alloc;
-            DraftResource {
-                name: raw(alloc, "cpu")?,
-                kind: KindWord::Preemptive,
-                limit: None,
-                gap: None,
-                bit: None,
-            },
-        ]?,
-        sources: vec![in alloc;
-            DraftSource {
-                name: raw(alloc, "s")?,
-                period: 100,
-                jitter: None,
-                distance: None,
-            },
-        ]?,
-        tasks: vec![in alloc; task(alloc, "a", "s", 1)?, task(alloc, "b", "a", 2)?]?,
-        paths: Vec::new(alloc),
-    })
-}
+const CHAIN: &Made = &Made {
+    resources: &[("cpu", KindWord::Preemptive, PLAIN)],
+    sources: &[("s", 100, None, None)],
+    tasks: &[
+        (["a", "cpu", "s"], (2, 7), (Some(1), None)),
+        (["b", "cpu", "a"], (2, 7), (Some(2), None)),
+    ],
+};
 
 #[test]
 fn a_chain_of_two(rt: HostRuntime) -> Result<(), Fail> {
     let alloc = rt.alloc();
-    let system = System::build(alloc, chain(alloc)?)?;
+    let system = build(alloc, CHAIN, &[])?;
     assert_eq!(rt; system.tasks(), 2);
     let x = floor(alloc, &system)?;
     let mut trail = Trail::with_room(alloc, system.tasks())?;

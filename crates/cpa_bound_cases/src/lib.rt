@@ -19,4 +19,6 @@ mod sessions;
 #[cfg(test)]
 mod slack;
 #[cfg(test)]
+mod systems;
+#[cfg(test)]
 mod workers;

@@ -3,6 +3,7 @@ mod systems;
 ghost use Rattle.std.specs.Prelude.{◌≡◌, ◌≤◌, IfOk, length};
 ghost use Rattle.cpa_sim.specs.Outcome.{CanReplay};
 
+use crate::systems::build;
 use cpa_gen::{hammer, hammer_text, load_text, make_system, make_trace};
 use cpa_local::floor;
 use cpa_model::{Activator, System, Turn};
@@ -12,7 +13,7 @@ use cpa_units::{Bound, NoMemory, PathId, ResId, SourceId, TaskId, Vector};
 use std::alloc::{AllocError, Global};
 use std::test::Fail;
 use std::thread::Threads;
-use systems::{long_window, two_buses};
+use systems::{LONG_WINDOW, TWO_BUSES};
 
 fn put_names(text: &mut Text, system: &System) -> Result<(), NoMemory> {
     for r in 0..system.resources() {
@@ -167,7 +168,7 @@ const DRAWN: &[u64] = &[
 #[test]
 fn makes_traces(rt: HostRuntime) -> Result<(), Fail> {
     let alloc = rt.alloc();
-    let system = System::build(alloc, two_buses(alloc)?)?;
+    let system = build(alloc, TWO_BUSES, &[])?;
     let worst = numbers_of(alloc, &system, 25, 0)?;
     let drawn = numbers_of(alloc, &system, 25, 1)?;
     assert!(rt;
@@ -209,7 +210,7 @@ fn hammered<R: Threads + Sync>(
 #[test]
 fn hammer_long_window(rt: HostRuntime) -> Result<(), Fail> {
     let alloc = rt.alloc();
-    let system = System::build(alloc, long_window(alloc)?)?;
+    let system = build(alloc, LONG_WINDOW, &[])?;
     let first = hammered(&rt, alloc, &system, &[26, 118], 1)?;
     let reached =
         "task a jobs 100 worst 26 bound 26\ntask b jobs 100 worst 118 bound 118\nsummary traces 1 jobs 200 beyond 0\n";

@@ -1,20 +1,17 @@
-mod systems;
-
+use crate::systems::{ENDLESS_JITTER, Made, NARROW, build};
 use cpa_edit::{Edit, EditFault, EditRefusal, Step, read_script};
 use cpa_fix::OneByOne;
 use cpa_local::Trail;
-use cpa_model::System;
 use cpa_session::Session;
 use cpa_units::Bound::{Overload, Within};
 use cpa_units::{Bound, Name, TaskId};
 use std::alloc::{AllocError, Global};
 use std::test::Fail;
 use std::thread::Threads;
-use systems::{Executions, crossing};
 
 /// Edits in turn from the same system, and what is seen after the last.
 struct Case {
-    executions: Executions,
+    system: &'static Made,
     script: &'static str,
     /// The rule that the last edit breaks, 0 where it is made.
     broken: u8,
@@ -23,18 +20,6 @@ struct Case {
     /// The greatest execution and the bound of each task.
     tasks: &'static [(u64, Bound)],
 }
-
-/// The chains meet two fixed points.
-const NARROW: Executions = Executions {
-    first: (1, 20),
-    second: (10, 30),
-};
-
-/// The jitters of the chains feed each other without end.
-const ENDLESS: Executions = Executions {
-    first: (1, 30),
-    second: (1, 60),
-};
 
 /// The tasks of the narrow system.
 const AT_START: &[(u64, Bound)] = &[
@@ -56,7 +41,7 @@ const RAISED: &[(u64, Bound)] = &[
 
 const CASES: &[Case] = &[
     Case {
-        executions: NARROW,
+        system: NARROW,
         script: "",
         broken: 0,
         marks: &[0, 1, 2, 3, 4],
@@ -64,14 +49,14 @@ const CASES: &[Case] = &[
     },
     // An execution rises, and falls again: the greater of two fixed points, and the least once more.
     Case {
-        executions: NARROW,
+        system: NARROW,
         script: "exec a1 1 22",
         broken: 0,
         marks: &[0, 1, 2, 3],
         tasks: RAISED,
     },
     Case {
-        executions: NARROW,
+        system: NARROW,
         script: "exec a1 1 22\nexec a1 1 20",
         broken: 0,
         marks: &[0, 1, 2, 3],
@@ -79,7 +64,7 @@ const CASES: &[Case] = &[
     },
     // The edit reaches every resource that has tasks.
     Case {
-        executions: NARROW,
+        system: NARROW,
         script: "remove c\nexec a1 1 22",
         broken: 0,
         marks: &[0, 1, 2, 3],
@@ -91,7 +76,7 @@ const CASES: &[Case] = &[
         ],
     },
     Case {
-        executions: NARROW,
+        system: NARROW,
         script: "remove c",
         broken: 0,
         marks: &[],
@@ -103,7 +88,7 @@ const CASES: &[Case] = &[
         ],
     },
     Case {
-        executions: NARROW,
+        system: NARROW,
         script: "add d r sc 1 2 3",
         broken: 0,
         marks: &[4, 5],
@@ -118,7 +103,7 @@ const CASES: &[Case] = &[
     },
     // The edit reaches one task alone.
     Case {
-        executions: ENDLESS,
+        system: ENDLESS_JITTER,
         script: "exec c 2 5",
         broken: 0,
         marks: &[4],
@@ -132,7 +117,7 @@ const CASES: &[Case] = &[
     },
     // The last edit is refused.
     Case {
-        executions: NARROW,
+        system: NARROW,
         script: "exec c 2 5\nexec a1 23 22",
         broken: 5,
         marks: &[],
@@ -150,9 +135,9 @@ const CASES: &[Case] = &[
 fn start<H: Threads + Sync>(
     rt: &H,
     alloc: Global,
-    executions: Executions,
+    made: &Made,
 ) -> Result<(Session, Vec<u32>), Fail> {
-    let system = System::build(alloc, crossing(alloc, executions)?)?;
+    let system = build(alloc, made, &[])?;
     let mut trail = Trail::with_room(alloc, 512)?;
     let session = Session::start(rt, alloc, system, &mut OneByOne, &mut trail)?;
     Ok((session, marked(alloc, &trail)?))
@@ -199,7 +184,7 @@ fn tasks_of(alloc: Global, session: &Session) -> Result<Vec<(u64, Bound)>, Alloc
 
 fn is_met<H: Threads + Sync>(rt: &H, alloc: Global, case: &Case) -> Result<bool, Fail> {
     let script = read_script(alloc, case.script.as_bytes())?;
-    let (mut session, mut marks) = start(rt, alloc, case.executions)?;
+    let (mut session, mut marks) = start(rt, alloc, case.system)?;
     let mut broken = 0;
     for k in 0..script.len() {
         if let Step::Change(edit) = script.step(k) {
@@ -219,21 +204,33 @@ fn edits(rt: HostRuntime) -> Result<(), Fail> {
     Ok(())
 }
 
-/// Where an edit meets want of memory the session is as before (run with each allocation refused in turn).
-#[test]
-fn edit_without_memory(rt: HostRuntime) -> Result<(), Fail> {
-    let alloc = rt.alloc();
-    let (mut session, _marks) = start(&rt, alloc, NARROW)?;
+/// Has `a1` take up to 22, and answers whether the edit was made.
+fn raise<H: Threads + Sync>(rt: &H, alloc: Global, session: &mut Session) -> Result<bool, Fail> {
     let edit = Edit::Exec {
         task: Name::read(alloc, b"a1")?,
         best: 1,
         worst: 22,
     };
     let mut trail = Trail::with_room(alloc, 512)?;
-    let wanted = match session.edit(&rt, alloc, &edit, &mut OneByOne, &mut trail) {
-        Ok(()) => RAISED,
-        Err(_) => AT_START,
-    };
-    assert!(rt; tasks_of(alloc, &session)?.as_slice() == wanted);
+    Ok(
+        session
+            .edit(rt, alloc, &edit, &mut OneByOne, &mut trail)
+            .is_ok(),
+    )
+}
+
+/// The tasks of the narrow system where that edit is made, and where it isn't.
+fn tasks_after(is_made: bool) -> &'static [(u64, Bound)] {
+    if is_made { RAISED } else { AT_START }
+}
+
+/// Where an edit meets want of memory the session is as before (run with each allocation refused in turn).
+#[test]
+fn edit_without_memory(rt: HostRuntime) -> Result<(), Fail> {
+    let alloc = rt.alloc();
+    let (mut session, _marks) = start(&rt, alloc, NARROW)?;
+    let is_made = raise(&rt, alloc, &mut session)?;
+    let tasks = tasks_of(alloc, &session)?;
+    assert!(rt; tasks.as_slice() == tasks_after(is_made));
     Ok(())
 }

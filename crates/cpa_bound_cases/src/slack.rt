@@ -1,20 +1,19 @@
 mod systems;
 
+use crate::systems::{Made, PathRow, build};
 use cpa_fix::OneByOne;
 use cpa_local::Trail;
-use cpa_model::System;
 use cpa_slack::{find_slack, slack_text};
 use cpa_units::TaskId;
 use std::alloc::Global;
 use std::test::Fail;
 use std::thread::Threads;
-use systems::{DAVIS_BUS, ENDLESS, Made, TWO_TASKS, draft};
+use systems::{DAVIS_BUS, ENDLESS, TWO_TASKS};
 
-/// A system with a path, if it has tasks, and the line of one of its tasks.
+/// A system with paths, and the line of one of its tasks.
 struct Case {
     system: &'static Made,
-    path: &'static [&'static str],
-    deadline: i64,
+    paths: &'static [PathRow],
     task: u32,
     line: &'static str,
 }
@@ -23,45 +22,39 @@ const CASES: &[Case] = &[
     // The bounds are 14 and then 15.
     Case {
         system: TWO_TASKS,
-        path: &["b"],
-        deadline: 14,
+        paths: &[("d", &["b"], Some(14))],
         task: 1,
         line: "slack b 1 next missed\n",
     },
     // A tick more of the first task comes twice before the second is done.
     Case {
         system: TWO_TASKS,
-        path: &["b"],
-        deadline: 14,
+        paths: &[("d", &["b"], Some(14))],
         task: 0,
         line: "slack a 0 next missed\n",
     },
     Case {
         system: TWO_TASKS,
-        path: &[],
-        deadline: 0,
+        paths: &[],
         task: 1,
         line: "slack b 999993 next limit\n",
     },
     Case {
         system: DAVIS_BUS,
-        path: &["m3"],
-        deadline: 325,
+        paths: &[("d", &["m3"], Some(325))],
         task: 0,
         line: "slack m1 none\n",
     },
     // Four tasks are overloaded, and there is no deadline.
     Case {
         system: ENDLESS,
-        path: &[],
-        deadline: 0,
+        paths: &[],
         task: 4,
         line: "slack c 999996 next limit\n",
     },
     Case {
         system: ENDLESS,
-        path: &["a1", "a2"],
-        deadline: 500,
+        paths: &[("d", &["a1", "a2"], Some(500))],
         task: 4,
         line: "slack c none\n",
     },
@@ -69,7 +62,7 @@ const CASES: &[Case] = &[
 
 /// The line of a case's task; nothing where there is no such task.
 fn line<H: Threads + Sync>(rt: &H, alloc: Global, case: &Case) -> Result<Vec<u8>, Fail> {
-    let system = System::build(alloc, draft(alloc, case.system, case.path, case.deadline)?)?;
+    let system = build(alloc, case.system, case.paths)?;
     let task = TaskId(case.task);
     if task.0 >= system.tasks() {
         return Ok(Vec::new(alloc));

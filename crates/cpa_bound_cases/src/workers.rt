@@ -1,6 +1,6 @@
 mod gates;
-mod systems;
 
+use crate::systems::{ENDLESS_JITTER, build};
 use cpa_fix::{OneByOne, Readings, Round, solve};
 use cpa_local::{Trail, floor};
 use cpa_model::System;
@@ -14,7 +14,6 @@ use std::sync::atomic::AtomicU64;
 use std::sync::atomic::Ordering::SeqCst;
 use std::test::Fail;
 use std::thread::Threads;
-use systems::endless_jitter;
 
 fn needs_shared<T: Send + Sync>(_value: &T) {}
 
@@ -63,7 +62,7 @@ fn seen_by_second<H: Threads + Sync, R: Round>(
 #[test]
 fn raise_is_seen(rt: HostRuntime) -> Result<(), Fail> {
     let alloc = rt.alloc();
-    let system = System::build(alloc, endless_jitter(alloc)?)?;
+    let system = build(alloc, ENDLESS_JITTER, &[])?;
     let missed = Arc::new(alloc, AtomicU64::new(0))?;
     let gate = InTurn::new(Arc::try_clone(&missed)?);
     let mut round: Shared<Box<dyn Gate>> = Shared::new(2, Box::new(alloc, gate)?);
@@ -76,7 +75,7 @@ fn raise_is_seen(rt: HostRuntime) -> Result<(), Fail> {
 #[test]
 fn analyses_meet(rt: HostRuntime) -> Result<(), Fail> {
     let alloc = rt.alloc();
-    let system = System::build(alloc, endless_jitter(alloc)?)?;
+    let system = build(alloc, ENDLESS_JITTER, &[])?;
     let met = Arc::new(alloc, AtomicU64::new(0))?;
     let missed = Arc::new(alloc, AtomicU64::new(0))?;
     let gate = Meet::new(Arc::try_clone(&met)?, Arc::try_clone(&missed)?);
@@ -90,7 +89,7 @@ fn analyses_meet(rt: HostRuntime) -> Result<(), Fail> {
 #[test]
 fn workers_agree(rt: HostRuntime) -> Result<(), Fail> {
     let alloc = rt.alloc();
-    let system = System::build(alloc, endless_jitter(alloc)?)?;
+    let system = build(alloc, ENDLESS_JITTER, &[])?;
     let alone = bounds(&rt, alloc, &system, &mut OneByOne)?;
     let mut found = Shared::new(64, NoGate);
     needs_shared(&found);
