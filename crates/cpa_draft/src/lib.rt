@@ -15,8 +15,6 @@ mod ranks;
 pub mod refusal;
 mod refusals;
 pub mod tables;
-#[cfg(test)]
-mod tests;
 
 pub use draft::{Draft, DraftPath, DraftResource, DraftSource, DraftTask, KindWord, Raw, RawList};
 pub use judging::judge;

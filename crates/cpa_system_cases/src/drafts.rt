@@ -1,10 +1,11 @@
 mod cases;
 
-use crate::draft::{Draft, DraftPath, DraftResource, DraftSource, DraftTask, Raw, RawList};
-use crate::judging::judge;
-use crate::refusal::{BuildFault, Part, Refusal};
 use cases::{
     A, BASE, CASES, CPU, Case, Job, PATHS, RESOURCES, Res, S, SOURCES, Src, TASKS, W, Way,
+};
+use cpa_draft::{
+    BuildFault, Draft, DraftPath, DraftResource, DraftSource, DraftTask, Part, Raw, RawList,
+    Refusal, judge,
 };
 use std::alloc::{AllocError, Global};
 use std::test::Fail;

@@ -1,7 +1,6 @@
 //! Drafts, and why they are refused.
 
-use crate::draft::KindWord;
-use crate::refusal::Part;
+use cpa_draft::{KindWord, Part};
 
 #[derive(Clone, Copy)]
 pub(crate) struct Res {
