@@ -7,8 +7,6 @@
 
 mod chains;
 mod cones;
-#[cfg(test)]
-mod tests;
 
 pub use chains::{leads_back, reads, reads_of_all};
 pub use cones::{cone, cone_by};

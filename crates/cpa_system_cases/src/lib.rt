@@ -1,10 +1,12 @@
-//! Tests of crates by their public calls: drafts, edits, system files, traces, step rules, runs, and audits of schedules.
+//! Tests of crates by their public calls: drafts, cones, edits, system files, traces, step rules, runs, and audits of schedules.
 //!
 //! They stand here, above those crates, so that what they try isn't proved once more with them.
 #![tactic(auto)]
 
 #[cfg(test)]
 mod audits;
+#[cfg(test)]
+mod cones;
 #[cfg(test)]
 mod drafts;
 #[cfg(test)]
