@@ -92,8 +92,9 @@ fn count(
     Ok(beyond(system, &x, trace, outcome))
 }
 
-/// A trace of a system, two lists of bounds, and how many jobs are beyond each.
+/// A case by its name: a trace of a system, two lists of bounds, and how many jobs are beyond each.
 struct Case {
+    name: &'static str,
     system: &'static Made,
     rows: &'static str,
     bounds: &'static [Bound],
@@ -104,6 +105,7 @@ struct Case {
 const CASES: &[Case] = &[
     // The slowest job ends exactly at its bound.
     Case {
+        name: "beyond_long_window",
         system: LONG_WINDOW,
         rows: "event,sa,0\nevent,sa,70\nevent,sa,140\nevent,sa,210\nevent,sa,280\nevent,sa,350\nevent,sa,420\nevent,sa,490\nevent,sa,560\nevent,sa,630\nevent,sb,0\nevent,sb,100\nevent,sb,200\nevent,sb,300\nevent,sb,400\nevent,sb,500\nevent,sb,600\n",
         bounds: &[Within(26), Within(118)],
@@ -111,6 +113,7 @@ const CASES: &[Case] = &[
         beyond: [0, 1],
     },
     Case {
+        name: "beyond_round_robin",
         system: RING,
         rows: "event,sa,0\nevent,sb,0",
         bounds: &[Within(4), Within(3)],
@@ -119,6 +122,7 @@ const CASES: &[Case] = &[
     },
     // A holder that was idle has some of its slot left.
     Case {
+        name: "beyond_idle_holder",
         system: RING,
         rows: "event,sa,0\nevent,sb,0\nevent,sa,20\nevent,sb,20",
         bounds: &[Within(4), Within(3)],
@@ -127,6 +131,7 @@ const CASES: &[Case] = &[
     },
     // Neither processor can be analysed before the other.
     Case {
+        name: "beyond_crossing_chains",
         system: CROSSING_CHAINS,
         rows: "event,sa,0\nevent,sb,0\nevent,sa,100\nevent,sb,100",
         bounds: &[Within(30), Within(10), Within(30), Within(20)],
@@ -135,6 +140,7 @@ const CASES: &[Case] = &[
     },
     // The second task gets ever more behind, and the bound of the first holds all the same.
     Case {
+        name: "beyond_overloaded_neighbour",
         system: FULL_RING,
         rows: "event,sa,1\nevent,sa,21\nevent,sb,0\nevent,sb,5\nevent,sb,10\nevent,sb,15\nevent,sb,20\n",
         bounds: &[Within(11), Overload],
@@ -158,7 +164,7 @@ fn counts_jobs_beyond(rt: HostRuntime) -> Result<(), Fail> {
     let alloc = rt.alloc();
     for case in CASES {
         let seen = counts(alloc, case)?;
-        assert!(rt; seen == case.beyond, "{}", case.rows);
+        assert!(rt; seen == case.beyond, "{}", case.name);
     }
     Ok(())
 }
