@@ -1,6 +1,8 @@
 //! Analyses a system of tasks and prints a bound for each, or replays a trace of it and prints what is observed.
 #![tactic(auto)]
 
+#[cfg(test)]
+mod accepted;
 mod analysis;
 #[cfg(test)]
 mod anew;

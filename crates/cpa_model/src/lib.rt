@@ -9,8 +9,6 @@ mod changes;
 pub mod entries;
 mod rosters;
 pub mod system;
-#[cfg(test)]
-mod tests;
 
 pub use build::own_drafts_have_laws;
 pub use cpa_draft::{

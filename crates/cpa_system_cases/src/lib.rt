@@ -1,4 +1,4 @@
-//! Tests of crates by their public calls: drafts, cones, edits, system files, traces, step rules, runs, and audits of schedules.
+//! Tests of crates by their public calls: drafts, systems, cones, edits, system files, traces, step rules, runs, and audits of schedules.
 //!
 //! They stand here, above those crates, so that what they try isn't proved once more with them.
 #![tactic(auto)]
@@ -15,6 +15,8 @@ mod edits;
 mod files;
 #[cfg(test)]
 mod made;
+#[cfg(test)]
+mod models;
 #[cfg(test)]
 mod runs;
 #[cfg(test)]

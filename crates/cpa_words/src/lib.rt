@@ -5,8 +5,6 @@ mod command;
 mod guard;
 mod numbers;
 mod reading;
-#[cfg(test)]
-mod tests;
 mod verb;
 
 pub use command::{Command, accept, accepted_words_are_within};

@@ -1,5 +1,7 @@
-use crate::{Command, accept};
+//! Which words are accepted, and what they ask for.
+
 use cpa_units::NoMemory;
+use cpa_words::{Command, accept};
 use std::alloc::Global;
 use std::test::Fail;
 

@@ -1,11 +1,11 @@
+//! What a system built from a draft answers.
+
 ghost use Rattle.std.specs.Prelude.{◌≡◌, ◌<◌, length, All, IfOk, true};
 ghost use Rattle.cpa_model.specs.Built.{has_executions};
 
-use crate::entries::{Activator, Kind, Turn};
-use crate::system::System;
-use cpa_draft::{
-    BuildFault, Draft, DraftPath, DraftResource, DraftSource, DraftTask, KindWord, Part, Raw,
-    RawList, Refusal,
+use cpa_model::{
+    Activator, BuildFault, Draft, DraftPath, DraftResource, DraftSource, DraftTask, Kind, KindWord,
+    Part, Raw, RawList, Refusal, System, Turn,
 };
 use cpa_units::{PathId, ResId, SourceId, TaskId};
 use std::alloc::{AllocError, Global};
@@ -27,6 +27,19 @@ fn resource(alloc: Global, name: &str, kind: KindWord) -> Result<DraftResource, 
     })
 }
 
+/// A processor, a bus and a table.
+fn resources(alloc: Global) -> Result<Vec<DraftResource>, AllocError> {
+    let mut made = Vec::new(alloc);
+    made.push(resource(alloc, "cpu", KindWord::Preemptive)?)?;
+    let mut bus = resource(alloc, "bus", KindWord::Can)?;
+    bus.bit = Some(2);
+    made.push(bus)?;
+    let mut table = resource(alloc, "table", KindWord::Tdma)?;
+    table.gap = Some(5);
+    made.push(table)?;
+    Ok(made)
+}
+
 fn source(alloc: Global, name: &str, period: i64) -> Result<DraftSource, AllocError> {
     Ok(DraftSource {
         name: raw(alloc, name)?,
@@ -36,94 +49,96 @@ fn source(alloc: Global, name: &str, period: i64) -> Result<DraftSource, AllocEr
     })
 }
 
-fn task(
-    alloc: Global,
-    name: &str,
-    on: &str,
-    after: &str,
-    turn: (Option<i64>, Option<i64>),
-) -> Result<DraftTask, AllocError>
+fn sources(alloc: Global) -> Result<Vec<DraftSource>, AllocError> {
+    let mut made = Vec::new(alloc);
+    for (name, period) in [("sa", 10), ("sb", 20)] {
+        made.push(source(alloc, name, period)?)?;
+    }
+    Ok(made)
+}
+
+/// For how long a task runs: between two times, or as a frame with this payload.
+#[derive(Clone, Copy)]
+enum Runs {
+    Between(i64, i64),
+    Frame(i64, Option<bool>),
+}
+
+/// A task's name, its resource and what activates it; how long it runs; its priority or its slot.
+type Row = ([&'static str; 3], Runs, (Option<i64>, Option<i64>));
+
+/// Two tasks on a processor, a frame between them, another frame, two tasks on a TDMA bus.
+const ROWS: [Row; 6] = [
+    (["a", "cpu", "sa"], Runs::Between(2, 7), (Some(1), None)),
+    (["f", "bus", "a"], Runs::Frame(8, None), (Some(1), None)),
+    (["b", "cpu", "f"], Runs::Between(2, 7), (Some(2), None)),
+    (
+        ["g", "bus", "sb"],
+        Runs::Frame(0, Some(true)),
+        (Some(2), None),
+    ),
+    (["x", "table", "sb"], Runs::Between(2, 7), (None, Some(30))),
+    (["y", "table", "g"], Runs::Between(2, 7), (None, Some(12))),
+];
+
+fn task(alloc: Global, row: &Row) -> Result<DraftTask, AllocError>
     ensures { IfOk result (λ t. has_executions t ≡ true) }
 {
+    let ([name, on, after], runs, (priority, slot)) = *row;
+    let (best, worst, payload, extended) = match runs {
+        Runs::Between(best, worst) => (Some(best), Some(worst), None, None),
+        Runs::Frame(payload, extended) => (None, None, Some(payload), extended),
+    };
     Ok(DraftTask {
         name: raw(alloc, name)?,
         on: raw(alloc, on)?,
         after: raw(alloc, after)?,
-        best: Some(2),
-        worst: Some(7),
-        payload: None,
-        extended: None,
-        priority: turn.0,
-        slot: turn.1,
-    })
-}
-
-fn frame(
-    alloc: Global,
-    name: &str,
-    after: &str,
-    payload: i64,
-    extended: Option<bool>,
-    priority: i64,
-) -> Result<DraftTask, AllocError>
-    ensures { IfOk result (λ t. has_executions t ≡ true) }
-{
-    Ok(DraftTask {
-        name: raw(alloc, name)?,
-        on: raw(alloc, "bus")?,
-        after: raw(alloc, after)?,
-        best: None,
-        worst: None,
-        payload: Some(payload),
+        best,
+        worst,
+        payload,
         extended,
-        priority: Some(priority),
-        slot: None,
+        priority,
+        slot,
     })
 }
 
-/// Two tasks on a processor, a frame between them, two tasks on a TDMA bus.
 fn tasks(alloc: Global) -> Result<Vec<DraftTask>, AllocError>
     ensures { IfOk result (λ v. All (λ t. has_executions t ≡ true) v.items) }
 {
-    let tasks = vec![in alloc;
-        task(alloc, "a", "cpu", "sa", (Some(1), None))?,
-        frame(alloc, "f", "a", 8, None, 1)?,
-        task(alloc, "b", "cpu", "f", (Some(2), None))?,
-        frame(alloc, "g", "sb", 0, Some(true), 2)?,
-        task(alloc, "x", "table", "sb", (None, Some(30)))?,
-        task(alloc, "y", "table", "g", (None, Some(12)))?,
-    ]?;
-    Ok(tasks)
+    let mut made = Vec::new(alloc);
+    for row in &ROWS {
+        made.push(task(alloc, row)?)?;
+    }
+    Ok(made)
+}
+
+/// One path over three tasks.
+fn paths(alloc: Global) -> Result<Vec<DraftPath>, AllocError> {
+    let mut tasks = Vec::new(alloc);
+    for name in ["a", "f", "b"] {
+        tasks.push(raw(alloc, name)?)?;
+    }
+    let mut made = Vec::new(alloc);
+    made.push(DraftPath {
+        name: raw(alloc, "p")?,
+        tasks: RawList::new(tasks),
+        deadline: Some(40),
+    })?;
+    Ok(made)
 }
 
 fn draft(alloc: Global) -> Result<Draft, AllocError>
     ensures { IfOk result (λ d. All (λ t. has_executions t ≡ true) d.tasks) }
 {
-    let mut path = Vec::new(alloc);
-    for name in ["a", "f", "b"] {
-        path.push(raw(alloc, name)?)?;
-    }
+    let resources = resources(alloc)?;
+    let sources = sources(alloc)?;
+    let tasks = tasks(alloc)?;
+    let paths = paths(alloc)?;
     Ok(Draft {
-        resources: vec![in alloc;
-            resource(alloc, "cpu", KindWord::Preemptive)?,
-            DraftResource {
-                bit: Some(2),
-                ..resource(alloc, "bus", KindWord::Can)?
-            },
-            DraftResource {
-                gap: Some(5),
-                ..resource(alloc, "table", KindWord::Tdma)?
-            },
-        ]?,
-        sources: vec![in alloc; source(alloc, "sa", 10)?, source(alloc, "sb", 20)?]?,
-        tasks: tasks(alloc)?,
-        paths: vec![in alloc;
-            DraftPath {
-                name: raw(alloc, "p")?,
-                tasks: RawList::new(path),
-                deadline: Some(40),
-            },
-        ]?,
+        resources,
+        sources,
+        tasks,
+        paths,
     })
 }
 
