@@ -3,11 +3,8 @@ use Rattle.std.proofs.Common.{◌≡◌, ℕ, zero, suc, ◌+◌, ◌<◌, ◌�
 use Rattle.std.specs.Prelude.{filter}
 use Rattle.std.specs.List.{list_all, range_with_len}
 use Rattle.std.proofs.lemmas.Bool.{and_parts, cases_Bool, cases_lt, false≢true}
-use Rattle.cpa_units.specs.declared.places.SourceId.{SourceId}
-use Rattle.cpa_model.specs.declared.entries.Activator.{Activator}
-use Rattle.cpa_model.specs.declared.entries.Activator.TheVariants.{Source as FromSource, Task as FromTask}
 use Rattle.cpa_model.specs.SystemLists.{SystemLists, task_at, resource_at, is_on}
-use Rattle.cpa_assign.specs.Orders.{has_priorities, is_source, is_fed_by_sources, IsFedBySources, IsOrderable}
+use Rattle.cpa_assign.specs.Orders.{has_priorities, are_sources, is_fed_by_sources, IsFedBySources, IsOrderable}
 
 -- each place that passes one test passes another
 all-passing : (p test : ℕ → Bool) (a n : ℕ) → ((j : ℕ) → a ≤ j → j < a + n → p j ≡ true → test j ≡ true) → list_all test (filter p (range_with_len a n)) ≡ true
@@ -36,27 +33,20 @@ passing-each p test a (suc n) all j low high passes =
     ]
 
 -- where each task that is there and on the resource is activated by a source
-pub fed-from : (s : SystemLists) (r : ℕ) → ((j : ℕ) → j < length s.tasks → is_on s r j ≡ true → is_source (task_at s j).after ≡ true) → is_fed_by_sources s r ≡ true
-fed-from s r each = all-passing (is_on s r) (λ j. is_source (task_at s j).after) 0 (length s.tasks) (λ j low high. each j (omega arith))
+pub fed-from : (s : SystemLists) (r : ℕ) → ((j : ℕ) → j < length s.tasks → is_on s r j ≡ true → are_sources (task_at s j).after ≡ true) → is_fed_by_sources s r ≡ true
+fed-from s r each = all-passing (is_on s r) (λ j. are_sources (task_at s j).after) 0 (length s.tasks) (λ j low high. each j (omega arith))
 
-fed-source : (s : SystemLists) (r : ℕ) → IsFedBySources s r → (j : ℕ) → j < length s.tasks → is_on s r j ≡ true → is_source (task_at s j).after ≡ true
-fed-source s r fed j less on = passing-each (is_on s r) (λ j. is_source (task_at s j).after) 0 (length s.tasks) fed j (omega arith) (omega arith) on
+-- a task on a resource whose tasks sources alone activate
+pub fed-source : (s : SystemLists) (r : ℕ) → IsFedBySources s r → (j : ℕ) → j < length s.tasks → is_on s r j ≡ true → are_sources (task_at s j).after ≡ true
+fed-source s r fed j less on = passing-each (is_on s r) (λ j. are_sources (task_at s j).after) 0 (length s.tasks) fed j (omega arith) (omega arith) on
 
 -- where one isn't
-pub fed-fails : (s : SystemLists) (r j : ℕ) → j < length s.tasks → is_on s r j ≡ true → is_source (task_at s j).after ≡ false → is_fed_by_sources s r ≡ false
+pub fed-fails : (s : SystemLists) (r j : ℕ) → j < length s.tasks → is_on s r j ≡ true → are_sources (task_at s j).after ≡ false → is_fed_by_sources s r ≡ false
 fed-fails s r j less on fails =
     elim (cases_Bool (is_fed_by_sources s r)) [
       | inl fed ↦ absurd (false≢true (sym fails ∙ fed-source s r fed j less on))
       | inr told ↦ told
     ]
-
-source-alone : (after : Activator) → is_source after ≡ true → (k : SourceId) × (after ≡ FromSource k)
-source-alone (FromSource k) told = (k, refl)
-source-alone (FromTask i) told = absurd (false≢true told)
-
--- the source that activates a task of such a resource
-pub fed-alone : (s : SystemLists) (r : ℕ) → IsFedBySources s r → (j : ℕ) → j < length s.tasks → is_on s r j ≡ true → (k : SourceId) × ((task_at s j).after ≡ FromSource k)
-fed-alone s r fed j less on = source-alone (task_at s j).after (fed-source s r fed j less on)
 
 -- the tests tell that a resource can be given an order
 pub orderable-from : (s : SystemLists) (r : ℕ) → r < length s.resources → has_priorities (resource_at s r).kind ≡ true → is_fed_by_sources s r ≡ true → IsOrderable s r

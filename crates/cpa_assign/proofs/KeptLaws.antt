@@ -1,7 +1,9 @@
 -- A system with an order of one of its resources keeps the rules.
-use Rattle.std.proofs.Common.{◌≡◌, ℕ, ◌<◌, ◌≤◌, nat_lt, true, List, Some, map, length, refl, ap, sym, ◌∙◌, inl, inr, arith}
+use Rattle.std.proofs.Common.{◌≡◌, ℕ, ◌<◌, ◌≤◌, nat_lt, true, List, map, length, slice_index_or, refl, ap, sym, ◌∙◌, inl, inr, arith}
+use Rattle.std.specs.List.{list_any}
 use Rattle.std.proofs.lemmas.Bool.{cases_Bool, cases_lt, cases_order, false≢true, eqb-true, eq-eqb, lt-ltb}
 use Rattle.std.proofs.lemmas.List.{get_or_past}
+use Rattle.std.proofs.lemmas.List.Elements.{All-weaker}
 use Rattle.cpa_units.specs.declared.limits.TheConstants.{MAX_PRIORITY}
 use Rattle.cpa_units.specs.declared.places.ResId.{ResId}
 use Rattle.cpa_units.specs.Name.{is_name}
@@ -15,7 +17,7 @@ use Rattle.cpa_model.specs.declared.entries.Turn.{Turn}
 use Rattle.cpa_model.specs.declared.entries.Turn.TheVariants.{Priority}
 use Rattle.cpa_model.specs.declared.entries.Activator.{Activator}
 use Rattle.cpa_model.specs.declared.entries.Activator.TheVariants.{Source as FromSource, Task as FromTask}
-use Rattle.cpa_model.specs.SystemLists.{SystemLists, task_at, resource_at, task_places, is_on, priority_of, no_task}
+use Rattle.cpa_model.specs.SystemLists.{SystemLists, task_at, resource_at, task_places, is_on, is_task, priority_of, no_task}
 use Rattle.cpa_model.specs.Rules.{IsSystem, IsTask, IsPath, IsActivator, TurnFits, HaveOwnPriorities}
 use Rattle.cpa_local.proofs.PassingPlaces.{map-map}
 use Rattle.cpa_assign.specs.Orders.{is_member, place_in, kth_priority, number_up_to, ordered_task, with_order, HasPriorities, IsOrder}
@@ -77,10 +79,10 @@ module _ (s : SystemLists) (r : ℕ) (o : List ℕ) (rules : IsSystem s) (kind :
       elim (cases_Bool (is_on s r j)) [
         | inl on ↦
             rw on
-            (record { placed = it.placed; activated = activated (task_at s j).after it.activated; some_best = it.some_best; ordered = it.ordered; worst = it.worst; turn_fits = turn_kept j it on })
+            (record { placed = it.placed; some = it.some; activated = All-weaker (IsActivator s) (IsActivator t) activated (task_at s j).after it.activated; different = it.different; some_best = it.some_best; ordered = it.ordered; worst = it.worst; turn_fits = turn_kept j it on })
         | inr off ↦
             rw off
-            (record { placed = it.placed; activated = activated (task_at s j).after it.activated; some_best = it.some_best; ordered = it.ordered; worst = it.worst; turn_fits = it.turn_fits })
+            (record { placed = it.placed; some = it.some; activated = All-weaker (IsActivator s) (IsActivator t) activated (task_at s j).after it.activated; different = it.different; some_best = it.some_best; ordered = it.ordered; worst = it.worst; turn_fits = it.turn_fits })
       ]
 
   path_kept : (p : Path) → IsPath s p → IsPath t p
@@ -88,7 +90,7 @@ module _ (s : SystemLists) (r : ℕ) (o : List ℕ) (rules : IsSystem s) (kind :
       record {
         some = path.some;
         there = λ k d less. let there = path.there k d less in omega (arith, there, long);
-        linked = λ k less. after_same _ ∙ path.linked k less;
+        linked = λ k less. ap (list_any (is_task (slice_index_or p.tasks k (record { 0 = 0 })).0)) (after_same _) ∙ path.linked k less;
         deadline = path.deadline;
       }
 
@@ -136,7 +138,8 @@ module _ (s : SystemLists) (r : ℕ) (o : List ℕ) (rules : IsSystem s) (kind :
         sources = rules.sources;
         tasks = λ j d less. let less_s : j < length s.tasks = omega (arith, less, long) in rw (ordered-at s r o j d less_s) (task_kept j less_s);
         paths = λ k d less. path_kept _ (rules.paths k d less);
-        chains = λ i less. rw (map_same (λ (v : Task). Some v.after) (λ v turn. refl)) (rules.chains i (omega (arith, less, long)));
+        chains = λ i less. rw (map_same (λ (v : Task). v.after) (λ v turn. refl)) (rules.chains i (omega (arith, less, long)));
+        streams = λ i less. rw (map_same (λ (v : Task). v.after) (λ v turn. refl)) (rules.streams i (omega (arith, less, long)));
         resources_named = rules.resources_named;
         sources_named = rules.sources_named;
         tasks_named = λ j d less.

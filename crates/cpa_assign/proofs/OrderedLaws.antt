@@ -1,11 +1,12 @@
 -- The bound of a task of the resource under an order depends on the set of tasks before it alone.
-use Rattle.std.proofs.Common.{◌≡◌, ℕ, ◌<◌, ◌==◌, ◌||◌, nat_lt, max, not, slice_index_or, Bool, true, false, List, Some, None, map, length, refl, ap, sym, ◌∙◌, inl, inr, arith}
+use Rattle.std.proofs.Common.{◌≡◌, ℕ, ◌<◌, ◌==◌, ◌||◌, nat_lt, max, not, slice_index_or, Bool, true, false, List, [], ◌∷◌, Option, Some, map, length, refl, ap, sym, ◌∙◌, inl, inr, arith}
 use Rattle.std.specs.Prelude.{filter, fold}
-use Rattle.std.specs.List.{range_with_len}
+use Rattle.std.specs.List.{range_with_len, flat_map}
 use Rattle.std.proofs.lemmas.Bool.{cases_Bool, cases_order, false≢true, eqb-true, lt-ltb, le-ltb}
 use Rattle.std.proofs.lemmas.List.{get_or-map}
 use Rattle.cpa_units.specs.declared.bound.Bound.{Bound}
 use Rattle.cpa_units.specs.declared.places.SourceId.{SourceId}
+use Rattle.cpa_events.specs.Events.{Model}
 use Rattle.cpa_window.proofs.RivalLaws.{load_of, work_in-same}
 use Rattle.cpa_spp.proofs.PreemptiveLaws.{preemptive_bound-same}
 use Rattle.cpa_can.proofs.CanLaws.{can_bound-same}
@@ -13,16 +14,17 @@ use Rattle.cpa_model.specs.declared.entries.Kind.{Kind}
 use Rattle.cpa_model.specs.declared.entries.Kind.TheVariants.{Preemptive, RoundRobin, Tdma, Can}
 use Rattle.cpa_model.specs.declared.entries.Turn.TheVariants.{Priority}
 use Rattle.cpa_model.specs.declared.entries.Task.{Task}
-use Rattle.cpa_model.specs.declared.entries.Activator.TheVariants.{Source as FromSource}
-use Rattle.cpa_model.specs.Chains.{activators, streams_within}
-use Rattle.cpa_model.specs.SystemLists.{SystemLists, task_at, resource_at, resource_of, task_places, root_of, is_higher, higher_tasks, blocking_of, no_task, is_on}
+use Rattle.cpa_model.specs.declared.entries.Activator.{Activator}
+use Rattle.cpa_model.specs.declared.entries.Activator.TheVariants.{Source as FromSource, Task as FromTask}
+use Rattle.cpa_model.specs.Chains.{activators, streams_step, streams_within}
+use Rattle.cpa_model.specs.SystemLists.{SystemLists, task_at, resource_at, resource_of, task_places, is_higher, higher_tasks, blocking_of, no_task, is_on}
 use Rattle.cpa_model.specs.Rules.{IsSystem}
-use Rattle.cpa_model.specs.Streams.{source_model}
-use Rattle.cpa_local.specs.Inputs.{input}
+use Rattle.cpa_model.specs.Streams.{source_model, source_stream}
+use Rattle.cpa_local.specs.Inputs.{joined, sent_by_all, input_along, input}
 use Rattle.cpa_local.specs.Local.{rival_of, bound_by_kind, response}
-use Rattle.cpa_assign.specs.Orders.{is_member, place_in, kth_priority, ordered_task, with_order, HasPriorities, IsOrder, IsOrderable}
-use Rattle.cpa_assign.specs.Placing.{root_model, rival_at, rivals_at, greatest_worst, is_below, placed_by_kind, placed_bound}
-use Rattle.cpa_assign.proofs.AbleLaws.{fed-alone}
+use Rattle.cpa_assign.specs.Orders.{are_sources, is_member, place_in, kth_priority, ordered_task, with_order, HasPriorities, IsOrder, IsOrderable}
+use Rattle.cpa_assign.specs.Placing.{sources_model, rival_at, rivals_at, greatest_worst, is_below, placed_by_kind, placed_bound}
+use Rattle.cpa_assign.proofs.AbleLaws.{fed-source}
 use Rattle.cpa_assign.proofs.OrderLaws.{is_before, same_place, flip-no, before-place, before-member, place-less, place-own}
 use Rattle.cpa_local.proofs.PassingPlaces.{filter-agree, map-passing, map-map, greatest-passing}
 use Rattle.cpa_assign.proofs.PriorityLaws.{kth-order}
@@ -124,22 +126,27 @@ module _ (s : SystemLists) (r : ℕ) (o : List ℕ) (rules : IsSystem s) (able :
     resource-own : resource_of t i ≡ resource_at s r
     resource-own = resource-same (task_at t i).res.0 ∙ ap (λ (it : Task). resource_at s it.res.0) own-task ∙ ap (resource_at s) own-res
 
-    root-own : (k : SourceId) → (task_at s i).after ≡ FromSource k → root_of s i ≡ k
-    unfolding streams_within
-    root-own k after =
-        let link : slice_index_or (activators s.tasks) i None ≡ Some (FromSource k) = get_or-map (λ (it : Task). Some it.after) s.tasks i no_task None own.0 ∙ ap Some after in
-        rw link refl
+    -- what sources alone send: their streams
+    sent-sources : (f : ℕ → Option Model) (g : ℕ → List SourceId) (x : List Bound) (them : List Activator) → are_sources them ≡ true
+        → sent_by_all t x f them ≡ Some (map (λ (k : SourceId). source_stream s k.0) (flat_map (λ (a : Activator). streams_step a g) them))
+    unfolding with_order
+    sent-sources f g x [] told = refl
+    sent-sources f g x (FromSource k ∷ them) told = ap (joined (Some (source_model s k.0))) (sent-sources f g x them told)
+    sent-sources f g x (FromTask j ∷ them) told = absurd (false≢true told)
 
-    input-own : (x : List Bound) → input t x i ≡ Some (root_model s i)
-    unfolding input
+    link-own : slice_index_or (activators s.tasks) i [] ≡ (task_at s i).after
+    link-own = get_or-map (λ (it : Task). it.after) s.tasks i no_task [] own.0
+
+    input-own : (x : List Bound) → input t x i ≡ Some (sources_model s i)
+    unfolding input streams_within
     input-own x =
-        let fed = fed-alone s r able.fed i own.0 own.1 in
-        let after : (task_at t i).after ≡ FromSource fed.0 = ap (λ (it : Task). it.after) own-task ∙ fed.1 in
-        rw (after, root-own fed.0 fed.1) (ap Some (source-same fed.0.0))
+        ap (λ (it : Task). sent_by_all t x (input_along t x 31) it.after) own-task
+        ∙ sent-sources (input_along t x 31) (streams_within (activators s.tasks) 31) x (task_at s i).after (fed-source s r able.fed i own.0 own.1)
+        ∙ ap (λ (them : List Activator). Some (map (λ (k : SourceId). source_stream s k.0) (flat_map (λ (a : Activator). streams_step a (streams_within (activators s.tasks) 31)) them))) (sym link-own)
 
   -- ---- the tasks before one of the resource as its rivals
 
-  input-member : (x : List Bound) (j : ℕ) → is_member o j ≡ true → input t x j ≡ Some (root_model s j)
+  input-member : (x : List Bound) (j : ℕ) → is_member o j ≡ true → input t x j ≡ Some (sources_model s j)
   input-member x j mj = input-own j mj x
 
   worst-same : (j : ℕ) → j < length s.tasks → (task_at t j).worst ≡ (task_at s j).worst
@@ -172,14 +179,14 @@ module _ (s : SystemLists) (r : ℕ) (o : List ℕ) (rules : IsSystem s) (able :
         ∙ ap (fold (λ most j. max most (task_at t j).worst) 0) (filter-agree (λ j. is_higher t j i) (is_below s r (is_before o i) i) 0 (length s.tasks) (λ j low high. lower-after i mi j (omega arith)))
         ∙ greatest-passing (is_below s r (is_before o i) i) (λ j. (task_at t j).worst) (λ j. (task_at s j).worst) 0 0 (length s.tasks) (λ j low high passes. worst-same j (omega arith))
 
-    by_kind-same : (kind : Kind) → HasPriorities kind → bound_by_kind t x i (root_model s i) kind ≡ placed_by_kind s r (is_before o i) i kind
+    by_kind-same : (kind : Kind) → HasPriorities kind → bound_by_kind t x i (sources_model s i) kind ≡ placed_by_kind s r (is_before o i) i kind
     by_kind-same Preemptive h =
         rw (worst-same i (own i mi).0, resource-own i mi)
-        (preemptive_bound-same (root_model s i) (task_at s i).worst (map (rival_of t x) (higher_tasks t i)) (rivals_at s (is_before o i)) (resource_at s r).limit
+        (preemptive_bound-same (sources_model s i) (task_at s i).worst (map (rival_of t x) (higher_tasks t i)) (rivals_at s (is_before o i)) (resource_at s r).limit
         (λ w. work_in-same (map (rival_of t x) (higher_tasks t i)) (rivals_at s (is_before o i)) w loads-same))
     by_kind-same (Can bit) h =
         rw (worst-same i (own i mi).0, resource-own i mi, blocking-same)
-        (can_bound-same (root_model s i) (task_at s i).worst (greatest_worst s (is_below s r (is_before o i) i)) (map (rival_of t x) (higher_tasks t i)) (rivals_at s (is_before o i)) bit (resource_at s r).limit
+        (can_bound-same (sources_model s i) (task_at s i).worst (greatest_worst s (is_below s r (is_before o i) i)) (map (rival_of t x) (higher_tasks t i)) (rivals_at s (is_before o i)) bit (resource_at s r).limit
         (λ w. work_in-same (map (rival_of t x) (higher_tasks t i)) (rivals_at s (is_before o i)) w loads-same))
     by_kind-same RoundRobin h = absurd (false≢true h)
     by_kind-same (Tdma gap) h = absurd (false≢true h)

@@ -1,21 +1,24 @@
 -- What the search for a place knows.
-use Rattle.std.proofs.Common.{slice_index_or, ◌≡◌, ◌≢◌, ℕ, zero, suc, ◌<◌, ◌≤◌, ◌==◌, ◌&&◌, not, nat_lt, Bool, IsTrue, true, false, List, [], ◌∷◌, Some, map, set, length, slice_get, refl, ap, sym, ◌∙◌, subst, inl, inr, arith}
+use Rattle.std.proofs.Common.{slice_index_or, ◌≡◌, ◌≢◌, ℕ, zero, suc, ◌+◌, ◌<◌, ◌≤◌, ◌==◌, ◌&&◌, not, nat_lt, Bool, IsTrue, true, false, List, [], ◌∷◌, ◌++◌, Some, map, set, take, length, slice_get, refl, ap, sym, ◌∙◌, subst, inl, inr, arith}
 use Rattle.std.specs.Prelude.{filter}
 use Rattle.std.proofs.lemmas.Bool.{and_parts, not-true, cases_Bool, cases_lt, false≢true, eq-eqb, eqb-true, ltb-true, lt-ltb, le-ltb}
 use Rattle.std.proofs.Math.Dec.{eqb-suc-zero, eqb-zero-suc}
-use Rattle.std.proofs.lemmas.List.{get_or_past, length-map}
+use Rattle.std.proofs.lemmas.List.{get_or_past, length-map, map_push, take_more}
 use Rattle.std.proofs.lemmas.List.FromFn.{get_or-map-range_with_len, length-map-range_with_len, length-range_with_len}
 use Rattle.std.proofs.lemmas.Option.{same_Some}
 use Rattle.std.proofs.lemmas.List.Sums.{length-filter, count_by-le-length}
 use Rattle.cpa_units.specs.declared.bound.Bound.{Bound}
 use Rattle.cpa_units.specs.declared.bound.Bound.TheVariants.{Within}
+use Rattle.cpa_units.specs.declared.places.SourceId.{SourceId}
 use Rattle.cpa_units.specs.declared.places.TaskId.{TaskId}
+use Rattle.cpa_events.specs.Events.{Model}
+use Rattle.cpa_model.specs.Streams.{source_stream}
 use Rattle.cpa_units.specs.Bounds.{IsAtMost, fits}
 use Rattle.cpa_units.specs.Sets.{holds}
 use Rattle.cpa_units.proofs.BoundLaws.{fits-true, fits-from}
 use Rattle.cpa_model.specs.declared.entries.Task.{Task}
 use Rattle.cpa_model.specs.declared.entries.Path.{Path}
-use Rattle.cpa_model.specs.SystemLists.{SystemLists, task_places, is_on, tasks_on, place_of, places_of}
+use Rattle.cpa_model.specs.SystemLists.{SystemLists, task_places, is_on, tasks_on, place_of, places_of, stream_at, streams_of}
 use Rattle.cpa_assign.specs.Orders.{is_member, is_task_on, IsPathInTime, IsOrder, ordered_task, with_order}
 use Rattle.cpa_assign.proofs.OrderLaws.{once-from, and-true}
 use Rattle.cpa_assign.proofs.CountLaws.{once-long}
@@ -40,8 +43,8 @@ path-judged p i d b verdict only is told = (
 )
 
 -- the tasks of a resource are told one by one
-pub roster-long : (s : SystemLists) (r : ℕ) (ids : List TaskId) → places_of ids ≡ tasks_on s r → length ids ≡ length (tasks_on s r)
-roster-long s r ids are = sym (length-map ids place_of) ∙ ap length are
+pub task_list-long : (s : SystemLists) (r : ℕ) (ids : List TaskId) → places_of ids ≡ tasks_on s r → length ids ≡ length (tasks_on s r)
+task_list-long s r ids are = sym (length-map ids place_of) ∙ ap length are
 
 pub places-long : (ids : List TaskId) → length (places_of ids) ≡ length ids
 places-long ids = length-map ids place_of
@@ -67,8 +70,8 @@ order-long s r o order =
     ∙ ap length (filter-agree (is_member o) (is_on s r) 0 (length s.tasks) (λ j low high. order.members j ∙ (rw (lt-ltb j (length s.tasks) (omega arith)) refl)))
 
 -- there are no more of them than tasks
-pub roster-few : (s : SystemLists) (r : ℕ) → length (tasks_on s r) ≤ length s.tasks
-roster-few s r =
+pub task_list-few : (s : SystemLists) (r : ℕ) → length (tasks_on s r) ≤ length s.tasks
+task_list-few s r =
     let few = count_by-le-length (is_on s r) (task_places s) in
     omega (arith, few, length-filter (is_on s r) (task_places s), length-range_with_len 0 (length s.tasks))
 
@@ -108,3 +111,11 @@ set-tells (b ∷ free) (suc i) less (suc j) = set-tells free i (omega (arith, le
         | inr not_too ↦ other ∙ sym not_too
       ]
     ]
+
+-- the streams of a task, one further
+pub sources-more : (s : SystemLists) (i k : ℕ) (so_far one all : Model) → k < length (streams_of s i) → so_far ≡ map (λ (k : SourceId). source_stream s k.0) (take k (streams_of s i))
+    → one ≡ source_stream s (stream_at s i k).0 ∷ [] → all ≡ so_far ++ one → all ≡ map (λ (k : SourceId). source_stream s k.0) (take (k + 1) (streams_of s i))
+sources-more s i k so_far one all less found is e =
+    e ∙ ap (λ m. m ++ one) found ∙ ap (λ m. map (λ (k : SourceId). source_stream s k.0) (take k (streams_of s i)) ++ m) is
+    ∙ sym (map_push (λ (k : SourceId). source_stream s k.0) (take k (streams_of s i)) (stream_at s i k))
+    ∙ ap (map (λ (k : SourceId). source_stream s k.0)) (sym (take_more (streams_of s i) k (record { 0 = 0 }) less))

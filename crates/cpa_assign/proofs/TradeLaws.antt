@@ -1,12 +1,15 @@
 -- Where tasks move from above a task to below it, its bound doesn't rise: each leaves the interference, in which it has its
 -- execution at least once, and enters the blocking at most once.
-use Rattle.std.proofs.Common.{◌≡◌, ℕ, ◌+◌, ◌-◌, ◌*◌, ◌≤◌, ◌==◌, ◌&&◌, ◌||◌, ◌⊎◌, not, max, Bool, true, false, cond, List, [], ◌∷◌, map, length, refl, ap, sym, ◌∙◌, inl, inr, arith}
+use Rattle.std.proofs.Common.{◌≡◌, ℕ, ◌+◌, ◌-◌, ◌*◌, ◌<◌, ◌≤◌, ◌==◌, ◌&&◌, ◌||◌, ◌⊎◌, not, max, Bool, true, false, cond, List, [], ◌∷◌, map, length, get_or, refl, ap, sym, ◌∙◌, inl, inr, arith}
 use Rattle.std.specs.Prelude.{filter, fold}
 use Rattle.std.specs.List.{sum_by}
 use Rattle.std.proofs.lemmas.Bool.{cases_Bool, cases_lt}
+use Rattle.std.proofs.lemmas.List.{length-map}
+use Rattle.std.proofs.lemmas.List.Elements.{All-map}
 use Rattle.std.proofs.lemmas.List.Sums.{sum_by-cons}
 use Rattle.std.proofs.Math.Nat.{mul-le-mul_right}
 use Rattle.std.proofs.Math.ListN.{get_or-eq_default}
+use Rattle.cpa_units.specs.declared.places.SourceId.{SourceId}
 use Rattle.cpa_units.specs.declared.bound.Bound.{Bound}
 use Rattle.cpa_units.specs.declared.bound.Bound.TheVariants.{Within, Overload}
 use Rattle.cpa_units.specs.Bounds.{IsAtMost, bound_plus}
@@ -21,15 +24,17 @@ use Rattle.cpa_window.proofs.WindowLaws.{window-is, window-least}
 use Rattle.cpa_window.proofs.BusyWindowLaws.{busy_window_bound-grows}
 use Rattle.cpa_spp.specs.Preemptive.{preemptive_demand}
 use Rattle.cpa_can.specs.Can.{can_busy_demand, can_demand, can_response, can_bound, greatest_in_busy_window}
+use Rattle.cpa_model.specs.declared.entries.Task.{Task}
 use Rattle.cpa_model.specs.declared.entries.Kind.{Kind}
 use Rattle.cpa_model.specs.declared.entries.Kind.TheVariants.{Preemptive, RoundRobin, Tdma, Can}
-use Rattle.cpa_model.specs.SystemLists.{SystemLists, task_at, resource_at, task_places, root_of, no_resource}
+use Rattle.cpa_model.specs.SystemLists.{SystemLists, task_at, resource_at, task_places, streams_of, no_resource, no_task}
 use Rattle.cpa_model.specs.Rules.{IsSystem, IsResource, KindFits}
 use Rattle.cpa_assign.specs.Orders.{is_task_on}
-use Rattle.cpa_events.proofs.EventLaws.{one-is_model}
+use Rattle.cpa_events.specs.Streams.{IsStream}
+use Rattle.cpa_model.proofs.SystemLaws.{streams_of-some}
 use Rattle.cpa_model.specs.Streams.{source_stream}
 use Rattle.cpa_local.proofs.ResponseLaws.{source-is_stream}
-use Rattle.cpa_assign.specs.Placing.{root_model, rival_at, rivals_at, greatest_worst, is_below, placed_by_kind, placed_bound}
+use Rattle.cpa_assign.specs.Placing.{sources_model, rival_at, rivals_at, greatest_worst, is_below, placed_by_kind, placed_bound}
 
 -- ---- windows of demands that are compared from their first length on
 
@@ -165,10 +170,26 @@ module _ (s : SystemLists) (r i : ℕ) (fewer above : ℕ → Bool) (rules : IsS
   worst_of j = (task_at s j).worst
 
   work_of : ℕ → ℕ → ℕ
-  work_of w j = eta_plus (root_model s j) w * worst_of j
+  work_of w j = eta_plus (sources_model s j) w * worst_of j
 
-  root-is_model : (j : ℕ) → IsModel (root_model s j)
-  root-is_model j = one-is_model (source_stream s (root_of s j).0) (source-is_stream s [] rules (root_of s j).0)
+  sources-are_model : (j : ℕ) → j < length s.tasks → IsModel (sources_model s j)
+  sources-are_model j less =
+      record {
+        some = omega (arith, length-map (streams_of s j) (λ (k : SourceId). source_stream s k.0), streams_of-some s rules j less);
+        each = All-map IsStream (λ (k : SourceId). source_stream s k.0) (streams_of s j) (λ k d within. source-is_stream s [] rules (get_or (streams_of s j) k d).0);
+      }
+
+  -- a task above has its execution at least once in a window
+  once_worst : (w j : ℕ) → 1 ≤ w → worst_of j ≤ work_of w j
+  unfolding work_of worst_of
+  once_worst w j some =
+      elim (cases_lt j (length s.tasks)) [
+        | inl less ↦
+            let once : 1 ≤ eta_plus (sources_model s j) w = eta_plus-one (sources_model s j) w (sources-are_model j less) some in
+            let all : 1 * (task_at s j).worst ≤ eta_plus (sources_model s j) w * (task_at s j).worst = mul-le-mul_right (task_at s j).worst once in
+            omega (arith, all)
+        | inr past ↦ let none : (task_at s j).worst ≡ 0 = ap (λ (t : Task). t.worst) (get_or-eq_default s.tasks no_task past) in omega (arith, none)
+      ]
 
   not_below : (test : ℕ → Bool) (j : ℕ) → test j ≡ true → is_below s r test i j ≡ false
   not_below test j h =
@@ -180,8 +201,7 @@ module _ (s : SystemLists) (r i : ℕ) (fewer above : ℕ → Bool) (rules : IsS
   trades : (w j : ℕ) → 1 ≤ w → IsTrade fewer above (is_below s r fewer i) (is_below s r above i) worst_of (work_of w) j
   unfolding work_of
   trades w j some =
-      let once : 1 ≤ eta_plus (root_model s j) w = eta_plus-one (root_model s j) w (root-is_model j) some in
-      let once_worst : 1 * worst_of j ≤ eta_plus (root_model s j) w * worst_of j = mul-le-mul_right (worst_of j) once in
+      let once : worst_of j ≤ work_of w j = once_worst w j some in
       let brings : picked (is_below s r fewer i) worst_of j ≤ worst_of j = picked-le (is_below s r fewer i) worst_of j in
       let less : picked fewer (work_of w) j ≤ picked above (work_of w) j = picked-kept fewer above (work_of w) j (moved j) in
       elim (cases_Bool (fewer j)) [
@@ -193,7 +213,7 @@ module _ (s : SystemLists) (r i : ℕ) (fewer above : ℕ → Bool) (rules : IsS
             elim (cases_Bool (above j)) [
               | inl higher ↦
                   let had = picked-some above (work_of w) j higher in
-                  record { less = less; trade = inr (omega (arith, left, had, once_worst, brings)) }
+                  record { less = less; trade = inr (omega (arith, left, had, once, brings)) }
               | inr lower ↦
                   let same : is_below s r fewer i j ≡ is_below s r above i j = ap (λ (b : Bool). is_task_on s r j && not (b || j == i)) (low ∙ sym lower) in
                   record { less = less; trade = inl (picked-same (is_below s r fewer i) (is_below s r above i) worst_of j same) }
@@ -222,11 +242,11 @@ module _ (s : SystemLists) (r i : ℕ) (fewer above : ℕ → Bool) (rules : IsS
 
   placed_by_kind-fewer : (kind : Kind) → KindFits kind → IsAtMost (placed_by_kind s r fewer i kind) (placed_by_kind s r above i kind)
   placed_by_kind-fewer Preemptive fit =
-      busy_window_bound-grows (preemptive_demand (task_at s i).worst (rivals_at s fewer)) (preemptive_demand (task_at s i).worst (rivals_at s above)) (delta_minus (root_model s i)) (delta_minus (root_model s i)) (resource_at s r).limit
+      busy_window_bound-grows (preemptive_demand (task_at s i).worst (rivals_at s fewer)) (preemptive_demand (task_at s i).worst (rivals_at s above)) (delta_minus (sources_model s i)) (delta_minus (sources_model s i)) (resource_at s r).limit
       (λ q w. bound_plus-mono (Within (q * (task_at s i).worst)) (Within (q * (task_at s i).worst)) (work_in (rivals_at s fewer) w) (work_in (rivals_at s above) w) (omega arith) (no_more_work w))
       (λ q. omega arith)
   placed_by_kind-fewer (Can bit) fit =
-      can_bound-trade (root_model s i) (task_at s i).worst (greatest_worst s (is_below s r fewer i)) (greatest_worst s (is_below s r above i)) (rivals_at s fewer) (rivals_at s above) bit (resource_at s r).limit
+      can_bound-trade (sources_model s i) (task_at s i).worst (greatest_worst s (is_below s r fewer i)) (greatest_worst s (is_below s r above i)) (rivals_at s fewer) (rivals_at s above) bit (resource_at s r).limit
       fit.0 no_more_together
   placed_by_kind-fewer RoundRobin fit = tt
   placed_by_kind-fewer (Tdma gap) fit = tt

@@ -98,14 +98,18 @@ has_priorities _ = false
 abbrev pub HasPriorities : Kind → Type 0
 HasPriorities kind = IsTrue (has_priorities kind)
 
--- whether an activator is a source
-abbrev pub is_source : Activator → Bool
-is_source (FromSource k) = true
-is_source (FromTask i) = false
+-- whether an activator is some source
+abbrev pub is_some_source : Activator → Bool
+is_some_source (FromSource k) = true
+is_some_source (FromTask i) = false
+
+-- whether all activators of a list are sources
+abbrev pub are_sources : List Activator → Bool
+are_sources them = list_all is_some_source them
 
 -- whether the tasks on a resource are activated by sources alone
 abbrev pub is_fed_by_sources : SystemLists → ℕ → Bool
-is_fed_by_sources s r = list_all (λ i. is_source (task_at s i).after) (tasks_on s r)
+is_fed_by_sources s r = list_all (λ i. are_sources (task_at s i).after) (tasks_on s r)
 
 abbrev pub IsFedBySources : SystemLists → ℕ → Type 0
 IsFedBySources s r = IsTrue (is_fed_by_sources s r)

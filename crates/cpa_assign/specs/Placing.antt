@@ -1,5 +1,6 @@
 -- The bound of a task by the set of tasks above it alone: all other tasks of the resource are below.
 use Rattle.std.specs.Prelude.{ℕ, ◌<◌, ◌≡◌, ◌==◌, ◌&&◌, ◌||◌, not, max, Bool, true, Some, List, filter, fold, map}
+use Rattle.cpa_units.specs.declared.places.SourceId.{SourceId}
 use Rattle.cpa_units.specs.declared.bound.Bound.{Bound}
 use Rattle.cpa_units.specs.declared.bound.Bound.TheVariants.{Overload}
 use Rattle.cpa_events.specs.Events.{Model}
@@ -8,17 +9,17 @@ use Rattle.cpa_spp.specs.Preemptive.{preemptive_bound}
 use Rattle.cpa_can.specs.Can.{can_bound}
 use Rattle.cpa_model.specs.declared.entries.Kind.{Kind}
 use Rattle.cpa_model.specs.declared.entries.Kind.TheVariants.{Preemptive, Can}
-use Rattle.cpa_model.specs.SystemLists.{SystemLists, task_at, resource_at, task_places, root_of}
-use Rattle.cpa_model.specs.Streams.{source_model}
+use Rattle.cpa_model.specs.SystemLists.{SystemLists, task_at, resource_at, task_places, streams_of}
+use Rattle.cpa_model.specs.Streams.{source_stream}
 use Rattle.cpa_assign.specs.Orders.{is_task_on, IsInTime}
 
--- the event model of the source that begins a task's chain
-abbrev pub root_model : SystemLists → ℕ → Model
-root_model s i = source_model s (root_of s i).0
+-- the event model of a task that sources alone activate: the streams of these, in their order
+abbrev pub sources_model : SystemLists → ℕ → Model
+sources_model s i = map (λ (k : SourceId). source_stream s k.0) (streams_of s i)
 
 -- a task as those below it see it; its slot and its own bound don't count
 abbrev pub rival_at : SystemLists → ℕ → Rival
-rival_at s j = record { model = Some (root_model s j); worst = (task_at s j).worst; slot = 0; bound = Overload }
+rival_at s j = record { model = Some (sources_model s j); worst = (task_at s j).worst; slot = 0; bound = Overload }
 
 -- the tasks that pass a test, as rivals
 abbrev pub rivals_at : SystemLists → (ℕ → Bool) → List Rival
@@ -34,9 +35,9 @@ is_below s r above i j = is_task_on s r j && not (above j || j == i)
 
 abbrev pub placed_by_kind : SystemLists → ℕ → (ℕ → Bool) → ℕ → Kind → Bound
 placed_by_kind s r above i Preemptive =
-    preemptive_bound (root_model s i) (task_at s i).worst (rivals_at s above) (resource_at s r).limit
+    preemptive_bound (sources_model s i) (task_at s i).worst (rivals_at s above) (resource_at s r).limit
 placed_by_kind s r above i (Can bit) =
-    can_bound (root_model s i) (task_at s i).worst (greatest_worst s (is_below s r above i)) (rivals_at s above) bit (resource_at s r).limit
+    can_bound (sources_model s i) (task_at s i).worst (greatest_worst s (is_below s r above i)) (rivals_at s above) bit (resource_at s r).limit
 placed_by_kind s r above i _ = Overload
 
 -- the bound of task i of a resource below those that `above` tells

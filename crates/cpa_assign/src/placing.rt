@@ -5,22 +5,39 @@ ghost use Rattle.cpa_units.specs.declared.limits.TheConstants.{MAX_EXECUTION};
 ghost use Rattle.cpa_units.specs.Sets.{holds};
 ghost use Rattle.cpa_events.specs.Events.{IsModelInRange};
 ghost use Rattle.cpa_window.specs.Rivals.{IsRival, AreRivals};
-ghost use Rattle.cpa_model.specs.SystemLists.{path_at};
+ghost use Rattle.cpa_events.specs.Streams.{IsStreamInRange};
+ghost use Rattle.cpa_model.specs.SystemLists.{path_at, stream_at, streams_of};
+ghost use Rattle.cpa_model.specs.Streams.{source_stream};
 ghost use Rattle.cpa_assign.specs.Orders.{IsInTime, IsPathInTime};
-ghost use Rattle.cpa_assign.specs.Placing.{root_model, rival_at, rivals_at, greatest_worst, is_below, placed_bound, without, IsLowestOf, NoneIsLowest};
+ghost use Rattle.cpa_assign.specs.Placing.{sources_model, rival_at, rivals_at, greatest_worst, is_below, placed_bound, without, IsLowestOf, NoneIsLowest};
 
-use cpa_events::Model;
+use cpa_events::{Model, Stream};
 use cpa_model::{Kind, System};
 use cpa_units::{Bound, PathId, ResId, TaskId};
 use cpa_window::Rival;
 
-/// The event model of the source that begins a task's chain.
-fn root_model(system: &System, task: TaskId) -> Model
+/// How the events of one of a task's streams come from their source.
+fn source_stream(system: &System, task: TaskId, k: u32) -> Stream
+    requires task { task.0 < length system.now.tasks }
+    requires stream { k < length (streams_of system.now task.0) }
+    ensures value { result ≡ source_stream system.now (stream_at system.now task.0 k).0 }
+    ensures in_range { IsStreamInRange result }
+{
+    system.source(system.stream(task, k)).stream()
+}
+
+/// The event model of a task that sources alone activate.
+fn sources_model(system: &System, task: TaskId) -> Model
     requires { task.0 < length system.now.tasks }
-    ensures value { result ≡ root_model system.now task.0 }
+    ensures value { result ≡ sources_model system.now task.0 }
     ensures in_range { IsModelInRange result }
 {
-    Model::one(system.source(system.root(task)).stream())
+    let count = system.streams(task);
+    let mut model = Model::one(source_stream(system, task, 0));
+    for k in 1..count {
+        model.append(&Model::one(source_stream(system, task, k)));
+    }
+    model
 }
 
 /// A task as those below it see it.
@@ -30,7 +47,7 @@ fn rival(system: &System, task: TaskId) -> Rival
     ensures in_range { IsRival result }
 {
     Rival {
-        model: Some(root_model(system, task)),
+        model: Some(sources_model(system, task)),
         worst: system.task(task).worst,
         slot: 0,
         bound: Bound::Overload,
@@ -103,7 +120,7 @@ fn lowest_bound(
     ensures room { vec_capacity rivals.new ≡ vec_capacity rivals.old }
 {
     gather_above(system, task, free, rivals);
-    let own = root_model(system, task);
+    let own = sources_model(system, task);
     let worst = system.task(task).worst;
     let entry = system.resource(res);
     match entry.kind {

@@ -10,7 +10,7 @@ use Rattle.cpa_trace.specs.Trace.{TraceLists}
 use Rattle.cpa_sim.specs.declared.jobs.Served.{Served}
 use Rattle.cpa_sim.specs.Outcome.{end_of}
 use Rattle.cpa_sim.specs.Served.{served_at}
-use Rattle.cpa_sim.proofs.KeptLaws.{CanRun}
+use Rattle.cpa_sim.proofs.InvariantLaws.{CanRun}
 use Rattle.cpa_sim.proofs.StartLaws.{can-run}
 use Rattle.cpa_sim.proofs.ServedLaws.{served-on}
 use Rattle.std.specs.List.{flat_map}
@@ -142,7 +142,7 @@ module _ (s : SystemLists) (tr : TraceLists) where
         let r = resource_of s seg.task in
         let t = seg.start in
         let j : Served = record { task = seg.task; job = is.job } in
-        let there : r < length s.resources = can.links.placed seg.task.0 is.task in
+        let there : r < length s.resources = can.placed seg.task.0 is.task in
         let got : served_at s tr t r ≡ Some j = is.each t (omega arith) is.some in
         let new = fresh t r j is.not_before in
         let end = stops-at s tr r j t seg.end (omega (arith, is.some)) is.within (λ u from before. gets-by r j u (is.each u from before)) (λ less. gets-is s tr r j seg.end ∙ not-job (served_at s tr seg.end r) j (is.not_after less)) in

@@ -196,7 +196,7 @@ fn follow_all(
     requires run { IsReplay system.now trace.now replay.now }
     requires later { time < replay.now.time }
     requires within { replay.now.time ≤ end_of system.now trace.now }
-    requires ran { (r u : ℕ) → r < length system.now.resources → time ≤ u → u < replay.now.time → served_at system.now trace.now u r ≡ ran_by replay.now.lines replay.now.desks r }
+    requires ran { (r u : ℕ) → r < length system.now.resources → time ≤ u → u < replay.now.time → served_at system.now trace.now u r ≡ ran_by replay.now.lines replay.now.dispatches r }
     requires followed { IsFollowed system.now trace.now schedule.now 0 time time so_far.old.opens.items so_far.old.count so_far.old.first }
     ensures { IsFollowed system.now trace.now schedule.now 0 replay.now.time replay.now.time so_far.new.opens.items so_far.new.count so_far.new.first }
 {

@@ -40,7 +40,7 @@ fn put_tasks(text: &mut Text, system: &System) -> Result<(), NoMemory> {
         let task = system.task(TaskId(i));
         text.put(task.name.bytes())?;
         text.put_count(b" on ", u64::from(task.res.0))?;
-        match task.after {
+        match task.after.get(0) {
             Activator::Source(source) => text.put_count(b" after source ", u64::from(source.0))?,
             Activator::Task(before) => text.put_count(b" after task ", u64::from(before.0))?,
         }

@@ -1,4 +1,4 @@
-use crate::systems::{ENDLESS_JITTER, Made, NARROW, build};
+use crate::systems::{ENDLESS_JITTER, JOINED, Made, NARROW, build};
 use cpa_edit::{Edit, EditFault, EditRefusal, Step, read_script};
 use cpa_fix::OneByOne;
 use cpa_local::Trail;
@@ -113,6 +113,125 @@ const CASES: &[Case] = &[
             (30, Overload),
             (60, Overload),
             (5, Within(5)),
+        ],
+    },
+    // Sources and tasks that stand second in a list of activators: all that comes after them is analysed again.
+    Case {
+        system: JOINED,
+        script: "",
+        broken: 0,
+        marks: &[0, 1, 2, 3, 4],
+        tasks: &[
+            (10, Within(20)),
+            (4, Within(12)),
+            (3, Within(15)),
+            (2, Within(2)),
+            (3, Within(5)),
+        ],
+    },
+    Case {
+        system: JOINED,
+        script: "exec d 1 3",
+        broken: 0,
+        marks: &[3],
+        tasks: &[
+            (10, Within(20)),
+            (4, Within(12)),
+            (3, Within(15)),
+            (3, Within(3)),
+            (3, Within(5)),
+        ],
+    },
+    Case {
+        system: JOINED,
+        script: "source sc 50 6 0",
+        broken: 0,
+        marks: &[1, 2, 4],
+        tasks: &[
+            (10, Within(20)),
+            (4, Within(12)),
+            (3, Within(15)),
+            (2, Within(2)),
+            (3, Within(5)),
+        ],
+    },
+    Case {
+        system: JOINED,
+        script: "source sb 100 1 0",
+        broken: 0,
+        marks: &[0, 1, 2, 3, 4],
+        tasks: &[
+            (10, Within(20)),
+            (4, Within(12)),
+            (3, Within(15)),
+            (2, Within(2)),
+            (3, Within(5)),
+        ],
+    },
+    Case {
+        system: JOINED,
+        script: "exec b 2 5",
+        broken: 0,
+        marks: &[1, 2, 4],
+        tasks: &[
+            (10, Within(20)),
+            (5, Within(15)),
+            (3, Within(15)),
+            (2, Within(2)),
+            (3, Within(5)),
+        ],
+    },
+    Case {
+        system: JOINED,
+        script: "add f t b 1 1 1\nexec a 1 12",
+        broken: 0,
+        marks: &[0, 1, 2, 3, 4, 5],
+        tasks: &[
+            (12, Within(24)),
+            (4, Within(12)),
+            (3, Within(15)),
+            (2, Within(3)),
+            (3, Within(5)),
+            (1, Within(9)),
+        ],
+    },
+    // Activators that are needed, whether first or second; a task with several that goes.
+    Case {
+        system: JOINED,
+        script: "remove c\nexec b 2 5",
+        broken: 0,
+        marks: &[1],
+        tasks: &[
+            (10, Within(20)),
+            (5, Within(15)),
+            (2, Within(2)),
+            (3, Within(3)),
+        ],
+    },
+    Case {
+        system: JOINED,
+        script: "remove b",
+        broken: 6,
+        marks: &[],
+        tasks: &[
+            (10, Within(20)),
+            (4, Within(12)),
+            (3, Within(15)),
+            (2, Within(2)),
+            (3, Within(5)),
+        ],
+    },
+    Case {
+        system: JOINED,
+        script: "remove a",
+        broken: 6,
+        marks: &[],
+        tasks: &[
+            (10, Within(20)),
+            (4, Within(12)),
+            (3, Within(15)),
+            (2, Within(2)),
+            (3, Within(5)),
         ],
     },
     // The last edit is refused.

@@ -19,7 +19,8 @@ pub(crate) type ResourceRow = (
 /// A source's name, its period, its jitter and its least distance.
 pub(crate) type SourceRow = (&'static str, i64, Option<i64>, Option<i64>);
 
-/// A task's name, its resource and what activates it; its least and greatest execution; its priority or its slot.
+/// A task's name, its resource and its activators, with a blank between each two; its least and greatest execution; its priority or
+/// its slot.
 pub(crate) type TaskRow = ([&'static str; 3], (i64, i64), (Option<i64>, Option<i64>));
 
 /// A path's name, its tasks and its deadline.
@@ -34,6 +35,23 @@ pub(crate) struct Made {
 
 fn raw(alloc: Global, text: &str) -> Result<Raw, AllocError> {
     Ok(Raw::new(Vec::from_slice(alloc, text.as_bytes())?))
+}
+
+fn names(alloc: Global, texts: &[&str]) -> Result<RawList, AllocError> {
+    let mut names = Vec::new(alloc);
+    for text in texts {
+        names.push(raw(alloc, text)?)?;
+    }
+    Ok(RawList::new(names))
+}
+
+/// The names in a text, with a blank between each two.
+fn names_in(alloc: Global, text: &str) -> Result<RawList, AllocError> {
+    let mut names = Vec::new(alloc);
+    for name in text.split(' ') {
+        names.push(raw(alloc, name)?)?;
+    }
+    Ok(RawList::new(names))
 }
 
 fn resources(alloc: Global, rows: &[ResourceRow]) -> Result<Vec<DraftResource>, AllocError> {
@@ -70,7 +88,7 @@ fn task(alloc: Global, row: &TaskRow) -> Result<DraftTask, AllocError>
     Ok(DraftTask {
         name: raw(alloc, name)?,
         on: raw(alloc, on)?,
-        after: raw(alloc, after)?,
+        after: names_in(alloc, after)?,
         best: Some(best),
         worst: Some(worst),
         payload: None,
@@ -88,14 +106,6 @@ fn tasks(alloc: Global, rows: &[TaskRow]) -> Result<Vec<DraftTask>, AllocError>
         tasks.push(task(alloc, row)?)?;
     }
     Ok(tasks)
-}
-
-fn names(alloc: Global, texts: &[&str]) -> Result<RawList, AllocError> {
-    let mut names = Vec::new(alloc);
-    for text in texts {
-        names.push(raw(alloc, text)?)?;
-    }
-    Ok(RawList::new(names))
 }
 
 fn paths(alloc: Global, rows: &[PathRow]) -> Result<Vec<DraftPath>, AllocError> {
@@ -172,5 +182,23 @@ pub(crate) const ENDLESS_JITTER: &Made = &Made {
         (["b1", "q", "sb"], (1, 30), (Some(2), None)),
         (["b2", "p", "b1"], (1, 60), (Some(1), None)),
         (["c", "r", "sc"], (2, 4), (Some(1), None)),
+    ],
+};
+
+/// Resources of all four kinds. `a` comes after two sources, `b` after `a` and a source, and `c` after a source and `b`.
+pub(crate) const JOINED: &Made = &Made {
+    resources: &[
+        ("p", KindWord::Preemptive, LIMITED),
+        ("q", KindWord::Can, LIMITED),
+        ("r", KindWord::RoundRobin, LIMITED),
+        ("t", KindWord::Tdma, LIMITED),
+    ],
+    sources: THREE_SOURCES,
+    tasks: &[
+        (["a", "p", "sa sb"], (1, 10), (Some(1), None)),
+        (["b", "q", "a sc"], (2, 4), (Some(1), None)),
+        (["c", "r", "sc b"], (1, 3), (None, Some(2))),
+        (["d", "t", "sb"], (1, 2), (None, Some(2))),
+        (["e", "r", "sa"], (1, 3), (None, Some(3))),
     ],
 };

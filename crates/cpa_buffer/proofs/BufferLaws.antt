@@ -97,7 +97,7 @@ module _ (s : SystemLists) (x : List Bound) (tr : TraceLists) (hold : HoldIn s x
   suffices t i rules there Overload number m bounded = tt
   suffices t i rules there (Within b) number None bounded = tt
   suffices t i rules there (Within b) number (Some m) bounded =
-      let regular : IsModel m = subst IsInput bounded (input-is_input s x rules i) in
+      let regular : IsModel m = subst IsInput bounded (input-is_input s x rules i there) in
       pending-fit t i b m there regular number bounded
 
   pub task-suffices : IsSystem s → (t i : ℕ) → i < length s.tasks → IsAtMost (Within (pending_at s tr t i)) (buffer_of s x i)

@@ -7,10 +7,11 @@ use Rattle.std.proofs.lemmas.Bool.{cases_lt, cases_Bool}
 use Rattle.std.proofs.lemmas.List.Sums.{sum_by-cons}
 use Rattle.std.proofs.lemmas.List.Concat.{flat_map-cons}
 use Rattle.std.proofs.lemmas.List.FromFn.{get_or-map-range_with_len, length-map-range_with_len}
-use Rattle.cpa_model.specs.SystemLists.{SystemLists, task_at}
+use Rattle.cpa_model.specs.SystemLists.{SystemLists}
 use Rattle.cpa_trace.specs.Trace.{TraceLists, need}
 use Rattle.cpa_sim.specs.declared.jobs.Job.{Job}
-use Rattle.cpa_sim.specs.Run.{Progress, is_open, after_tick, serve, new_jobs, arriving, runs_in, served, ends_in, run}
+use Rattle.cpa_sim.specs.declared.jobs.Cause.{Cause}
+use Rattle.cpa_sim.specs.Run.{Progress, is_unset, is_open, after_tick, serve, new_jobs, arriving, runs_in, served, ended_in, run}
 use Rattle.cpa_sim.specs.Outcome.{job_of, jobs_seen, end_of, outcome_of}
 use Rattle.cpa_sim.proofs.LineLaws.{serve-here, serve-there}
 use Rattle.cpa_sound.proofs.JobLaws.{tick-last, tick-more}
@@ -65,19 +66,19 @@ serve-gone t now (job ∷ jobs) late =
       | inr e ↦ rw (serve-there now job jobs e) (omega (arith, gone-cons t job (serve now jobs), gone-cons t job jobs, serve-gone t now jobs late))
     ]
   where
-    open-unset : (t : ℕ) (o : Option ℕ) → is_open (record { arrival = 0; left = 0; end = o }) ≡ true → come_by t (option_to_list o) ≡ 0
+    open-unset : (t : ℕ) (o : Option ℕ) → is_unset o ≡ true → come_by t (option_to_list o) ≡ 0
     open-unset t None e = refl
     open-unset t (Some x) e = cc
 
-new-came : (t now : ℕ) (needs : ℕ → ℕ) (first n : ℕ) → t < now → came t (new_jobs needs first now n) ≡ 0
-new-came t now needs first zero late = refl
-new-came t now needs first (suc n) late =
-    omega (arith, came-later t (record { arrival = now; left = needs first; end = None }) (new_jobs needs (first + 1) now n) late, new-came t now needs (first + 1) n late)
+new-came : (t now : ℕ) (needs : ℕ → ℕ) (first : ℕ) (new : List Cause) → t < now → came t (new_jobs needs first now new) ≡ 0
+new-came t now needs first [] late = refl
+new-came t now needs first (cause ∷ new) late =
+    omega (arith, came-later t (record { arrival = now; left = needs first; end = None; cause = cause }) (new_jobs needs (first + 1) now new) late, new-came t now needs (first + 1) new late)
 
-new-gone : (t now : ℕ) (needs : ℕ → ℕ) (first n : ℕ) → gone t (new_jobs needs first now n) ≡ 0
-new-gone t now needs first zero = refl
-new-gone t now needs first (suc n) =
-    omega (arith, gone-cons t (record { arrival = now; left = needs first; end = None }) (new_jobs needs (first + 1) now n), new-gone t now needs (first + 1) n)
+new-gone : (t now : ℕ) (needs : ℕ → ℕ) (first : ℕ) (new : List Cause) → gone t (new_jobs needs first now new) ≡ 0
+new-gone t now needs first [] = refl
+new-gone t now needs first (cause ∷ new) =
+    omega (arith, gone-cons t (record { arrival = now; left = needs first; end = None; cause = cause }) (new_jobs needs (first + 1) now new), new-gone t now needs (first + 1) new)
 
 came-append : (t : ℕ) (js ks : List Progress) → came t (js ++ ks) ≡ came t js + came t ks
 came-append t [] ks = let none : came t [] ≡ 0 = refl in omega (arith, none)
@@ -127,9 +128,9 @@ seen-append : (t : ℕ) (js ks : List Progress) → AllByRecursion (IsSeen t) js
 seen-append t [] ks a b = b
 seen-append t (j ∷ js) ks a b = (a.0, seen-append t js ks a.1 b)
 
-seen-new : (needs : ℕ → ℕ) (first now n : ℕ) → AllByRecursion (IsSeen now) (new_jobs needs first now n)
-seen-new needs first now zero = tt
-seen-new needs first now (suc n) = (record { arrived = omega arith; ended = tt }, seen-new needs (first + 1) now n)
+seen-new : (needs : ℕ → ℕ) (first now : ℕ) (new : List Cause) → AllByRecursion (IsSeen now) (new_jobs needs first now new)
+seen-new needs first now [] = tt
+seen-new needs first now (cause ∷ new) = (record { arrived = omega arith; ended = tt }, seen-new needs (first + 1) now new)
 
 came-all : (t : ℕ) (jobs : List Progress) → AllByRecursion (IsSeen t) jobs → came t jobs ≡ length jobs
 came-all t [] all = refl
@@ -140,17 +141,17 @@ pending-rest : (t : ℕ) (jobs : List Progress) → AllByRecursion (IsSeen t) jo
 pending-rest t [] all = refl
 pending-rest t (job ∷ jobs) all =
     let more = sum_by-cons (λ j. cond (is_open j) 1 0) job jobs in
-    go job.end job.arrival job.left all.0.ended (pending-rest t jobs all.1)
+    go job.end job.arrival job.left job.cause all.0.ended (pending-rest t jobs all.1)
   where
-    go : (o : Option ℕ) (a l : ℕ) → EndsBy t o → count_by is_open jobs + gone t jobs ≡ length jobs
-        → count_by is_open (record { arrival = a; left = l; end = o } ∷ jobs) + gone t (record { arrival = a; left = l; end = o } ∷ jobs) ≡ suc (length jobs)
-    go None a l h rest =
-        let j : Progress = record { arrival = a; left = l; end = None } in
+    go : (o : Option ℕ) (a l : ℕ) (c : Cause) → EndsBy t o → count_by is_open jobs + gone t jobs ≡ length jobs
+        → count_by is_open (record { arrival = a; left = l; end = o; cause = c } ∷ jobs) + gone t (record { arrival = a; left = l; end = o; cause = c } ∷ jobs) ≡ suc (length jobs)
+    go None a l c h rest =
+        let j : Progress = record { arrival = a; left = l; end = None; cause = c } in
         let one : count_by is_open (j ∷ jobs) ≡ 1 + count_by is_open jobs = sum_by-cons (λ j. cond (is_open j) 1 0) j jobs in
         let none : gone t (j ∷ jobs) ≡ 0 + gone t jobs = gone-cons t j jobs in
         omega (arith, one, none, rest)
-    go (Some e) a l h rest =
-        let j : Progress = record { arrival = a; left = l; end = Some e } in
+    go (Some e) a l c h rest =
+        let j : Progress = record { arrival = a; left = l; end = Some e; cause = c } in
         let none : count_by is_open (j ∷ jobs) ≡ 0 + count_by is_open jobs = sum_by-cons (λ j. cond (is_open j) 1 0) j jobs in
         let one : come_by t (e ∷ []) ≡ 1 + come_by t [] = come-here t e [] h in
         let ended : gone t (j ∷ jobs) ≡ come_by t (e ∷ []) + gone t jobs = gone-cons t j jobs in
@@ -161,9 +162,6 @@ module _ (s : SystemLists) (tr : TraceLists) (i : ℕ) where
   jobs_at : ℕ → List Progress
   jobs_at t = (run s tr t).jobs i
 
-  fresh : ℕ → ℕ
-  fresh t = arriving tr (t + 1) (ends_in s tr t (run s tr t)) (task_at s i).after
-
   -- what the jobs of a time become in a tick
   served-cases : (t : ℕ) (P : List Progress → Type 0) → P (serve (t + 1) ((run s tr t).jobs i)) → P ((run s tr t).jobs i) → P (served s tr t (run s tr t) i)
   served-cases t P ran rested =
@@ -173,15 +171,15 @@ module _ (s : SystemLists) (tr : TraceLists) (i : ℕ) where
       ]
 
   seen-at : (t : ℕ) → AllByRecursion (IsSeen t) ((run s tr t).jobs i)
-  seen-at zero = rw (jobs-zero s tr i) (seen-new (need s tr i) 0 0 (arriving tr 0 (λ j. 0) (task_at s i).after))
+  seen-at zero = rw (jobs-zero s tr i) (seen-new (need s tr i) 0 0 (arriving s tr 0 (λ j. []) i))
   seen-at (suc t) =
       let js = served s tr t (run s tr t) i in
       let e : t + 1 ≡ suc t = omega arith in
       let before = seen-later t (suc t) ((run s tr t).jobs i) (omega arith) (seen-at t) in
       let ran : AllByRecursion (IsSeen (suc t)) (serve (t + 1) ((run s tr t).jobs i)) = rw e (seen-served (suc t) ((run s tr t).jobs i) before) in
       let old : AllByRecursion (IsSeen (suc t)) js = served-cases t (AllByRecursion (IsSeen (suc t))) ran before in
-      let new : AllByRecursion (IsSeen (suc t)) (new_jobs (need s tr i) (length js) (t + 1) (arriving tr (t + 1) (ends_in s tr t (run s tr t)) (task_at s i).after)) =
-      rw e (seen-new (need s tr i) (length js) (suc t) (arriving tr (suc t) (ends_in s tr t (run s tr t)) (task_at s i).after)) in
+      let new : AllByRecursion (IsSeen (suc t)) (new_jobs (need s tr i) (length js) (t + 1) (arriving s tr (t + 1) (ended_in s tr t (run s tr t)) i)) =
+      rw e (seen-new (need s tr i) (length js) (suc t) (arriving s tr (suc t) (ended_in s tr t (run s tr t)) i)) in
       rw (jobs-suc s tr t i) (seen-append (suc t) js _ old new)
 
   -- later ticks change nothing of what is seen of a time
@@ -191,24 +189,24 @@ module _ (s : SystemLists) (tr : TraceLists) (i : ℕ) where
       let u : ℕ = t + n in
       let e : t + suc n ≡ suc (t + n) = omega arith in
       let js = served s tr (t + n) (run s tr (t + n)) i in
-      let m : ℕ = arriving tr (t + n + 1) (ends_in s tr (t + n) (run s tr (t + n))) (task_at s i).after in
+      let new : List Cause = arriving s tr (t + n + 1) (ended_in s tr (t + n) (run s tr (t + n))) i in
       let old : came t js ≡ came t ((run s tr (t + n)).jobs i) =
       served-cases (t + n) (λ ks. came t ks ≡ came t ((run s tr (t + n)).jobs i)) (ap (come_by t) (serve-arrivals (t + n + 1) ((run s tr (t + n)).jobs i))) refl in
       rw e
       (ap (came t) (jobs-suc s tr (t + n) i)
-      ∙ omega (arith, came-append t js (new_jobs (need s tr i) (length js) (t + n + 1) m), new-came t (t + n + 1) (need s tr i) (length js) m (omega arith), old, came-same t n))
+      ∙ omega (arith, came-append t js (new_jobs (need s tr i) (length js) (t + n + 1) new), new-came t (t + n + 1) (need s tr i) (length js) new (omega arith), old, came-same t n))
 
   gone-same : (t n : ℕ) → gone t ((run s tr (t + n)).jobs i) ≡ gone t ((run s tr t).jobs i)
   gone-same t zero = let e : t + 0 ≡ t = omega arith in rw e refl
   gone-same t (suc n) =
       let e : t + suc n ≡ suc (t + n) = omega arith in
       let js = served s tr (t + n) (run s tr (t + n)) i in
-      let m : ℕ = arriving tr (t + n + 1) (ends_in s tr (t + n) (run s tr (t + n))) (task_at s i).after in
+      let new : List Cause = arriving s tr (t + n + 1) (ended_in s tr (t + n) (run s tr (t + n))) i in
       let old : gone t js ≡ gone t ((run s tr (t + n)).jobs i) =
       served-cases (t + n) (λ ks. gone t ks ≡ gone t ((run s tr (t + n)).jobs i)) (serve-gone t (t + n + 1) ((run s tr (t + n)).jobs i) (omega arith)) refl in
       rw e
       (ap (gone t) (jobs-suc s tr (t + n) i)
-      ∙ omega (arith, gone-append t js (new_jobs (need s tr i) (length js) (t + n + 1) m), new-gone t (t + n + 1) (need s tr i) (length js) m, old, gone-same t n))
+      ∙ omega (arith, gone-append t js (new_jobs (need s tr i) (length js) (t + n + 1) new), new-gone t (t + n + 1) (need s tr i) (length js) new, old, gone-same t n))
 
   -- so of those that arrived the others had ended
   pub pending-and-gone : (t u : ℕ) → t ≤ u → come_by t (arrivals_of (map job_of ((run s tr u).jobs i))) ≡ pending_at s tr t i + come_by t (ends_of (map job_of ((run s tr u).jobs i)))

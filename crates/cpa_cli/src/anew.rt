@@ -2,7 +2,8 @@
 
 use crate::analysis::least_bounds;
 use crate::car::CAR_NETWORK;
-use cpa_edit::{Edit, EditFault, Step, read_script};
+use crate::cases::JOINED_KINDS;
+use cpa_edit::{Edit, EditFault, Script, Step, read_script};
 use cpa_file::read_system;
 use cpa_fix::OneByOne;
 use cpa_local::Trail;
@@ -33,14 +34,34 @@ task = [
 ]
 "#;
 
+/// A system whose tasks have the names below, what each task that is added comes after, and the period that a source gets.
+struct Trial {
+    system: &'static str,
+    after: &'static str,
+    period: u64,
+}
+
+const TRIALS: [Trial; 2] = [
+    Trial {
+        system: FOUR_KINDS,
+        after: "sb",
+        period: 300,
+    },
+    Trial {
+        system: JOINED_KINDS,
+        after: "a3",
+        period: 900,
+    },
+];
+
 const NAMES: [&str; 8] = ["a1", "a2", "a3", "b1", "b2", "c1", "c2", "d"];
 
 /// An edit by a fixed rule; some are refused.
-fn line(alloc: Global, k: u64) -> Result<String, AllocError> {
+fn line(alloc: Global, trial: &Trial, k: u64) -> Result<String, AllocError> {
     let task = NAMES[(k.saturating_mul(5) % 8) as usize];
     let number = k.saturating_mul(k) % 83;
     match k % 7 {
-        0 => format!(in alloc; "source sa 300 {number} 1\n"),
+        0 => format!(in alloc; "source sa {} {number} 1\n", trial.period),
         1 => format!(in alloc; "slot {task} {}\n", number.saturating_add(1)),
         2 => Ok(String::from_str(
             alloc,
@@ -50,7 +71,11 @@ fn line(alloc: Global, k: u64) -> Result<String, AllocError> {
                 "swap a2 b1\n"
             },
         )?),
-        3 => format!(in alloc; "add e{k} ring sb 1 {} 2\n", number.saturating_add(1)),
+        3 => format!(in alloc;
+            "add e{k} ring {} 1 {} 2\n",
+            trial.after,
+            number.saturating_add(1)
+        ),
         4 => format!(in alloc; "remove e{}\n", k.saturating_sub(8)),
         _ => format!(in alloc; "exec {task} 5 {}\n", number.saturating_add(5)),
     }
@@ -83,26 +108,44 @@ fn edit_beside<H: Threads + Sync>(
     Ok((made, !are_equal(&fresh, session.bounds())))
 }
 
-#[test]
-fn bounds_are_those_of_fresh_analyses(rt: HostRuntime) -> Result<(), Fail> {
-    let alloc = rt.alloc();
+/// 280 edits.
+fn script_of(alloc: Global, trial: &Trial) -> Result<Script, Fail> {
     let mut text = String::new(alloc);
     for k in 0..280 {
-        text.push_str(line(alloc, k)?.as_str())?;
+        text.push_str(line(alloc, trial, k)?.as_str())?;
     }
-    let script = read_script(alloc, text.as_bytes())?;
-    let system = read_system(alloc, FOUR_KINDS.as_bytes())?;
+    Ok(read_script(alloc, text.as_bytes())?)
+}
+
+/// How many of the edits were made, and after how many the bounds weren't those of a fresh analysis.
+fn edits_beside<H: Threads + Sync>(
+    rt: &H,
+    alloc: Global,
+    trial: &Trial,
+) -> Result<(u64, u64), Fail> {
+    let script = script_of(alloc, trial)?;
+    let system = read_system(alloc, trial.system.as_bytes())?;
     let mut trail = Trail::with_room(alloc, 512)?;
-    let mut session = Session::start(&rt, alloc, system, &mut OneByOne, &mut trail)?;
+    let mut session = Session::start(rt, alloc, system, &mut OneByOne, &mut trail)?;
     let (mut edits, mut others) = (0u64, 0u64);
     for k in 0..script.len() {
         if let Step::Change(edit) = script.step(k) {
-            let (made, other) = edit_beside(&rt, alloc, &mut session, edit)?;
+            let (made, other) = edit_beside(rt, alloc, &mut session, edit)?;
             edits = edits.saturating_add(u64::from(made));
             others = others.saturating_add(u64::from(other));
         }
     }
-    assert_eq!(rt; (edits, others), (259, 0));
+    Ok((edits, others))
+}
+
+#[test]
+fn bounds_are_those_of_fresh_analyses(rt: HostRuntime) -> Result<(), Fail> {
+    let alloc = rt.alloc();
+    let told = [
+        edits_beside(&rt, alloc, &TRIALS[0])?,
+        edits_beside(&rt, alloc, &TRIALS[1])?,
+    ];
+    assert_eq!(rt; told, [(259, 0); 2]);
     Ok(())
 }
 

@@ -1,6 +1,6 @@
 //! Recorded schedules.
 
-use crate::cases::ROUND_ROBIN;
+use crate::cases::{ROUND_ROBIN, TWO_ACTIVATORS};
 use crate::tests::{NO_FAULTS, call_over};
 use std::process::Abort;
 use std::test::Fail;
@@ -99,7 +99,7 @@ const RINGS: [(&[u8], u8, &str); 13] = [
 ];
 
 /// A system, a trace and a schedule, the status and the text.
-const RUNS: [(&str, &str, &str, u8, &str); 4] = [
+const RUNS: [(&str, &str, &str, u8, &str); 5] = [
     (
         FOUR_KINDS,
         FOUR_KINDS_TRACE,
@@ -120,6 +120,13 @@ const RUNS: [(&str, &str, &str, u8, &str); 4] = [
         LATE_RUN,
         0,
         "audit same segments 11\n",
+    ),
+    (
+        TWO_ACTIVATORS,
+        "event,sa,0\nevent,sb,0\n",
+        "m,0,3\nm,3,6\nn,3,5\nn,6,8\n",
+        0,
+        "audit same segments 4\n",
     ),
     ("format = 1", "", "", 0, "audit same segments 0\n"),
 ];

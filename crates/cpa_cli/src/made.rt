@@ -1,7 +1,7 @@
 //! Calls of the commands on made systems and made traces.
 
 use crate::car::CAR_NETWORK;
-use crate::cases::{LIMIT_BELOW, LONG_WINDOW};
+use crate::cases::{LIMIT_BELOW, LONG_WINDOW, TWO_ACTIVATORS};
 use crate::tests::{NO_FAULTS, call};
 use std::process::Abort;
 use std::test::Fail;
@@ -15,7 +15,7 @@ struct Call {
     text: &'static str,
 }
 
-const CALLS: [Call; 7] = [
+const CALLS: [Call; 8] = [
     Call {
         words: &["load", "42", "1"],
         system: "",
@@ -41,6 +41,12 @@ const CALLS: [Call; 7] = [
         text: "task a jobs 100 worst 3 bound 3\ntask b jobs 100 worst 10 bound overload\nsummary traces 1 jobs 200 beyond 0\n",
     },
     Call {
+        words: &["hammer", "sys", "1", "2"],
+        system: TWO_ACTIVATORS,
+        status: 0,
+        text: "task m jobs 400 worst 6 bound 6\ntask n jobs 400 worst 3 bound 4\nsummary traces 2 jobs 800 beyond 0\n",
+    },
+    Call {
         words: &["hammer", "sys", "4294967295", "10000"],
         system: "format = 1",
         status: 0,
@@ -48,7 +54,7 @@ const CALLS: [Call; 7] = [
     },
     Call {
         words: &["hammer", "sys", "1", "1"],
-        system: "format = 2",
+        system: "format = 3",
         status: 14,
         text: "system refused reason 13 file 0\n",
     },

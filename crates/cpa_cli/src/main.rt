@@ -19,6 +19,8 @@ mod gates;
 #[cfg(test)]
 mod hostile;
 mod lines;
+#[cfg(test)]
+mod lists;
 mod loading;
 #[cfg(test)]
 mod made;

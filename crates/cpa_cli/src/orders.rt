@@ -1,6 +1,9 @@
 //! Priority orders, and room to grow.
 
-use crate::cases::{CROSSING_CHAINS, CUT_NAME, DAVIS_BUS, ENDLESS_JITTER, TDMA_GAP, TWO_TASKS};
+use crate::cases::{
+    CROSSING_CHAINS, CUT_NAME, DAVIS_BUS, ENDLESS_JITTER, JOINED_KINDS, TDMA_GAP, TWO_ACTIVATORS,
+    TWO_TASKS,
+};
 use crate::tests::{NO_FAULTS, call};
 use std::process::Abort;
 use std::test::Fail;
@@ -55,12 +58,29 @@ task = [
 ]
 "#;
 
+/// Tasks after up to three sources, of which two orders meet the deadlines, and a task of which a source and a task are activators.
+const SOURCES_ALONE: &str = r#"format = 2
+resource = [{ name = "r", kind = "preemptive" }, { name = "q", kind = "can" }]
+source = [{ name = "s1", period = 100 }, { name = "s2", period = 150 }, { name = "s3", period = 200, jitter = 30 }]
+task = [
+  { name = "t1", on = "r", after = ["s1", "s2"], best = 1, worst = 10, priority = 4 },
+  { name = "t2", on = "r", after = ["s2", "s3", "s1"], best = 1, worst = 15, priority = 6 },
+  { name = "t3", on = "r", after = "s3", best = 1, worst = 20, priority = 9 },
+  { name = "u", on = "q", after = ["s1", "t3"], best = 1, worst = 5, priority = 1 },
+]
+path = [
+  { name = "d1", tasks = ["t1"], deadline = 60 },
+  { name = "d2", tasks = ["t2"], deadline = 85 },
+  { name = "d3", tasks = ["t3"], deadline = 40 },
+]
+"#;
+
 const REFUSED: &str = "words refused\n";
 
 const MOST: &str = "slack b 999993 next limit\n";
 
 /// Words, the system that is held as `sys`, the status and the text.
-const ANSWERS: [(&[&str], &str, u8, &str); 23] = [
+const ANSWERS: [(&[&str], &str, u8, &str); 25] = [
     (
         &["assign", "sys", "bus"],
         DAVIS_BUS,
@@ -83,6 +103,18 @@ const ANSWERS: [(&[&str], &str, u8, &str); 23] = [
     (
         &["assign", "sys", "p"],
         CROSSING_CHAINS,
+        18,
+        "assign refused 3\n",
+    ),
+    (
+        &["assign", "sys", "r"],
+        SOURCES_ALONE,
+        0,
+        "priority t3 4\npriority t1 6\npriority t2 9\nassigned r tasks 3\n",
+    ),
+    (
+        &["assign", "sys", "q"],
+        SOURCES_ALONE,
         18,
         "assign refused 3\n",
     ),
@@ -122,7 +154,7 @@ const ANSWERS: [(&[&str], &str, u8, &str); 23] = [
 ];
 
 /// A task, the system that is held as `sys`, the status and the text of its slack.
-const GROWTHS: [(&str, &str, u8, &str); 6] = [
+const GROWTHS: [(&str, &str, u8, &str); 8] = [
     ("b", TWO_IN_TIME, 0, "slack b 1 next missed\n"),
     ("b", TWO_TASKS, 0, MOST),
     ("m1", DAVIS_BUS, 3, "slack m1 none\n"),
@@ -134,6 +166,8 @@ const GROWTHS: [(&str, &str, u8, &str); 6] = [
         "slack c 999996 next limit\n",
     ),
     ("c", ENDLESS_JITTER, 3, "slack c none\n"),
+    ("n", TWO_ACTIVATORS, 0, "slack n 0 next missed\n"),
+    ("b2", JOINED_KINDS, 0, "slack b2 16 next missed\n"),
 ];
 
 /// Runs the words over the system, and compares status and text.

@@ -24,7 +24,11 @@ task = [
 pub const LONG_WINDOW_TRACE: &str =
     "event,sa,0\nevent,sa,70\nevent,sa,140\nevent,sa,210\nevent,sa,280\nevent,sa,350\nevent,sa,420\nevent,sa,490\nevent,sa,560\nevent,sa,630\nevent,sb,0\nevent,sb,100\nevent,sb,200\nevent,sb,300\nevent,sb,400\nevent,sb,500\nevent,sb,600\n";
 
-pub const RUNS: [Run; 16] = [
+/// Two events of each source, and an execution of some jobs.
+pub const JOINED_KINDS_TRACE: &str =
+    "event,sa,0\nevent,sb,0\nevent,sc,0\nevent,sb,790\nevent,sa,640\nevent,sc,900\nexec,a1,20\nexec,a1,5\nexec,a3,5\nexec,b2,9\nexec,b2,20\nphase,ring,11\n";
+
+pub const RUNS: [Run; 19] = [
     Run {
         system: LONG_WINDOW,
         trace: LONG_WINDOW_TRACE,
@@ -120,5 +124,23 @@ pub const RUNS: [Run; 16] = [
         trace: "event,sa,0\nevent,sb,0\nevent,sa,100\n",
         status: 0,
         text: "task a1 jobs 2 done 2 worst 10\ntask a2 jobs 2 done 2 worst 10\ntask b1 jobs 1 done 1 worst 30\ntask b2 jobs 1 done 1 worst 20\npath pa passages 2 worst 20\npath pb passages 1 worst 50\nsummary jobs 6 done 6 end 120\n",
+    },
+    Run {
+        system: TWO_ACTIVATORS,
+        trace: "event,sa,0\nevent,sb,0\n",
+        status: 0,
+        text: "task m jobs 2 done 2 worst 6\ntask n jobs 2 done 2 worst 2\npath p passages 2 worst 8\nsummary jobs 4 done 4 end 8\n",
+    },
+    Run {
+        system: SHARED_SOURCE,
+        trace: "event,s,0\n",
+        status: 0,
+        text: "task a jobs 1 done 1 worst 1\ntask b jobs 1 done 1 worst 2\ntask c jobs 2 done 2 worst 2\nsummary jobs 4 done 4 end 4\n",
+    },
+    Run {
+        system: JOINED_KINDS,
+        trace: JOINED_KINDS_TRACE,
+        status: 0,
+        text: "task a1 jobs 4 done 4 worst 34\ntask a2 jobs 6 done 6 worst 176\ntask a3 jobs 8 done 8 worst 20\ntask b1 jobs 2 done 2 worst 280\ntask b2 jobs 10 done 10 worst 20\ntask c1 jobs 4 done 4 worst 25\ntask c2 jobs 14 done 14 worst 111\ntask d jobs 2 done 2 worst 56\npath w passages 4 worst 295\nsummary jobs 50 done 50 end 1111\n",
     },
 ];

@@ -10,7 +10,7 @@ pub struct Edits {
     pub texts: &'static [&'static str],
 }
 
-pub const EDITS: [Edits; 16] = [
+pub const EDITS: [Edits; 19] = [
     Edits {
         system: TWO_TASKS,
         script: "report\nexec b 2 8\nreport\nexec b 2 7\n",
@@ -46,6 +46,41 @@ pub const EDITS: [Edits; 16] = [
             "task a cpu period 10 jitter 0 distance 0 best 1 worst 3\ntask b cpu period 20 jitter 0 distance 0 best 2 worst 10\ntask c cpu period 20 jitter 0 distance 0 best 1 worst 15\nsummary tasks 3 overload 0 missed 0\n",
             "line 3 refused 1\n",
             "task b cpu period 20 jitter 0 distance 0 best 2 worst 7\ntask c cpu period 20 jitter 0 distance 0 best 1 worst 9\nsummary tasks 2 overload 0 missed 0\n",
+        ],
+    },
+    // A task comes after one with two activators, which is then needed.
+    Edits {
+        system: TWO_ACTIVATORS,
+        script: "add x q m 1 1 2\nreport\nremove m\nremove x\n",
+        status: 0,
+        texts: &[
+            "task m cpu streams 2 best 1 worst 6\ntask n q streams 2 best 2 worst 4\ntask x q streams 2 best 1 worst 8\npath p best 3 worst 10 deadline 10 met\nsummary tasks 3 overload 0 missed 0\n",
+            "line 3 refused 6\n",
+            TWO_ACTIVATORS_REPORT,
+        ],
+    },
+    // The activators of `c` move up once `z` is gone, and each is needed.
+    Edits {
+        system: SHARED_SOURCE_LATER,
+        script: "remove a\nremove b\nremove z\nreport\nremove c\nremove a\n",
+        status: 0,
+        texts: &[
+            "line 1 refused 6\n",
+            "line 2 refused 6\n",
+            SHARED_SOURCE_REPORT,
+            "task b p period 100 jitter 0 distance 0 best 1 worst 1\nsummary tasks 1 overload 0 missed 0\n",
+        ],
+    },
+    // A source that is the second activator of a task; a task that one of two needs; a task after one with seven streams.
+    Edits {
+        system: JOINED_KINDS,
+        script: "source sa 500 30 10\nreport\nexec b1 60 90\nremove d\nremove c1\nadd e rr c2 1 9 3\nreport\nremove e\npriority b2 3\n",
+        status: 0,
+        texts: &[
+            "task a1 p streams 2 best 5 worst 160\ntask a2 bus streams 3 best 60 worst 280\ntask a3 rr streams 4 best 5 worst 120\ntask b1 bus period 800 jitter 20 distance 0 best 60 worst 280\ntask b2 p streams 5 best 5 worst 115\ntask c1 rr streams 2 best 5 worst 65\ntask c2 ring streams 7 best 5 worst 335\ntask d ring period 900 jitter 0 distance 0 best 5 worst 56\npath w best 80 worst 1010 deadline 1200 met\nsummary tasks 8 overload 0 missed 0\n",
+            "line 5 refused 6\n",
+            "task a1 p streams 2 best 5 worst 160\ntask a2 bus streams 3 best 60 worst 300\ntask a3 rr streams 4 best 5 worst 168\ntask b1 bus period 800 jitter 20 distance 0 best 60 worst 300\ntask b2 p streams 5 best 5 worst 115\ntask c1 rr streams 2 best 5 worst 80\ntask c2 ring streams 7 best 5 worst 209\ntask e rr streams 7 best 1 worst 207\npath w best 80 worst 952 deadline 1200 met\nsummary tasks 8 overload 0 missed 0\n",
+            "task a1 p streams 2 best 5 worst 40\ntask a2 bus streams 3 best 60 worst 300\ntask a3 rr streams 4 best 5 worst 120\ntask b1 bus period 800 jitter 20 distance 0 best 60 worst 300\ntask b2 p streams 5 best 5 worst 140\ntask c1 rr streams 2 best 5 worst 65\ntask c2 ring streams 7 best 5 worst 209\npath w best 80 worst 809 deadline 1200 met\nsummary tasks 7 overload 0 missed 0\n",
         ],
     },
     // An overload comes, and goes.

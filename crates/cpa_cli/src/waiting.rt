@@ -1,8 +1,10 @@
 //! How many jobs wait, and how many can.
 
-use crate::cases::{BURST, CUT_NAME, ENDLESS_JITTER, LONG_WINDOW, TWO_TASKS};
+use crate::cases::{
+    BURST, CUT_NAME, ENDLESS_JITTER, JOINED_KINDS, LONG_WINDOW, TWO_ACTIVATORS, TWO_TASKS,
+};
 use crate::orders::IDLE;
-use crate::runs::LONG_WINDOW_TRACE;
+use crate::runs::{JOINED_KINDS_TRACE, LONG_WINDOW_TRACE};
 use crate::tests::{NO_FAULTS, call_over};
 use std::test::Fail;
 
@@ -17,7 +19,7 @@ const BACKLOG_TRACE: &str =
     "event,s,0\nevent,s,1\nevent,s,2\nevent,s,3\nevent,s,4\nevent,s,5\nevent,s,6\nevent,s,7\nevent,s,8\nevent,s,9\nevent,s,10\nevent,s,11\nevent,s,12\nevent,s,13\nevent,s,14\nevent,s,15\nevent,s,16\nevent,s,17\nevent,s,18\nevent,s,19\nevent,s,20\nevent,s,21\nevent,s,22\nevent,s,23\nevent,s,24\nevent,s,25\nevent,s,26\nevent,s,27\nevent,s,28\nevent,s,29\n";
 
 /// A system that is held as `sys`, a trace that is held as `tr`, the status and the text.
-const ANSWERS: [(&str, &str, u8, &str); 9] = [
+const ANSWERS: [(&str, &str, u8, &str); 11] = [
     (
         LONG_WINDOW,
         LONG_WINDOW_TRACE,
@@ -54,6 +56,18 @@ const ANSWERS: [(&str, &str, u8, &str); 9] = [
         BACKLOG_TRACE,
         0,
         "buffer t bound overload peak 30\nresource cpu bound overload peak 30\nsummary tasks 1 overload 1\n",
+    ),
+    (
+        TWO_ACTIVATORS,
+        "event,sa,0\nevent,sb,0\n",
+        0,
+        "buffer m bound 2 peak 2\nbuffer n bound 2 peak 1\nresource cpu bound 2 peak 2\nresource q bound 2 peak 1\nsummary tasks 2 overload 0\n",
+    ),
+    (
+        JOINED_KINDS,
+        JOINED_KINDS_TRACE,
+        0,
+        "buffer a1 bound 2 peak 2\nbuffer a2 bound 3 peak 3\nbuffer a3 bound 4 peak 1\nbuffer b1 bound 1 peak 1\nbuffer b2 bound 5 peak 1\nbuffer c1 bound 2 peak 1\nbuffer c2 bound 9 peak 3\nbuffer d bound 1 peak 1\nresource p bound 7 peak 3\nresource rr bound 6 peak 2\nresource ring bound 10 peak 4\nresource bus bound 4 peak 4\nsummary tasks 8 overload 0\n",
     ),
     (CUT_NAME, "", 13, "not TOML sys\n"),
     (

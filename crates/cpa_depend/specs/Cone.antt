@@ -1,15 +1,14 @@
 -- Which resources read which, and cones: the task dependency graph of compositional performance analysis (SymTA/S, pyCPA),
 -- told by resources.
-use Rattle.std.specs.Prelude.{ℕ, ◌≡◌, ◌<◌, ◌↔◌, List, [], Bool, false, length, slice_index_or}
+use Rattle.std.specs.Prelude.{ℕ, ◌≡◌, ◌<◌, ◌↔◌, List, [], Bool, true, false, length, slice_index_or}
 use Rattle.cpa_units.specs.Sets.{holds, Members}
-use Rattle.cpa_model.specs.declared.entries.Activator.TheVariants.{Task as ByTask}
-use Rattle.cpa_model.specs.SystemLists.{SystemLists, task_at}
+use Rattle.cpa_model.specs.SystemLists.{SystemLists, task_at, is_activated_by}
 
 -- an edge of the graph: each completion of task j starts a job of task i
 abbrev pub Activates : SystemLists → ℕ → ℕ → Type 0
-Activates s j i = (task_at s i).after ≡ ByTask (record { 0 = j })
+Activates s j i = is_activated_by s j i ≡ true
 
--- j is earlier in the chain of i: it leads to it by one activation or several
+-- j is earlier in a chain of i: it leads to it by one activation or several
 pub data LeadsTo (s : SystemLists) : ℕ → ℕ → Type 0 where
   directly : {j i : ℕ} → Activates s j i → LeadsTo s j i
   through : {j k i : ℕ} → LeadsTo s j k → Activates s k i → LeadsTo s j i
@@ -30,11 +29,11 @@ pub data InCone (s : SystemLists) (from : ℕ → Type 0) : ℕ → Type 0 where
 abbrev pub AreReads : SystemLists → List (List Bool) → Type 0
 AreReads s table = (r : ℕ) → r < length s.resources → (q : ℕ) → Members (slice_index_or table r []) q ↔ Reads s r q
 
--- an earlier task of the chain of i is on q
+-- an earlier task of a chain of i is on q
 abbrev pub HasEarlierOn : SystemLists → ℕ → ℕ → Type 0
 HasEarlierOn s i q = (j : ℕ) × LeadsTo s j i × ((task_at s j).res.0 ≡ q)
 
--- a task on r has an earlier task of its chain on r
+-- a task on r has an earlier task of a chain of it on r
 abbrev pub LeadsBack : SystemLists → ℕ → Type 0
 LeadsBack s r = (i : ℕ) × (i < length s.tasks) × ((task_at s i).res.0 ≡ r) × HasEarlierOn s i r
 

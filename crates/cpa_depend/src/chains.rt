@@ -8,7 +8,25 @@ ghost use Rattle.cpa_depend.specs.Cone.{Reads, HasEarlierOn, AreReads, LeadsBack
 use cpa_model::{Activator, System};
 use cpa_units::{ResId, ResSet, TaskId};
 
-/// The set, with the resources of all earlier tasks of a task's chain.
+/// The set, with the resources of all earlier tasks of a task's chains, one chain after the other.
+#[cold]
+#[inline(never)]
+fn with_each_chain(system: &System, task: TaskId, set: ResSet) -> ResSet
+    requires rules { IsSystem system.now }
+    requires there { task.0 < length system.now.tasks }
+    ensures { (q : ℕ) → Members result q ↔ (Members set q ⊎ HasEarlierOn system.now task.0 q) }
+{
+    let mut all = set;
+    for after in system.task(task).after.as_slice() {
+        if let Activator::Task(earlier) = *after {
+            let wider = all.with(system.task(earlier).res);
+            all = with_each_chain(system, earlier, wider);
+        }
+    }
+    all
+}
+
+/// The same, which is one walk back while tasks have one activator.
 fn with_earlier(system: &System, task: TaskId, set: ResSet) -> ResSet
     requires rules { IsSystem system.now }
     requires there { task.0 < length system.now.tasks }
@@ -16,27 +34,24 @@ fn with_earlier(system: &System, task: TaskId, set: ResSet) -> ResSet
 {
     let mut all = set;
     let mut at = task;
-    'steps: while let Activator::Task(earlier) = system.task(at).after {
+    'steps: while let Some(after) = system.task(at).after.only() {
+        let Activator::Task(earlier) = after else {
+            return all;
+        };
         at = earlier;
         all = all.with(system.task(at).res);
     }
-    all
+    with_each_chain(system, at, all)
 }
 
-/// Whether an earlier task of a task's chain is on a resource.
+/// Whether an earlier task of a chain of a task is on a resource.
 fn has_earlier_on(system: &System, task: TaskId, res: ResId) -> bool
     requires rules { IsSystem system.now }
     requires there { task.0 < length system.now.tasks }
+    requires in_range { res.0 < length system.now.resources }
     ensures { IsTrue result ↔ HasEarlierOn system.now task.0 res.0 }
 {
-    let mut at = task;
-    'steps: while let Activator::Task(earlier) = system.task(at).after {
-        at = earlier;
-        if system.task(at).res.0 == res.0 {
-            return true;
-        }
-    }
-    false
+    with_earlier(system, task, ResSet::none()).has(res)
 }
 
 /// Exactly the resources that a resource reads: itself, and those of all earlier tasks in the chains
@@ -53,7 +68,7 @@ pub fn reads(system: &System, res: ResId) -> ResSet
     set
 }
 
-/// Whether a task on a resource has an earlier task of its chain on that resource as well.
+/// Whether a task on a resource has an earlier task of a chain of it on that resource as well.
 pub fn leads_back(system: &System, res: ResId) -> bool
     requires { res.0 < length system.now.resources }
     ensures { IsTrue result ↔ LeadsBack system.now res.0 }

@@ -1,7 +1,10 @@
 pub mod ChainLaws
 pub mod FirstLemmas
+pub mod LinkLaws
 pub mod ListLaws
 pub mod Maps
 pub mod NameLaws
 pub mod RankLaws
+pub mod SearchLaws
+pub mod StreamLaws
 pub mod UnrefusedLaws

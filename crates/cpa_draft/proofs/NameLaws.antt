@@ -1,16 +1,22 @@
 -- Names that differ, and the places at which they are found.
-use Rattle.std.proofs.Common.{◌≡◌, ◌≢◌, ℕ, zero, suc, ◌+◌, ◌<◌, Bool, true, false, List, [], ◌∷◌, ◌++◌, map, length, take, get_or, Option, Some, None, is_none, unwrap_or, refl, sym, ap, ◌∙◌, arith, length-take, length-append}
+use Rattle.std.proofs.Common.{◌≡◌, ◌≢◌, ℕ, zero, suc, ◌+◌, ◌<◌, ◌||◌, Bool, true, false, List, [], ◌∷◌, ◌++◌, map, length, take, get_or, slice_index_or, Option, Some, None, is_none, unwrap_or, refl, sym, ap, ◌∙◌, inl, inr, arith, length-take, length-append}
 use Rattle.std.proofs.lemmas.List.{length-map, get_or-map, get_or-take, get_or_append_left, get_or-append-add}
 use Rattle.std.proofs.lemmas.List.Quantifiers.{position-Some}
-use Rattle.std.specs.List.{position_from, list_any, AllPairs}
+use Rattle.std.specs.List.{position_from, list_any, list_all, AllPairs}
 use Rattle.std.specs.Str.{bytes_eq}
-use Rattle.std.proofs.lemmas.Bool.{true≢false, false_from_ne_true}
+use Rattle.std.proofs.lemmas.Bool.{true≢false, false_from_ne_true, cases_lt}
 use Rattle.std.proofs.lemmas.Slice.Eq.{bytes_eq-Decides}
 use Rattle.std.proofs.lemmas.Iterator.Adapters.{position_from-zero}
 use Rattle.cpa_draft.specs.First.{first_known}
 use Rattle.cpa_draft.specs.Names.{place_of}
 use Rattle.cpa_draft.proofs.FirstLemmas.{none_marked, all_unmarked}
-use Rattle.cpa_draft.proofs.ListLaws.{any-append, none-at, none-any, all-map, all-append, pairs-map, pairs-append}
+use Rattle.cpa_draft.proofs.ListLaws.{any-append, none-at, none-any, all-map, all-append, pairs-map, pairs-append, passes-at, get_or-any}
+use Rattle.cpa_draft.specs.DraftLists.{DraftLists, no_task, task_at}
+use Rattle.cpa_draft.specs.declared.draft.DraftTask.{DraftTask}
+use Rattle.cpa_draft.specs.Search.{is_short, HaveSameNames, AreLongLists}
+use Rattle.std.proofs.lemmas.List.{take_more}
+use Rattle.std.proofs.lemmas.List.Folds.{list_any-append}
+use Rattle.std.proofs.Math.ListN.{get_or-eq_default}
 
 -- no two names are the same
 abbrev pub Differ : List (List ℕ) → Type 0
@@ -101,3 +107,60 @@ differ-new name before xs differ =
     later i k d before_it less same =
         differ (length before + i) (length before + k) d (omega arith) (omega (arith, length-append before (map name xs), length-map xs name))
         (get_or-append-add before (map name xs) i d ∙ sym same ∙ sym (get_or-append-add before (map name xs) k d))
+
+-- one more name of a list, which is put into a set
+same-added : (names found : List (List ℕ)) (name : List ℕ) → HaveSameNames names found → HaveSameNames (names ++ name ∷ []) (found ++ name ∷ [])
+same-added names found name same x = rw (list_any-append (bytes_eq x) found (name ∷ []), list_any-append (bytes_eq x) names (name ∷ []), same x) refl
+
+same-known : (names found : List (List ℕ)) (name : List ℕ) → list_any (bytes_eq name) found ≡ true → HaveSameNames names found → HaveSameNames (names ++ name ∷ []) found
+same-known names found name known same x = by (bytes_eq x name) refl
+  where
+    joined : list_any (bytes_eq x) (names ++ name ∷ []) ≡ (list_any (bytes_eq x) found || (bytes_eq x name || false))
+    joined = list_any-append (bytes_eq x) names (name ∷ []) ∙ ap (λ b. b || (bytes_eq x name || false)) (sym (same x))
+
+    or-false : (b : Bool) → (b || (false || false)) ≡ b
+    or-false true = refl
+    or-false false = refl
+
+    by : (b : Bool) → bytes_eq x name ≡ b → list_any (bytes_eq x) found ≡ list_any (bytes_eq x) (names ++ name ∷ [])
+    by true is =
+        let there : list_any (bytes_eq x) found ≡ true = rw ((bytes_eq-Decides x name).0 is) known in
+        rw (joined, there) refl
+    by false is = sym (joined ∙ rw is (or-false (list_any (bytes_eq x) found)))
+
+pub same-more : (names : List (List ℕ)) (k : ℕ) (name : List ℕ) (found after : List (List ℕ)) (new : Bool) → k < length names → name ≡ get_or names k name
+    → (new ≡ true → after ≡ found ++ name ∷ []) → (new ≡ false → list_any (bytes_eq name) found ≡ true) → (new ≡ false → after ≡ found)
+    → HaveSameNames (take k names) found → HaveSameNames (take (k + 1) names) after
+same-more names k name found after true less at added known unchanged same =
+    rw (take_more names k name less, ← at, added refl) (same-added (take k names) found name same)
+same-more names k name found after false less at added known unchanged same =
+    rw (take_more names k name less, ← at, unchanged refl) (same-known (take k names) found name (known refl) same)
+
+-- one more task, whose names are put into a set where there are many
+pub long-more : (tasks : List DraftTask) (lists : List (List (List ℕ))) (k : ℕ) (t : DraftTask) (names : List (List ℕ)) → k < length tasks → t ≡ get_or tasks k t → length lists ≡ k
+    → (is_short t.after ≡ false → HaveSameNames t.after names)
+    → ((i : ℕ) → i < k → is_short (slice_index_or tasks i no_task).after ≡ false → HaveSameNames (slice_index_or tasks i no_task).after (slice_index_or lists i []))
+    → (i : ℕ) → i < k + 1 → is_short (slice_index_or tasks i no_task).after ≡ false → HaveSameNames (slice_index_or tasks i no_task).after (slice_index_or (lists ++ names ∷ []) i [])
+long-more tasks lists k t names less is count here before i below = elim (cases_lt i k) [
+  | inl earlier ↦ λ short. rw (get_or_append_left lists (names ∷ []) [] i (omega arith)) (before i earlier short)
+  | inr late ↦
+      let last : i ≡ k = omega arith in
+      let same : slice_index_or tasks i no_task ≡ t = rw last (get_or-any tasks k no_task t less ∙ sym is) in
+      let end : i ≡ length lists + 0 = omega arith in
+      let found : slice_index_or (lists ++ names ∷ []) i [] ≡ names = rw end (get_or-append-add lists (names ∷ []) 0 []) in
+      λ short. rw (same, found) (here (rw same at short))
+]
+
+-- past the tasks there are no names
+pub long-all : (d : DraftLists) (lists : List (List (List ℕ))) → ((i : ℕ) → i < length d.tasks → is_short (task_at d i).after ≡ false → HaveSameNames (task_at d i).after (slice_index_or lists i []))
+    → AreLongLists d lists
+long-all d lists each i long = elim (cases_lt i (length d.tasks)) [
+  | inl below ↦ each i below long
+  | inr past ↦
+      let none : task_at d i ≡ no_task = get_or-eq_default d.tasks no_task past in
+      absurd (true≢false (rw none at long))
+]
+
+-- where all lists are short, no set is made
+pub long-none : (d : DraftLists) → list_all (λ (t : DraftTask). is_short t.after) d.tasks ≡ true → AreLongLists d []
+long-none d short = long-all d [] (λ i below long. absurd (true≢false (sym (passes-at (λ (t : DraftTask). is_short t.after) d.tasks i no_task short below) ∙ long)))

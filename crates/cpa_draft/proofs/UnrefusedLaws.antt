@@ -1,6 +1,6 @@
 -- What a draft has to which no reason applies, and that it is all.
 use Rattle.std.proofs.Common.{◌≡◌, ℕ, ◌≤◌, Bool, true, false, not, ◌||◌, nat_le, nat_lt, List, [], ◌∷◌, length, take, All, Option, Some, None, is_none, refl, sym, ap, ◌∙◌, arith, inl, inr}
-use Rattle.std.specs.List.{list_all, filter_map}
+use Rattle.std.specs.List.{list_all, list_any, filter_map}
 use Rattle.std.proofs.lemmas.Bool.{true≢false, le-leb, leb-true, ltb-true, ltb-false, cases_Bool, false_from_ne_true}
 use Rattle.std.proofs.lemmas.Option.{none-some}
 use Rattle.cpa_units.specs.Name.{is_name}
@@ -14,7 +14,7 @@ use Rattle.cpa_draft.specs.declared.draft.DraftTask.{DraftTask}
 use Rattle.cpa_draft.specs.declared.draft.DraftPath.{DraftPath}
 use Rattle.cpa_draft.specs.declared.refusal.Part.{Part}
 use Rattle.cpa_draft.specs.declared.refusal.Refusal.{Refusal}
-use Rattle.cpa_draft.specs.Refusals.{◌or_else◌, refusal_at, first_with, out_of_range, no_name, known_name, unknown_name, no_source, long_chain, known_priority, misfit, crossed, unlinked, too_many, by_names, by_chains, by_kinds, first_refusal, resource_fits, source_fits, task_fits, path_fits, rank_of, is_taken, resource_misfits, task_misfits, is_crossed, is_linked}
+use Rattle.cpa_draft.specs.Refusals.{◌or_else◌, refusal_at, first_with, out_of_range, no_name, known_name, unknown_name, endless, long_chain, known_priority, misfit, crossed, unlinked, too_many, misfed, is_misfed, by_own_names, by_links, by_chains, by_kinds, first_refusal, resource_fits, source_fits, task_fits, path_fits, rank_of, is_taken, resource_misfits, task_misfits, is_crossed, is_linked}
 use Rattle.cpa_draft.proofs.FirstLemmas.{none_marked, all_unmarked}
 use Rattle.cpa_draft.proofs.ListLaws.{not-false}
 
@@ -32,7 +32,7 @@ pub record IsUnrefused (d : DraftLists) : Type 0 where
   pub new_sources : first_known (λ (r : DraftSource). r.name) [] d.sources ≡ None
   pub new_tasks : first_known (λ (t : DraftTask). t.name) (source_names d) d.tasks ≡ None
   pub new_paths : first_known (λ (p : DraftPath). p.name) [] d.paths ≡ None
-  pub tasks_know : All (λ (t : DraftTask). (is_none (place_of (resource_names d) t.on) || is_nothing (link_of d t.after)) ≡ false) d.tasks
+  pub tasks_know : All (λ (t : DraftTask). (is_none (place_of (resource_names d) t.on) || list_any (λ name. is_nothing (link_of d name)) t.after) ≡ false) d.tasks
   pub paths_know : All (λ (p : DraftPath). list_all (λ name. is_task (link_of d name)) p.tasks ≡ true) d.paths
   pub sourced : first_longer (links_of d) (length d.tasks) ≡ None
   pub short : first_longer (links_of d) 32 ≡ None
@@ -45,6 +45,7 @@ pub record IsUnrefused (d : DraftLists) : Type 0 where
   pub few_sources : length d.sources ≤ 128
   pub few_tasks : length d.tasks ≤ 512
   pub few_paths : length d.paths ≤ 128
+  pub fed : first_place (is_misfed d) d.tasks ≡ None
 
 or_none : {X : Type 0} (a b : Option X) → (a or_else b) ≡ None → (a ≡ None) × (b ≡ None)
 or_none None b e = (refl, e)
@@ -102,19 +103,20 @@ from_few : {X : Type 0} (n : ℕ) (xs : List X) → length xs ≤ n → first_pl
 from_few n xs less = all_unmarked (λ k x. nat_le n k) xs (λ k d below. false_from_ne_true _ (λ past. absurd (omega (arith, leb-true _ _ past))))
 
 pub unrefused : (d : DraftLists) → first_refusal d ≡ None → IsUnrefused d
-unfolding first_refusal out_of_range no_name known_name unknown_name no_source long_chain known_priority misfit crossed unlinked too_many
+unfolding first_refusal out_of_range no_name known_name unknown_name endless long_chain known_priority misfit crossed unlinked too_many misfed
 unrefused d h =
-    let a = or_none _ (too_many d) h in
+    let z = or_none _ (misfed d) h in
+    let a = or_none _ (too_many d) z.0 in
     let b = or_none _ (by_kinds d) a.0 in
-    let c = or_none _ (by_chains d) b.0 in
-    let e = or_none (out_of_range d) (by_names d) c.0 in
+    let c = or_none _ (by_links d) b.0 in
+    let e = or_none (out_of_range d) (by_own_names d) c.0 in
     let range = four _ _ _ _ e.0 in
-    let f = or_none _ (unknown_name d) e.1 in
-    let g = or_none (no_name d) (known_name d) f.0 in
+    let g = or_none (no_name d) (known_name d) e.1 in
     let form = four _ _ _ _ g.0 in
     let known = four _ _ _ _ g.1 in
-    let unknown = or_none _ _ f.1 in
-    let chain = or_none (no_source d) (long_chain d) c.1 in
+    let f = or_none (unknown_name d) (by_chains d) c.1 in
+    let unknown = or_none _ _ f.0 in
+    let chain = or_none (endless d) (long_chain d) f.1 in
     let kind = four (known_priority d) (misfit d) (crossed d) (unlinked d) b.1 in
     let suit = or_none _ _ kind.second in
     let many = four _ _ _ _ a.1 in
@@ -131,7 +133,7 @@ unrefused d h =
       new_sources = at_none 4 _ _ known.second;
       new_tasks = at_none 4 _ _ known.third;
       new_paths = at_none 4 _ _ known.fourth;
-      tasks_know = fails 5 _ (λ (t : DraftTask). is_none (place_of (resource_names d) t.on) || is_nothing (link_of d t.after)) d.tasks unknown.0;
+      tasks_know = fails 5 _ (λ (t : DraftTask). is_none (place_of (resource_names d) t.on) || list_any (λ name. is_nothing (link_of d name)) t.after) d.tasks unknown.0;
       paths_know = passes 5 _ (λ (p : DraftPath). list_all (λ name. is_task (link_of d name)) p.tasks) d.paths unknown.1;
       sourced = at_none 6 _ _ chain.0;
       short = at_none 7 _ _ chain.1;
@@ -144,22 +146,23 @@ unrefused d h =
       few_sources = few 128 d.sources (at_none 12 _ _ many.second);
       few_tasks = few 512 d.tasks (at_none 12 _ _ many.third);
       few_paths = few 128 d.paths (at_none 12 _ _ many.fourth);
+      fed = at_none 14 _ _ z.1;
     }
 
 pub not_refused : (d : DraftLists) → IsUnrefused d → first_refusal d ≡ None
-unfolding first_refusal out_of_range no_name known_name unknown_name no_source long_chain known_priority misfit crossed unlinked too_many
+unfolding first_refusal out_of_range no_name known_name unknown_name endless long_chain known_priority misfit crossed unlinked too_many misfed
 not_refused d u =
-    none_or _ (too_many d)
+    none_or _ (misfed d)
+    (none_or _ (too_many d)
     (none_or _ (by_kinds d)
-    (none_or _ (by_chains d)
-    (none_or (out_of_range d) (by_names d)
+    (none_or _ (by_links d)
+    (none_or (out_of_range d) (by_own_names d)
     (from_four _ _ _ _ (record {
       first = from_passes 2 _ resource_fits d.resources u.resources_fit;
       second = from_passes 2 _ source_fits d.sources u.sources_fit;
       third = from_passes 2 _ task_fits d.tasks u.tasks_fit;
       fourth = from_passes 2 _ path_fits d.paths u.paths_fit;
     }))
-    (none_or _ (unknown_name d)
     (none_or (no_name d) (known_name d)
     (from_four _ _ _ _ (record {
       first = from_passes 3 _ (λ (r : DraftResource). is_name r.name) d.resources u.resources_named;
@@ -172,11 +175,12 @@ not_refused d u =
       second = none_at 4 _ _ u.new_sources;
       third = none_at 4 _ _ u.new_tasks;
       fourth = none_at 4 _ _ u.new_paths;
-    })))
+    }))))
+    (none_or (unknown_name d) (by_chains d)
     (none_or _ _
-    (from_fails 5 _ (λ (t : DraftTask). is_none (place_of (resource_names d) t.on) || is_nothing (link_of d t.after)) d.tasks u.tasks_know)
-    (from_passes 5 _ (λ (p : DraftPath). list_all (λ name. is_task (link_of d name)) p.tasks) d.paths u.paths_know))))
-    (none_or (no_source d) (long_chain d) (none_at 6 _ _ u.sourced) (none_at 7 _ _ u.short)))
+    (from_fails 5 _ (λ (t : DraftTask). is_none (place_of (resource_names d) t.on) || list_any (λ name. is_nothing (link_of d name)) t.after) d.tasks u.tasks_know)
+    (from_passes 5 _ (λ (p : DraftPath). list_all (λ name. is_task (link_of d name)) p.tasks) d.paths u.paths_know))
+    (none_or (endless d) (long_chain d) (none_at 6 _ _ u.sourced) (none_at 7 _ _ u.short))))
     (from_four (known_priority d) (misfit d) (crossed d) (unlinked d) (record {
       first = none_at 8 _ _ u.ranks;
       second = none_or _ _ (from_fails 9 _ resource_misfits d.resources u.resources_suit) (from_fails 9 _ (λ (t : DraftTask). task_misfits (kind_of d t.on) t) d.tasks u.tasks_suit);
@@ -188,4 +192,5 @@ not_refused d u =
       second = none_at 12 _ _ (from_few 128 d.sources u.few_sources);
       third = none_at 12 _ _ (from_few 512 d.tasks u.few_tasks);
       fourth = none_at 12 _ _ (from_few 128 d.paths u.few_paths);
-    }))
+    })))
+    (none_at 14 _ _ u.fed)

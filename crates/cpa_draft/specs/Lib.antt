@@ -1,7 +1,9 @@
 pub mod Numbers
 pub mod First
+pub mod Held
 pub mod DraftLists
 pub mod Names
 pub mod Chains
+pub mod Search
 pub mod Refusals
 pub mod Judged

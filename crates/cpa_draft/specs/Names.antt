@@ -1,5 +1,6 @@
 -- What the names of a draft name.
 use Rattle.std.specs.Prelude.{◌≡◌, ℕ, ◌-◌, nat_lt, if◌then◌else◌, Bool, true, false, List, ◌++◌, Option, Some, None, map, length, position, option_map}
+use Rattle.std.specs.List.{list_any}
 use Rattle.std.specs.Str.{bytes_eq}
 use Rattle.cpa_draft.specs.DraftLists.{DraftLists, resource_at, task_at}
 use Rattle.cpa_draft.specs.declared.draft.DraftResource.{DraftResource}
@@ -39,9 +40,9 @@ link_at sources (Some k) = if nat_lt k sources then link.Source else link.Task (
 abbrev pub link_of : DraftLists → List ℕ → Link
 link_of d name = link_at (length d.sources) (place_of (activity_names d) name)
 
--- what activates each task
-abbrev pub links_of : DraftLists → List Link
-links_of d = map (λ (t : DraftTask). link_of d t.after) d.tasks
+-- the activators of each task
+abbrev pub links_of : DraftLists → List (List Link)
+links_of d = map (λ (t : DraftTask). map (link_of d) t.after) d.tasks
 
 abbrev pub is_nothing : Link → Bool
 is_nothing link.Nothing = true
@@ -51,9 +52,9 @@ abbrev pub is_task : Link → Bool
 is_task (link.Task j) = true
 is_task _ = false
 
--- whether a link is a task that a name activates
+-- whether a link is a task and a name is among its activators
 abbrev pub is_after : DraftLists → List ℕ → Link → Bool
-is_after d name (link.Task j) = bytes_eq name (task_at d j).after
+is_after d name (link.Task j) = list_any (bytes_eq name) (task_at d j).after
 is_after d name _ = false
 
 -- tables of the names of the resources, and of the sources and then the tasks

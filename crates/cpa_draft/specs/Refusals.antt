@@ -3,11 +3,12 @@ use Rattle.std.specs.Prelude.{ℕ, ◌+◌, ◌-◌, ◌&&◌, ◌||◌, ◌==�
 use Rattle.std.specs.List.{list_all, list_any, filter_map, range_with_len}
 use Rattle.cpa_units.specs.Name.{is_name}
 use Rattle.cpa_units.specs.declared.limits.TheConstants.{MAX_RESOURCES, MAX_TASKS, MAX_SOURCES, MAX_PATHS, MAX_CHAIN, MAX_PERIOD, MAX_JITTER, MAX_EXECUTION, MAX_GAP, MAX_BIT, MAX_LIMIT, MAX_PRIORITY, MAX_PAYLOAD}
+use Rattle.cpa_events.specs.declared.TheConstants.{MAX_STREAMS}
 use Rattle.cpa_draft.specs.Numbers.{nat_of, nat_or, is_within, may_be_within}
 use Rattle.cpa_draft.specs.First.{first_place, first_known}
 use Rattle.cpa_draft.specs.DraftLists.{DraftLists}
 use Rattle.cpa_draft.specs.Names.{resource_names, source_names, place_of, kind_of, link_of, links_of, is_nothing, is_task, is_after}
-use Rattle.cpa_draft.specs.Chains.{first_longer}
+use Rattle.cpa_draft.specs.Chains.{first_longer, stream_count_within}
 use Rattle.cpa_draft.specs.declared.draft.DraftResource.{DraftResource}
 use Rattle.cpa_draft.specs.declared.draft.DraftSource.{DraftSource}
 use Rattle.cpa_draft.specs.declared.draft.DraftTask.{DraftTask}
@@ -76,17 +77,17 @@ known_name d =
     or_else refusal_at 4 Task (first_known (λ (t : DraftTask). t.name) (source_names d) d.tasks)
     or_else refusal_at 4 Path (first_known (λ (p : DraftPath). p.name) [] d.paths)
 
--- 5: `on`, `after` or `tasks` names nothing
+-- 5: `on`, a name in `after` or a name in `tasks` names nothing
 unfoldable pub unknown_name : DraftLists → Option Refusal
 unknown_name d =
-    first_with 5 Task (λ t. is_none (place_of (resource_names d) t.on) || is_nothing (link_of d t.after)) d.tasks
+    first_with 5 Task (λ t. is_none (place_of (resource_names d) t.on) || list_any (λ name. is_nothing (link_of d name)) t.after) d.tasks
     or_else first_with 5 Path (λ p. not (list_all (λ name. is_task (link_of d name)) p.tasks)) d.paths
 
--- 6: following activators from the task reaches no source, however long the chain
-unfoldable pub no_source : DraftLists → Option Refusal
-no_source d = refusal_at 6 Task (first_longer (links_of d) (length d.tasks))
+-- 6: activators can be followed from the task without end
+unfoldable pub endless : DraftLists → Option Refusal
+endless d = refusal_at 6 Task (first_longer (links_of d) (length d.tasks))
 
--- 7: the chain has too many tasks
+-- 7: a chain up to the task has too many tasks
 unfoldable pub long_chain : DraftLists → Option Refusal
 long_chain d = refusal_at 7 Task (first_longer (links_of d) MAX_CHAIN)
 
@@ -154,12 +155,12 @@ is_crossed t = (is_some t.best && is_some t.worst) && nat_lt (nat_or 0 t.worst) 
 unfoldable pub crossed : DraftLists → Option Refusal
 crossed d = first_with 10 Task is_crossed d.tasks
 
--- each task of a path but its first is activated by the one before it
+-- the name of each task of a path but its last is among the activators of the next
 abbrev pub is_linked : DraftLists → List (List ℕ) → Bool
 is_linked d names =
     list_all (λ k. is_after d (slice_index_or names (k - 1) []) (link_of d (slice_index_or names k []))) (range_with_len 1 (length names - 1))
 
--- 11: a path has no task, or a task in it isn't activated by the one before it
+-- 11: a path has no task, or the one before a task in it isn't among its activators
 unfoldable pub unlinked : DraftLists → Option Refusal
 unlinked d = first_with 11 Path (λ (p : DraftPath). nat_le (length p.tasks) 0 || not (is_linked d p.tasks)) d.paths
 
@@ -171,16 +172,31 @@ too_many d =
     or_else first_marked 12 Task (λ k t. nat_le MAX_TASKS k) d.tasks
     or_else first_marked 12 Path (λ k p. nat_le MAX_PATHS k) d.paths
 
+-- some name is there twice
+abbrev pub has_double : List (List ℕ) → Bool
+has_double names = is_some (first_known (λ name. name) [] names)
+
+-- there is no activator, one is there twice, or the events of too many streams come together
+abbrev pub is_misfed : DraftLists → ℕ → DraftTask → Bool
+is_misfed d i t = (nat_le (length t.after) 0 || has_double t.after) || nat_lt MAX_STREAMS (stream_count_within (links_of d) MAX_CHAIN i)
+
+-- 14: the activators of a task
+unfoldable pub misfed : DraftLists → Option Refusal
+misfed d = first_marked 14 Task (is_misfed d) d.tasks
+
 -- the reasons in their order
-abbrev pub by_names : DraftLists → Option Refusal
-by_names d = no_name d or_else known_name d or_else unknown_name d
+abbrev pub by_own_names : DraftLists → Option Refusal
+by_own_names d = no_name d or_else known_name d
 
 abbrev pub by_chains : DraftLists → Option Refusal
-by_chains d = no_source d or_else long_chain d
+by_chains d = endless d or_else long_chain d
+
+abbrev pub by_links : DraftLists → Option Refusal
+by_links d = unknown_name d or_else by_chains d
 
 abbrev pub by_kinds : DraftLists → Option Refusal
 by_kinds d = known_priority d or_else misfit d or_else crossed d or_else unlinked d
 
 -- the first reason that applies, with its first place
 unfoldable pub first_refusal : DraftLists → Option Refusal
-first_refusal d = out_of_range d or_else by_names d or_else by_chains d or_else by_kinds d or_else too_many d
+first_refusal d = out_of_range d or_else by_own_names d or_else by_links d or_else by_kinds d or_else too_many d or_else misfed d

@@ -4,6 +4,7 @@ ghost use Rattle.std.specs.Prelude.{◌≡◌};
 
 use crate::numbers::natural_or;
 use std::marker::Model;
+use std::slice;
 
 /// Bytes that may be a name.
 #[derive(Debug, Drop)]
@@ -33,31 +34,63 @@ impl Raw {
     }
 }
 
-/// Several texts that may be names.
+/// Several texts that may be names. One alone takes no memory beyond its own.
 #[derive(Debug, Drop)]
 pub struct RawList {
-    names: Vec<Raw>,
+    held: HeldNames,
+}
+
+#[derive(Debug, Drop)]
+enum HeldNames {
+    One(Raw),
+    Several(Vec<Raw>),
 }
 
 impl Model for RawList {
     ghost use Rattle.std.specs.Prelude.{List, ℕ};
+    ghost use Rattle.cpa_draft.specs.Held.{names_held};
 
     ghost Value = { List (List ℕ) };
 
-    ghost view = { λ r. r.names.items };
+    ghost view = { λ r. names_held r.held };
 }
 
 impl RawList {
+    ghost use Rattle.std.specs.Prelude.{[], ◌∷◌};
+    ghost use Rattle.std.specs.List.{list_any};
+    ghost use Rattle.std.specs.Str.{bytes_eq};
+
     pub fn new(names: Vec<Raw>) -> RawList
         ensures { result ≡ names.items }
     {
-        RawList { names }
+        RawList {
+            held: HeldNames::Several(names),
+        }
+    }
+
+    /// The list of one name.
+    pub fn one(name: Raw) -> RawList
+        ensures { result ≡ name ∷ [] }
+    {
+        RawList {
+            held: HeldNames::One(name),
+        }
     }
 
     pub fn names(&self) -> &[Raw]
         ensures { result.now ≡ self.now }
     {
-        self.names.as_slice()
+        match &self.held {
+            HeldNames::One(name) => slice::from_ref(name),
+            HeldNames::Several(names) => names.as_slice(),
+        }
+    }
+
+    /// Whether a name is one of them.
+    pub(crate) fn has(&self, name: &[u8]) -> bool
+        ensures { result ≡ list_any (bytes_eq name.now) self.now }
+    {
+        self.names().iter().any(|other| name == other.bytes())
     }
 }
 
@@ -89,12 +122,12 @@ pub struct DraftSource {
     pub distance: Option<i64>,
 }
 
-/// A task as it was read.
+/// A task as it was read. Each of the names in `after` is an activator's.
 #[derive(Debug, Drop)]
 pub struct DraftTask {
     pub name: Raw,
     pub on: Raw,
-    pub after: Raw,
+    pub after: RawList,
     pub best: Option<i64>,
     pub worst: Option<i64>,
     pub payload: Option<i64>,
@@ -129,9 +162,9 @@ impl Model for Draft {
 }
 
 impl Draft {
-    ghost use Rattle.std.specs.Str.{bytes_eq};
+    ghost use Rattle.std.specs.Prelude.{option_map};
     ghost use Rattle.cpa_draft.specs.Numbers.{nat_or};
-    ghost use Rattle.cpa_draft.specs.DraftLists.{resource_at, task_at};
+    ghost use Rattle.cpa_draft.specs.DraftLists.{resource_at};
 
     pub fn resource_entries(&self) -> &[DraftResource]
         ensures { result.now ≡ self.now.resources }
@@ -167,13 +200,13 @@ impl Draft {
         }
     }
 
-    /// Whether a name activates the task at a place.
-    pub(crate) fn is_task_after(&self, name: &[u8], place: usize) -> bool
-        ensures { result ≡ bytes_eq name.now (task_at self.now place).after }
+    /// The kind of the resource at a place, if there is a place.
+    pub fn kind_of(&self, place: Option<usize>) -> Option<KindWord>
+        ensures { result ≡ option_map (λ k. (resource_at self.now k).kind) place }
     {
-        match self.tasks.get(place) {
-            Some(task) => name == task.after.bytes(),
-            None => name.is_empty(),
+        match place {
+            None => None,
+            Some(place) => Some(self.kind_at(place)),
         }
     }
 

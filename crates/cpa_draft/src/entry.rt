@@ -5,37 +5,52 @@ ghost use Rattle.cpa_units.specs.Name.{is_name};
 ghost use Rattle.cpa_draft.specs.First.{first_place};
 ghost use Rattle.cpa_draft.specs.Refusals.{resource_fits, source_fits, task_fits, path_fits};
 
-use crate::draft::{DraftPath, DraftResource, DraftSource, DraftTask};
+use crate::draft::{DraftPath, DraftResource, DraftSource, DraftTask, Raw};
 use crate::numbers::{is_within, may_be_within, natural};
 use cpa_units::is_name;
 use cpa_units::limits::{
     MAX_BIT, MAX_EXECUTION, MAX_GAP, MAX_JITTER, MAX_LIMIT, MAX_PAYLOAD, MAX_PERIOD, MAX_PRIORITY,
 };
 
-/// An entry of one of the four lists.
-pub trait Entry {
-    ghost use Rattle.std.specs.Prelude.{◌≡◌, List, ℕ, Bool};
+/// What has a name, or is one.
+pub trait Named {
+    ghost use Rattle.std.specs.Prelude.{◌≡◌, List, ℕ};
 
     ghost named: { Self → List ℕ };
 
-    /// Whether all numbers are in their ranges.
-    ghost fits: { Self → Bool };
-
     fn name(&self) -> &[u8]
         ensures { result.now ≡ named self.now };
+}
+
+/// An entry of one of the four lists.
+pub trait Entry {
+    ghost use Rattle.std.specs.Prelude.{◌≡◌, Bool};
+
+    /// Whether all numbers are in their ranges.
+    ghost fits: { Self → Bool };
 
     fn fits(&self) -> bool
         ensures { result ≡ fits self.now };
 }
 
-impl Entry for DraftResource {
-    ghost named = { λ e. e.name };
+impl Named for Raw {
+    ghost named = { λ name. name };
 
-    ghost fits = { resource_fits };
+    fn name(&self) -> &[u8] {
+        self.bytes()
+    }
+}
+
+impl Named for DraftResource {
+    ghost named = { λ e. e.name };
 
     fn name(&self) -> &[u8] {
         self.name.bytes()
     }
+}
+
+impl Entry for DraftResource {
+    ghost fits = { resource_fits };
 
     fn fits(&self) -> bool {
         may_be_within(1, MAX_LIMIT, self.limit)
@@ -44,14 +59,16 @@ impl Entry for DraftResource {
     }
 }
 
-impl Entry for DraftSource {
+impl Named for DraftSource {
     ghost named = { λ e. e.name };
-
-    ghost fits = { source_fits };
 
     fn name(&self) -> &[u8] {
         self.name.bytes()
     }
+}
+
+impl Entry for DraftSource {
+    ghost fits = { source_fits };
 
     fn fits(&self) -> bool {
         is_within(1, MAX_PERIOD, self.period)
@@ -60,14 +77,16 @@ impl Entry for DraftSource {
     }
 }
 
-impl Entry for DraftTask {
+impl Named for DraftTask {
     ghost named = { λ e. e.name };
-
-    ghost fits = { task_fits };
 
     fn name(&self) -> &[u8] {
         self.name.bytes()
     }
+}
+
+impl Entry for DraftTask {
+    ghost fits = { task_fits };
 
     fn fits(&self) -> bool {
         may_be_within(1, MAX_EXECUTION, self.best)
@@ -78,14 +97,16 @@ impl Entry for DraftTask {
     }
 }
 
-impl Entry for DraftPath {
+impl Named for DraftPath {
     ghost named = { λ e. e.name };
-
-    ghost fits = { path_fits };
 
     fn name(&self) -> &[u8] {
         self.name.bytes()
     }
+}
+
+impl Entry for DraftPath {
+    ghost fits = { path_fits };
 
     fn fits(&self) -> bool {
         may_be_within(1, MAX_PERIOD, self.deadline)
@@ -104,7 +125,7 @@ pub(crate) fn first_unfit<E: Entry>(entries: &[E]) -> Option<usize>
 }
 
 /// The first entry whose name hasn't the form of one.
-pub(crate) fn first_unnamed<E: Entry>(entries: &[E]) -> Option<usize>
+pub(crate) fn first_unnamed<E: Named>(entries: &[E]) -> Option<usize>
     ensures place { result ≡ first_place (λ k e. not (is_name (E.named e))) entries.now }
     ensures within { IfSome result (λ k. k < 2 ^ 64 - 1) }
 {

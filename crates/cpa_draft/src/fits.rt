@@ -1,12 +1,11 @@
 //! Whether what the entries of a draft have fits the kinds of their resources.
 
-ghost use Rattle.std.specs.Prelude.{◌≡◌, ◌<◌, ◌-◌, ◌^◌, ◌||◌, [], nat_le, length, slice_index_or, not, IfSome};
+ghost use Rattle.std.specs.Prelude.{◌≡◌, ◌<◌, ◌-◌, ◌^◌, IfSome};
 ghost use Rattle.cpa_draft.specs.First.{first_place};
-ghost use Rattle.cpa_draft.specs.Names.{AreTables, kind_of, link_of, is_after};
-ghost use Rattle.cpa_draft.specs.Refusals.{◌or_else◌, is_tdma, is_can, resource_misfits, turn_misfits, task_misfits, is_crossed, is_linked, misfit, crossed, unlinked};
+ghost use Rattle.cpa_draft.specs.Names.{AreTables, kind_of};
+ghost use Rattle.cpa_draft.specs.Refusals.{◌or_else◌, is_tdma, is_can, resource_misfits, turn_misfits, task_misfits, is_crossed, misfit, crossed};
 
-use crate::draft::{Draft, DraftPath, DraftResource, DraftTask, KindWord, Raw};
-use crate::links::Link;
+use crate::draft::{Draft, DraftResource, DraftTask, KindWord};
 use crate::numbers::natural_or;
 use crate::ranks::is_by_priority;
 use crate::refusal::{Part, Refusal};
@@ -123,71 +122,4 @@ pub(crate) fn refuse_crossed(draft: &Draft) -> Option<Refusal>
     ensures { result ≡ crossed draft.now }
 {
     refuse_at(10, Part::Task, first_crossed(draft.task_entries()))
-}
-
-/// Whether a link is a task that a name activates.
-fn is_after(draft: &Draft, name: &[u8], link: Link) -> bool
-    ensures { result ≡ is_after draft.now name.now link }
-{
-    match link {
-        Link::Task(place) => draft.is_task_after(name, place),
-        _ => false,
-    }
-}
-
-fn name_at(names: &[Raw], place: usize) -> &[u8]
-    ensures { result.now ≡ slice_index_or names.now place [] }
-{
-    match names.get(place) {
-        Some(name) => name.bytes(),
-        None => &[],
-    }
-}
-
-/// Whether a task of a path is activated by the one before it.
-fn is_fed(draft: &Draft, tables: &Tables, names: &[Raw], place: usize) -> bool
-    requires { AreTables draft.now tables.now.resources tables.now.activities }
-    ensures { result ≡ is_after draft.now (slice_index_or names.now (place - 1) []) (link_of draft.now (slice_index_or names.now place [])) }
-{
-    let name = name_at(names, place.saturating_sub(1));
-    is_after(draft, name, tables.link(draft, name_at(names, place)))
-}
-
-/// Whether each task of a path but its first is activated by the one before it.
-fn is_linked(draft: &Draft, tables: &Tables, names: &[Raw]) -> bool
-    requires { AreTables draft.now tables.now.resources tables.now.activities }
-    ensures { result ≡ is_linked draft.now names.now }
-{
-    (1..names.len()).all(|place| is_fed(draft, tables, names, place))
-}
-
-fn misfits_path(draft: &Draft, tables: &Tables, path: &DraftPath) -> bool
-    requires { AreTables draft.now tables.now.resources tables.now.activities }
-    ensures { result ≡ (nat_le (length path.now.tasks) 0 || not (is_linked draft.now path.now.tasks)) }
-{
-    path.tasks.names().len() <= 0 || !is_linked(draft, tables, path.tasks.names())
-}
-
-fn first_unlinked(draft: &Draft, tables: &Tables, paths: &[DraftPath]) -> Option<usize>
-    requires { AreTables draft.now tables.now.resources tables.now.activities }
-    ensures place { result ≡ first_place (λ k p. nat_le (length p.tasks) 0 || not (is_linked draft.now p.tasks)) paths.now }
-    ensures within { IfSome result (λ k. k < 2 ^ 64 - 1) }
-{
-    paths
-        .iter()
-        .enumerate()
-        .position(|(_, path)| misfits_path(draft, tables, path))
-}
-
-/// Reason 11.
-#[tactic(auto, unfolding(crate::specs::Refusals::unlinked))]
-pub(crate) fn refuse_unlinked(draft: &Draft, tables: &Tables) -> Option<Refusal>
-    requires { AreTables draft.now tables.now.resources tables.now.activities }
-    ensures { result ≡ unlinked draft.now }
-{
-    refuse_at(
-        11,
-        Part::Path,
-        first_unlinked(draft, tables, draft.path_entries()),
-    )
 }

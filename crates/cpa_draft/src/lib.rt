@@ -1,9 +1,10 @@
 //! A system as it was read, and why it is refused.
 //!
 //! A draft has the entries of a system file, with what the file says of each. It is refused by the first of reasons 2
-//! to 12 that applies, at its first place; reasons 1 and 13 are the file reader's.
+//! to 12 and 14 that applies, at its first place; reasons 1 and 13 are the file reader's.
 #![tactic(auto)]
 
+mod chains;
 pub mod draft;
 mod entry;
 mod fits;
@@ -11,9 +12,11 @@ pub mod judging;
 pub mod links;
 pub mod names;
 pub mod numbers;
+mod paths;
 mod ranks;
 pub mod refusal;
 mod refusals;
+mod streams;
 pub mod tables;
 
 pub use draft::{Draft, DraftPath, DraftResource, DraftSource, DraftTask, KindWord, Raw, RawList};

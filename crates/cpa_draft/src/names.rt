@@ -4,8 +4,11 @@ ghost use Rattle.std.specs.Prelude.{◌≡◌, ◌∷◌, ◌++◌, [], ◌<◌,
 ghost use Rattle.std.specs.List.{list_any};
 ghost use Rattle.std.specs.Str.{bytes_eq};
 ghost use Rattle.cpa_draft.specs.First.{first_known};
+ghost use Rattle.cpa_draft.specs.Refusals.{has_double};
+ghost use Rattle.cpa_draft.specs.Search.{HaveSameNames};
 
-use crate::entry::Entry;
+use crate::draft::Raw;
+use crate::entry::Named;
 use indexmap::IndexSet;
 use std::alloc::{AllocError, Global};
 use std::marker::Model;
@@ -42,6 +45,13 @@ impl Names {
         self.set.get_index_of(name)
     }
 
+    /// Whether the list has a name.
+    pub(crate) fn has(&self, name: &[u8]) -> bool
+        ensures { result ≡ list_any (bytes_eq name.now) self.now }
+    {
+        self.set.contains(name)
+    }
+
     /// Puts a name at the end, unless the list has it, and says whether it was new.
     pub(crate) fn add(&mut self, alloc: Global, name: &[u8]) -> Result<bool, AllocError>
         ensures new { result ≡ Ok true → list_any (bytes_eq name.now) self.old ≡ false }
@@ -56,7 +66,7 @@ impl Names {
 }
 
 /// The first entry whose name is known. The names of those before it go to the end.
-pub(crate) fn add_names<E: Entry>(
+pub(crate) fn add_names<E: Named>(
     alloc: Global,
     names: &mut Names,
     entries: &[E],
@@ -71,4 +81,26 @@ pub(crate) fn add_names<E: Entry>(
         }
     }
     Ok(None)
+}
+
+/// Whether some name is there twice.
+pub(crate) fn has_double(alloc: Global, names: &[Raw]) -> Result<bool, AllocError>
+    ensures { IfOk result (λ r. r ≡ has_double names.now) }
+{
+    if names.len() <= 1 {
+        return Ok(false);
+    }
+    let mut before = Names::new(alloc);
+    Ok(add_names(alloc, &mut before, names)?.is_some())
+}
+
+/// The names of a list, each once.
+pub(crate) fn different(alloc: Global, names: &[Raw]) -> Result<Names, AllocError>
+    ensures { IfOk result (λ r. HaveSameNames names.now r) }
+{
+    let mut found = Names::new(alloc);
+    for name in names {
+        found.add(alloc, name.bytes())?;
+    }
+    Ok(found)
 }

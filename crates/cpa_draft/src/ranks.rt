@@ -78,13 +78,13 @@ fn rank_of(draft: &Draft, tables: &Tables, task: &DraftTask) -> Option<(usize, u
     requires { AreTables draft.now tables.now.resources tables.now.activities }
     ensures { result ≡ rank_of draft.now task.now }
 {
-    if !is_by_priority(tables.kind(draft, task.on.bytes())) {
+    let place = tables.resource(draft, task.on.bytes());
+    if !is_by_priority(draft.kind_of(place)) {
         return None;
     }
-    let place = tables.resource(draft, task.on.bytes()).unwrap_or(0);
     match task.priority {
         None => None,
-        Some(number) => Some((place, natural(number))),
+        Some(number) => Some((place.unwrap_or(0), natural(number))),
     }
 }
 

@@ -1,18 +1,22 @@
 //! Why a draft is refused: the reasons of names, ranges and chains.
 
-ghost use Rattle.std.specs.Prelude.{◌≡◌, ◌<◌, ◌-◌, ◌^◌, ◌||◌, [], Ok, None, Some, is_none, not, length, IfOk, IfSome};
-ghost use Rattle.std.specs.List.{list_all};
+ghost use Rattle.std.specs.Prelude.{◌≡◌, ◌<◌, ◌-◌, ◌^◌, ◌||◌, [], Ok, None, Some, is_none, not, length, slice_index_or, IfOk, IfSome};
+ghost use Rattle.std.specs.List.{list_all, list_any};
 ghost use Rattle.std.specs.Option.{ForSome};
 ghost use Rattle.cpa_draft.specs.First.{first_place};
 ghost use Rattle.cpa_draft.specs.Names.{AreTables, resource_names, activity_names, place_of, link_of, links_of, is_nothing, is_task};
-ghost use Rattle.cpa_draft.specs.Refusals.{◌or_else◌, refusal_at, out_of_range, no_name, known_name, unknown_name, no_source, long_chain, too_many, by_chains};
+ghost use Rattle.cpa_draft.specs.Chains.{first_longer};
+ghost use Rattle.cpa_draft.specs.Search.{AreWithin, KnowsChains, NoneOpen};
+ghost use Rattle.cpa_units.specs.declared.limits.TheConstants.{MAX_CHAIN};
+ghost use Rattle.cpa_draft.specs.Refusals.{◌or_else◌, refusal_at, out_of_range, no_name, known_name, unknown_name, endless, long_chain, too_many, by_chains};
 
+use crate::chains::{Mark, first_long, measure_chains};
 use crate::draft::{Draft, DraftPath, DraftTask, Raw};
 use crate::entry::{first_past, first_unfit, first_unnamed};
-use crate::links::{Link, first_long, measure_chains};
+use crate::links::{Link, Links, links_at};
 use crate::names::{Names, add_names};
 use crate::refusal::{Part, Refusal};
-use crate::tables::{Tables, collect_links};
+use crate::tables::Tables;
 use cpa_units::limits::{MAX_PATHS, MAX_RESOURCES, MAX_SOURCES, MAX_TASKS};
 use std::alloc::{AllocError, Global};
 
@@ -117,26 +121,44 @@ pub(crate) fn refuse_known_name(
     Ok(None)
 }
 
-fn lacks_name(draft: &Draft, tables: &Tables, task: &DraftTask) -> bool
-    requires { AreTables draft.now tables.now.resources tables.now.activities }
-    ensures { result ≡ (is_none (place_of (resource_names draft.now) task.now.on) || is_nothing (link_of draft.now task.now.after)) }
+fn is_nothing(link: Link) -> bool
+    ensures { result ≡ is_nothing link }
 {
-    tables.resource(draft, task.on.bytes()).is_none()
-        || match tables.link(draft, task.after.bytes()) {
-            Link::Nothing => true,
-            _ => false,
-        }
+    match link {
+        Link::Nothing => true,
+        _ => false,
+    }
 }
 
-fn first_lacking(draft: &Draft, tables: &Tables, tasks: &[DraftTask]) -> Option<usize>
+fn lacks_activator(links: &[Link]) -> bool
+    ensures { result ≡ list_any is_nothing links.now }
+{
+    links.iter().any(|link| is_nothing(*link))
+}
+
+fn lacks_name(draft: &Draft, tables: &Tables, task: &DraftTask, links: &[Link]) -> bool
     requires { AreTables draft.now tables.now.resources tables.now.activities }
-    ensures place { result ≡ first_place (λ k t. is_none (place_of (resource_names draft.now) t.on) || is_nothing (link_of draft.now t.after)) tasks.now }
+    ensures { result ≡ (is_none (place_of (resource_names draft.now) task.now.on) || list_any is_nothing links.now) }
+{
+    tables.resource(draft, task.on.bytes()).is_none() || lacks_activator(links)
+}
+
+fn first_lacking(
+    draft: &Draft,
+    tables: &Tables,
+    links: &[Links],
+    tasks: &[DraftTask],
+) -> Option<usize>
+    requires { AreTables draft.now tables.now.resources tables.now.activities }
+    ensures place { result ≡ first_place (λ k t. is_none (place_of (resource_names draft.now) t.on) || list_any is_nothing (slice_index_or links.now k [])) tasks.now }
     ensures within { IfSome result (λ k. k < 2 ^ 64 - 1) }
 {
-    tasks
-        .iter()
-        .enumerate()
-        .position(|(_, task)| lacks_name(draft, tables, task))
+    tasks.iter().enumerate().position(|(k, task)| lacks_name(
+        draft,
+        tables,
+        task,
+        links_at(links, k),
+    ))
 }
 
 fn names_task(draft: &Draft, tables: &Tables, name: &[u8]) -> bool
@@ -171,11 +193,16 @@ fn first_path_lacking(draft: &Draft, tables: &Tables, paths: &[DraftPath]) -> Op
 
 /// Reason 5.
 #[tactic(auto, unfolding(crate::specs::Refusals::unknown_name))]
-pub(crate) fn refuse_unknown_name(draft: &Draft, tables: &Tables) -> Option<Refusal>
-    requires { AreTables draft.now tables.now.resources tables.now.activities }
+pub(crate) fn refuse_unknown_name(
+    draft: &Draft,
+    tables: &Tables,
+    links: &[Links],
+) -> Option<Refusal>
+    requires tables { AreTables draft.now tables.now.resources tables.now.activities }
+    requires links { links.now ≡ links_of draft.now }
     ensures { result ≡ unknown_name draft.now }
 {
-    match first_lacking(draft, tables, draft.task_entries()) {
+    match first_lacking(draft, tables, links, draft.task_entries()) {
         Some(place) => refuse(5, Part::Task, place),
         None => refuse_at(
             5,
@@ -185,26 +212,37 @@ pub(crate) fn refuse_unknown_name(draft: &Draft, tables: &Tables) -> Option<Refu
     }
 }
 
+/// Reasons 6 and 7, for tasks of which none waits.
+fn refuse_measured(
+    alloc: Global,
+    links: &[Links],
+    marks: &mut [Mark],
+) -> Result<Option<Refusal>, AllocError>
+    requires within { AreWithin links.now }
+    requires count { length marks.old ≡ length links.now }
+    requires known { KnowsChains links.now marks.old }
+    requires none_open { NoneOpen marks.old }
+    ensures { IfOk result (λ r. r ≡ (refusal_at 6 Part.Task (first_longer links.now (length links.now))
+        or_else refusal_at 7 Part.Task (first_longer links.now MAX_CHAIN))) }
+{
+    match measure_chains(alloc, links, marks)? {
+        Some(place) => Ok(refuse(6, Part::Task, place)),
+        None => Ok(refuse_at(7, Part::Task, first_long(links, marks))),
+    }
+}
+
 /// Reasons 6 and 7.
-#[tactic(auto, unfolding(crate::specs::Refusals::no_source, crate::specs::Refusals::long_chain))]
+#[tactic(auto, unfolding(crate::specs::Refusals::endless, crate::specs::Refusals::long_chain))]
 pub(crate) fn refuse_chain(
     alloc: Global,
     draft: &Draft,
-    tables: &Tables,
+    links: &[Links],
 ) -> Result<Option<Refusal>, AllocError>
-    requires { AreTables draft.now tables.now.resources tables.now.activities }
+    requires { links.now ≡ links_of draft.now }
     ensures { IfOk result (λ r. r ≡ by_chains draft.now) }
 {
-    let links = collect_links(alloc, draft, tables, draft.task_entries())?;
-    let mut lengths: Vec<usize> = vec![in alloc; 0; links.len()]?;
-    match measure_chains(links.as_slice(), lengths.as_mut_slice()) {
-        Some(place) => Ok(refuse(6, Part::Task, place)),
-        None => Ok(refuse_at(
-            7,
-            Part::Task,
-            first_long(links.as_slice(), lengths.as_slice()),
-        )),
-    }
+    let mut marks: Vec<Mark> = vec![in alloc; Mark::New; links.len()]?;
+    refuse_measured(alloc, links, marks.as_mut_slice())
 }
 
 /// Reason 12.

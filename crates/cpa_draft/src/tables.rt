@@ -4,7 +4,7 @@ ghost use Rattle.std.specs.Prelude.{◌≡◌, [], length, IfOk, IfSome, None, u
 ghost use Rattle.cpa_draft.specs.Names.{resource_names, activity_names, place_of, kind_of, link_of, links_of, AreTables};
 
 use crate::draft::{Draft, DraftTask, KindWord, Raw};
-use crate::links::Link;
+use crate::links::{Link, Links};
 use crate::names::Names;
 use std::alloc::{AllocError, Global};
 
@@ -40,10 +40,7 @@ impl Tables {
         requires { AreTables draft.now self.now.resources self.now.activities }
         ensures { result ≡ kind_of draft.now name.now }
     {
-        match self.resource(draft, name) {
-            None => None,
-            Some(place) => Some(draft.kind_at(place)),
-        }
+        draft.kind_of(self.resource(draft, name))
     }
 
     /// What a name names among sources and tasks.
@@ -65,18 +62,51 @@ impl Tables {
     }
 }
 
-/// What activates each task.
-pub(crate) fn collect_links(
+/// What each of some names names.
+fn collect_several(
+    alloc: Global,
+    draft: &Draft,
+    tables: &Tables,
+    names: &[Raw],
+) -> Result<Vec<Link>, AllocError>
+    requires { AreTables draft.now tables.now.resources tables.now.activities }
+    ensures { IfOk result (λ v. v.items ≡ map (link_of draft.now) names.now) }
+{
+    names
+        .iter()
+        .map(|name| tables.link(draft, name.bytes()))
+        .collect(alloc)
+}
+
+/// The same, which takes no memory for one name.
+fn collect_links(
+    alloc: Global,
+    draft: &Draft,
+    tables: &Tables,
+    names: &[Raw],
+) -> Result<Links, AllocError>
+    requires { AreTables draft.now tables.now.resources tables.now.activities }
+    ensures { IfOk result (λ links. links ≡ map (link_of draft.now) names.now) }
+{
+    match names {
+        [name] => Ok(Links::one(tables.link(draft, name.bytes()))),
+        _ => Ok(Links::new(collect_several(alloc, draft, tables, names)?)),
+    }
+}
+
+/// The activators of each task.
+pub(crate) fn collect_activators(
     alloc: Global,
     draft: &Draft,
     tables: &Tables,
     tasks: &[DraftTask],
-) -> Result<Vec<Link>, AllocError>
+) -> Result<Vec<Links>, AllocError>
     requires { AreTables draft.now tables.now.resources tables.now.activities }
-    ensures { IfOk result (λ v. v.items ≡ map (λ t. link_of draft.now t.after) tasks.now) }
+    ensures { IfOk result (λ v. v.items ≡ map (λ t. map (link_of draft.now) t.after) tasks.now) }
 {
-    tasks
-        .iter()
-        .map(|task| tables.link(draft, task.after.bytes()))
-        .collect(alloc)
+    let mut activators = Vec::new(alloc);
+    for task in tasks {
+        activators.push(collect_links(alloc, draft, tables, task.after.names())?)?;
+    }
+    Ok(activators)
 }

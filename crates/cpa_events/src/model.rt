@@ -74,13 +74,22 @@ impl Model {
         self.kept(k).stream()
     }
 
+    /// Adds a stream at the end.
+    pub fn push(&mut self, stream: Stream)
+        requires stream { IsStreamInRange stream }
+        requires room { length self.old < MAX_STREAMS }
+        ensures { self.new ≡ self.old ++ stream ∷ [] }
+    {
+        self.push_kept(Kept::of(stream));
+    }
+
     /// Adds the streams of another model at the end.
     pub fn append(&mut self, other: &Model)
         requires { length self.old + length other.now ≤ MAX_STREAMS }
         ensures { self.new ≡ self.old ++ other.now }
     {
         for k in 0..other.len() {
-            self.push(other.kept(k));
+            self.push_kept(other.kept(k));
         }
     }
 
@@ -164,7 +173,7 @@ impl Model {
     {
         self.set_one(received.get(0).after_response(best, bound));
         for k in 1..received.len() {
-            self.push(Kept::of(received.get(k).after_response(best, bound)));
+            self.push(received.get(k).after_response(best, bound));
         }
     }
 
@@ -184,7 +193,7 @@ impl Model {
         let count = other.len();
         self.begin(other.kept(0));
         for k in 1..count {
-            self.push(other.kept(k));
+            self.push_kept(other.kept(k));
         }
     }
 
@@ -216,7 +225,8 @@ impl Model {
         self.len = 1;
     }
 
-    fn push(&mut self, stream: Kept)
+    /// Adds a stream, as it is kept, at the end.
+    fn push_kept(&mut self, stream: Kept)
         requires { length self.old < MAX_STREAMS }
         ensures { self.new ≡ self.old ++ stream ∷ [] }
     {

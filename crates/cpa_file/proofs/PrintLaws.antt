@@ -1,5 +1,8 @@
 -- What is printed is read as the draft that says the same.
-use Rattle.std.proofs.Common.{◌≡◌, ℕ, ◌+◌, ◌≤◌, List, [], ◌∷◌, map, Option, Some, None, Ok, true, String, Global, Ordering, Less, Equal, Greater, string_bytes, refl, sym, subst, ◌∙◌, arith}
+use Rattle.std.proofs.Common.{◌≡◌, ℕ, suc, ◌+◌, ◌≤◌, Bool, true, false, List, [], ◌∷◌, map, length, inl, inr, Option, Some, None, Ok, String, Global, Ordering, Less, Equal, Greater, string_bytes, refl, sym, subst, ◌∙◌, arith}
+use Rattle.std.specs.Prelude.{◌==◌}
+use Rattle.std.specs.List.{list_all}
+use Rattle.std.proofs.lemmas.Bool.{cases_Bool, and_parts, false≢true, eqb-true}
 use Rattle.std.proofs.lemmas.Bool.Decides.{nat_tests}
 use Rattle.std.specs.Ordering.{match_ordering}
 use Rattle.std.specs.String.{string_cmp}
@@ -19,10 +22,11 @@ use Rattle.cpa_model.specs.declared.entries.Turn.TheVariants.{Priority, Slot}
 use Rattle.cpa_model.specs.SystemLists.{SystemLists, task_at}
 use Rattle.cpa_file.specs.Fields.{required, optional, has_only}
 use Rattle.cpa_file.specs.Lists.{read_all}
-use Rattle.cpa_file.specs.Entries.{resource_entry, source_entry, task_entry, task_fields, path_entry}
+use Rattle.cpa_file.specs.Entries.{resource_entry, source_entry, as_after, task_entry, task_fields, path_entry}
 use Rattle.cpa_file.specs.Document.{draft_of, lists_of, has_form, entries_at, items_at}
-use Rattle.cpa_model.specs.Redraft.{redraft_resource, redraft_source, redraft_task, redraft_path, redraft}
-use Rattle.cpa_file.specs.Printed.{put, resource_data, source_data, task_names_data, task_data, name_data, path_data, system_data}
+use Rattle.cpa_model.specs.declared.entries.Activator.{Activator}
+use Rattle.cpa_model.specs.Redraft.{activator_name, redraft_resource, redraft_source, redraft_task, redraft_path, redraft}
+use Rattle.cpa_file.specs.Printed.{put, resource_data, source_data, activator_data, after_data, task_names_data, task_data, has_one, name_data, path_data, system_data}
 
 put_by : (o : Ordering) (a b c : List (String Global × Value)) → members_view (match_ordering o a b c) ≡ match_ordering o (members_view a) (members_view b) (members_view c)
 put_by Less a b c = refl
@@ -54,13 +58,34 @@ source-printed : (r : Source) → source_entry (source_data r) ≡ Some (redraft
 unfolding source_entry source_data required optional has_only
 source-printed r = refl
 
-task_by : (s : SystemLists) (t : Task) (turn : Turn) → let u : Task = record t { turn = turn } in task_entry (task_data s u) ≡ Some (redraft_task s u)
-unfolding task_entry task_fields task_data task_names_data required optional has_only
-task_by s t (Priority number) = refl
-task_by s t (Slot ticks) = refl
+-- activators are read as their names: one where it stands alone, and each list where lists may be
+activators-printed : (s : SystemLists) (after : List Activator) → read_all as_str 1 (items_of (map (activator_data s) after)) ≡ Ok (map (activator_name s) after)
+activators-printed s after = read_all-printed as_str (activator_data s) (activator_name s) (λ a. refl) 1 after
 
-task-printed : (s : SystemLists) (t : Task) → task_entry (task_data s t) ≡ Some (redraft_task s t)
-task-printed s t = task_by s t t.turn
+one-printed : (lists : Bool) (s : SystemLists) (after : List Activator) → (length after == 1) ≡ true → as_after lists (after_data s after) ≡ Some (map (activator_name s) after)
+one-printed lists s [] h = absurd (false≢true h)
+one-printed lists s (a ∷ []) h = refl
+one-printed lists s (a ∷ b ∷ after) h = let p : suc (suc (length after)) ≡ 1 = eqb-true _ _ h in absurd (omega arith)
+
+list-printed : (s : SystemLists) (after : List Activator) → as_after true (after_data s after) ≡ Some (map (activator_name s) after)
+list-printed s [] = refl
+list-printed s (a ∷ []) = refl
+list-printed s (a ∷ b ∷ after) = rw (activators-printed s (a ∷ b ∷ after)) refl
+
+task_by : (lists : Bool) (s : SystemLists) (t : Task) (turn : Turn) → as_after lists (after_data s t.after) ≡ Some (map (activator_name s) t.after)
+    → let u : Task = record t { turn = turn } in task_entry lists (task_data s u) ≡ Some (redraft_task s u)
+unfolding task_entry task_fields task_data task_names_data required optional has_only
+task_by lists s t (Priority number) after = rw after refl
+task_by lists s t (Slot ticks) after = rw after refl
+
+task-printed : (s : SystemLists) (t : Task) → task_entry true (task_data s t) ≡ Some (redraft_task s t)
+task-printed s t = task_by true s t t.turn (list-printed s t.after)
+
+tasks-printed : (s : SystemLists) (k : ℕ) (ts : List Task) → list_all has_one ts ≡ true → read_all (task_entry false) k (items_of (map (task_data s) ts)) ≡ Ok (map (redraft_task s) ts)
+tasks-printed s k [] h = refl
+tasks-printed s k (t ∷ ts) h =
+    let here = and_parts (has_one t) (list_all has_one ts) h in
+    rw (task_by false s t t.turn (one-printed false s t.after here.0), tasks-printed s (k + 1) ts here.1) refl
 
 names-printed : (s : SystemLists) (ts : List TaskId) → read_all as_str 1 (items_of (map (name_data s) ts)) ≡ Ok (map (λ (i : TaskId). (task_at s i.0).name) ts)
 names-printed s ts = read_all-printed as_str (name_data s) (λ (i : TaskId). (task_at s i.0).name) (λ i. refl) 1 ts
@@ -76,14 +101,26 @@ path-printed s p = path_by s p p.deadline
 -- the document of a system is read as its draft
 pub draft_of-printed : (s : SystemLists) → draft_of (system_data s) ≡ Ok (redraft s)
 unfolding draft_of lists_of has_form entries_at items_at system_data has_only redraft
-draft_of-printed s =
-    rw (
-      read_all-printed resource_entry resource_data redraft_resource resource-printed 1 s.resources,
-      read_all-printed source_entry source_data redraft_source source-printed 1 s.sources,
-      read_all-printed task_entry (task_data s) (redraft_task s) (task-printed s) 1 s.tasks,
-      read_all-printed path_entry (path_data s) (redraft_path s) (path-printed s) 1 s.paths,
-    )
-    refl
+draft_of-printed s = elim (cases_Bool (list_all has_one s.tasks)) [
+  | inl one ↦
+      rw (
+        one,
+        read_all-printed resource_entry resource_data redraft_resource resource-printed 1 s.resources,
+        read_all-printed source_entry source_data redraft_source source-printed 1 s.sources,
+        tasks-printed s 1 s.tasks one,
+        read_all-printed path_entry (path_data s) (redraft_path s) (path-printed s) 1 s.paths,
+      )
+      refl
+  | inr several ↦
+      rw (
+        several,
+        read_all-printed resource_entry resource_data redraft_resource resource-printed 1 s.resources,
+        read_all-printed source_entry source_data redraft_source source-printed 1 s.sources,
+        read_all-printed (task_entry true) (task_data s) (redraft_task s) (task-printed s) 1 s.tasks,
+        read_all-printed path_entry (path_data s) (redraft_path s) (path-printed s) 1 s.paths,
+      )
+      refl
+]
 
 -- no printed document is deep
 
@@ -106,10 +143,15 @@ source-depth : (r : Source) → depth (source_data r) ≤ 2
 unfolding source_data
 source-depth r = omega arith
 
+after-depth : (s : SystemLists) (after : List Activator) → depth (after_data s after) ≤ 1
+after-depth s [] = omega arith
+after-depth s (a ∷ []) = omega arith
+after-depth s (a ∷ b ∷ after) = omega (arith, items-depth (activator_data s) 0 (λ a. omega arith) (a ∷ b ∷ after))
+
 task-depth_by : (s : SystemLists) (t : Task) (turn : Turn) → let u : Task = record t { turn = turn } in depth (task_data s u) ≤ 2
 unfolding task_data task_names_data
-task-depth_by s t (Priority number) = omega arith
-task-depth_by s t (Slot ticks) = omega arith
+task-depth_by s t (Priority number) = omega (arith, after-depth s t.after)
+task-depth_by s t (Slot ticks) = omega (arith, after-depth s t.after)
 
 task-depth : (s : SystemLists) (t : Task) → depth (task_data s t) ≤ 2
 task-depth s t = task-depth_by s t t.turn
@@ -157,10 +199,15 @@ source-undated : (r : Source) → has_valid_dates (source_data r) ≡ true
 unfolding source_data
 source-undated r = refl
 
+after-undated : (s : SystemLists) (after : List Activator) → has_valid_dates (after_data s after) ≡ true
+after-undated s [] = refl
+after-undated s (a ∷ []) = refl
+after-undated s (a ∷ b ∷ after) = rw (items-undated (activator_data s) (λ a. refl) (a ∷ b ∷ after)) refl
+
 task-undated_by : (s : SystemLists) (t : Task) (turn : Turn) → let u : Task = record t { turn = turn } in has_valid_dates (task_data s u) ≡ true
 unfolding task_data task_names_data
-task-undated_by s t (Priority number) = refl
-task-undated_by s t (Slot ticks) = refl
+task-undated_by s t (Priority number) = rw (after-undated s t.after) refl
+task-undated_by s t (Slot ticks) = rw (after-undated s t.after) refl
 
 task-undated : (s : SystemLists) (t : Task) → has_valid_dates (task_data s t) ≡ true
 task-undated s t = task-undated_by s t t.turn

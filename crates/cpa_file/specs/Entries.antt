@@ -1,5 +1,5 @@
 -- The entries of a system file, as they are read.
-use Rattle.std.specs.Prelude.{ℕ, List, [], ◌∷◌, Option, Some, None, Result, Ok, Err, codes, if◌then◌else◌}
+use Rattle.std.specs.Prelude.{ℕ, Bool, true, false, List, [], ◌∷◌, Option, Some, None, Result, Ok, Err, codes, if◌then◌else◌}
 use Rattle.std.specs.Str.{bytes_eq}
 use Rattle.toml.specs.Data.{Data, Items, as_str, as_integer, as_bool, as_array}
 use Rattle.cpa_draft.specs.declared.draft.KindWord.{KindWord}
@@ -36,6 +36,15 @@ texts_of (Some ds) = list_or_none (read_all as_str 1 ds)
 abbrev pub as_texts : Data → Option (List (List ℕ))
 as_texts d = texts_of (as_array d)
 
+-- a text, which stands for the list of that one, or an array of texts where lists may be
+abbrev pub one_or_texts : Bool → Option (List ℕ) → Data → Option (List (List ℕ))
+one_or_texts lists (Some text) d = Some (text ∷ [])
+one_or_texts true None d = as_texts d
+one_or_texts false None d = None
+
+abbrev pub as_after : Bool → Data → Option (List (List ℕ))
+as_after lists d = one_or_texts lists (as_str d) d
+
 -- the entry, if it has the form of a resource
 unfoldable pub resource_entry : Data → Option DraftResource
 resource_entry d = do
@@ -48,11 +57,11 @@ resource_entry d = do
       then Some (record { name = name; kind = kind; limit = limit; gap = gap; bit = bit }) else None
 
 -- the keys of a task, each of its type
-unfoldable pub task_fields : Data → Option DraftTask
-task_fields d = do
+unfoldable pub task_fields : Bool → Data → Option DraftTask
+task_fields lists d = do
   name ← required as_str (codes "name") d
   on ← required as_str (codes "on") d
-  after ← required as_str (codes "after") d
+  after ← required (as_after lists) (codes "after") d
   best ← optional as_integer (codes "best") d
   worst ← optional as_integer (codes "worst") d
   payload ← optional as_integer (codes "payload") d
@@ -68,8 +77,8 @@ abbrev pub with_executions : DraftTask → Option DraftTask
 with_executions t = if has_executions t then Some t else None
 
 -- the entry, if it has the form of a task
-unfoldable pub task_entry : Data → Option DraftTask
-task_entry d = task_fields d >>= with_executions
+unfoldable pub task_entry : Bool → Data → Option DraftTask
+task_entry lists d = task_fields lists d >>= with_executions
 
 -- the entry, if it has the form of a source
 unfoldable pub source_entry : Data → Option DraftSource

@@ -1,5 +1,6 @@
 -- A system as a document.
-use Rattle.std.specs.Prelude.{◌≡◌, ℕ, pos, List, map, Option, Some, None, codes}
+use Rattle.std.specs.Prelude.{◌≡◌, ◌==◌, ℕ, Bool, if◌then◌else◌, pos, List, [], ◌∷◌, map, length, Option, Some, None, codes}
+use Rattle.std.specs.List.{list_all}
 use Rattle.std.specs.Ordering.{nat_cmp, match_ordering}
 use Rattle.std.specs.Cmp.Lexicographic.{slice_cmp}
 use Rattle.toml.specs.Data.{Data, Members, no_members, member, string, integer, array, table}
@@ -13,6 +14,7 @@ use Rattle.cpa_model.specs.declared.entries.Kind.{Kind}
 use Rattle.cpa_model.specs.declared.entries.Kind.TheVariants.{Preemptive, RoundRobin, Tdma, Can}
 use Rattle.cpa_model.specs.declared.entries.Turn.{Turn}
 use Rattle.cpa_model.specs.declared.entries.Turn.TheVariants.{Priority, Slot}
+use Rattle.cpa_model.specs.declared.entries.Activator.{Activator}
 use Rattle.cpa_model.specs.SystemLists.{SystemLists, resource_at, task_at}
 use Rattle.cpa_file.specs.Document.{document_of}
 use Rattle.cpa_model.specs.Redraft.{activator_name}
@@ -46,10 +48,18 @@ abbrev pub with_turn : Turn → Members → Members
 with_turn (Priority number) ms = put (codes "priority") (integer (pos number)) ms
 with_turn (Slot ticks) ms = put (codes "slot") (integer (pos ticks)) ms
 
+abbrev pub activator_data : SystemLists → Activator → Data
+activator_data s a = string (activator_name s a)
+
+-- one activator as a text, several as an array
+abbrev pub after_data : SystemLists → List Activator → Data
+after_data s (a ∷ []) = activator_data s a
+after_data s after = array (items_of (map (activator_data s) after))
+
 -- a task's names
 unfoldable pub task_names_data : SystemLists → Task → Members
 task_names_data s t =
-    put (codes "after") (string (activator_name s t.after)) (put (codes "on") (string (resource_at s t.res.0).name) (put (codes "name") (string t.name) no_members))
+    put (codes "after") (after_data s t.after) (put (codes "on") (string (resource_at s t.res.0).name) (put (codes "name") (string t.name) no_members))
 
 unfoldable pub task_data : SystemLists → Task → Data
 task_data s t = table (with_turn t.turn (put (codes "worst") (integer (pos t.worst)) (put (codes "best") (integer (pos t.best)) (task_names_data s t))))
@@ -67,11 +77,18 @@ path_data s p = table (with_deadline p.deadline (put (codes "tasks") (array (ite
 abbrev pub list_data : List Data → Data
 list_data ds = array (items_of ds)
 
+-- format 1 where each task has one activator
+abbrev pub has_one : Task → Bool
+has_one t = length t.after == 1
+
+abbrev pub format_of : SystemLists → ℕ
+format_of s = if list_all has_one s.tasks then 1 else 2
+
 -- the document
 unfoldable pub system_data : SystemLists → Data
 system_data s =
     table (put (codes "path") (list_data (map (path_data s) s.paths)) (put (codes "task") (list_data (map (task_data s) s.tasks))
-    (put (codes "source") (list_data (map source_data s.sources)) (put (codes "resource") (list_data (map resource_data s.resources)) (put (codes "format") (integer (pos 1)) no_members)))))
+    (put (codes "source") (list_data (map source_data s.sources)) (put (codes "resource") (list_data (map resource_data s.resources)) (put (codes "format") (integer (pos (format_of s))) no_members)))))
 
 -- the bytes are a document, and it is the system's
 pub record IsPrinted (s : SystemLists) (bytes : List ℕ) : Type 0 where

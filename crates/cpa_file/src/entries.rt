@@ -1,11 +1,11 @@
 //! The entries of a system file.
 
-ghost use Rattle.std.specs.Prelude.{◌≡◌};
+ghost use Rattle.std.specs.Prelude.{◌≡◌, ◌∷◌, [], Some};
 ghost use Rattle.toml.specs.View.{view, items_view};
 ghost use Rattle.cpa_file.specs.Lists.{GivesList, read_all};
 ghost use Rattle.toml.specs.Data.{as_str};
 ghost use Rattle.cpa_file.specs.Fields.{Gives, required, optional};
-ghost use Rattle.cpa_file.specs.Entries.{kind_of_word, as_kind, as_texts, task_fields};
+ghost use Rattle.cpa_file.specs.Entries.{kind_of_word, as_kind, as_texts, as_after, task_fields};
 ghost use Rattle.cpa_model.specs.Built.{has_executions};
 
 use crate::fault::ReadFault;
@@ -44,24 +44,25 @@ fn required_kind(entry: &Value, key: &str) -> Result<KindWord, ReadFault>
 
 /// What stands in the file as an entry of its own.
 pub trait Entry: Drop {
-    ghost use Rattle.std.specs.Prelude.{Option};
+    ghost use Rattle.std.specs.Prelude.{Bool, Option};
     ghost use Rattle.toml.specs.Data.{Data};
     ghost use Rattle.toml.specs.View.{view};
     ghost use Rattle.cpa_file.specs.Fields.{Gives};
 
-    ghost entry: { Data → Option Self };
+    /// The entry, if it has the form; a task may have a list of activators where lists may be.
+    ghost entry: { Bool → Data → Option Self };
 
-    fn read(alloc: Global, value: &Value) -> Result<Self, ReadFault>
-        ensures { Gives result (entry (view value.now)) };
+    fn read(alloc: Global, lists: bool, value: &Value) -> Result<Self, ReadFault>
+        ensures { Gives result (entry lists (view value.now)) };
 }
 
 impl Entry for DraftResource {
     ghost use Rattle.cpa_file.specs.Entries.{resource_entry};
 
-    ghost entry = { resource_entry };
+    ghost entry = { λ lists. resource_entry };
 
     #[tactic(auto, unfolding(crate::specs::Entries::resource_entry))]
-    fn read(alloc: Global, value: &Value) -> Result<DraftResource, ReadFault> {
+    fn read(alloc: Global, _lists: bool, value: &Value) -> Result<DraftResource, ReadFault> {
         let name = required_text(alloc, value, "name")?;
         let kind = required_kind(value, "kind")?;
         let limit = optional_integer(value, "limit")?;
@@ -93,12 +94,12 @@ fn has_executions(task: &DraftTask) -> bool
 }
 
 #[tactic(auto, unfolding(crate::specs::Entries::task_fields))]
-fn read_task_fields(alloc: Global, value: &Value) -> Result<DraftTask, ReadFault>
-    ensures { Gives result (task_fields (view value.now)) }
+fn read_task_fields(alloc: Global, lists: bool, value: &Value) -> Result<DraftTask, ReadFault>
+    ensures { Gives result (task_fields lists (view value.now)) }
 {
     let name = required_text(alloc, value, "name")?;
     let on = required_text(alloc, value, "on")?;
-    let after = required_text(alloc, value, "after")?;
+    let after = required_after(alloc, lists, value, "after")?;
     let best = optional_integer(value, "best")?;
     let worst = optional_integer(value, "worst")?;
     let payload = optional_integer(value, "payload")?;
@@ -131,8 +132,8 @@ impl Entry for DraftTask {
     ghost entry = { task_entry };
 
     #[tactic(auto, unfolding(crate::specs::Entries::task_entry))]
-    fn read(alloc: Global, value: &Value) -> Result<DraftTask, ReadFault> {
-        let task = read_task_fields(alloc, value)?;
+    fn read(alloc: Global, lists: bool, value: &Value) -> Result<DraftTask, ReadFault> {
+        let task = read_task_fields(alloc, lists, value)?;
         if has_executions(&task) {
             Ok(task)
         } else {
@@ -144,10 +145,10 @@ impl Entry for DraftTask {
 impl Entry for DraftSource {
     ghost use Rattle.cpa_file.specs.Entries.{source_entry};
 
-    ghost entry = { source_entry };
+    ghost entry = { λ lists. source_entry };
 
     #[tactic(auto, unfolding(crate::specs::Entries::source_entry))]
-    fn read(alloc: Global, value: &Value) -> Result<DraftSource, ReadFault> {
+    fn read(alloc: Global, _lists: bool, value: &Value) -> Result<DraftSource, ReadFault> {
         let name = required_text(alloc, value, "name")?;
         let period = required_integer(value, "period")?;
         let jitter = optional_integer(value, "jitter")?;
@@ -168,10 +169,10 @@ impl Entry for DraftSource {
 impl Entry for DraftPath {
     ghost use Rattle.cpa_file.specs.Entries.{path_entry};
 
-    ghost entry = { path_entry };
+    ghost entry = { λ lists. path_entry };
 
     #[tactic(auto, unfolding(crate::specs::Entries::path_entry))]
-    fn read(alloc: Global, value: &Value) -> Result<DraftPath, ReadFault> {
+    fn read(alloc: Global, _lists: bool, value: &Value) -> Result<DraftPath, ReadFault> {
         let name = required_text(alloc, value, "name")?;
         let tasks = required_texts(alloc, value, "tasks")?;
         let deadline = optional_integer(value, "deadline")?;
@@ -192,7 +193,7 @@ fn texts(alloc: Global, value: &Value) -> Result<RawList, ReadFault>
 {
     match value.as_array() {
         None => Err(ReadFault::Malformed),
-        Some(items) => match read_entries::<Raw>(alloc, items.as_slice()) {
+        Some(items) => match read_entries::<Raw>(alloc, false, items.as_slice()) {
             Ok(names) => Ok(RawList::new(names)),
             Err(ListFault::At(_)) => Err(ReadFault::Malformed),
             Err(ListFault::Memory) => Err(ReadFault::Memory),
@@ -210,12 +211,50 @@ fn required_texts(alloc: Global, entry: &Value, key: &str) -> Result<RawList, Re
     }
 }
 
+/// The list of one text.
+fn one_text(alloc: Global, text: &str) -> Result<RawList, ReadFault>
+    ensures { Gives result (Some (text.now ∷ [])) }
+{
+    Ok(RawList::one(Raw::new(Vec::from_slice(alloc, text.as_bytes())?)))
+}
+
+/// A text as a list, or an array of texts where lists may be.
+fn after(alloc: Global, lists: bool, value: &Value) -> Result<RawList, ReadFault>
+    ensures { Gives result (as_after lists (view value.now)) }
+{
+    match value.as_str() {
+        Some(text) => one_text(alloc, text),
+        None => {
+            if lists {
+                texts(alloc, value)
+            } else {
+                Err(ReadFault::Malformed)
+            }
+        }
+    }
+}
+
+#[tactic(auto, unfolding(crate::specs::Fields::required))]
+fn required_after(
+    alloc: Global,
+    lists: bool,
+    entry: &Value,
+    key: &str,
+) -> Result<RawList, ReadFault>
+    ensures { Gives result (required (as_after lists) key.now (view entry.now)) }
+{
+    match entry.get(key) {
+        None => Err(ReadFault::Malformed),
+        Some(value) => after(alloc, lists, value),
+    }
+}
+
 impl Entry for Raw {
     ghost use Rattle.toml.specs.Data.{as_str};
 
-    ghost entry = { as_str };
+    ghost entry = { λ lists. as_str };
 
-    fn read(alloc: Global, value: &Value) -> Result<Raw, ReadFault> {
+    fn read(alloc: Global, _lists: bool, value: &Value) -> Result<Raw, ReadFault> {
         match value.as_str() {
             None => Err(ReadFault::Malformed),
             Some(text) => Ok(Raw::new(Vec::from_slice(alloc, text.as_bytes())?)),
@@ -231,12 +270,16 @@ pub enum ListFault {
 }
 
 /// The entries of an array, or the place of the first that is malformed, from 1.
-pub fn read_entries<E: Entry>(alloc: Global, items: &[Value]) -> Result<Vec<E>, ListFault>
-    ensures { GivesList result (read_all E.entry 1 (items_view items.now)) }
+pub fn read_entries<E: Entry>(
+    alloc: Global,
+    lists: bool,
+    items: &[Value],
+) -> Result<Vec<E>, ListFault>
+    ensures { GivesList result (read_all (E.entry lists) 1 (items_view items.now)) }
 {
     let mut entries = Vec::new(alloc);
     for (k, item) in items.iter().enumerate() {
-        match E::read(alloc, item) {
+        match E::read(alloc, lists, item) {
             Ok(entry) => match entries.push(entry) {
                 Ok(()) => {}
                 Err(_) => return Err(ListFault::Memory),

@@ -4,13 +4,15 @@ ghost use Rattle.std.specs.Prelude.{◌≡◌, ◌<◌, ◌^◌, pos, map, lengt
 ghost use Rattle.std.specs.Option.{ForSome};
 ghost use Rattle.toml.specs.Data.{string, integer, table};
 ghost use Rattle.toml.specs.View.{view, table_view};
-ghost use Rattle.cpa_model.specs.Rules.{IsSystem, IsResource, IsSource, IsTask, IsPath, KindFits};
+ghost use Rattle.cpa_model.specs.Rules.{IsSystem, IsResource, IsSource, IsActivator, IsTask, IsPath, KindFits};
 ghost use Rattle.cpa_model.specs.SystemLists.{resource_at, source_at, task_at, path_at, task_places, slot_of};
 ghost use Rattle.cpa_file.specs.Reading.{reading_of, Accepted};
 ghost use Rattle.cpa_model.specs.Redraft.{activator_name};
-ghost use Rattle.cpa_file.specs.Printed.{put, kind_text, with_kind_number, resource_data, source_data, with_turn, task_names_data, task_data, with_deadline, name_data, path_data, system_data, IsPrinted};
+ghost use Rattle.cpa_file.specs.Printed.{put, kind_text, with_kind_number, resource_data, source_data, with_turn, activator_data, after_data, task_names_data, task_data, format_of, with_deadline, name_data, path_data, system_data, IsPrinted};
 
-use cpa_model::{Activator, Kind, Path, Resource, Source, System, Task, TaskList, Turn};
+use cpa_model::{
+    Activator, Activators, Kind, Path, Resource, Source, System, Task, TaskList, Turn,
+};
 use cpa_units::{Name, NoMemory, PathId, ResId, SourceId, TaskId};
 use std::alloc::Global;
 use toml::ser::Error;
@@ -105,14 +107,42 @@ fn source_value(alloc: Global, source: &Source) -> Result<Value, NoMemory>
     Ok(Value::Table(entry))
 }
 
-/// The name of what activates a task.
-fn activator_text<'a>(system: &'a System, task: &Task) -> &'a str
-    requires { IsTask system.now task.now }
-    ensures { result.now ≡ activator_name system.now task.now.after }
+/// The name of an activator.
+fn activator_text(system: &System, after: Activator) -> &str
+    requires { IsActivator system.now after }
+    ensures { result.now ≡ activator_name system.now after }
 {
-    match task.after {
+    match after {
         Activator::Source(source) => name_text(&system.source(source).name),
         Activator::Task(earlier) => name_text(&system.task(earlier).name),
+    }
+}
+
+/// The names of activators.
+fn activator_values(
+    alloc: Global,
+    system: &System,
+    after: &Activators,
+) -> Result<Vec<Value>, NoMemory>
+    requires { All (IsActivator system.now) after.now }
+    ensures { IfOk result (λ v. map view v.items ≡ map (activator_data system.now) after.now) }
+{
+    let mut values = Vec::new(alloc);
+    for k in 0..after.len() {
+        values.push(text_value(alloc, activator_text(system, after.get(k)))?)?;
+    }
+    Ok(values)
+}
+
+/// One activator as a text, several as an array.
+fn after_value(alloc: Global, system: &System, after: &Activators) -> Result<Value, NoMemory>
+    requires { All (IsActivator system.now) after.now }
+    ensures { IfOk result (λ v. view v ≡ after_data system.now after.now) }
+{
+    if after.len() == 1 {
+        Ok(text_value(alloc, activator_text(system, after.get(0)))?)
+    } else {
+        Ok(Value::Array(activator_values(alloc, system, after)?))
     }
 }
 
@@ -129,7 +159,8 @@ fn task_table(alloc: Global, system: &System, task: &Task) -> Result<Table, NoMe
         "on",
         name_text(&system.resource(task.res).name),
     )?;
-    put_text(alloc, &mut entry, "after", activator_text(system, task))?;
+    let after = after_value(alloc, system, &task.after)?;
+    put(alloc, &mut entry, "after", after)?;
     Ok(entry)
 }
 
@@ -231,6 +262,18 @@ fn path_values(alloc: Global, system: &System) -> Result<Vec<Value>, NoMemory>
     Ok(values)
 }
 
+/// The format: 1 where each task has one activator, else 2.
+fn format_of(system: &System) -> u64
+    ensures { result ≡ format_of system.now }
+{
+    for k in 0..system.tasks() {
+        if system.task(TaskId(k)).after.len() != 1 {
+            return 2;
+        }
+    }
+    1
+}
+
 /// The document of a system.
 #[tactic(auto, unfolding(crate::specs::Printed::system_data))]
 fn system_table(alloc: Global, system: &System) -> Result<Table, NoMemory>
@@ -238,7 +281,7 @@ fn system_table(alloc: Global, system: &System) -> Result<Table, NoMemory>
     ensures rules { OnOk result (IsSystem system.now) }
 {
     let mut document = Table::new(alloc);
-    put_number(alloc, &mut document, "format", 1)?;
+    put_number(alloc, &mut document, "format", format_of(system))?;
     put(
         alloc,
         &mut document,

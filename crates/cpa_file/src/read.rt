@@ -5,7 +5,7 @@ ghost use Rattle.toml.specs.View.{view, items_view, table_view};
 ghost use Rattle.toml.specs.Data.{Data, table};
 ghost use Rattle.cpa_file.specs.Reading.{reading_of, Accepted, IsReadFault};
 ghost use Rattle.cpa_file.specs.Given.{GivesDraft, GivesPart, GivesDocument};
-ghost use Rattle.cpa_file.specs.Document.{is_other_format, integer_at, items_at, entries_at, has_form, lists_of, draft_of, document_of};
+ghost use Rattle.cpa_file.specs.Document.{is_other_format, has_lists, integer_at, items_at, entries_at, has_form, lists_of, draft_of, document_of};
 
 use crate::entries::{Entry, ListFault, read_entries};
 use crate::fields::only_has;
@@ -40,7 +40,17 @@ fn has_other_format(format: Option<i64>) -> bool
 {
     match format {
         None => false,
-        Some(number) => number != 1,
+        Some(number) => number != 1 && number != 2,
+    }
+}
+
+/// Whether a task may have a list of activators.
+fn has_lists(format: Option<i64>) -> bool
+    ensures { result ≡ has_lists format }
+{
+    match format {
+        None => false,
+        Some(number) => number == 2,
     }
 }
 
@@ -69,11 +79,12 @@ fn is_formed(document: &Value) -> bool
 #[tactic(auto, unfolding(crate::specs::Document::entries_at, crate::specs::Document::items_at))]
 fn read_part<E: Entry>(
     alloc: Global,
+    lists: bool,
     part: Part,
     document: &Value,
     key: &str,
 ) -> Result<Vec<E>, FileRefusal>
-    ensures { GivesPart result (entries_at part E.entry key.now (view document.now)) }
+    ensures { GivesPart result (entries_at part (E.entry lists) key.now (view document.now)) }
 {
     match document.get(key) {
         None => Ok(Vec::new(alloc)),
@@ -83,7 +94,7 @@ fn read_part<E: Entry>(
                 part: Part::File,
                 place: 0,
             })),
-            Some(items) => match read_entries::<E>(alloc, items.as_slice()) {
+            Some(items) => match read_entries::<E>(alloc, lists, items.as_slice()) {
                 Ok(entries) => Ok(entries),
                 Err(ListFault::At(place)) => Err(FileRefusal::Refused(Refusal {
                     reason: 1,
@@ -97,13 +108,13 @@ fn read_part<E: Entry>(
 }
 
 #[tactic(auto, unfolding(crate::specs::Document::lists_of))]
-fn read_lists(alloc: Global, document: &Value) -> Result<Draft, FileRefusal>
-    ensures { GivesDraft result (lists_of (view document.now)) }
+fn read_lists(alloc: Global, lists: bool, document: &Value) -> Result<Draft, FileRefusal>
+    ensures { GivesDraft result (lists_of lists (view document.now)) }
 {
-    let resources = read_part::<DraftResource>(alloc, Part::Resource, document, "resource")?;
-    let sources = read_part::<DraftSource>(alloc, Part::Source, document, "source")?;
-    let tasks = read_part::<DraftTask>(alloc, Part::Task, document, "task")?;
-    let paths = read_part::<DraftPath>(alloc, Part::Path, document, "path")?;
+    let resources = read_part::<DraftResource>(alloc, lists, Part::Resource, document, "resource")?;
+    let sources = read_part::<DraftSource>(alloc, lists, Part::Source, document, "source")?;
+    let tasks = read_part::<DraftTask>(alloc, lists, Part::Task, document, "task")?;
+    let paths = read_part::<DraftPath>(alloc, lists, Part::Path, document, "path")?;
     Ok(Draft {
         resources,
         sources,
@@ -116,7 +127,8 @@ fn read_lists(alloc: Global, document: &Value) -> Result<Draft, FileRefusal>
 fn read_draft(alloc: Global, document: &Value) -> Result<Draft, FileRefusal>
     ensures { GivesDraft result (draft_of (view document.now)) }
 {
-    if has_other_format(format_of(document)) {
+    let format = format_of(document);
+    if has_other_format(format) {
         return Err(FileRefusal::Refused(Refusal {
             reason: 13,
             part: Part::File,
@@ -130,7 +142,7 @@ fn read_draft(alloc: Global, document: &Value) -> Result<Draft, FileRefusal>
             place: 0,
         }));
     }
-    read_lists(alloc, document)
+    read_lists(alloc, has_lists(format), document)
 }
 
 /// The document that the bytes are.

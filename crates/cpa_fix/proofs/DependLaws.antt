@@ -14,14 +14,13 @@ use Rattle.cpa_rr.specs.RoundRobin.{round_robin_bound}
 use Rattle.cpa_can.proofs.CanLaws.{can_bound-same}
 use Rattle.cpa_model.specs.declared.entries.Kind.{Kind}
 use Rattle.cpa_model.specs.declared.entries.Kind.TheVariants.{Preemptive, RoundRobin, Tdma, Can}
-use Rattle.cpa_model.specs.declared.entries.Activator.{Activator}
-use Rattle.cpa_model.specs.declared.entries.Activator.TheVariants.{Source as FromSource, Task as FromTask}
 use Rattle.cpa_model.specs.SystemLists.{SystemLists, task_at, resource_at, resource_of, task_places, slot_of, is_higher, is_other, shares_resource, higher_tasks, blocking_of, no_task}
 use Rattle.cpa_model.specs.Rules.{IsSystem, IsTask}
-use Rattle.cpa_local.specs.Inputs.{sent_by, input_along, input}
+use Rattle.cpa_local.specs.Inputs.{input_along, input}
 use Rattle.cpa_local.specs.Local.{rival_of, bound_by_kind, bound_at_input, response}
 use Rattle.cpa_local.specs.Solution.{IsClosed, IsVector, least_of}
 use Rattle.cpa_local.proofs.ResponseLaws.{bound_of-responses, bound_of-responses_past}
+use Rattle.cpa_local.proofs.SentLaws.{sent_all-same}
 use Rattle.cpa_local.proofs.SolutionLaws.{least_of-from_closed}
 use Rattle.cpa_depend.proofs.ChainLaws.{LeadsTo-in_range}
 use Rattle.cpa_depend.specs.Cone.{LeadsTo, LeadsBack, directly, through, Reads, itself, earlier}
@@ -42,17 +41,11 @@ loads-of s x [] = refl
 loads-of s x (j ∷ js) = ap (λ ls. (input s x j, (task_at s j).worst) ∷ ls) (loads-of s x js)
 
 module _ (s : SystemLists) (x y : List Bound) where
-  sent_by-same : (chain i : ℕ) (a : Activator) → (task_at s i).after ≡ a → ((j : ℕ) → LeadsTo s j i → bound_of x j ≡ bound_of y j) → ((j : ℕ) → ((k : ℕ) → LeadsTo s k j → bound_of x k ≡ bound_of y k) → input_along s x chain j ≡ input_along s y chain j) → sent_by s x (input_along s x chain) a ≡ sent_by s y (input_along s y chain) a
-  sent_by-same chain i (FromSource k) e same step = refl
-  sent_by-same chain i (FromTask j) e same step =
-      let bound : bound_of x j.0 ≡ bound_of y j.0 = same j.0 (directly e) in
-      let model : input_along s x chain j.0 ≡ input_along s y chain j.0 = step j.0 (λ k leads. same k (through leads e)) in
-      cc
-
   input_along-same : (chain i : ℕ) → ((j : ℕ) → LeadsTo s j i → bound_of x j ≡ bound_of y j) → input_along s x chain i ≡ input_along s y chain i
   input_along-same zero i same = refl
   input_along-same (suc chain) i same =
-      sent_by-same chain i (task_at s i).after refl same (input_along-same chain)
+      sent_all-same s x y (input_along s x chain) (input_along s y chain) (task_at s i).after
+      (λ j e. (same j (directly e), input_along-same chain j (λ k leads. same k (through leads e))))
 
   -- an input depends on the bounds before it alone
   pub input-same : (i : ℕ) → ((j : ℕ) → LeadsTo s j i → bound_of x j ≡ bound_of y j) → input s x i ≡ input s y i

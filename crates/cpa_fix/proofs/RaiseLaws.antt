@@ -7,7 +7,7 @@ use Rattle.cpa_units.specs.Bounds.{IsAtMost, IsNowhereAbove, bound_of, bound_max
 use Rattle.cpa_units.specs.declared.places.TaskId.{TaskId}
 use Rattle.cpa_model.specs.SystemLists.{SystemLists, task_at, resource_at, places_of, tasks_on}
 use Rattle.cpa_model.proofs.SystemLaws.{no_id}
-use Rattle.cpa_model.proofs.RosterLaws.{on-each, on-found}
+use Rattle.cpa_model.proofs.ResourceTaskLaws.{on-each, on-found}
 use Rattle.cpa_model.specs.Rules.{IsSystem}
 use Rattle.cpa_local.specs.Local.{response}
 use Rattle.cpa_units.specs.declared.limits.TheConstants.{MAX_LIMIT}

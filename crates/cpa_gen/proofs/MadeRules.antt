@@ -1,6 +1,10 @@
 -- Each made system keeps the rules of systems.
-use Rattle.std.proofs.Common.{◌≡◌, ◌≢◌, ◌<◌, ◌≤◌, ℕ, zero, suc, ◌+◌, ◌-◌, ◌*◌, ◌/◌, ◌%◌, ◌⊎◌, inl, inr, List, [], ◌∷◌, ◌++◌, length, slice_index_or, All, Bool, true, false, codes, if◌then◌else◌, nat_lt, Option, Some, None, IsSome, unwrap_or, option_map, refl, ap, ap₂, ◌∙◌, sym, subst, arith, rules}
-use Rattle.std.proofs.lemmas.Bool.{cases_lt}
+use Rattle.std.proofs.Common.{◌≡◌, ◌≢◌, ◌<◌, ◌≤◌, ℕ, zero, suc, ◌+◌, ◌-◌, ◌*◌, ◌/◌, ◌%◌, ◌⊎◌, inl, inr, List, [], ◌∷◌, ◌++◌, length, slice_index_or, All, Bool, true, false, codes, if◌then◌else◌, nat_lt, Option, Some, IsSome, unwrap_or, max, refl, ap, ap₂, ◌∙◌, sym, subst, arith, rules}
+use Rattle.std.specs.Prelude.{◌==◌}
+use Rattle.std.specs.List.{flat_map, list_any}
+use Rattle.std.proofs.lemmas.Bool.{cases_lt, eq-eqb, or_left}
+use Rattle.std.proofs.lemmas.List.{append-nil}
+use Rattle.std.proofs.lemmas.List.Elements.{All-nil, All-cons}
 use Rattle.std.proofs.Math.Nat.{mod-lt}
 use Rattle.cpa_units.specs.Name.{is_name}
 use Rattle.cpa_units.specs.declared.places.TaskId.{TaskId}
@@ -11,10 +15,11 @@ use Rattle.cpa_model.specs.declared.entries.Task.{Task}
 use Rattle.cpa_model.specs.declared.entries.Path.{Path}
 use Rattle.cpa_model.specs.declared.entries.Kind.TheVariants as kind
 use Rattle.cpa_model.specs.declared.entries.Activator.{Activator}
+use Rattle.cpa_model.specs.declared.entries.Activator.TheVariants as activator
 use Rattle.cpa_model.specs.declared.entries.Turn.TheVariants as turn
-use Rattle.cpa_model.specs.Chains.{activators, chain_step, depth_within}
-use Rattle.cpa_model.specs.SystemLists.{SystemLists, no_resource, no_task, priority_of, resource_at, task_at}
-use Rattle.cpa_model.specs.Rules.{AllDiffer, HaveOwnPriorities, IsLinked, IsPath, IsResource, IsSource, IsSystem, IsTask, TurnFits, activity_names}
+use Rattle.cpa_model.specs.Chains.{activators, chain_steps, depth_within, streams_step, streams_within}
+use Rattle.cpa_model.specs.SystemLists.{SystemLists, is_task, no_resource, no_task, priority_of, resource_at, task_at}
+use Rattle.cpa_model.specs.Rules.{AllDiffer, HaveOwnPriorities, IsActivator, IsLinked, IsPath, IsResource, IsSource, IsSystem, IsTask, TurnFits, activity_names}
 use Rattle.cpa_gen.specs.declared.chains.Chain.{Chain}
 use Rattle.cpa_gen.specs.Chains.{IsChain, chain_at, no_chain}
 use Rattle.cpa_gen.specs.MadeSystems.{buses, chain_of, made_path, made_resource, made_source, made_system, numbered, processors, task_made, task_of_chain}
@@ -109,13 +114,19 @@ kind_low number size r l = ap (λ (x : Resource). x.kind) (resource_there number
 kind_high : (number size r : ℕ) → processors size ≤ r → r < processors size + buses size → (resource_at (lists number size) r).kind ≡ kind.Can 2
 kind_high number size r l m = ap (λ (x : Resource). x.kind) (resource_there number size r m ∙ high_resource size r l)
 
+-- a list of one
+alone : {X : Type 0} (P : X → Type 0) (x : X) → P x → All P (x ∷ [])
+alone P x h = All-cons P x [] h (All-nil P)
+
 task_fits : (number size t k : ℕ) → size ≤ 128 → t < 3 → k < size → IsTask (lists number size) (task_of_chain t size k (chain_of number size k))
 task_fits number size zero k few l m =
     let c = chain_fits number size k (omega (arith, m)) in
     let on : k % processors size < processors size = mod-lt k (some_processors size (omega (arith, m))) in
     record {
       placed = omega (arith, on, table_length (made_resource size) (processors size + buses size));
-      activated = omega (arith, m, table_length (λ k. made_source k (chain_of number size k)) size);
+      some = omega arith;
+      activated = alone (IsActivator (lists number size)) _ (omega (arith, m, table_length (λ k. made_source k (chain_of number size k)) size));
+      different = λ i j d less within. absurd (omega (arith, less, within));
       some_best = omega (arith, c.some_first);
       ordered = omega arith;
       worst = omega (arith, c.first);
@@ -126,7 +137,9 @@ task_fits number size (suc zero) k few l m =
     let on : k % buses size < buses size = mod-lt k (some_buses size (omega (arith, m))) in
     record {
       placed = omega (arith, on, table_length (made_resource size) (processors size + buses size));
-      activated = omega (arith, m, table_length (task_made number size) (3 * size));
+      some = omega arith;
+      activated = alone (IsActivator (lists number size)) _ (omega (arith, m, table_length (task_made number size) (3 * size)));
+      different = λ i j d less within. absurd (omega (arith, less, within));
       some_best = omega arith;
       ordered = omega arith;
       worst = omega (arith, c.payload);
@@ -136,7 +149,9 @@ task_fits number size (suc (suc zero)) k few l m =
     let c = chain_fits number size k (omega (arith, m)) in
     record {
       placed = omega (arith, c.processor, table_length (made_resource size) (processors size + buses size));
-      activated = omega (arith, m, table_length (task_made number size) (3 * size));
+      some = omega arith;
+      activated = alone (IsActivator (lists number size)) _ (omega (arith, m, table_length (task_made number size) (3 * size)));
+      different = λ i j d less within. absurd (omega (arith, less, within));
       some_best = omega (arith, c.some_last);
       ordered = omega arith;
       worst = omega (arith, c.last);
@@ -198,8 +213,12 @@ priorities_differ size (suc (suc t)) (suc (suc u)) k m c d l n o p x y less same
 -- paths
 
 path_linked : (number size k : ℕ) → k < size → IsLinked (lists number size) (record { 0 = 3 * k } ∷ record { 0 = 3 * k + 1 } ∷ record { 0 = 3 * k + 2 } ∷ [])
-path_linked number size k l zero m = ap (λ (t : Task). t.after) (task_there number size (3 * k + 1) 1 k refl (omega arith) l)
-path_linked number size k l (suc zero) m = ap (λ (t : Task). t.after) (task_there number size (3 * k + 2) 2 k refl (omega arith) l)
+path_linked number size k l zero m =
+    ap (λ (t : Task). list_any (is_task (3 * k)) t.after) (task_there number size (3 * k + 1) 1 k refl (omega arith) l)
+    ∙ or_left (3 * k == 3 * k) false (eq-eqb (3 * k) (3 * k) refl)
+path_linked number size k l (suc zero) m =
+    ap (λ (t : Task). list_any (is_task (3 * k + 1)) t.after) (task_there number size (3 * k + 2) 2 k refl (omega arith) l)
+    ∙ or_left (3 * k + 1 == 3 * k + 1) false (eq-eqb (3 * k + 1) (3 * k + 1) refl)
 path_linked number size k l (suc (suc j)) m = absurd (omega (arith, m))
 
 path_there : (size k : ℕ) → k < size → All (λ (t : TaskId). t.0 < 3 * size) (record { 0 = 3 * k } ∷ record { 0 = 3 * k + 1 } ∷ record { 0 = 3 * k + 2 } ∷ [])
@@ -222,37 +241,68 @@ path_fits number size k l =
 -- chains
 
 link_there : (number size i t k : ℕ) → i ≡ 3 * k + t → t < 3 → k < size
-    → slice_index_or (activators (lists number size).tasks) i None ≡ Some (task_of_chain t size k (chain_of number size k)).after
+    → slice_index_or (activators (lists number size).tasks) i [] ≡ (task_of_chain t size k (chain_of number size k)).after
 link_there number size i t k e l m =
     let p = places_same i t k e l in
-    ap (λ (xs : List (Option Activator)). slice_index_or xs i None) (map_table (λ (t : Task). Some t.after) (task_made number size) (3 * size))
-    ∙ table_at (λ i. Some (task_made number size i).after) (3 * size) i None (omega (arith, e, l, m))
-    ∙ ap₂ (λ u q. Some (task_of_chain u size q (chain_of number size q)).after) p.0 p.1
+    ap (λ (xs : List (List Activator)). slice_index_or xs i []) (map_table (λ (t : Task). t.after) (task_made number size) (3 * size))
+    ∙ table_at (λ i. (task_made number size i).after) (3 * size) i [] (omega (arith, e, l, m))
+    ∙ ap₂ (λ u q. (task_of_chain u size q (chain_of number size q)).after) p.0 p.1
 
-abbrev links : ℕ → ℕ → List (Option Activator)
+abbrev links : ℕ → ℕ → List (List Activator)
 links number size = activators (lists number size).tasks
+
+-- a task that one other activates
+one_deeper : (f : ℕ → Option ℕ) (j : TaskId) (d : ℕ) → f j.0 ≡ Some d → chain_steps (activator.Task j ∷ []) f ≡ Some (max 1 (suc d))
+one_deeper f j d e = rw e refl
 
 first_depth : (number size i k n : ℕ) → i ≡ 3 * k + 0 → k < size → depth_within (links number size) (suc n) i ≡ Some 1
 unfolding depth_within
-first_depth number size i k n e l = ap (λ a. chain_step a (depth_within (links number size) n)) (link_there number size i 0 k e (omega arith) l)
+first_depth number size i k n e l = ap (λ them. chain_steps them (depth_within (links number size) n)) (link_there number size i 0 k e (omega arith) l)
 
 frame_depth : (number size i k n : ℕ) → i ≡ 3 * k + 1 → k < size → depth_within (links number size) (suc (suc n)) i ≡ Some 2
 unfolding depth_within
 frame_depth number size i k n e l =
-    ap (λ a. chain_step a (depth_within (links number size) (suc n))) (link_there number size i 1 k e (omega arith) l)
-    ∙ ap (option_map suc) (first_depth number size (3 * k) k n (omega arith) l)
+    ap (λ them. chain_steps them (depth_within (links number size) (suc n))) (link_there number size i 1 k e (omega arith) l)
+    ∙ one_deeper (depth_within (links number size) (suc n)) (record { 0 = 3 * k }) 1 (first_depth number size (3 * k) k n (omega arith) l)
 
 last_depth : (number size i k n : ℕ) → i ≡ 3 * k + 2 → k < size → depth_within (links number size) (suc (suc (suc n))) i ≡ Some 3
 unfolding depth_within
 last_depth number size i k n e l =
-    ap (λ a. chain_step a (depth_within (links number size) (suc (suc n)))) (link_there number size i 2 k e (omega arith) l)
-    ∙ ap (option_map suc) (frame_depth number size (3 * k + 1) k n refl l)
+    ap (λ them. chain_steps them (depth_within (links number size) (suc (suc n)))) (link_there number size i 2 k e (omega arith) l)
+    ∙ one_deeper (depth_within (links number size) (suc (suc n))) (record { 0 = 3 * k + 1 }) 2 (frame_depth number size (3 * k + 1) k n refl l)
 
 some_depth : (number size i t k n : ℕ) → i ≡ 3 * k + t → t < 3 → k < size → IsSome (depth_within (links number size) (suc (suc (suc n))) i)
 some_depth number size i zero k n e l m = search (rules, first_depth number size i k (suc (suc n)) e m)
 some_depth number size i (suc zero) k n e l m = search (rules, frame_depth number size i k (suc n) e m)
 some_depth number size i (suc (suc zero)) k n e l m = search (rules, last_depth number size i k n e m)
 some_depth number size i (suc (suc (suc t))) k n e l m = absurd (omega (arith, l))
+
+-- streams
+
+first_streams : (number size i k n : ℕ) → i ≡ 3 * k + 0 → k < size → length (streams_within (links number size) (suc n) i) ≡ 1
+unfolding streams_within
+first_streams number size i k n e l =
+    ap (λ them. length (flat_map (λ (a : Activator). streams_step a (streams_within (links number size) n)) them)) (link_there number size i 0 k e (omega arith) l)
+
+frame_streams : (number size i k n : ℕ) → i ≡ 3 * k + 1 → k < size → length (streams_within (links number size) (suc (suc n)) i) ≡ 1
+unfolding streams_within
+frame_streams number size i k n e l =
+    ap (λ them. length (flat_map (λ (a : Activator). streams_step a (streams_within (links number size) (suc n))) them)) (link_there number size i 1 k e (omega arith) l)
+    ∙ ap length (append-nil (streams_within (links number size) (suc n) (3 * k)))
+    ∙ first_streams number size (3 * k) k n (omega arith) l
+
+last_streams : (number size i k n : ℕ) → i ≡ 3 * k + 2 → k < size → length (streams_within (links number size) (suc (suc (suc n))) i) ≡ 1
+unfolding streams_within
+last_streams number size i k n e l =
+    ap (λ them. length (flat_map (λ (a : Activator). streams_step a (streams_within (links number size) (suc (suc n)))) them)) (link_there number size i 2 k e (omega arith) l)
+    ∙ ap length (append-nil (streams_within (links number size) (suc (suc n)) (3 * k + 1)))
+    ∙ frame_streams number size (3 * k + 1) k n refl l
+
+few_streams : (number size i t k n : ℕ) → i ≡ 3 * k + t → t < 3 → k < size → length (streams_within (links number size) (suc (suc (suc n))) i) ≤ 32
+few_streams number size i zero k n e l m = omega (arith, first_streams number size i k (suc (suc n)) e m)
+few_streams number size i (suc zero) k n e l m = omega (arith, frame_streams number size i k (suc n) e m)
+few_streams number size i (suc (suc zero)) k n e l m = omega (arith, last_streams number size i k n e m)
+few_streams number size i (suc (suc (suc t))) k n e l m = absurd (omega (arith, l))
 
 -- all rules
 
@@ -282,6 +332,9 @@ lists_keep_rules number size few = record {
   chains = λ i l.
       let there : i < 3 * size = rw (table_length (task_made number size) (3 * size)) at l in
       some_depth number size i (i % 3) (i / 3) 29 (place_is i) (thirds i) (third size i there);
+  streams = λ i l.
+      let there : i < 3 * size = rw (table_length (task_made number size) (3 * size)) at l in
+      few_streams number size i (i % 3) (i / 3) 29 (place_is i) (thirds i) (third size i there);
   resources_named = all_table (λ (r : Resource). is_name r.name ≡ true) (made_resource size) (processors size + buses size)
       (λ r l. resource_named (nat_lt r (processors size)) size r (omega (arith, l, few_processors size few, few_buses size few)));
   sources_named = all_table (λ (r : Source). is_name r.name ≡ true) (λ k. made_source k (chain_of number size k)) size (λ k l. source_named k (omega (arith, l, few)));

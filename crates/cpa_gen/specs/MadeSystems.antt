@@ -62,7 +62,7 @@ abbrev pub first_task : ℕ → ℕ → Chain → Task
 first_task size k c = record {
   name = numbered (codes "t") k (codes "a");
   res = record { 0 = k % processors size };
-  after = activator.Source (record { 0 = k });
+  after = activator.Source (record { 0 = k }) ∷ [];
   best = c.first / 2;
   worst = c.first;
   turn = turn.Priority (2 * k);
@@ -72,7 +72,7 @@ abbrev pub frame_task : ℕ → ℕ → Chain → Task
 frame_task size k c = record {
   name = numbered (codes "t") k (codes "f");
   res = record { 0 = processors size + k % buses size };
-  after = activator.Task (record { 0 = 3 * k });
+  after = activator.Task (record { 0 = 3 * k }) ∷ [];
   best = least_frame_bits c.payload false * 2;
   worst = greatest_frame_bits c.payload false * 2;
   turn = turn.Priority k;
@@ -82,7 +82,7 @@ abbrev pub last_task : ℕ → Chain → Task
 last_task k c = record {
   name = numbered (codes "t") k (codes "b");
   res = record { 0 = c.processor };
-  after = activator.Task (record { 0 = 3 * k + 1 });
+  after = activator.Task (record { 0 = 3 * k + 1 }) ∷ [];
   best = c.last / 2;
   worst = c.last;
   turn = turn.Priority (2 * k + 1);

@@ -8,7 +8,9 @@ ghost use Rattle.cpa_gen.specs.Chains.{IsChain, chain_at};
 ghost use Rattle.cpa_gen.specs.MadeSystems.{buses, chain_of, first_task, frame_task, last_task, made_path, made_resource, made_source, made_system, numbered, processors, task_made, task_of_chain};
 
 use crate::chains::{Chain, draw_chains, processors};
-use cpa_model::{Activator, Kind, Path, Resource, Source, System, Task, TaskList, Turn};
+use cpa_model::{
+    Activator, Activators, Kind, Path, Resource, Source, System, Task, TaskList, Turn,
+};
 use cpa_text::Text;
 use cpa_units::limits::DEFAULT_LIMIT;
 use cpa_units::{Name, NameFault, NoMemory, ResId, SourceId, TaskId, frame_bits};
@@ -96,7 +98,7 @@ fn first_task(alloc: Global, size: u32, k: u64, chain: Chain) -> Result<Task, No
     Ok(Task {
         name: name(alloc, b"t", k, b"a")?,
         res: ResId((k % processors(size)) as u32),
-        after: Activator::Source(SourceId(k as u32)),
+        after: Activators::one(Activator::Source(SourceId(k as u32))),
         best: chain.first / 2,
         worst: chain.first,
         turn: Turn::Priority(2 * k as u32),
@@ -114,7 +116,7 @@ fn frame_task(alloc: Global, size: u32, k: u64, chain: Chain) -> Result<Task, No
     Ok(Task {
         name: name(alloc, b"t", k, b"f")?,
         res: ResId((processors(size) + k % buses(size)) as u32),
-        after: Activator::Task(TaskId(3 * k as u32)),
+        after: Activators::one(Activator::Task(TaskId(3 * k as u32))),
         best: least * BIT,
         worst: greatest * BIT,
         turn: Turn::Priority(k as u32),
@@ -130,7 +132,7 @@ fn last_task(alloc: Global, k: u64, chain: Chain) -> Result<Task, NoMemory>
     Ok(Task {
         name: name(alloc, b"t", k, b"b")?,
         res: ResId(chain.processor as u32),
-        after: Activator::Task(TaskId(3 * k as u32 + 1)),
+        after: Activators::one(Activator::Task(TaskId(3 * k as u32 + 1))),
         best: chain.last / 2,
         worst: chain.last,
         turn: Turn::Priority(2 * k as u32 + 1),

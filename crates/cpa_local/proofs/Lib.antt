@@ -1,6 +1,8 @@
 pub mod BlockingLaws
 pub mod CycleLaws
+pub mod SentLaws
 pub mod InputLaws
+pub mod GatherLaws
 pub mod ResponseLaws
 pub mod RivalLaws
 pub mod SolutionLaws

@@ -1,5 +1,6 @@
 -- A longer execution range asks for at least as much.
-use Rattle.std.proofs.Common.{◌≡◌, ℕ, ◌<◌, ◌≤◌, length, List, refl, sym, ap, inl, inr, subst, slice_index_or, arith, get_or-set_same, get_or-set_other}
+use Rattle.std.proofs.Common.{◌≡◌, ℕ, ◌<◌, ◌≤◌, length, List, [], ◌∷◌, refl, sym, ap, inl, inr, subst, slice_index_or, arith, get_or-set_same, get_or-set_other}
+use Rattle.std.specs.List.{AllZip}
 use Rattle.std.proofs.lemmas.Bool.{cases_eq}
 use Rattle.std.proofs.lemmas.List.{length-set}
 use Rattle.cpa_events.specs.Events.{IsNoDenser}
@@ -17,11 +18,16 @@ denser-refl : (s : SystemLists) (a : Activator) → IsDenserActivator s s a a
 denser-refl s (FromSource k) = IsNoDenser_refl (model_of (source_at s k.0))
 denser-refl s (FromTask j) = refl
 
+-- what holds of each activator and itself holds of a list and itself
+pub each-itself : (R : Activator → Activator → Type 0) → ((a : Activator) → R a a) → (after : List Activator) → AllZip R after after
+each-itself R each [] = tt
+each-itself R each (a ∷ others) = (each a, each-itself R each others)
+
 pub raised-same : (s t : SystemLists) (i : ℕ) → s.sources ≡ t.sources → task_at s i ≡ task_at t i → IsRaisedTask s t i
 raised-same s t i sources same =
     record {
       res = ap (λ (v : Task). v.res.0) same;
-      after = rw (← same) (denser-same (task_at s i).after);
+      after = rw (← same) (each-itself (IsDenserActivator s t) denser-same (task_at s i).after);
       best = let e = ap (λ (v : Task). v.best) same in omega arith;
       worst = let e = ap (λ (v : Task). v.worst) same in omega arith;
       turn = ap (λ (v : Task). v.turn) same;
@@ -45,7 +51,7 @@ raising-exec s p best worst low high =
             get_or-set_same s.tasks p (record (task_at s p) { best = best; worst = worst }) no_task less_p in
             rw same (record {
               res = sym (ap (λ (v : Task). v.res.0) it);
-              after = rw it (denser-refl s (task_at s p).after);
+              after = rw it (each-itself (IsDenserActivator s (with_task_at s p (record (task_at s p) { best = best; worst = worst }))) (denser-refl s) (task_at s p).after);
               best = let e = ap (λ (v : Task). v.best) it in omega arith;
               worst = let e = ap (λ (v : Task). v.worst) it in omega arith;
               turn = sym (ap (λ (v : Task). v.turn) it);

@@ -1,7 +1,8 @@
 -- Where each task asks for at least as much as before, no bound falls.
-use Rattle.std.proofs.Common.{◌≡◌, ℕ, zero, suc, ◌+◌, ◌-◌, ◌<◌, ◌≤◌, ◌==◌, length, List, map, Option, Some, None, refl, ap, ◌∙◌, subst, slice_index_or, arith}
+use Rattle.std.proofs.Common.{◌≡◌, ℕ, zero, suc, ◌+◌, ◌-◌, ◌<◌, ◌≤◌, ◌==◌, length, true, List, [], ◌∷◌, map, Option, Some, None, refl, ap, ◌∙◌, subst, slice_index_or, arith}
 use Rattle.std.specs.Prelude.{filter}
-use Rattle.std.specs.List.{sum_by, range_with_len}
+use Rattle.std.specs.List.{sum_by, range_with_len, list_any, AllZip}
+use Rattle.std.proofs.lemmas.Bool.{or_left, or_right}
 use Rattle.cpa_units.specs.declared.bound.Bound.{Bound}
 use Rattle.cpa_units.specs.declared.bound.Bound.TheVariants.{Within, Overload}
 use Rattle.cpa_units.specs.declared.limits.TheConstants.{MAX_CHAIN}
@@ -19,11 +20,14 @@ use Rattle.cpa_model.specs.declared.entries.Kind.{Kind}
 use Rattle.cpa_model.specs.declared.entries.Kind.TheVariants.{Preemptive, RoundRobin, Tdma, Can}
 use Rattle.cpa_model.specs.declared.entries.Activator.{Activator}
 use Rattle.cpa_model.specs.declared.entries.Activator.TheVariants.{Source as FromSource, Task as FromTask}
-use Rattle.cpa_model.specs.SystemLists.{SystemLists, task_at, resource_at, resource_of, task_places, slot_of, gap_of, is_higher, is_other, higher_tasks, other_tasks, blocking_of, cycle_of, no_task, no_resource}
-use Rattle.cpa_model.specs.Rules.{IsSystem, IsTask, IsActivator}
-use Rattle.cpa_local.specs.Inputs.{output_of, sent_by, input_along, input}
+use Rattle.cpa_model.specs.SystemLists.{SystemLists, task_at, resource_at, resource_of, task_places, slot_of, gap_of, is_higher, is_other, higher_tasks, other_tasks, blocking_of, cycle_of, is_task, no_resource}
+use Rattle.cpa_model.specs.Rules.{IsSystem}
+use Rattle.cpa_model.proofs.SystemLaws.{activated-there}
+use Rattle.cpa_local.specs.Inputs.{output_of, sent_by, sent_by_all, input_along, input}
 use Rattle.cpa_local.specs.Local.{rival_of, bound_by_kind, bound_at_input, response}
 use Rattle.cpa_local.specs.Raising.{IsDenserActivator, IsRaisedTask, IsRaising}
+use Rattle.cpa_local.proofs.SentLaws.{is_task-itself}
+use Rattle.cpa_local.proofs.ResponseLaws.{joined-mono}
 use Rattle.cpa_local.proofs.PlaceLists.{rivals-passing, sum-passing, greatest_over, greatest-more_passing}
 
 output_denser : (best best' : ℕ) (a b : Bound) (m n : Option Model) → best' ≤ best → IsAtMost a b → IsInputNoDenser m n → IsInputNoDenser (output_of best a m) (output_of best' b n)
@@ -34,22 +38,37 @@ output_denser best best' (Within a) (Within b) None (Some n) le h d = absurd d
 output_denser best best' (Within a) (Within b) (Some m) (Some n) le h d = after_response-denser m n best best' a b d le h
 
 module _ (s t : SystemLists) (rules : IsSystem s) (up : IsRaising s t) (x y : List Bound) (below : IsNowhereAbove x y) where
-  sent_denser : (chain : ℕ) (a b : Activator) → IsActivator s a → IsDenserActivator s t a b
-      → ((j : ℕ) → j < length s.tasks → IsInputNoDenser (input_along s x chain j) (input_along t y chain j))
+  -- a task of the first system, whose input is no denser there
+  abbrev IsDenserIn : ℕ → ℕ → Type 0
+  IsDenserIn chain j = (j < length s.tasks) × IsInputNoDenser (input_along s x chain j) (input_along t y chain j)
+
+  sent_denser : (chain : ℕ) (a b : Activator) → IsDenserActivator s t a b → ((j : ℕ) → is_task j a ≡ true → IsDenserIn chain j)
       → IsInputNoDenser (sent_by s x (input_along s x chain) a) (sent_by t y (input_along t y chain) b)
-  sent_denser chain (FromSource k) (FromSource m) there denser step = denser
-  sent_denser chain (FromSource k) (FromTask m) there denser step = absurd denser
-  sent_denser chain (FromTask j) (FromSource m) there denser step = absurd denser
-  sent_denser chain (FromTask j) (FromTask m) there denser step =
+  sent_denser chain (FromSource k) (FromSource m) denser step = denser
+  sent_denser chain (FromSource k) (FromTask m) denser step = absurd denser
+  sent_denser chain (FromTask j) (FromSource m) denser step = absurd denser
+  sent_denser chain (FromTask j) (FromTask m) denser step =
+      let it = step j.0 (is_task-itself j.0) in
       rw (← denser)
       (output_denser (task_at s j.0).best (task_at t j.0).best (bound_of x j.0) (bound_of y j.0) (input_along s x chain j.0) (input_along t y chain j.0)
-      (up.tasks j.0 there).best (below j.0) (step j.0 there))
+      (up.tasks j.0 it.0).best (below j.0) it.1)
+
+  sent_all_denser : (chain : ℕ) (first second : List Activator) → AllZip (IsDenserActivator s t) first second → ((j : ℕ) → list_any (is_task j) first ≡ true → IsDenserIn chain j)
+      → IsInputNoDenser (sent_by_all s x (input_along s x chain) first) (sent_by_all t y (input_along t y chain) second)
+  sent_all_denser chain [] [] denser step = tt
+  sent_all_denser chain [] (b ∷ second) denser step = absurd denser
+  sent_all_denser chain (a ∷ first) [] denser step = absurd denser
+  sent_all_denser chain (a ∷ first) (b ∷ second) denser step =
+      joined-mono (sent_by s x (input_along s x chain) a) (sent_by t y (input_along t y chain) b)
+      (sent_by_all s x (input_along s x chain) first) (sent_by_all t y (input_along t y chain) second)
+      (sent_denser chain a b denser.0 (λ j e. step j (or_left _ _ e)))
+      (sent_all_denser chain first second denser.1 (λ j e. step j (or_right _ _ e)))
 
   along_denser : (chain i : ℕ) → i < length s.tasks → IsInputNoDenser (input_along s x chain i) (input_along t y chain i)
   along_denser zero i less = tt
   along_denser (suc chain) i less =
-      let entry : IsTask s (task_at s i) = rules.tasks i no_task less in
-      sent_denser chain (task_at s i).after (task_at t i).after entry.activated (up.tasks i less).after (along_denser chain)
+      sent_all_denser chain (task_at s i).after (task_at t i).after (up.tasks i less).after
+      (λ j e. let there = activated-there s rules i j less e in (there, along_denser chain j there))
 
   input_denser : (i : ℕ) → i < length s.tasks → IsInputNoDenser (input s x i) (input t y i)
   unfolding input

@@ -1,7 +1,9 @@
 -- Bounds grow with the vector; each is at least the task's greatest execution, and its number within the resource's limit.
-use Rattle.std.proofs.Common.{◌≡◌, ℕ, zero, suc, ◌<◌, ◌≤◌, length, List, [], ◌∷◌, map, Option, Some, None, refl, inl, inr, arith}
-use Rattle.std.proofs.lemmas.Bool.{cases_lt}
-use Rattle.std.proofs.lemmas.List.{get_or_past}
+use Rattle.std.proofs.Common.{◌≡◌, ℕ, zero, suc, ◌+◌, ◌<◌, ◌≤◌, length, List, [], ◌∷◌, ◌++◌, map, true, All, Option, Some, None, refl, inl, inr, arith}
+use Rattle.std.specs.List.{list_any}
+use Rattle.std.proofs.lemmas.Bool.{cases_lt, or_left, or_right}
+use Rattle.std.proofs.lemmas.List.{get_or_past, length-append}
+use Rattle.std.proofs.lemmas.List.Elements.{All-append, All-nil}
 use Rattle.std.proofs.lemmas.List.FromFn.{get_or-map-range_with_len, length-map-range_with_len}
 use Rattle.std.proofs.Math.ListN.{get_or-eq_default}
 use Rattle.cpa_units.specs.declared.bound.Bound.{Bound}
@@ -21,11 +23,13 @@ use Rattle.cpa_model.specs.declared.entries.Kind.{Kind}
 use Rattle.cpa_model.specs.declared.entries.Kind.TheVariants.{Preemptive, RoundRobin, Tdma, Can}
 use Rattle.cpa_model.specs.declared.entries.Activator.{Activator}
 use Rattle.cpa_model.specs.declared.entries.Activator.TheVariants.{Source as FromSource, Task as FromTask}
-use Rattle.cpa_model.specs.SystemLists.{SystemLists, task_at, source_at, resource_of, slot_of, higher_tasks, other_tasks, blocking_of, cycle_of, no_source}
-use Rattle.cpa_model.specs.Rules.{IsSystem, IsSource}
+use Rattle.cpa_model.specs.SystemLists.{SystemLists, task_at, source_at, resource_of, slot_of, higher_tasks, other_tasks, blocking_of, cycle_of, is_task, no_source, no_task}
+use Rattle.cpa_model.specs.Rules.{IsSystem, IsSource, IsTask}
+use Rattle.cpa_model.proofs.SystemLaws.{activated-there}
 use Rattle.cpa_model.specs.Streams.{source_stream, source_model}
-use Rattle.cpa_local.specs.Inputs.{output_of, sent_by, input_along, input}
+use Rattle.cpa_local.specs.Inputs.{output_of, sent_by, joined, sent_by_all, input_along, input}
 use Rattle.cpa_local.specs.Local.{rival_of, bound_by_kind, bound_at_input, response, responses}
+use Rattle.cpa_local.proofs.SentLaws.{is_task-itself}
 
 -- ---- inputs are models
 
@@ -33,6 +37,27 @@ output_of-is_input : (best : ℕ) (bound : Bound) (m : Option Model) → IsInput
 output_of-is_input best (Within bound) (Some m) i = after_response-is_model m best bound i
 output_of-is_input best (Within bound) None i = tt
 output_of-is_input best Overload m i = tt
+
+-- each of its streams is one, where it is bounded; there may be none
+abbrev HasStreams : Option Model → Type 0
+HasStreams None = Unit {0}
+HasStreams (Some m) = All IsStream m
+
+input-streams : (o : Option Model) → IsInput o → HasStreams o
+input-streams None h = tt
+input-streams (Some m) h = h.each
+
+joined-streams : (o p : Option Model) → HasStreams o → HasStreams p → HasStreams (joined o p)
+joined-streams None p h k = tt
+joined-streams (Some m) None h k = tt
+joined-streams (Some m) (Some n) h k = All-append IsStream m n h k
+
+joined-is_input : (o p : Option Model) → IsInput o → HasStreams p → IsInput (joined o p)
+joined-is_input None p h k = tt
+joined-is_input (Some m) None h k = tt
+joined-is_input (Some m) (Some n) h k =
+    let long : length (m ++ n) ≡ length m + length n = length-append m n in
+    record { some = let some = h.some in omega arith; each = All-append IsStream m n h.each k }
 
 module _ (s : SystemLists) (x : List Bound) (rules : IsSystem s) where
   pub source-is_stream : (k : ℕ) → IsStream (source_stream s k)
@@ -42,17 +67,29 @@ module _ (s : SystemLists) (x : List Bound) (rules : IsSystem s) where
         | inr past ↦ rw (get_or-eq_default s.sources no_source past) (omega arith)
       ]
 
-  sent_by-is_input : (f : ℕ → Option Model) (a : Activator) → ((j : ℕ) → IsInput (f j)) → IsInput (sent_by s x f a)
+  sent_by-is_input : (f : ℕ → Option Model) (a : Activator) → ((j : ℕ) → is_task j a ≡ true → IsInput (f j)) → IsInput (sent_by s x f a)
   sent_by-is_input f (FromSource k) h = one-is_model (source_stream s k.0) (source-is_stream k.0)
-  sent_by-is_input f (FromTask j) h = output_of-is_input (task_at s j.0).best (bound_of x j.0) (f j.0) (h j.0)
+  sent_by-is_input f (FromTask j) h = output_of-is_input (task_at s j.0).best (bound_of x j.0) (f j.0) (h j.0 (is_task-itself j.0))
 
-  pub input_along-is_input : (chain i : ℕ) → IsInput (input_along s x chain i)
-  input_along-is_input zero i = tt
-  input_along-is_input (suc chain) i = sent_by-is_input (input_along s x chain) (task_at s i).after (input_along-is_input chain)
+  sent_all-streams : (f : ℕ → Option Model) (after : List Activator) → ((j : ℕ) → list_any (is_task j) after ≡ true → IsInput (f j)) → HasStreams (sent_by_all s x f after)
+  sent_all-streams f [] h = All-nil IsStream
+  sent_all-streams f (a ∷ others) h =
+      joined-streams (sent_by s x f a) (sent_by_all s x f others) (input-streams (sent_by s x f a) (sent_by-is_input f a (λ j e. h j (or_left _ _ e)))) (sent_all-streams f others (λ j e. h j (or_right _ _ e)))
 
-  pub input-is_input : (i : ℕ) → IsInput (input s x i)
+  sent_all-is_input : (f : ℕ → Option Model) (after : List Activator) → 0 < length after → ((j : ℕ) → list_any (is_task j) after ≡ true → IsInput (f j)) → IsInput (sent_by_all s x f after)
+  sent_all-is_input f [] some h = absurd (omega arith)
+  sent_all-is_input f (a ∷ others) some h =
+      joined-is_input (sent_by s x f a) (sent_by_all s x f others) (sent_by-is_input f a (λ j e. h j (or_left _ _ e))) (sent_all-streams f others (λ j e. h j (or_right _ _ e)))
+
+  pub input_along-is_input : (chain i : ℕ) → i < length s.tasks → IsInput (input_along s x chain i)
+  input_along-is_input zero i there = tt
+  input_along-is_input (suc chain) i there =
+      let t : IsTask s (task_at s i) = rules.tasks i no_task there in
+      sent_all-is_input (input_along s x chain) (task_at s i).after t.some (λ j e. input_along-is_input chain j (activated-there s rules i j there e))
+
+  pub input-is_input : (i : ℕ) → i < length s.tasks → IsInput (input s x i)
   unfolding input
-  input-is_input i = input_along-is_input MAX_CHAIN i
+  input-is_input i there = input_along-is_input MAX_CHAIN i there
 
   bound_by_kind-ge : (i : ℕ) (own : Model) (kind : Kind) → IsModel own → IsAtMost (Within (task_at s i).worst) (bound_by_kind s x i own kind)
   bound_by_kind-ge i own Preemptive m = preemptive_bound-low own (task_at s i).worst (map (rival_of s x) (higher_tasks s i)) (resource_of s i).limit
@@ -65,9 +102,9 @@ module _ (s : SystemLists) (x : List Bound) (rules : IsSystem s) where
   bound_at_input-ge i None m = tt
 
   -- a bound is at least the task's greatest execution
-  pub response-ge : (i : ℕ) → IsAtMost (Within (task_at s i).worst) (response s x i)
+  pub response-ge : (i : ℕ) → i < length s.tasks → IsAtMost (Within (task_at s i).worst) (response s x i)
   unfolding response
-  response-ge i = bound_at_input-ge i (input s x i) (input-is_input i)
+  response-ge i there = bound_at_input-ge i (input s x i) (input-is_input i there)
 
 -- ---- within the limit
 
@@ -96,15 +133,33 @@ output_of-mono best Overload (Within b) m (Some n) h d = absurd h
 output_of-mono best (Within a) (Within b) None (Some n) h d = absurd d
 output_of-mono best (Within a) (Within b) (Some m) (Some n) h d = after_response-denser m n best best a b d (omega arith) h
 
+append-denser : (m m' n n' : Model) → IsNoDenser m m' → IsNoDenser n n' → IsNoDenser (m ++ n) (m' ++ n')
+append-denser [] [] n n' h k = k
+append-denser [] (b ∷ m') n n' h k = absurd h
+append-denser (a ∷ m) [] n n' h k = absurd h
+append-denser (a ∷ m) (b ∷ m') n n' h k = (h.0, append-denser m m' n n' h.1 k)
+
+pub joined-mono : (m m' n n' : Option Model) → IsInputNoDenser m m' → IsInputNoDenser n n' → IsInputNoDenser (joined m n) (joined m' n')
+joined-mono m None n n' h k = tt
+joined-mono m (Some m') n None h k = tt
+joined-mono None (Some m') n (Some n') h k = absurd h
+joined-mono (Some m) (Some m') None (Some n') h k = absurd k
+joined-mono (Some m) (Some m') (Some n) (Some n') h k = append-denser m m' n n' h k
+
 module _ (s : SystemLists) (x y : List Bound) (below : IsNowhereAbove x y) where
   sent_by-mono : (f g : ℕ → Option Model) (a : Activator) → ((j : ℕ) → IsInputNoDenser (f j) (g j)) → IsInputNoDenser (sent_by s x f a) (sent_by s y g a)
   sent_by-mono f g (FromSource k) h = IsNoDenser_refl (source_model s k.0)
   sent_by-mono f g (FromTask j) h = output_of-mono (task_at s j.0).best (bound_of x j.0) (bound_of y j.0) (f j.0) (g j.0) (below j.0) (h j.0)
 
+  sent_all-mono : (f g : ℕ → Option Model) (after : List Activator) → ((j : ℕ) → IsInputNoDenser (f j) (g j)) → IsInputNoDenser (sent_by_all s x f after) (sent_by_all s y g after)
+  sent_all-mono f g [] h = tt
+  sent_all-mono f g (a ∷ others) h =
+      joined-mono (sent_by s x f a) (sent_by s y g a) (sent_by_all s x f others) (sent_by_all s y g others) (sent_by-mono f g a h) (sent_all-mono f g others h)
+
   input_along-mono : (chain i : ℕ) → IsInputNoDenser (input_along s x chain i) (input_along s y chain i)
   input_along-mono zero i = tt
   input_along-mono (suc chain) i =
-      sent_by-mono (input_along s x chain) (input_along s y chain) (task_at s i).after (input_along-mono chain)
+      sent_all-mono (input_along s x chain) (input_along s y chain) (task_at s i).after (input_along-mono chain)
 
   pub input-mono : (i : ℕ) → IsInputNoDenser (input s x i) (input s y i)
   unfolding input

@@ -166,7 +166,7 @@ module _ (s : SystemLists) where
   pub response-low : IsSystem s → (x : List Bound) (i : ℕ) → i < length s.tasks → IsAtMost (Within (task_at s i).best) (response s x i)
   response-low rules x i less =
       let t : IsTask s (task_at s i) = rules.tasks i no_task less in
-      IsAtMost_trans (Within (task_at s i).best) (Within (task_at s i).worst) (response s x i) t.ordered (response-ge s x rules i)
+      IsAtMost_trans (Within (task_at s i).best) (Within (task_at s i).worst) (response s x i) t.ordered (response-ge s x rules i less)
 
   -- and no number past the greatest
   pub response-high : IsSystem s → (x : List Bound) (i : ℕ) → i < length s.tasks → RespectsLimit MAX_LIMIT (response s x i)

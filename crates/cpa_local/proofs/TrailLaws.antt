@@ -1,6 +1,7 @@
 -- What becomes of marks.
 use Rattle.std.proofs.Common.{◌≡◌, ℕ, zero, suc, ◌<◌, ◌⊎◌, Bool, true, false, List, [], ◌∷◌, length, replicate, slice_index_or, slice_set, get_or-set_same, get_or-set_other, Option, None, refl, sym, ◌∙◌, inl, inr, arith}
 use Rattle.std.proofs.lemmas.Bool.{false≢true, cases_eq}
+use Rattle.std.proofs.lemmas.List.{length-set}
 use Rattle.cpa_units.specs.declared.bound.Bound.{Bound}
 use Rattle.cpa_events.specs.Events.{Model}
 use Rattle.cpa_model.specs.SystemLists.{SystemLists}
@@ -21,13 +22,19 @@ still-known (k ∷ ks) zero (suc place) e = e
 still-known (k ∷ ks) (suc i) zero e = e
 still-known (k ∷ ks) (suc i) (suc place) e = still-known ks i place e
 
+-- nothing is known where nothing is told known
+pub known-none : (s : SystemLists) (x : List Bound) (n : ℕ) (inputs : List (Option Model)) → AreKnown s x (replicate n false) inputs
+known-none s x n inputs i e = absurd (false≢true (sym (unmarked n i) ∙ e))
+
 -- an input that is found is known
 pub known-set : (s : SystemLists) (x : List Bound) (inputs : List (Option Model)) (known : List Bool) (place : ℕ) (v : Option Model) → place < length inputs → v ≡ input s x place → AreKnown s x known inputs
     → AreKnown s x (slice_set known place true) (slice_set inputs place v)
 known-set s x inputs known place v listed is right i e =
     elim (cases_eq i place) [
-      | inl same ↦ rw same (get_or-set_same inputs place v None listed ∙ is)
-      | inr other ↦ get_or-set_other inputs place i v None other ∙ right i (sym (get_or-set_other known place i true false other) ∙ e)
+      | inl same ↦ rw same (let long = length-set inputs place v in omega arith, get_or-set_same inputs place v None listed ∙ is)
+      | inr other ↦
+          let before = right i (sym (get_or-set_other known place i true false other) ∙ e) in
+          (let long = length-set inputs place v in let less = before.0 in omega arith, get_or-set_other inputs place i v None other ∙ before.1)
     ]
 
 -- one call after another

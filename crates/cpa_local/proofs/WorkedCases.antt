@@ -25,13 +25,13 @@ resource kind = record { name = []; kind = kind; limit = 1000000 }
 abbrev source : ℕ → ℕ → Source
 source period jitter = record { name = []; period = period; jitter = jitter; distance = 0 }
 
-abbrev from_source : ℕ → Activator
-from_source k = FromSource (record { 0 = k })
+abbrev from_source : ℕ → List Activator
+from_source k = FromSource (record { 0 = k }) ∷ []
 
-abbrev from_task : ℕ → Activator
-from_task j = FromTask (record { 0 = j })
+abbrev from_task : ℕ → List Activator
+from_task j = FromTask (record { 0 = j }) ∷ []
 
-abbrev task : ℕ → Activator → ℕ → ℕ → ℕ → Task
+abbrev task : ℕ → List Activator → ℕ → ℕ → ℕ → Task
 task place after best worst priority =
     record { name = []; res = record { 0 = place }; after = after; best = best; worst = worst; turn = Priority priority }
 
@@ -96,6 +96,48 @@ later-inputs = refl
 later-fixed : responses (two_fixed_points 22) later_bounds ≡ later_bounds
 unfolding two_fixed_points input response busy_window_bound jobs_in_busy_window window stream_eta_plus eta_plus stream_delta_minus delta_minus least_from greatest_to
 later-fixed = refl
+
+-- a task that two sources start, and one that it starts
+two_activators : SystemLists
+two_activators =
+    record {
+      resources = resource Preemptive ∷ resource Preemptive ∷ [];
+      sources = source 10 0 ∷ source 20 0 ∷ [];
+      tasks = task 0 (from_source 0 ++ from_source 1) 1 3 1 ∷ task 1 (from_task 0) 2 2 1 ∷ [];
+      paths = [];
+    }
+
+abbrev two_activators_bounds : List Bound
+two_activators_bounds = map Within (6 ∷ 4 ∷ [])
+
+two_activators-inputs : map (input two_activators two_activators_bounds) (0 ∷ 1 ∷ []) ≡ map Some ((model 10 0 0 ++ model 20 0 0) ∷ (model 10 5 1 ++ model 20 5 1) ∷ [])
+unfolding two_activators input
+two_activators-inputs = refl
+
+two_activators-fixed : responses two_activators two_activators_bounds ≡ two_activators_bounds
+unfolding two_activators input response busy_window_bound jobs_in_busy_window window stream_eta_plus eta_plus stream_delta_minus delta_minus least_from greatest_to
+two_activators-fixed = refl
+
+-- a source whose events reach a task twice
+shared_source : SystemLists
+shared_source =
+    record {
+      resources = resource Preemptive ∷ [];
+      sources = source 100 0 ∷ [];
+      tasks = task 0 (from_source 0) 1 1 1 ∷ task 0 (from_source 0) 1 1 2 ∷ task 0 (from_task 0 ++ from_task 1) 1 1 3 ∷ [];
+      paths = [];
+    }
+
+abbrev shared_source_bounds : List Bound
+shared_source_bounds = map Within (1 ∷ 2 ∷ 4 ∷ [])
+
+shared_source-inputs : input shared_source shared_source_bounds 2 ≡ Some (model 100 0 1 ++ model 100 1 1)
+unfolding shared_source input
+shared_source-inputs = refl
+
+shared_source-fixed : responses shared_source shared_source_bounds ≡ shared_source_bounds
+unfolding shared_source input response busy_window_bound jobs_in_busy_window window stream_eta_plus eta_plus stream_delta_minus delta_minus least_from greatest_to
+shared_source-fixed = refl
 
 -- The network of a car: six processors and two CAN buses. Chain k has three tasks, which begin at place 3 * k: a sensor's
 -- on a processor, its frame on a bus, and an actuator's on a processor.

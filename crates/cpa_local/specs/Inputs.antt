@@ -1,6 +1,6 @@
--- Input models: what each task receives, along the chain of activations, at the bounds that a vector gives. Jitter grows
+-- Input models: what each task receives, along the chains of activations, at the bounds that a vector gives. Jitter grows
 -- along a chain as in Richter's thesis and SymTA/S.
-use Rattle.std.specs.Prelude.{ℕ, zero, suc, ◌≡◌, ◌<◌, Bool, true, false, Option, Some, None, List, length, slice_index_or}
+use Rattle.std.specs.Prelude.{ℕ, zero, suc, ◌≡◌, ◌<◌, Bool, true, false, Option, Some, None, List, [], ◌∷◌, ◌++◌, length, slice_index_or}
 use Rattle.cpa_units.specs.declared.bound.Bound.{Bound}
 use Rattle.cpa_units.specs.declared.bound.Bound.TheVariants.{Within, Overload}
 use Rattle.cpa_units.specs.declared.limits.TheConstants.{MAX_CHAIN}
@@ -23,10 +23,21 @@ abbrev pub sent_by : SystemLists → List Bound → (ℕ → Option Model) → A
 sent_by s x input (FromSource k) = Some (source_model s k.0)
 sent_by s x input (FromTask j) = output_of (task_at s j.0).best (bound_of x j.0) (input j.0)
 
--- the input of a task whose chain has at most so many tasks
+-- two lists of streams as one, the first list's streams before the second's; unbounded where one is
+abbrev pub joined : Option Model → Option Model → Option Model
+joined (Some m) (Some n) = Some (m ++ n)
+joined (Some m) None = None
+joined None n = None
+
+-- what some activators send, one after the other
+abbrev pub sent_by_all : SystemLists → List Bound → (ℕ → Option Model) → List Activator → Option Model
+sent_by_all s x input [] = Some []
+sent_by_all s x input (a ∷ others) = joined (sent_by s x input a) (sent_by_all s x input others)
+
+-- the input of a task whose chains have at most so many tasks
 abbrev pub input_along : SystemLists → List Bound → ℕ → ℕ → Option Model
 input_along s x zero i = None
-input_along s x (suc more) i = sent_by s x (input_along s x more) (task_at s i).after
+input_along s x (suc more) i = sent_by_all s x (input_along s x more) (task_at s i).after
 
 -- the input of a task at a vector; none where it is unbounded
 unfoldable pub input : SystemLists → List Bound → ℕ → Option Model
@@ -38,7 +49,8 @@ AreInputs s r x inputs = (i : ℕ) → i < length s.tasks → (task_at s i).res.
 
 -- a list that has the inputs of the tasks that are told known
 abbrev pub AreKnown : SystemLists → List Bound → List Bool → List (Option Model) → Type 0
-AreKnown s x known inputs = (i : ℕ) → slice_index_or known i false ≡ true → slice_index_or inputs i None ≡ input s x i
+AreKnown s x known inputs =
+    (i : ℕ) → slice_index_or known i false ≡ true → (i < length inputs) × (slice_index_or inputs i None ≡ input s x i)
 
 -- what was found, where something was
 abbrev pub found_if : Bool → Model → Option Model

@@ -1,4 +1,5 @@
 pub mod Inputs
+pub mod Gathered
 pub mod Laws
 pub mod Local
 pub mod Solution

@@ -1,5 +1,6 @@
 -- A system that asks for at least as much as another: no task has a shorter execution range, no source is sparser.
 use Rattle.std.specs.Prelude.{ℕ, ◌≡◌, ◌<◌, ◌≤◌, length}
+use Rattle.std.specs.List.{AllZip}
 use Rattle.cpa_events.specs.Events.{IsNoDenser}
 use Rattle.cpa_model.specs.declared.entries.Activator.{Activator}
 use Rattle.cpa_model.specs.declared.entries.Activator.TheVariants.{Source as FromSource, Task as FromTask}
@@ -16,7 +17,7 @@ IsDenserActivator s t (FromTask j) (FromSource m) = ⊥
 -- task i asks for at least as much as before
 pub record IsRaisedTask (s t : SystemLists) (i : ℕ) : Type 0 where
   pub res : (task_at s i).res.0 ≡ (task_at t i).res.0
-  pub after : IsDenserActivator s t (task_at s i).after (task_at t i).after
+  pub after : AllZip (IsDenserActivator s t) (task_at s i).after (task_at t i).after
   pub best : (task_at t i).best ≤ (task_at s i).best
   pub worst : (task_at s i).worst ≤ (task_at t i).worst
   pub turn : (task_at s i).turn ≡ (task_at t i).turn

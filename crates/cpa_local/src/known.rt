@@ -11,10 +11,12 @@ ghost use Rattle.cpa_local.specs.Inputs.{AreInputs, AreKnown, input, output_of, 
 ghost use Rattle.cpa_local.specs.Solution.{IsVector};
 ghost use Rattle.cpa_local.specs.Trails.{IsPrepared, HasCycle, HasInputs};
 
-use crate::inputs::input_stream;
+use crate::gathering::find_along;
+use crate::inputs::find_input;
 use crate::trail::Trail;
+use crate::ways::only_task;
 use cpa_events::Model;
-use cpa_model::{Activator, Kind, System};
+use cpa_model::{Kind, System};
 use cpa_units::{Bound, ResId, TaskId, Vector};
 
 impl Trail {
@@ -72,9 +74,11 @@ pub(crate) fn own_input<'a>(
 {
     match system.resource(system.task(task).res).kind {
         Kind::Tdma { gap: _ } => {
-            let stream = input_stream(system, task, x)?;
-            found.set_one(stream);
-            Some(found)
+            if find_input(system, task, x, found) {
+                Some(found)
+            } else {
+                None
+            }
         }
         _ => kept_input(system, task, x, inputs),
     }
@@ -108,8 +112,8 @@ pub(crate) fn keep(place: &mut Option<Model>, model: &Model)
     }
 }
 
-/// Works out the input of each task on a resource. Along a chain that stays on it, each is found from the
-/// one before.
+/// Works out the input of each task on a resource. What is known of earlier tasks that are on it too
+/// isn't looked for once more.
 fn learn(
     system: &System,
     res: ResId,
@@ -126,7 +130,7 @@ fn learn(
     let mut known = [false; 512];
     for task in system.tasks_on(res) {
         let place = task.0 as usize;
-        if find_input(system, *task, x, &known, inputs.as_slice(), found) {
+        if find_by_known(system, *task, x, &known, inputs.as_slice(), found) {
             keep(&mut inputs[place], found);
         } else {
             inputs[place] = None;
@@ -160,9 +164,9 @@ fn find_output(
     }
 }
 
-/// Finds the input of a task, from that of the task before it where that is known. False where it is
-/// unbounded.
-fn find_input(
+/// Finds the input of a task, from that of the one task before it where that is known. False where it
+/// is unbounded.
+fn find_by_known(
     system: &System,
     task: TaskId,
     x: &Vector,
@@ -172,21 +176,14 @@ fn find_input(
 ) -> bool
     requires there { task.0 < length system.now.tasks }
     requires vector { IsVector system.now x.now }
-    requires long { length system.now.tasks ≤ length inputs.now }
     requires known { AreKnown system.now x.now known.now inputs.now }
     ensures { found_if result found.new ≡ input system.now x.now task.0 }
 {
     system.has_rules();
-    match system.task(task).after {
-        Activator::Task(earlier) if known[earlier.0 as usize] => {
+    match only_task(&system.task(task).after) {
+        Some(earlier) if known[earlier.0 as usize] => {
             find_output(system, earlier, x, &inputs[earlier.0 as usize], found)
         }
-        _ => match input_stream(system, task, x) {
-            Some(stream) => {
-                found.set_one(stream);
-                true
-            }
-            None => false,
-        },
+        _ => find_along(system, task, x, known, inputs, found),
     }
 }

@@ -1,4 +1,4 @@
-//! The analysis of one task: what it receives along its chain, and its bound where all other tasks
+//! The analysis of one task: what it receives along its chains, and its bound where all other tasks
 //! keep to the bounds of a vector.
 //!
 //! Inputs and bounds are those of compositional performance analysis (Richter's thesis, 2005). All
@@ -6,12 +6,14 @@
 #![tactic(auto)]
 
 mod analysis;
+mod gathering;
 mod inputs;
 mod known;
 mod laws;
 mod neighbours;
 mod start;
 mod trail;
+mod ways;
 
 pub use analysis::{respond, respond_prepared};
 pub use inputs::input;

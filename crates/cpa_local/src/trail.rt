@@ -38,7 +38,7 @@ impl Model for Trail {
 }
 
 /// A model that takes up room, and says nothing.
-fn no_model() -> EventModel {
+pub(crate) fn no_model() -> EventModel {
     EventModel::one(Stream {
         period: 1,
         jitter: 0,

@@ -1,21 +1,26 @@
 -- The system that a draft stands for keeps the rules, where no reason applies to the draft.
-use Rattle.std.proofs.Common.{◌≡◌, ℕ, ℤ, zero, suc, ◌+◌, ◌-◌, ◌<◌, ◌≤◌, Bool, true, false, not, nat_le, nat_lt, cond, List, [], ◌∷◌, map, length, take, get_or, slice_index_or, All, Option, Some, None, IsSome, is_none, option_map, unwrap_or, refl, sym, ap, ◌∙◌, arith, inl, inr, eq-eqb, lit≤, length-append, length-take}
+use Rattle.std.proofs.Common.{◌≡◌, ◌≢◌, is_some, ℕ, ℤ, zero, suc, ◌+◌, ◌-◌, ◌<◌, ◌≤◌, Bool, true, false, not, nat_le, nat_lt, cond, List, [], ◌∷◌, map, length, take, get_or, slice_index_or, All, Option, Some, None, IsSome, is_none, option_map, unwrap_or, refl, sym, ap, ◌∙◌, arith, inl, inr, eq-eqb, lit≤, length-append, length-take}
 use Rattle.std.specs.Option.{ForSome}
-use Rattle.std.specs.List.{list_all, list_any, filter_map, cons_option, range_with_len}
+use Rattle.std.specs.List.{list_all, list_any, filter_map, cons_option, range_with_len, fold, flat_map, sum, sum_by, AllPairs}
+use Rattle.std.proofs.lemmas.List.Concat.{length-flat_map}
+use Rattle.std.proofs.lemmas.List.Folds.{map_fixed}
+use Rattle.std.proofs.lemmas.List.Sums.{sum-map}
 use Rattle.std.proofs.lemmas.Slice.Eq.{bytes_eq-Decides}
 use Rattle.std.proofs.Math.Bool.{or-true}
-use Rattle.std.proofs.lemmas.Bool.{and_parts, and_from, or_parts, true≢false, leb-false, ltb-true, ltb-false, le-ltb, cases_Bool}
+use Rattle.std.proofs.lemmas.Bool.{and_parts, and_from, or_parts, true≢false, false≢true, leb-false, ltb-true, ltb-false, le-ltb, cases_Bool}
 use Rattle.std.proofs.lemmas.List.{length-map, get_or-map, get_or-take}
 use Rattle.std.proofs.lemmas.List.FromFn.{get_or-range_with_len, length-range_with_len}
 use Rattle.std.proofs.lemmas.Option.{none-some, same_Some}
 use Rattle.cpa_units.specs.Name.{is_name}
 use Rattle.cpa_units.specs.declared.places.ResId.{ResId}
+use Rattle.cpa_units.specs.declared.places.SourceId.{SourceId}
 use Rattle.cpa_units.specs.declared.places.TaskId.{TaskId}
+use Rattle.std.specs.Str.{bytes_eq}
 use Rattle.cpa_draft.specs.Numbers.{nat_of, nat_or, may_be_within}
 use Rattle.cpa_draft.specs.DraftLists.{DraftLists, resource_at as draft_resource_at, task_at as draft_task_at, no_resource as no_draft_resource, no_task as no_draft_task}
 use Rattle.cpa_draft.specs.Names.{resource_names, source_names, task_names, activity_names as draft_names, place_of, kind_of, link_at, link_of, links_of, is_nothing, is_task, is_after}
-use Rattle.cpa_draft.specs.Chains.{link_step, chain_within, first_longer}
-use Rattle.cpa_draft.specs.Refusals.{by_priority, turn_misfits, rank_of, same_rank, is_taken, is_linked, task_fits}
+use Rattle.cpa_draft.specs.Chains.{link_step, longer, links_step, chain_within, first_longer, count_step, stream_count_within}
+use Rattle.cpa_draft.specs.Refusals.{by_priority, turn_misfits, rank_of, same_rank, is_taken, is_linked, task_fits, is_misfed, has_double}
 use Rattle.cpa_draft.specs.declared.draft.DraftResource.{DraftResource}
 use Rattle.cpa_draft.specs.declared.draft.DraftSource.{DraftSource}
 use Rattle.cpa_draft.specs.declared.draft.DraftTask.{DraftTask}
@@ -23,8 +28,9 @@ use Rattle.cpa_draft.specs.declared.draft.DraftPath.{DraftPath}
 use Rattle.cpa_draft.specs.declared.links.Link.{Link}
 use Rattle.cpa_draft.specs.declared.links.Link.TheVariants as link
 use Rattle.cpa_draft.proofs.FirstLemmas.{none_marked}
-use Rattle.cpa_draft.proofs.ListLaws.{passes-at, all-map, pairs-map, map-map, not-false}
-use Rattle.cpa_draft.proofs.NameLaws.{new-differ}
+use Rattle.cpa_draft.proofs.ListLaws.{passes-at, none-at, all-map, pairs-map, map-map, not-false}
+use Rattle.cpa_draft.proofs.Maps.{list_any-map}
+use Rattle.cpa_draft.proofs.NameLaws.{Differ, new-differ, same_name}
 use Rattle.cpa_draft.proofs.UnrefusedLaws.{IsUnrefused}
 use Rattle.cpa_model.specs.declared.entries.Resource.{Resource}
 use Rattle.cpa_model.specs.declared.entries.Source.{Source}
@@ -33,55 +39,86 @@ use Rattle.cpa_model.specs.declared.entries.Path.{Path}
 use Rattle.cpa_model.specs.declared.entries.Turn.TheVariants as turn
 use Rattle.cpa_model.specs.declared.entries.Activator.{Activator}
 use Rattle.cpa_model.specs.declared.entries.Activator.TheVariants as activator
-use Rattle.cpa_model.specs.Chains.{chain_step, depth_within, activators}
-use Rattle.cpa_model.specs.SystemLists.{SystemLists, task_at, no_resource, no_task}
+use Rattle.cpa_model.specs.Chains.{chain_step, depth_within, activators, streams_step, streams_within}
+use Rattle.cpa_model.specs.SystemLists.{SystemLists, task_at, streams_of, is_task as is_the_task, no_resource, no_task}
 use Rattle.cpa_model.specs.Rules.{IsSystem, IsResource, IsSource, IsTask, IsActivator, IsPath, IsLinked, AllDiffer, HaveOwnPriorities, TurnFits, activity_names}
 use Rattle.cpa_model.specs.Built.{built_kind, built_resource, built_source, built_task, built_path, built_turn, built_activator, activator_at, resource_place, activity_place, bit_time, task_named, has_executions, TaskFitsTypes, PathFitsTypes, system_of}
-use Rattle.cpa_model.proofs.SystemLaws.{path-short}
-use Rattle.cpa_model.proofs.EntryLaws.{may-range, range, resource-kept, source-kept, place-kept, link-kept, task-kept, turn-kept, executions-kept}
+use Rattle.cpa_model.proofs.SystemLaws.{path-short, activators-few}
+use Rattle.cpa_model.proofs.EntryLaws.{may-range, range, resource-kept, source-kept, place-kept, nothing-none, link-kept, task-kept, turn-kept, executions-kept}
 
 -- chains
-
--- the link that an activator is
-abbrev pub link_from : Option Activator → Link
-link_from None = link.Nothing
-link_from (Some (activator.Source k)) = link.Source
-link_from (Some (activator.Task j)) = link.Task j.0
-
-step-same : (o : Option Activator) (f g : ℕ → Option ℕ) → ((j : ℕ) → f j ≡ g j) → link_step (link_from o) f ≡ chain_step o g
-step-same None f g each = refl
-step-same (Some (activator.Source k)) f g each = refl
-step-same (Some (activator.Task j)) f g each = ap (option_map suc) (each j.0)
-
-at-map : {X Y : Type 0} (f : X → Y) (xs : List X) (i : ℕ) (d : X) → get_or (map f xs) i (f d) ≡ f (get_or xs i d)
-at-map f [] i d = refl
-at-map f (x ∷ xs) zero d = refl
-at-map f (x ∷ xs) (suc i) d = at-map f xs i d
-
-pub chain-same : (acts : List (Option Activator)) (n i : ℕ) → chain_within (map link_from acts) n i ≡ depth_within acts n i
-unfolding chain_within depth_within
-chain-same acts zero i = refl
-chain-same acts (suc n) i =
-    rw (at-map link_from acts i None)
-    (step-same (slice_index_or acts i None) (chain_within (map link_from acts) n) (depth_within acts n) (chain-same acts n))
 
 pub map-same : {X Y : Type 0} (f g : X → Y) (xs : List X) → ((k : ℕ) (d : X) → k < length xs → f (get_or xs k d) ≡ g (get_or xs k d)) → map f xs ≡ map g xs
 map-same f g [] each = refl
 map-same f g (x ∷ xs) each = rw (each 0 x (omega arith), map-same f g xs (λ k d less. each (suc k) d (omega arith))) refl
 
-link-built : (sources : ℕ) (o : Option ℕ) → is_nothing (link_at sources o) ≡ false → link_at sources o ≡ link_from (Some (activator_at sources (unwrap_or o 0)))
+-- the link that an activator is
+abbrev pub link_from : Activator → Link
+link_from (activator.Source k) = link.Source
+link_from (activator.Task j) = link.Task j.0
+
+abbrev pub links_from : List Activator → List Link
+links_from many = map link_from many
+
+step-same : (a : Activator) (f g : ℕ → Option ℕ) → ((j : ℕ) → f j ≡ g j) → link_step (link_from a) f ≡ chain_step a g
+step-same (activator.Source k) f g each = refl
+step-same (activator.Task j) f g each = ap (option_map suc) (each j.0)
+
+steps-same : (from : Option ℕ) (many : List Activator) (f g : ℕ → Option ℕ) → ((j : ℕ) → f j ≡ g j)
+    → fold (λ longest l. longer longest (link_step l f)) from (links_from many) ≡ fold (λ longest a. longer longest (chain_step a g)) from many
+steps-same from [] f g each = refl
+steps-same from (a ∷ many) f g each =
+    ap (λ o. fold (λ longest l. longer longest (link_step l f)) (longer from o) (links_from many)) (step-same a f g each) ∙ steps-same (longer from (chain_step a g)) many f g each
+
+pub at-map : {X Y : Type 0} (f : X → Y) (xs : List X) (i : ℕ) (d : X) → get_or (map f xs) i (f d) ≡ f (get_or xs i d)
+at-map f [] i d = refl
+at-map f (x ∷ xs) zero d = refl
+at-map f (x ∷ xs) (suc i) d = at-map f xs i d
+
+pub chain-same : (all : List (List Activator)) (n i : ℕ) → chain_within (map links_from all) n i ≡ depth_within all n i
+unfolding chain_within depth_within
+chain-same all zero i = refl
+chain-same all (suc n) i =
+    ap (λ ls. links_step ls (chain_within (map links_from all) n)) (at-map links_from all i [])
+    ∙ steps-same (Some 1) (slice_index_or all i []) (chain_within (map links_from all) n) (depth_within all n) (chain-same all n)
+
+count-same : (a : Activator) (f : ℕ → ℕ) (g : ℕ → List SourceId) → ((j : ℕ) → f j ≡ length (g j)) → count_step (link_from a) f ≡ length (streams_step a g)
+count-same (activator.Source k) f g each = refl
+count-same (activator.Task j) f g each = each j.0
+
+counts-same : (many : List Activator) (f : ℕ → ℕ) (g : ℕ → List SourceId) → ((j : ℕ) → f j ≡ length (g j)) → sum_by (λ l. count_step l f) (links_from many) ≡ length (flat_map (λ a. streams_step a g) many)
+counts-same many f g each =
+    sym (sum-map (λ l. count_step l f) (links_from many))
+    ∙ ap sum (map-map link_from (λ l. count_step l f) many ∙ map-same (λ a. count_step (link_from a) f) (λ a. length (streams_step a g)) many (λ k d less. count-same (get_or many k d) f g each))
+    ∙ sum-map (λ a. length (streams_step a g)) many
+    ∙ sym (length-flat_map (λ a. streams_step a g) many)
+
+pub streams-same : (all : List (List Activator)) (n i : ℕ) → stream_count_within (map links_from all) n i ≡ length (streams_within all n i)
+unfolding stream_count_within streams_within
+streams-same all zero i = refl
+streams-same all (suc n) i =
+    ap (λ ls. sum_by (λ l. count_step l (stream_count_within (map links_from all) n)) ls) (at-map links_from all i [])
+    ∙ counts-same (slice_index_or all i []) (stream_count_within (map links_from all) n) (streams_within all n) (streams-same all n)
+
+link-built : (sources : ℕ) (o : Option ℕ) → is_nothing (link_at sources o) ≡ false → link_at sources o ≡ link_from (activator_at sources (unwrap_or o 0))
 link-built sources None h = absurd (true≢false h)
 link-built sources (Some k) h = elim (cases_Bool (nat_lt k sources)) [
   | inl less ↦ rw less refl
   | inr past ↦ rw past refl
 ]
 
-pub links-built : (d : DraftLists) → IsUnrefused d → links_of d ≡ map link_from (activators (system_of d).tasks)
+-- the names of a task's activators name something
+know-after : (d : DraftLists) → IsUnrefused d → (i k : ℕ) (t : DraftTask) (name : List ℕ) → i < length d.tasks → k < length (get_or d.tasks i t).after → is_nothing (link_of d (get_or (get_or d.tasks i t).after k name)) ≡ false
+know-after d u i k t name less within = none-at (λ name. is_nothing (link_of d name)) (get_or d.tasks i t).after k name (or_parts _ _ (u.tasks_know i t less)).1 within
+
+pub links-built : (d : DraftLists) → IsUnrefused d → links_of d ≡ map links_from (activators (system_of d).tasks)
 unfolding system_of built_task
 links-built d u =
-    map-same (λ (t : DraftTask). link_of d t.after) (λ (t : DraftTask). link_from (Some (built_activator d t.after))) d.tasks
-    (λ k t less. link-built (length d.sources) _ (or_parts _ _ (u.tasks_know k t less)).1)
-    ∙ sym (map-map (λ (t : Task). Some t.after) link_from (map (built_task d) d.tasks) ∙ map-map (built_task d) (λ (t : Task). link_from (Some t.after)) d.tasks)
+    map-same (λ (t : DraftTask). map (link_of d) t.after) (λ (t : DraftTask). links_from (map (built_activator d) t.after)) d.tasks
+    (λ i t less. map-same (link_of d) (λ name. link_from (built_activator d name)) (get_or d.tasks i t).after
+    (λ k name within. link-built (length d.sources) _ (know-after d u i k t name less within))
+    ∙ sym (map-map (built_activator d) link_from (get_or d.tasks i t).after))
+    ∙ sym (map-map (λ (t : Task). t.after) links_from (map (built_task d) d.tasks) ∙ map-map (built_task d) (λ (t : Task). links_from t.after) d.tasks)
 
 not-none : {X : Type 0} (o : Option X) → is_none o ≡ false → IsSome o
 not-none None e = absurd (true≢false e)
@@ -90,9 +127,37 @@ not-none (Some x) e = refl
 chains-kept : (d : DraftLists) → IsUnrefused d → (i : ℕ) → i < length (system_of d).tasks → IsSome (depth_within (activators (system_of d).tasks) 32 i)
 unfolding first_longer system_of
 chains-kept d u i less =
-    let long : i < length (links_of d) = omega (arith, length-map d.tasks (λ (t : DraftTask). link_of d t.after), length-map d.tasks (built_task d)) in
+    let long : i < length (links_of d) = omega (arith, length-map d.tasks (λ (t : DraftTask). map (link_of d) t.after), length-map d.tasks (built_task d)) in
     not-none _ (sym (ap is_none (ap (λ links. chain_within links 32 i) (links-built d u) ∙ chain-same (activators (system_of d).tasks) 32 i))
-    ∙ none_marked (λ i _. is_none (chain_within (links_of d) 32 i)) (links_of d) i link.Nothing u.short long)
+    ∙ none_marked (λ i _. is_none (chain_within (links_of d) 32 i)) (links_of d) i [] u.short long)
+
+-- what reason 14 leaves of a task
+record IsFed (d : DraftLists) (i : ℕ) (t : DraftTask) : Type 0 where
+  pub some : 0 < length t.after
+  pub differ : Differ t.after
+  pub few : stream_count_within (links_of d) 32 i ≤ 32
+
+not-some : {X : Type 0} (o : Option X) → is_some o ≡ false → o ≡ None
+not-some None e = refl
+not-some (Some x) e = absurd (true≢false e)
+
+not-double : (names : List (List ℕ)) → has_double names ≡ false → Differ names
+not-double names h =
+    let same : map (λ name. name) names ≡ names = map_fixed (λ name. name) names (λ k d less. refl) in
+    rw same at (new-differ (λ name. name) [] names (not-some _ h) (λ i j d before less. absurd (omega arith)))
+
+is_fed : (d : DraftLists) → IsUnrefused d → (i : ℕ) (t : DraftTask) → i < length d.tasks → IsFed d i (get_or d.tasks i t)
+is_fed d u i t less =
+    let parts = or_parts _ _ (none_marked (is_misfed d) d.tasks i t u.fed less) in
+    let names = or_parts _ _ parts.0 in
+    record { some = leb-false _ _ names.0; differ = not-double (get_or d.tasks i t).after names.1; few = ltb-false _ _ parts.1 }
+
+streams-kept : (d : DraftLists) → IsUnrefused d → (i : ℕ) → i < length (system_of d).tasks → length (streams_of (system_of d) i) ≤ 32
+unfolding system_of
+streams-kept d u i less =
+    let within : i < length d.tasks = omega (arith, length-map d.tasks (built_task d)) in
+    let same : stream_count_within (links_of d) 32 i ≡ length (streams_of (system_of d) i) = ap (λ links. stream_count_within links 32 i) (links-built d u) ∙ streams-same (activators (system_of d).tasks) 32 i in
+    omega (arith, (is_fed d u i no_draft_task within).few)
 
 -- tasks
 
@@ -115,14 +180,58 @@ activator-kept s sources k count less = elim (cases_Bool (nat_lt k sources)) [
   | inr past ↦ rw past (omega (arith, ltb-false _ _ past))
 ]
 
+-- the place of a name that names something
+active-below : (d : DraftLists) (name : List ℕ) → is_nothing (link_of d name) ≡ false → activity_place d name < length d.sources + length d.tasks
+active-below d name know =
+    omega (arith, link-kept (length d.sources) (draft_names d) name know, length-append (source_names d) (task_names d), length-map d.sources (λ (r : DraftSource). r.name), length-map d.tasks (λ (t : DraftTask). t.name))
+
+-- two places at which one activator stands are the same
+at-same : (sources k m : ℕ) → activator_at sources k ≡ activator_at sources m → k ≡ m
+at-same sources k m e = elim (cases_Bool (nat_lt k sources)) [
+  | inl first ↦ elim (cases_Bool (nat_lt m sources)) [
+    | inl second ↦ source-same k m (rw (first, second) at e)
+    | inr second ↦ absurd (mixed k (m - sources) (rw (first, second) at e))
+  ]
+  | inr first ↦ elim (cases_Bool (nat_lt m sources)) [
+    | inl second ↦ absurd (mixed m (k - sources) (sym (rw (first, second) at e)))
+    | inr second ↦
+        let same = task-same (k - sources) (m - sources) (rw (first, second) at e) in
+        omega (arith, ltb-false _ _ first, ltb-false _ _ second)
+  ]
+]
+  where
+    source-same : (k m : ℕ) → activator.Source (record { 0 = k }) ≡ activator.Source (record { 0 = m }) → k ≡ m
+    source-same k m e = ap place e
+      where
+        place : Activator → ℕ
+        place (activator.Source source) = source.0
+        place (activator.Task task) = 0
+
+    task-same : (k m : ℕ) → activator.Task (record { 0 = k }) ≡ activator.Task (record { 0 = m }) → k ≡ m
+    task-same k m e = ap place e
+      where
+        place : Activator → ℕ
+        place (activator.Source source) = 0
+        place (activator.Task task) = task.0
+
+    mixed : (k m : ℕ) → activator.Source (record { 0 = k }) ≡ activator.Task (record { 0 = m }) → ⊥
+    mixed k m e = cc
+
+-- names that differ name different activators
+activators-differ : (d : DraftLists) (names : List (List ℕ)) → Differ names → ((k : ℕ) (name : List ℕ) → k < length names → is_nothing (link_of d (get_or names k name)) ≡ false) → AllPairs (λ a b. a ≢ b) (map (built_activator d) names)
+activators-differ d names differ know =
+    pairs-map (λ a b. a ≢ b) (built_activator d) names
+    (λ i j e before less. λ same. differ i j e before less
+    (same_name (draft_names d) (get_or names i e) (get_or names j e) (place_of (draft_names d) (get_or names i e)) (place_of (draft_names d) (get_or names j e)) refl refl
+    (nothing-none (length d.sources) _ (know i e (omega arith))) (nothing-none (length d.sources) _ (know j e less))
+    (at-same (length d.sources) (activity_place d (get_or names i e)) (activity_place d (get_or names j e)) same)))
+
 task-kept-at : (d : DraftLists) → IsUnrefused d → All (λ t. has_executions t ≡ true) d.tasks → (i : ℕ) (t : DraftTask) → i < length d.tasks → IsTask (system_of d) (built_task d (get_or d.tasks i t))
 unfolding system_of built_task
 task-kept-at d u given i e less =
     let t = get_or d.tasks i e in
-    let know : (is_none (place_of (resource_names d) t.on) ≡ false) × (is_nothing (link_of d t.after) ≡ false) = or_parts _ _ (u.tasks_know i e less) in
+    let know : (is_none (place_of (resource_names d) t.on) ≡ false) × (list_any (λ name. is_nothing (link_of d name)) t.after ≡ false) = or_parts _ _ (u.tasks_know i e less) in
     let below : resource_place d t.on < length d.resources = omega (arith, place-kept (resource_names d) t.on know.0, length-map d.resources (λ (r : DraftResource). r.name)) in
-    let active : activity_place d t.after < length d.sources + length d.tasks =
-    omega (arith, link-kept (length d.sources) (draft_names d) t.after know.1, length-append (source_names d) (task_names d), length-map d.sources (λ (r : DraftSource). r.name), length-map d.tasks (λ (t : DraftTask). t.name)) in
     let fit = and_parts _ _ (u.tasks_fit i e less) in
     let fit-priority = and_parts _ _ fit.0 in
     let fit-payload = and_parts _ _ fit-priority.0 in
@@ -135,7 +244,11 @@ task-kept-at d u given i e less =
     rw is_kind (turn-kept r.kind r.gap r.bit t (rw is_kind at suit) fit-priority.1 fit.1) in
     record {
       placed = rw (length-map d.resources built_resource) below;
-      activated = activator-kept (system_of d) (length d.sources) (activity_place d t.after) (sym (length-map d.sources built_source)) (rw (length-map d.tasks (built_task d)) active);
+      some = rw (length-map t.after (built_activator d)) (is_fed d u i e less).some;
+      activated = all-map (IsActivator (system_of d)) (built_activator d) t.after
+          (λ k name within. activator-kept (system_of d) (length d.sources) (activity_place d (get_or t.after k name)) (sym (length-map d.sources built_source))
+          (rw (length-map d.tasks (built_task d)) (active-below d (get_or t.after k name) (know-after d u i k e name less within))));
+      different = activators-differ d t.after (is_fed d u i e less).differ (λ k name within. know-after d u i k e name less within);
       some_best = run.some;
       ordered = run.ordered;
       worst = run.small;
@@ -214,12 +327,27 @@ task-activator d name h =
     let k = task-kept (length d.sources) (draft_names d) name h in
     rw (le-ltb _ _ k.past) refl
 
--- the name before another in a path activates it
-is_after-name : (d : DraftLists) (first second : List ℕ) → is_task (link_of d second) ≡ true → is_after d first (link_of d second) ≡ true
-    → first ≡ (draft_task_at d (activity_place d second - length d.sources)).after
-is_after-name d first second know h =
+-- what passes one test passes another
+pub any-more : {X : Type 0} (p q : X → Bool) (xs : List X) → ((x : X) → p x ≡ true → q x ≡ true) → list_any p xs ≡ true → list_any q xs ≡ true
+any-more p q [] more h = absurd (false≢true h)
+any-more p q (x ∷ xs) more h = elim (cases_Bool (p x)) [
+  | inl here ↦ rw (more x here) refl
+  | inr there ↦ rw (any-more p q xs more (rw there at h)) (or-true (q x))
+]
+
+-- the name before another in a path names an activator of the other
+is_after-name : (d : DraftLists) (first second : List ℕ) → is_task (link_of d first) ≡ true → is_task (link_of d second) ≡ true → is_after d first (link_of d second) ≡ true
+    → list_any (is_the_task (task_named d first).0) (map (built_activator d) (draft_task_at d (activity_place d second - length d.sources)).after) ≡ true
+is_after-name d first second know-first know h =
     let k = task-kept (length d.sources) (draft_names d) second know in
-    (bytes_eq-Decides first _).0 (rw (k.link) at h)
+    let names = (draft_task_at d (activity_place d second - length d.sources)).after in
+    let among : list_any (bytes_eq first) names ≡ true = rw (k.link) at h in
+    list_any-map (is_the_task (task_named d first).0) (built_activator d) names
+    ∙ any-more (bytes_eq first) (λ name. is_the_task (task_named d first).0 (built_activator d name)) names
+    (λ name same. ap (λ n. is_the_task (task_named d first).0 (built_activator d n)) (sym ((bytes_eq-Decides first name).0 same))
+    ∙ ap (is_the_task (task_named d first).0) (task-activator d first know-first)
+    ∙ eq-eqb (task_named d first).0 (task_named d first).0 refl)
+    among
 
 linked-at : (d : DraftLists) (names : List (List ℕ)) (k : ℕ) → is_linked d names ≡ true → k + 1 < length names → is_after d (get_or names k []) (link_of d (get_or names (k + 1) [])) ≡ true
 linked-at d names k linked less =
@@ -242,11 +370,12 @@ linked-kept d names know linked k less =
     let know-first = passes-at (λ name. is_task (link_of d name)) names k [] know (omega arith) in
     let know-second = passes-at (λ name. is_task (link_of d name)) names (k + 1) [] know short in
     let place = activity_place d second - length d.sources in
-    ap (λ (x : TaskId). (task_at (system_of d) x.0).after) (get_or-map (task_named d) names (k + 1) [] no_id short)
-    ∙ ap (λ (t : Task). t.after) (get_or-map (built_task d) d.tasks place no_draft_task no_task (task-below d second know-second))
-    ∙ ap (built_activator d) (sym (is_after-name d first second know-second (linked-at d names k linked short)))
-    ∙ task-activator d first know-first
-    ∙ sym (ap activator.Task (get_or-map (task_named d) names k [] no_id (omega arith)))
+    let at-first : get_or (map (task_named d) names) k no_id ≡ task_named d first = get_or-map (task_named d) names k [] no_id (omega arith) in
+    let at-second : get_or (map (task_named d) names) (k + 1) no_id ≡ task_named d second = get_or-map (task_named d) names (k + 1) [] no_id short in
+    let entry : (task_at (system_of d) place).after ≡ map (built_activator d) (draft_task_at d place).after =
+    ap (λ (t : Task). t.after) (get_or-map (built_task d) d.tasks place no_draft_task no_task (task-below d second know-second)) in
+    rw (at-first, at-second, entry)
+    (is_after-name d first second know-first know-second (linked-at d names k linked short))
 
 path-kept-at : (d : DraftLists) → IsUnrefused d → (i : ℕ) (p : DraftPath) → i < length d.paths → IsPath (system_of d) (built_path d (get_or d.paths i p))
 unfolding system_of
@@ -275,6 +404,7 @@ system-kept d u given = record {
   tasks = all-map (IsTask (system_of d)) (built_task d) d.tasks (task-kept-at d u given);
   paths = all-map (IsPath (system_of d)) (built_path d) d.paths (path-kept-at d u);
   chains = chains-kept d u;
+  streams = streams-kept d u;
   resources_named = all-map (λ (r : Resource). is_name r.name ≡ true) built_resource d.resources u.resources_named;
   sources_named = all-map (λ (r : Source). is_name r.name ≡ true) built_source d.sources u.sources_named;
   tasks_named = all-map (λ (t : Task). is_name t.name ≡ true) (built_task d) d.tasks u.tasks_named;
@@ -301,15 +431,20 @@ fit-parts t h =
       payload = (may-range 0 8 0 t.payload (lit≤ tt, lit≤ tt) fit-payload.1).1;
     }
 
-pub tasks-fit-types : (d : DraftLists) → IsUnrefused d → All (TaskFitsTypes d) d.tasks
-tasks-fit-types d u i e less =
+pub tasks-fit-types : (d : DraftLists) → IsUnrefused d → All (λ t. has_executions t ≡ true) d.tasks → All (TaskFitsTypes d) d.tasks
+unfolding system_of built_task
+tasks-fit-types d u given i e less =
     let t = get_or d.tasks i e in
-    let know : (is_none (place_of (resource_names d) t.on) ≡ false) × (is_nothing (link_of d t.after) ≡ false) = or_parts _ _ (u.tasks_know i e less) in
+    let know : (is_none (place_of (resource_names d) t.on) ≡ false) × (list_any (λ name. is_nothing (link_of d name)) t.after ≡ false) = or_parts _ _ (u.tasks_know i e less) in
     let numbers = fit-parts t (u.tasks_fit i e less) in
+    let within : i < length (system_of d).tasks = rw (length-map d.tasks (built_task d)) less in
+    let entry : (task_at (system_of d) i).after ≡ map (built_activator d) t.after = ap (λ (t : Task). t.after) (get_or-map (built_task d) d.tasks i e no_task less) in
+    let few = activators-few (system_of d) (system-kept d u given) i within in
     record {
       place = omega (arith, place-kept (resource_names d) t.on know.0, length-map d.resources (λ (r : DraftResource). r.name), u.few_resources);
-      activity =
-          omega (arith, link-kept (length d.sources) (draft_names d) t.after know.1, length-append (source_names d) (task_names d), length-map d.sources (λ (r : DraftSource). r.name), length-map d.tasks (λ (t : DraftTask). t.name), u.few_sources, u.few_tasks);
+      some = (is_fed d u i e less).some;
+      few = omega (arith, ap length entry, length-map t.after (built_activator d), few, streams-kept d u i within);
+      activities = λ k name below. omega (arith, active-below d (get_or t.after k name) (know-after d u i k e name less below), u.few_sources, u.few_tasks);
       priority = omega arith;
       payload = numbers.payload;
       bit = (bit-kept d u t.on know.0).1;

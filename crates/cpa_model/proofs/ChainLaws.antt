@@ -1,35 +1,82 @@
--- Walking along a chain.
-use Rattle.std.proofs.Common.{◌≡◌, ℕ, suc, ◌+◌, ◌-◌, ◌<◌, ◌≤◌, List, [], Option, Some, None, option_map, slice_index_or, refl, ap, arith}
+-- Following activators over a list of them.
+use Rattle.std.proofs.Common.{◌≡◌, ℕ, suc, ◌+◌, ◌-◌, ◌<◌, ◌≤◌, List, [], ◌∷◌, length, take, get_or, Option, Some, None, slice_index_or, slice_get, refl, sym, ap, ◌∙◌, arith}
+use Rattle.std.specs.List.{flat_map}
+use Rattle.std.proofs.lemmas.List.{take_all}
+use Rattle.std.proofs.lemmas.Option.{slice_get-get_or, slice_get_within, get_or_from_slice_get}
+use Rattle.std.proofs.lemmas.List.Concat.{get_or-flat_map}
+use Rattle.std.proofs.lemmas.List.Folds.{length-flat_map-take}
+use Rattle.cpa_units.specs.declared.places.SourceId.{SourceId}
+use Rattle.cpa_units.specs.declared.places.TaskId.{TaskId}
+use Rattle.cpa_model.specs.declared.entries.Activator.TheVariants.{Task}
+use Rattle.std.proofs.lemmas.List.{append-nil}
 use Rattle.cpa_model.specs.declared.entries.Activator.{Activator}
-use Rattle.cpa_model.specs.Chains.{chain_step, depth_within, streams_step, streams_within}
+use Rattle.cpa_model.specs.Chains.{chain_steps, depth_within, streams_step, streams_within}
 
--- one step, where steps are left
-pub depth_within-step : (links : List (Option Activator)) (most passed at : ℕ) → passed < most
-    → depth_within links (most - passed) at ≡ chain_step (slice_index_or links at None) (depth_within links (most - (passed + 1)))
+abbrev pub Links : Type 0
+Links = List (List Activator)
+
+-- none are met within no task
+pub depth_within-none : (links : Links) (most i : ℕ) → most ≡ 0 → depth_within links most i ≡ None
 unfolding depth_within
-depth_within-step links most passed at h = let p : most - passed ≡ suc (most - (passed + 1)) = omega arith in rw p refl
+depth_within-none links most i none = rw none refl
 
--- none are left
-pub depth_within-over : (links : List (Option Activator)) (most passed at : ℕ) → most ≤ passed → depth_within links (most - passed) at ≡ None
+pub streams_within-none : (links : Links) (most i : ℕ) → most ≡ 0 → streams_within links most i ≡ []
+unfolding streams_within
+streams_within-none links most i none = rw none refl
+
+-- else one step is taken over each activator
+pub depth_within-next : (links : Links) (most less i : ℕ) → most ≡ suc less → depth_within links most i ≡ chain_steps (slice_index_or links i []) (depth_within links less)
 unfolding depth_within
-depth_within-over links most passed at h = let p : most - passed ≡ 0 = omega arith in rw p refl
+depth_within-next links most less i next = rw next refl
 
--- tasks that were passed count
-pub option_map-passed : (passed : ℕ) (o : Option ℕ) → option_map (λ n. passed + n) (option_map suc o) ≡ option_map (λ n. passed + 1 + n) o
-option_map-passed passed None = refl
-option_map-passed passed (Some n) = ap Some (omega arith)
+pub depth_within-step : (links : Links) (most i : ℕ) → 0 < most → depth_within links most i ≡ chain_steps (slice_index_or links i []) (depth_within links (most - 1))
+depth_within-step links most i some = depth_within-next links most (most - 1) i (omega arith)
 
-pub option_map-zero : (o : Option ℕ) → option_map (λ n. 0 + n) o ≡ o
-option_map-zero None = refl
-option_map-zero (Some n) = ap Some (omega arith)
+-- the streams of one activator
+abbrev pub streams_by : Links → ℕ → Activator → List SourceId
+streams_by links n a = streams_step a (streams_within links n)
 
-pub streams_within-step : (links : List (Option Activator)) (most passed at : ℕ) → passed < most
-    → streams_within links (most - passed) at ≡ streams_step (slice_index_or links at None) (streams_within links (most - (passed + 1)))
+pub streams_within-next : (links : Links) (most less i : ℕ) → most ≡ suc less → streams_within links most i ≡ flat_map (streams_by links less) (slice_index_or links i [])
 unfolding streams_within
-streams_within-step links most passed at h = let p : most - passed ≡ suc (most - (passed + 1)) = omega arith in rw p refl
+streams_within-next links most less i next = rw next refl
 
-pub streams_within-over : (links : List (Option Activator)) (most passed at : ℕ) → most ≤ passed → streams_within links (most - passed) at ≡ []
-unfolding streams_within
-streams_within-over links most passed at h = let p : most - passed ≡ 0 = omega arith in rw p refl
+-- what comes to a task that one task alone activates is what comes to that one
+pub streams-only : (links : Links) (most less i : ℕ) (j : TaskId) → most ≡ suc less → slice_index_or links i [] ≡ Task j ∷ [] → streams_within links most i ≡ streams_within links less j.0
+streams-only links most less i j next only =
+    streams_within-next links most less i next ∙ ap (flat_map (streams_by links less)) only ∙ append-nil (streams_within links less j.0)
 
-pub ruleset walk = (streams_within-step, streams_within-over, depth_within-step, depth_within-over, option_map-passed, option_map-zero)
+pub streams_within-step : (links : Links) (most i : ℕ) → 0 < most → streams_within links most i ≡ flat_map (streams_by links (most - 1)) (slice_index_or links i [])
+streams_within-step links most i some = streams_within-next links most (most - 1) i (omega arith)
+
+-- all activators were gone over
+pub depth-all : (links : Links) (most i count : ℕ) (items : List Activator) (longest : Option ℕ) → 0 < most → items ≡ slice_index_or links i [] → length items ≤ count
+    → longest ≡ chain_steps (take count items) (depth_within links (most - 1)) → longest ≡ depth_within links most i
+depth-all links most i count items longest some is all e =
+    e ∙ ap (λ ts. chain_steps ts (depth_within links (most - 1))) (take_all count items all ∙ is) ∙ sym (depth_within-step links most i some)
+
+pub streams-all : (links : Links) (most i count : ℕ) (items : List Activator) → 0 < most → items ≡ slice_index_or links i [] → length items ≤ count
+    → flat_map (streams_by links (most - 1)) (take count items) ≡ streams_within links most i
+streams-all links most i count items some is all =
+    ap (flat_map (streams_by links (most - 1))) (take_all count items all ∙ is) ∙ sym (streams_within-step links most i some)
+
+-- the streams of the activators before one, and its own, are among the task's
+pub streams-part : (links : Links) (most i k : ℕ) (items : List Activator) (a d : Activator) → 0 < most → items ≡ slice_index_or links i [] → k < length items → get_or items k d ≡ a
+    → length (flat_map (streams_by links (most - 1)) (take k items)) + length (streams_by links (most - 1) a) ≤ length (streams_within links most i)
+streams-part links most i k items a d some is less at =
+    let part = length-flat_map-take (streams_by links (most - 1)) items k d less in
+    let whole : flat_map (streams_by links (most - 1)) items ≡ streams_within links most i = ap (flat_map (streams_by links (most - 1))) is ∙ sym (streams_within-step links most i some) in
+    rw (← whole) (rw at at part)
+
+-- a stream of one of the activators is the task's, past those of the activators before
+pub stream-there : (links : Links) (most i k place left : ℕ) (items : List Activator) (a d : Activator) (source : SourceId) → 0 < most → items ≡ slice_index_or links i [] → k < length items → get_or items k d ≡ a
+    → left + length (flat_map (streams_by links (most - 1)) (take k items)) ≡ place → slice_get (streams_by links (most - 1) a) left ≡ Some source → slice_get (streams_within links most i) place ≡ Some source
+stream-there links most i k place left items a d source some is less at past found =
+    let whole : flat_map (streams_by links (most - 1)) items ≡ streams_within links most i = ap (flat_map (streams_by links (most - 1))) is ∙ sym (streams_within-step links most i some) in
+    let within = slice_get_within (streams_by links (most - 1) a) left source found in
+    let part = streams-part links most i k items a d some is less at in
+    let short : left < length (streams_by links (most - 1) (get_or items k d)) = rw at within in
+    let here = get_or-flat_map (streams_by links (most - 1)) items k left d source less short in
+    let there : length (flat_map (streams_by links (most - 1)) (take k items)) + left ≡ place = omega arith in
+    slice_get-get_or (streams_within links most i) place source (omega arith)
+    ∙ ap Some (ap (λ ks. get_or ks place source) (sym whole) ∙ ap (λ n. get_or (flat_map (streams_by links (most - 1)) items) n source) (sym there) ∙ here
+    ∙ ap (λ b. get_or (streams_by links (most - 1) b) left source) at ∙ get_or_from_slice_get (streams_by links (most - 1) a) left source source found)

@@ -65,7 +65,7 @@ place-kept names name h = by (place_of names name) refl h
     by None e some = absurd (true≢false some)
     by (Some k) e some = place_below names name k e
 
-nothing-none : (sources : ℕ) (o : Option ℕ) → is_nothing (link_at sources o) ≡ false → is_none o ≡ false
+pub nothing-none : (sources : ℕ) (o : Option ℕ) → is_nothing (link_at sources o) ≡ false → is_none o ≡ false
 nothing-none sources None h = absurd (true≢false h)
 nothing-none sources (Some k) h = refl
 

@@ -1,6 +1,8 @@
+pub mod ActivatorLaws
 pub mod BuiltLaws
 pub mod ChainLaws
 pub mod EntryLaws
+pub mod LongestLaws
 pub mod RedraftChains
 pub mod RedraftLaws
 pub mod RedraftNames
@@ -10,4 +12,4 @@ pub mod RedraftUnrefused
 pub mod SystemLaws
 pub mod ChangedLaws
 pub mod KeptRules
-pub mod RosterLaws
+pub mod ResourceTaskLaws

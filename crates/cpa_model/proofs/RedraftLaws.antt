@@ -19,7 +19,7 @@ use Rattle.cpa_model.specs.SystemLists.{SystemLists, resource_at, task_at}
 use Rattle.cpa_model.specs.Rules.{IsSystem, IsTask, IsPath, TurnFits}
 use Rattle.cpa_model.specs.Built.{built_kind, built_resource, built_source, built_task, built_path, built_turn, task_named, system_of}
 use Rattle.cpa_model.specs.Redraft.{word_of, gap_at, bit_at, redraft_resource, redraft_source, redraft_task, redraft_path, redraft}
-use Rattle.cpa_model.proofs.RedraftNames.{place_of-resource, kind_of-redraft, activator-back, task-back}
+use Rattle.cpa_model.proofs.RedraftNames.{place_of-resource, kind_of-redraft, activators-back, task-back}
 use Rattle.cpa_model.proofs.RedraftUnrefused.{redraft-unrefused}
 
 -- a kind with its number comes back
@@ -55,7 +55,7 @@ task_entry-back s rules t fits =
     let is_turn : built_turn (by_priority (kind_of (redraft s) (resource_at s t.res.0).name)) (redraft_task s t) ≡ t.turn =
     ap (λ o. built_turn (by_priority o) (redraft_task s t)) (kind_of-redraft s rules t.res.0 fits.placed)
     ∙ turn-back s t (resource_at s t.res.0).kind t.turn refl fits.turn_fits in
-    rw (is_turn, place_of-resource s rules t.res.0 fits.placed, activator-back s rules t.after fits.activated) refl
+    rw (is_turn, place_of-resource s rules t.res.0 fits.placed, activators-back s rules t.after fits.activated) refl
 
 -- a deadline comes back
 deadline-back : (o : Option ℕ) → option_map nat_of (option_map pos o) ≡ o

@@ -1,5 +1,7 @@
 -- What the names of the redraft of a system name there.
-use Rattle.std.proofs.Common.{◌≡◌, ℕ, ◌+◌, ◌-◌, ◌<◌, ◌≤◌, List, [], map, length, get_or, Some, refl, sym, ap, ◌∙◌, arith, length-append}
+use Rattle.std.specs.List.{AllPairs}
+use Rattle.std.proofs.lemmas.List.Folds.{map_fixed}
+use Rattle.std.proofs.Common.{◌≡◌, ◌≢◌, All, ℕ, ◌+◌, ◌-◌, ◌<◌, ◌≤◌, List, [], map, length, get_or, Some, refl, sym, ap, ◌∙◌, arith, length-append}
 use Rattle.std.proofs.lemmas.Bool.{lt-ltb, le-ltb}
 use Rattle.std.proofs.lemmas.List.{length-map, get_or-map, get_or_append_left, get_or-append-add}
 use Rattle.cpa_units.specs.declared.places.TaskId.{TaskId}
@@ -9,7 +11,7 @@ use Rattle.cpa_draft.specs.declared.draft.DraftResource.{DraftResource}
 use Rattle.cpa_draft.specs.declared.draft.DraftSource.{DraftSource}
 use Rattle.cpa_draft.specs.declared.draft.DraftTask.{DraftTask}
 use Rattle.cpa_draft.specs.declared.links.Link.TheVariants as link
-use Rattle.cpa_draft.proofs.ListLaws.{map-map}
+use Rattle.cpa_draft.proofs.ListLaws.{map-map, pairs-map}
 use Rattle.cpa_draft.proofs.NameLaws.{Differ, place_of-own}
 use Rattle.cpa_model.specs.declared.entries.Resource.{Resource}
 use Rattle.cpa_model.specs.declared.entries.Source.{Source}
@@ -21,7 +23,7 @@ use Rattle.cpa_model.specs.SystemLists.{SystemLists, resource_at, source_at, tas
 use Rattle.cpa_model.specs.Rules.{IsSystem, IsActivator, activity_names}
 use Rattle.cpa_model.specs.Built.{built_activator, task_named}
 use Rattle.cpa_model.specs.Redraft.{redraft_resource, redraft_source, redraft_task, activator_name, word_of, redraft}
-use Rattle.cpa_model.proofs.BuiltLaws.{link_from, map-same}
+use Rattle.cpa_model.proofs.BuiltLaws.{link_from, links_from, map-same}
 
 -- the names of the resources stay
 pub resource_names-redraft : (s : SystemLists) → resource_names (redraft s) ≡ map (λ (r : Resource). r.name) s.resources
@@ -97,18 +99,23 @@ link_of-task s rules j less =
     rw (place_of-task s rules j less, sources-redraft s, le-ltb _ _ past, place) refl
 
 -- an activator's name is linked as the activator is
-pub link_of-activator : (s : SystemLists) → IsSystem s → (a : Activator) → IsActivator s a → link_of (redraft s) (activator_name s a) ≡ link_from (Some a)
+pub link_of-activator : (s : SystemLists) → IsSystem s → (a : Activator) → IsActivator s a → link_of (redraft s) (activator_name s a) ≡ link_from a
 link_of-activator s rules (activator.Source k) there = link_of-source s rules k.0 there
 link_of-activator s rules (activator.Task j) there = link_of-task s rules j.0 there
 
 -- the links are the activators
-pub links_of-redraft : (s : SystemLists) → IsSystem s → links_of (redraft s) ≡ map link_from (activators s.tasks)
+links-of_names : (s : SystemLists) → IsSystem s → (many : List Activator) → All (IsActivator s) many → map (link_of (redraft s)) (map (activator_name s) many) ≡ links_from many
+links-of_names s rules many there =
+    map-map (activator_name s) (link_of (redraft s)) many
+    ∙ map-same (λ a. link_of (redraft s) (activator_name s a)) link_from many (λ k a less. link_of-activator s rules (get_or many k a) (there k a less))
+
+pub links_of-redraft : (s : SystemLists) → IsSystem s → links_of (redraft s) ≡ map links_from (activators s.tasks)
 unfolding redraft
 links_of-redraft s rules =
-    map-map (redraft_task s) (λ (t : DraftTask). link_of (redraft s) t.after) s.tasks
-    ∙ map-same (λ (t : Task). link_of (redraft s) (activator_name s t.after)) (λ (t : Task). link_from (Some t.after)) s.tasks
-    (λ k t less. link_of-activator s rules (get_or s.tasks k t).after (rules.tasks k t less).activated)
-    ∙ sym (map-map (λ (t : Task). Some t.after) link_from s.tasks)
+    map-map (redraft_task s) (λ (t : DraftTask). map (link_of (redraft s)) t.after) s.tasks
+    ∙ map-same (λ (t : Task). map (link_of (redraft s)) (map (activator_name s) t.after)) (λ (t : Task). links_from t.after) s.tasks
+    (λ k t less. links-of_names s rules (get_or s.tasks k t).after (rules.tasks k t less).activated)
+    ∙ sym (map-map (λ (t : Task). t.after) links_from s.tasks)
 
 -- an activator's name gives it back
 pub activator-back : (s : SystemLists) → IsSystem s → (a : Activator) → IsActivator s a → built_activator (redraft s) (activator_name s a) ≡ a
@@ -117,6 +124,18 @@ activator-back s rules (activator.Task j) there =
     let past : length s.sources ≤ length s.sources + j.0 = omega arith in
     let place : length s.sources + j.0 - length s.sources ≡ j.0 = omega arith in
     rw (place_of-task s rules j.0 there, sources-redraft s, le-ltb _ _ past, place) refl
+
+pub activators-back : (s : SystemLists) → IsSystem s → (many : List Activator) → All (IsActivator s) many → map (built_activator (redraft s)) (map (activator_name s) many) ≡ many
+activators-back s rules many there =
+    map-map (activator_name s) (built_activator (redraft s)) many
+    ∙ map_fixed (λ a. built_activator (redraft s) (activator_name s a)) many (λ k a less. activator-back s rules (get_or many k a) (there k a less))
+
+-- so different activators have different names
+pub names-differ : (s : SystemLists) → IsSystem s → (many : List Activator) → All (IsActivator s) many → AllPairs (λ a b. a ≢ b) many → Differ (map (activator_name s) many)
+names-differ s rules many there different =
+    pairs-map (λ first second. first ≢ second) (activator_name s) many
+    (λ i j a before less. λ same. different i j a before less
+    (sym (activator-back s rules (get_or many i a) (there i a (omega arith))) ∙ ap (built_activator (redraft s)) same ∙ activator-back s rules (get_or many j a) (there j a less)))
 
 -- and so does a task's name
 pub task-back : (s : SystemLists) → IsSystem s → (j : TaskId) → j.0 < length s.tasks → task_named (redraft s) (task_at s j.0).name ≡ j

@@ -1,20 +1,25 @@
 -- No reason applies to the redraft of a system.
-use Rattle.std.proofs.Common.{◌≡◌, ℕ, ◌+◌, ◌-◌, ◌<◌, Bool, true, false, not, ◌||◌, nat_le, List, [], ◌++◌, map, length, get_or, Some, None, is_none, refl, sym, ap, ◌∙◌, arith, length-append}
-use Rattle.std.specs.List.{list_all, range_with_len}
-use Rattle.std.proofs.lemmas.Bool.{lt-leb}
+use Rattle.std.proofs.Common.{◌≡◌, ℕ, ◌+◌, ◌-◌, ◌<◌, Bool, true, false, not, ◌||◌, nat_le, nat_lt, List, [], ◌++◌, map, length, get_or, None, is_none, refl, sym, ap, ◌∙◌, arith, length-append}
+use Rattle.std.specs.List.{list_all, list_any, range_with_len}
+use Rattle.std.specs.Str.{bytes_eq}
+use Rattle.std.proofs.lemmas.List.Folds.{map_fixed}
+use Rattle.std.proofs.lemmas.Bool.{lt-leb, le-ltb}
 use Rattle.std.proofs.lemmas.List.{length-map, get_or-map, get_or_append_left}
 use Rattle.std.proofs.lemmas.List.FromFn.{get_or-range_with_len, length-range_with_len}
 use Rattle.cpa_units.specs.Name.{is_name}
 use Rattle.cpa_units.specs.declared.places.TaskId.{TaskId}
-use Rattle.cpa_draft.specs.First.{first_known}
-use Rattle.cpa_draft.specs.Names.{source_names, resource_names, place_of, kind_of, link_of, is_nothing, is_task, is_after}
+use Rattle.cpa_draft.specs.First.{first_place, first_known}
+use Rattle.cpa_draft.specs.Names.{source_names, resource_names, place_of, kind_of, link_of, links_of, is_nothing, is_task, is_after}
 use Rattle.cpa_draft.specs.DraftLists.{task_at as draft_task_at, no_task as no_draft_task}
-use Rattle.cpa_draft.specs.Refusals.{resource_fits, source_fits, task_fits, path_fits, resource_misfits, task_misfits, is_crossed, is_linked}
+use Rattle.cpa_draft.specs.Refusals.{resource_fits, source_fits, task_fits, path_fits, resource_misfits, task_misfits, is_crossed, is_linked, is_misfed, has_double}
+use Rattle.cpa_draft.specs.Chains.{stream_count_within}
+use Rattle.cpa_draft.proofs.FirstLemmas.{all_unmarked}
+use Rattle.cpa_draft.proofs.Maps.{list_any-map}
 use Rattle.cpa_draft.specs.declared.draft.DraftResource.{DraftResource}
 use Rattle.cpa_draft.specs.declared.draft.DraftSource.{DraftSource}
 use Rattle.cpa_draft.specs.declared.draft.DraftTask.{DraftTask}
 use Rattle.cpa_draft.specs.declared.draft.DraftPath.{DraftPath}
-use Rattle.cpa_draft.proofs.ListLaws.{all-map, all-list_all, map-map}
+use Rattle.cpa_draft.proofs.ListLaws.{all-map, none-any, all-list_all, map-map}
 use Rattle.cpa_draft.proofs.NameLaws.{Differ, same-bytes, differ-new}
 use Rattle.cpa_draft.proofs.UnrefusedLaws.{IsUnrefused}
 use Rattle.cpa_model.specs.declared.entries.Source.{Source}
@@ -22,11 +27,13 @@ use Rattle.cpa_model.specs.declared.entries.Task.{Task}
 use Rattle.cpa_model.specs.declared.entries.Path.{Path}
 use Rattle.cpa_model.specs.declared.entries.Activator.{Activator}
 use Rattle.cpa_model.specs.declared.entries.Activator.TheVariants as activator
-use Rattle.cpa_model.specs.SystemLists.{SystemLists, resource_at, task_at}
+use Rattle.cpa_model.specs.SystemLists.{SystemLists, resource_at, task_at, streams_of, is_task as is_the_task, no_task}
+use Rattle.cpa_model.specs.Chains.{activators}
 use Rattle.cpa_model.specs.Rules.{IsSystem, IsTask, IsPath}
 use Rattle.cpa_model.specs.Redraft.{redraft_resource, redraft_source, redraft_task, redraft_path, activator_name, redraft}
-use Rattle.cpa_model.proofs.BuiltLaws.{link_from}
-use Rattle.cpa_model.proofs.RedraftNames.{place_of-resource, link_of-task, link_of-activator, task_at-redraft, kind_of-redraft}
+use Rattle.cpa_model.proofs.ActivatorLaws.{task-one}
+use Rattle.cpa_model.proofs.BuiltLaws.{link_from, any-more, streams-same}
+use Rattle.cpa_model.proofs.RedraftNames.{place_of-resource, link_of-task, link_of-activator, links_of-redraft, names-differ, tasks-redraft, task_at-redraft, kind_of-redraft}
 use Rattle.cpa_model.proofs.RedraftNumbers.{resource-fits, source-fits, task-fits, path-fits, resource-suits, task-suits, task-ordered}
 use Rattle.cpa_model.proofs.RedraftRanks.{ranks-own}
 use Rattle.cpa_model.proofs.RedraftChains.{chains-short, chains-sourced}
@@ -49,14 +56,18 @@ unfolding redraft
 source_names-redraft s = map-map redraft_source (λ (r : DraftSource). r.name) s.sources
 
 -- a link from an activator is something
-something : (a : Activator) → is_nothing (link_from (Some a)) ≡ false
+something : (a : Activator) → is_nothing (link_from a) ≡ false
 something (activator.Source k) = refl
 something (activator.Task j) = refl
 
--- the resource and the activator of a task are known
+-- the resource and the activators of a task are known
 task-knows : (s : SystemLists) → IsSystem s → (t : Task) → IsTask s t
-    → (is_none (place_of (resource_names (redraft s)) (resource_at s t.res.0).name) || is_nothing (link_of (redraft s) (activator_name s t.after))) ≡ false
-task-knows s rules t fits = rw (place_of-resource s rules t.res.0 fits.placed, link_of-activator s rules t.after fits.activated) (something t.after)
+    → (is_none (place_of (resource_names (redraft s)) (resource_at s t.res.0).name) || list_any (λ name. is_nothing (link_of (redraft s) name)) (map (activator_name s) t.after)) ≡ false
+task-knows s rules t fits =
+    rw (place_of-resource s rules t.res.0 fits.placed)
+    (none-any (λ name. is_nothing (link_of (redraft s) name)) (map (activator_name s) t.after)
+    (all-map (λ name. is_nothing (link_of (redraft s) name) ≡ false) (activator_name s) t.after
+    (λ k a less. ap is_nothing (link_of-activator s rules (get_or t.after k a) (fits.activated k a less)) ∙ something (get_or t.after k a))))
 
 -- the tasks of a path are known
 path-knows : (s : SystemLists) → IsSystem s → (p : Path) → IsPath s p → list_all (λ name. is_task (link_of (redraft s) name)) (redraft_path s p).tasks ≡ true
@@ -75,17 +86,24 @@ no_id = record { 0 = 0 }
 path-name : (s : SystemLists) (p : Path) (k : ℕ) → k < length p.tasks → get_or (redraft_path s p).tasks k [] ≡ (task_at s (get_or p.tasks k no_id).0).name
 path-name s p k less = get_or-map (λ (i : TaskId). (task_at s i.0).name) p.tasks k no_id [] less
 
--- each task of a path is activated by the one before it
+-- a task that is among activators is so by its name
+named-among : (s : SystemLists) (i : TaskId) (many : List Activator) → list_any (is_the_task i.0) many ≡ true → list_any (bytes_eq (task_at s i.0).name) (map (activator_name s) many) ≡ true
+named-among s i many h =
+    list_any-map (bytes_eq (task_at s i.0).name) (activator_name s) many
+    ∙ any-more (is_the_task i.0) (λ a. bytes_eq (task_at s i.0).name (activator_name s a)) many
+    (λ a is. ap (λ b. bytes_eq (task_at s i.0).name (activator_name s b)) (task-one i.0 a is) ∙ same-bytes (task_at s i.0).name) h
+
+-- each task of a path is among the activators of the next
 after-one : (s : SystemLists) → IsSystem s → (p : Path) → IsPath s p → (k : ℕ) → k + 1 < length p.tasks
     → is_after (redraft s) (get_or (redraft_path s p).tasks k []) (link_of (redraft s) (get_or (redraft_path s p).tasks (k + 1) [])) ≡ true
 unfolding no_id
 after-one s rules p path k less =
+    let i = get_or p.tasks k no_id in
     let j = get_or p.tasks (k + 1) no_id in
     let there : j.0 < length s.tasks = path.there (k + 1) no_id less in
-    let activated : (draft_task_at (redraft s) j.0).after ≡ (task_at s (get_or p.tasks k no_id).0).name =
-    ap (λ (t : DraftTask). t.after) (task_at-redraft s j.0 no_draft_task there) ∙ ap (activator_name s) (path.linked k less) in
-    rw (path-name s p k (omega arith), path-name s p (k + 1) less, link_of-task s rules j.0 there, activated)
-    (same-bytes (task_at s (get_or p.tasks k no_id).0).name)
+    let entry : (draft_task_at (redraft s) j.0).after ≡ map (activator_name s) (task_at s j.0).after = ap (λ (t : DraftTask). t.after) (task_at-redraft s j.0 no_draft_task there) in
+    rw (path-name s p k (omega arith), path-name s p (k + 1) less, link_of-task s rules j.0 there, entry)
+    (named-among s i (task_at s j.0).after (path.linked k less))
 
 -- so a path is linked
 path-linked : (s : SystemLists) → IsSystem s → (p : Path) → IsPath s p → is_linked (redraft s) (redraft_path s p).tasks ≡ true
@@ -118,6 +136,27 @@ path-suits s rules p path =
 task-suits-there : (s : SystemLists) → IsSystem s → (t : Task) → IsTask s t → task_misfits (kind_of (redraft s) (resource_at s t.res.0).name) (redraft_task s t) ≡ false
 task-suits-there s rules t fits = ap (λ o. task_misfits o (redraft_task s t)) (kind_of-redraft s rules t.res.0 fits.placed) ∙ task-suits s t fits
 
+-- reason 14 doesn't apply to a task
+names-single : (names : List (List ℕ)) → Differ names → has_double names ≡ false
+names-single names differ =
+    let same : map (λ name. name) names ≡ names = map_fixed (λ name. name) names (λ k d less. refl) in
+    rw (differ-new (λ name. name) [] names (rw same differ)) refl
+
+task-fed : (s : SystemLists) → IsSystem s → (i : ℕ) → i < length s.tasks → is_misfed (redraft s) i (redraft_task s (task_at s i)) ≡ false
+task-fed s rules i less =
+    let fits = rules.tasks i no_task less in
+    let some : nat_le (length (map (activator_name s) (task_at s i).after)) 0 ≡ false = lt-leb _ _ (rw (length-map (task_at s i).after (activator_name s)) fits.some) in
+    let single = names-single (map (activator_name s) (task_at s i).after) (names-differ s rules (task_at s i).after fits.activated fits.different) in
+    let count : stream_count_within (links_of (redraft s)) 32 i ≡ length (streams_of s i) =
+    ap (λ links. stream_count_within links 32 i) (links_of-redraft s rules) ∙ streams-same (activators s.tasks) 32 i in
+    let few : nat_lt 32 (stream_count_within (links_of (redraft s)) 32 i) ≡ false = rw count (le-ltb _ _ (rules.streams i less)) in
+    rw (some, single, few) refl
+
+all-fed : (s : SystemLists) → IsSystem s → first_place (is_misfed (redraft s)) (redraft s).tasks ≡ None
+all-fed s rules =
+    all_unmarked (is_misfed (redraft s)) (redraft s).tasks
+    (λ i t less. let there : i < length s.tasks = omega (arith, tasks-redraft s) in rw (task_at-redraft s i t there) (task-fed s rules i there))
+
 -- no reason applies
 pub redraft-unrefused : (s : SystemLists) → IsSystem s → IsUnrefused (redraft s)
 unfolding redraft
@@ -134,7 +173,7 @@ redraft-unrefused s rules = record {
   new_sources = entries-new (λ (r : DraftSource). r.name) redraft_source [] s.sources (differ-left (map (λ (r : Source). r.name) s.sources) _ rules.activity_names);
   new_tasks = entries-new (λ (t : DraftTask). t.name) (redraft_task s) (source_names (redraft s)) s.tasks (rw (source_names-redraft s) rules.activity_names);
   new_paths = entries-new (λ (p : DraftPath). p.name) (redraft_path s) [] s.paths rules.path_names;
-  tasks_know = all-map (λ (t : DraftTask). (is_none (place_of (resource_names (redraft s)) t.on) || is_nothing (link_of (redraft s) t.after)) ≡ false) (redraft_task s) s.tasks
+  tasks_know = all-map (λ (t : DraftTask). (is_none (place_of (resource_names (redraft s)) t.on) || list_any (λ name. is_nothing (link_of (redraft s) name)) t.after) ≡ false) (redraft_task s) s.tasks
       (λ k t less. task-knows s rules (get_or s.tasks k t) (rules.tasks k t less));
   paths_know = all-map (λ (p : DraftPath). list_all (λ name. is_task (link_of (redraft s) name)) p.tasks ≡ true) (redraft_path s) s.paths
       (λ k p less. path-knows s rules (get_or s.paths k p) (rules.paths k p less));
@@ -151,4 +190,5 @@ redraft-unrefused s rules = record {
   few_sources = rw (length-map s.sources redraft_source) rules.few_sources;
   few_tasks = rw (length-map s.tasks (redraft_task s)) rules.few_tasks;
   few_paths = rw (length-map s.paths (redraft_path s)) rules.few_paths;
+  fed = all-fed s rules;
 }

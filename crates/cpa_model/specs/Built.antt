@@ -22,6 +22,7 @@ use Rattle.cpa_model.specs.declared.entries.Kind.{Kind}
 use Rattle.cpa_model.specs.declared.entries.Kind.TheVariants as kind
 use Rattle.cpa_model.specs.declared.entries.Activator.{Activator}
 use Rattle.cpa_model.specs.declared.entries.Activator.TheVariants as activator
+use Rattle.cpa_model.specs.declared.activators.TheConstants.{MAX_ACTIVATORS}
 use Rattle.cpa_model.specs.declared.entries.Turn.{Turn}
 use Rattle.cpa_model.specs.declared.entries.Turn.TheVariants as turn
 
@@ -76,7 +77,7 @@ unfoldable pub built_task : DraftLists → DraftTask → Task
 built_task d t = record {
   name = t.name;
   res = record { 0 = resource_place d t.on };
-  after = built_activator d t.after;
+  after = map (built_activator d) t.after;
   best = least_execution t.payload (unwrap_or t.extended false) (bit_time d t.on) (nat_or 0 t.best);
   worst = greatest_execution t.payload (unwrap_or t.extended false) (bit_time d t.on) (nat_or 0 t.worst);
   turn = built_turn (by_priority (kind_of d t.on)) t;
@@ -101,7 +102,9 @@ has_executions t =
 -- places and numbers of a draft's tasks and paths that fit the types of a system's
 pub record TaskFitsTypes (d : DraftLists) (t : DraftTask) : Type 0 where
   pub place : resource_place d t.on < 2 ^ 32
-  pub activity : activity_place d t.after < 2 ^ 32
+  pub some : 0 < length t.after
+  pub few : length t.after ≤ MAX_ACTIVATORS
+  pub activities : All (λ name. activity_place d name < 2 ^ 32) t.after
   pub priority : nat_or 0 t.priority < 2 ^ 32
   pub payload : nat_or 0 t.payload ≤ MAX_PAYLOAD
   pub bit : bit_time d t.on ≤ MAX_BIT

@@ -50,7 +50,7 @@ activator_without i (activator.Source k) = activator.Source k
 activator_without i (activator.Task j) = activator.Task (id_without i j)
 
 abbrev pub task_without : ℕ → Task → Task
-task_without i t = record t { after = activator_without i t.after }
+task_without i t = record t { after = map (activator_without i) t.after }
 
 abbrev pub path_without : ℕ → Path → Path
 path_without i p = record p { tasks = map (id_without i) p.tasks }

@@ -4,5 +4,5 @@ pub mod Rules
 pub mod SystemLists
 pub mod Redraft
 pub mod Changes
-pub mod Rosters
+pub mod ResourceTasks
 pub mod Streams

@@ -59,7 +59,7 @@ abbrev pub redraft_task : SystemLists → Task → DraftTask
 redraft_task s t = record {
   name = t.name;
   on = (resource_at s t.res.0).name;
-  after = activator_name s t.after;
+  after = map (activator_name s) t.after;
   best = Some (pos t.best);
   worst = Some (pos t.worst);
   payload = None;

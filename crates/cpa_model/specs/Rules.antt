@@ -16,7 +16,8 @@ use Rattle.cpa_model.specs.declared.entries.Turn.TheVariants as turn
 use Rattle.cpa_model.specs.declared.entries.Activator.{Activator}
 use Rattle.cpa_model.specs.declared.entries.Activator.TheVariants as activator
 use Rattle.cpa_model.specs.Chains.{depth_within, activators}
-use Rattle.cpa_model.specs.SystemLists.{SystemLists, resource_at, task_at}
+use Rattle.cpa_model.specs.SystemLists.{SystemLists, resource_at, is_activated_by, streams_of}
+use Rattle.cpa_events.specs.declared.TheConstants.{MAX_STREAMS}
 
 -- the extra number of a kind is in its range
 abbrev pub KindFits : Kind → Type 0
@@ -50,16 +51,18 @@ TurnFits _ _ = ⊥
 
 pub record IsTask (s : SystemLists) (t : Task) : Type 0 where
   pub placed : t.res.0 < length s.resources
-  pub activated : IsActivator s t.after
+  pub some : 0 < length t.after
+  pub activated : All (IsActivator s) t.after
+  pub different : AllPairs (λ a b. a ≢ b) t.after
   pub some_best : 1 ≤ t.best
   pub ordered : t.best ≤ t.worst
   pub worst : t.worst ≤ MAX_EXECUTION
   pub turn_fits : TurnFits (resource_at s t.res.0).kind t.turn
 
--- each task of a path is activated by the one before it
+-- each task of a path is among the activators of the next
 abbrev pub IsLinked : SystemLists → List TaskId → Type 0
 IsLinked s ts = (k : ℕ) → k + 1 < length ts
-    → (task_at s (slice_index_or ts (k + 1) (record { 0 = 0 })).0).after ≡ activator.Task (slice_index_or ts k (record { 0 = 0 }))
+    → is_activated_by s (slice_index_or ts k (record { 0 = 0 })).0 (slice_index_or ts (k + 1) (record { 0 = 0 })).0 ≡ true
 
 pub record IsPath (s : SystemLists) (p : Path) : Type 0 where
   pub some : 0 < length p.tasks
@@ -90,6 +93,7 @@ pub record IsSystem (s : SystemLists) : Type 0 where
   pub tasks : All (IsTask s) s.tasks
   pub paths : All (IsPath s) s.paths
   pub chains : (i : ℕ) → i < length s.tasks → IsSome (depth_within (activators s.tasks) MAX_CHAIN i)
+  pub streams : (i : ℕ) → i < length s.tasks → length (streams_of s i) ≤ MAX_STREAMS
   pub resources_named : All (λ (r : Resource). is_name r.name ≡ true) s.resources
   pub sources_named : All (λ (r : Source). is_name r.name ≡ true) s.sources
   pub tasks_named : All (λ (t : Task). is_name t.name ≡ true) s.tasks

@@ -1,6 +1,6 @@
 -- A system: its resources, sources, tasks and paths, as in the system graphs of SymTA/S.
-use Rattle.std.specs.Prelude.{ℕ, ◌+◌, ◌==◌, ◌&&◌, nat_lt, not, max, Bool, List, [], filter, map, sum_by, fold, length, slice_index_or, None, Option, option_map, position, unwrap_or}
-use Rattle.std.specs.List.{range_with_len}
+use Rattle.std.specs.Prelude.{ℕ, ◌+◌, ◌==◌, ◌&&◌, nat_lt, not, max, Bool, false, List, [], filter, map, sum_by, fold, length, slice_index_or, None, Option, option_map, position, unwrap_or}
+use Rattle.std.specs.List.{range_with_len, list_any}
 use Rattle.std.specs.Str.{bytes_eq}
 use Rattle.cpa_units.specs.declared.limits.TheConstants.{MAX_CHAIN}
 use Rattle.cpa_units.specs.declared.places.ResId.{ResId}
@@ -15,6 +15,7 @@ use Rattle.cpa_model.specs.declared.entries.Kind.{Kind}
 use Rattle.cpa_model.specs.declared.entries.Kind.TheVariants as kind
 use Rattle.cpa_model.specs.declared.entries.Turn.{Turn}
 use Rattle.cpa_model.specs.declared.entries.Turn.TheVariants as turn
+use Rattle.cpa_model.specs.declared.entries.Activator.{Activator}
 use Rattle.cpa_model.specs.declared.entries.Activator.TheVariants as activator
 
 -- the four lists, in the order of the system file
@@ -32,7 +33,7 @@ abbrev pub no_source : Source
 no_source = record { name = []; period = 1; jitter = 0; distance = 0 }
 
 abbrev pub no_task : Task
-no_task = record { name = []; res = record { 0 = 0 }; after = activator.Source (record { 0 = 0 }); best = 0; worst = 0; turn = turn.Priority 0 }
+no_task = record { name = []; res = record { 0 = 0 }; after = []; best = 0; worst = 0; turn = turn.Priority 0 }
 
 abbrev pub no_path : Path
 no_path = record { name = []; tasks = []; deadline = None }
@@ -53,6 +54,10 @@ path_at s k = slice_index_or s.paths k no_path
 -- the places of all tasks
 abbrev pub task_places : SystemLists → List ℕ
 task_places s = range_with_len 0 (length s.tasks)
+
+-- the places of all sources
+abbrev pub source_places : SystemLists → List ℕ
+source_places s = range_with_len 0 (length s.sources)
 
 -- whether a task is on a resource
 abbrev pub is_on : SystemLists → ℕ → ℕ → Bool
@@ -114,11 +119,28 @@ gap_of _ = 0
 abbrev pub cycle_of : SystemLists → ℕ → ℕ
 cycle_of s r = sum_by (λ i. slot_of (task_at s i).turn) (tasks_on s r) + gap_of (resource_at s r).kind
 
--- the number of tasks in a task's chain up to and with itself
+-- whether an activator is source k, and whether it is task j
+abbrev pub is_source : ℕ → Activator → Bool
+is_source k (activator.Source source) = source.0 == k
+is_source k (activator.Task task) = false
+
+abbrev pub is_task : ℕ → Activator → Bool
+is_task j (activator.Source source) = false
+is_task j (activator.Task task) = task.0 == j
+
+-- whether source k is among the activators of task i
+abbrev pub is_fed_by : SystemLists → ℕ → ℕ → Bool
+is_fed_by s k i = list_any (is_source k) (task_at s i).after
+
+-- whether task j is among the activators of task i
+abbrev pub is_activated_by : SystemLists → ℕ → ℕ → Bool
+is_activated_by s j i = list_any (is_task j) (task_at s i).after
+
+-- the number of tasks in the longest chain up to and with a task
 abbrev pub depth_of : SystemLists → ℕ → ℕ
 depth_of s i = unwrap_or (depth_within (activators s.tasks) MAX_CHAIN i) 0
 
--- the sources of a task's streams: those whose events reach it along its chain
+-- the sources of a task's streams: those whose events reach it, once for each way on which they do, by the order of activators
 abbrev pub streams_of : SystemLists → ℕ → List SourceId
 streams_of s i = streams_within (activators s.tasks) MAX_CHAIN i
 

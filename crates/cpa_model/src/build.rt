@@ -12,14 +12,16 @@ ghost use Rattle.cpa_draft.specs.Names.{AreTables, kind_of};
 ghost use Rattle.cpa_draft.specs.Judged.{Judges};
 ghost use Rattle.cpa_draft.specs.Refusals.{by_priority, first_refusal};
 ghost use Rattle.cpa_draft.specs.declared.refusal.BuildFault.TheVariants.{Memory};
+ghost use Rattle.cpa_model.specs.declared.activators.TheConstants.{MAX_ACTIVATORS};
 ghost use Rattle.cpa_model.specs.declared.entries.Task.{Task};
-ghost use Rattle.cpa_model.specs.Rosters.{AreRosters};
-ghost use Rattle.cpa_model.specs.Built.{built_kind, built_resource, built_source, built_task, built_path, built_turn, built_activator, resource_place, activity_place, bit_time, task_named, least_execution, greatest_execution, has_executions, TaskFitsTypes, PathFitsTypes, system_of};
+ghost use Rattle.cpa_model.specs.ResourceTasks.{AreTasksByResource};
+ghost use Rattle.cpa_model.specs.Built.{built_kind, built_resource, built_source, built_task, built_path, built_turn, built_activator, activity_place, task_named, least_execution, greatest_execution, has_executions, TaskFitsTypes, PathFitsTypes, system_of};
 ghost use Rattle.cpa_model.specs.Redraft.{OwnDraftsAreAccepted, OwnDraftsStand};
 
+use crate::activators::Activators;
 use crate::entries::{Activator, Kind, Path, Resource, Source, Task, TaskList, Turn};
-use crate::rosters::{Roster, gather};
 use crate::system::System;
+use crate::task_lists::{ResourceTasks, gather};
 use cpa_draft::{
     BuildFault, Draft, DraftPath, DraftResource, DraftSource, DraftTask, KindWord, Raw, Tables,
     is_by_priority, judge, natural, natural_or,
@@ -80,13 +82,6 @@ fn build_source(alloc: Global, draft: &DraftSource) -> Result<Source, BuildFault
     })
 }
 
-fn resource_place(draft: &Draft, tables: &Tables, name: &[u8]) -> usize
-    requires { AreTables draft.now tables.now.resources tables.now.activities }
-    ensures { result ≡ resource_place draft.now name.now }
-{
-    tables.resource(draft, name).unwrap_or(0)
-}
-
 fn activity_place(draft: &Draft, tables: &Tables, name: &[u8]) -> usize
     requires { AreTables draft.now tables.now.resources tables.now.activities }
     ensures { result ≡ activity_place draft.now name.now }
@@ -108,12 +103,18 @@ fn build_activator(draft: &Draft, tables: &Tables, name: &[u8]) -> Activator
     }
 }
 
-/// The bit time of the resource with a name.
-fn bit_time(draft: &Draft, tables: &Tables, name: &[u8]) -> u64
-    requires { AreTables draft.now tables.now.resources tables.now.activities }
-    ensures { result ≡ bit_time draft.now name.now }
+fn build_activators(draft: &Draft, tables: &Tables, names: &[Raw]) -> Activators
+    requires tables { AreTables draft.now tables.now.resources tables.now.activities }
+    requires some { 0 < length names.now }
+    requires few { length names.now ≤ MAX_ACTIVATORS }
+    requires places { All (λ name. activity_place draft.now name < 2 ^ 32) names.now }
+    ensures { result ≡ map (built_activator draft.now) names.now }
 {
-    draft.bit_at(resource_place(draft, tables, name))
+    let mut built = Activators::one(build_activator(draft, tables, names[0].bytes()));
+    for k in 1..names.len() {
+        built.push(build_activator(draft, tables, names[k].bytes()));
+    }
+    built
 }
 
 /// The least and the greatest execution: that of a frame where there is a payload, else as given.
@@ -156,14 +157,16 @@ fn build_task(
     ensures err { IfErr result (λ e. e ≡ Memory) }
 {
     let name = build_name(alloc, &task.name)?;
-    let (best, worst) = build_executions(task, bit_time(draft, tables, task.on.bytes()));
+    let found = tables.resource(draft, task.on.bytes());
+    let place = found.unwrap_or(0);
+    let (best, worst) = build_executions(task, draft.bit_at(place));
     Ok(Task {
         name,
-        res: ResId(resource_place(draft, tables, task.on.bytes()) as u32),
-        after: build_activator(draft, tables, task.after.bytes()),
+        res: ResId(place as u32),
         best,
         worst,
-        turn: build_turn(is_by_priority(tables.kind(draft, task.on.bytes())), task),
+        turn: build_turn(is_by_priority(draft.kind_of(found)), task),
+        after: build_activators(draft, tables, task.after.names()),
     })
 }
 
@@ -288,25 +291,25 @@ fn build_paths(
 }
 
 /// The tasks of each resource.
-fn build_rosters(
+fn build_task_lists(
     alloc: Global,
     resources: &[Resource],
     tasks: &[Task],
-) -> Result<Vec<Roster>, BuildFault>
+) -> Result<Vec<ResourceTasks>, BuildFault>
     requires few { length tasks.now ≤ MAX_TASKS }
     requires placed { All (λ (t : Task). t.res.0 < length resources.now) tasks.now }
-    ensures ok { IfOk result (λ v. AreRosters (length resources.now) tasks.now (length tasks.now) v.items) }
+    ensures ok { IfOk result (λ v. AreTasksByResource (length resources.now) tasks.now (length tasks.now) v.items) }
     ensures err { IfErr result (λ e. e ≡ Memory) }
 {
     match gather(alloc, resources, tasks) {
-        Ok(rosters) => Ok(rosters),
+        Ok(task_lists) => Ok(task_lists),
         Err(NoMemory) => Err(BuildFault::Memory),
     }
 }
 
 impl System {
-    /// The system that a draft stands for. It is refused exactly where one of reasons 2 to 12 applies, with the first of
-    /// them and its first place.
+    /// The system that a draft stands for. It is refused exactly where one of reasons 2 to 12 and 14 applies, with
+    /// the first of them and its first place.
     pub fn build(alloc: Global, draft: Draft) -> Result<System, BuildFault>
         requires executions { All (λ t. has_executions t ≡ true) draft.tasks }
         ensures refused { Judges result (first_refusal draft) }
@@ -317,13 +320,13 @@ impl System {
         let sources = build_sources(alloc, draft.source_entries())?;
         let tasks = build_tasks(alloc, &draft, &tables, draft.task_entries())?;
         let paths = build_paths(alloc, &draft, &tables, draft.path_entries())?;
-        let rosters = build_rosters(alloc, resources.as_slice(), tasks.as_slice())?;
+        let task_lists = build_task_lists(alloc, resources.as_slice(), tasks.as_slice())?;
         Ok(System {
             resources,
             sources,
             tasks,
             paths,
-            rosters,
+            task_lists,
         })
     }
 }

@@ -5,8 +5,8 @@ ghost use Rattle.cpa_model.specs.Rules.{IsSystem};
 ghost use Rattle.cpa_model.specs.Changes.{with_exec, with_turn, with_swapped, with_source, with_task, without_task, id_without, activator_without, task_without, path_without};
 
 use crate::entries::{Activator, Path, Resource, Source, Task, TaskList, Turn};
-use crate::rosters::{copy_rosters, enrol, strike};
 use crate::system::System;
+use crate::task_lists::{copy_task_lists, list_task, take_out};
 use cpa_units::{Name, NoMemory, SourceId, TaskId};
 use std::alloc::Global;
 
@@ -37,10 +37,10 @@ fn copy_task(alloc: Global, task: &Task) -> Result<Task, NoMemory>
     Ok(Task {
         name: task.name.copy(alloc)?,
         res: task.res,
-        after: task.after,
         best: task.best,
         worst: task.worst,
         turn: task.turn,
+        after: task.after.duplicate(),
     })
 }
 
@@ -105,7 +105,8 @@ pub(crate) fn id_without(removed: TaskId, task: TaskId) -> TaskId
     }
 }
 
-fn activator_without(removed: TaskId, after: Activator) -> Activator
+/// What an activator is once a task is gone.
+pub(crate) fn activator_without(removed: TaskId, after: Activator) -> Activator
     ensures { result ≡ activator_without removed.0 after }
 {
     match after {
@@ -119,7 +120,7 @@ fn close_up_tasks(tasks: &mut [Task], removed: TaskId)
     ensures { tasks.new ≡ map (task_without removed.0) tasks.old }
 {
     for task in tasks.iter_mut() {
-        task.after = activator_without(removed, task.after);
+        task.after.close_up(removed);
     }
 }
 
@@ -141,13 +142,13 @@ impl System {
         let sources = copy_sources(alloc, self.sources.as_slice())?;
         let tasks = copy_tasks(alloc, self.tasks.as_slice())?;
         let paths = copy_paths(alloc, self.paths.as_slice())?;
-        let rosters = copy_rosters(alloc, self.rosters.as_slice())?;
+        let task_lists = copy_task_lists(alloc, self.task_lists.as_slice())?;
         Ok(System {
             resources,
             sources,
             tasks,
             paths,
-            rosters,
+            task_lists,
         })
     }
 
@@ -208,7 +209,7 @@ impl System {
     {
         let place = TaskId(self.tasks.len() as u32);
         self.tasks.reserve(1)?;
-        enrol(&mut self.rosters, task.res, place)?;
+        list_task(&mut self.task_lists, task.res, place)?;
         self.tasks.push(task)?;
         Ok(place)
     }
@@ -222,6 +223,6 @@ impl System {
         let _removed = self.tasks.remove(task.0 as usize);
         close_up_tasks(self.tasks.as_mut_slice(), task);
         close_up_paths(self.paths.as_mut_slice(), task);
-        strike(self.rosters.as_mut_slice(), task);
+        take_out(self.task_lists.as_mut_slice(), task);
     }
 }

@@ -9,6 +9,7 @@ ghost use Rattle.cpa_model.specs.Streams.{stream_of};
 ghost use Rattle.cpa_model.specs.Rules.{IsSource};
 ghost use Rattle.cpa_model.specs.Changes.{id_without};
 
+use crate::activators::Activators;
 use crate::changes::id_without;
 use cpa_events::Stream;
 use cpa_units::{Name, NoMemory, ResId, SourceId, TaskId};
@@ -65,7 +66,7 @@ impl Source {
     }
 }
 
-/// What starts the jobs of a task: each event of a source, or each completion of a task.
+/// What starts jobs of a task: each event of a source, or each completion of a task.
 #[derive(Clone, Copy, Debug, PartialEq, Eq)]
 pub enum Activator {
     Source(SourceId),
@@ -86,15 +87,16 @@ pub enum Turn {
 pub struct Task {
     pub name: Name,
     pub res: ResId,
-    pub after: Activator,
     /// The least execution, 1 to the greatest.
     pub best: u64,
     /// The greatest execution, at most 1,000,000.
     pub worst: u64,
     pub turn: Turn,
+    /// Any one of them starts a job.
+    pub after: Activators,
 }
 
-/// The tasks of a path, each of which activates the next.
+/// The tasks of a path, each of which is an activator of the next.
 #[derive(Debug, Drop)]
 pub struct TaskList {
     tasks: Vec<TaskId>,

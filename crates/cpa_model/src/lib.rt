@@ -3,13 +3,15 @@
 //! A system is made by `System::build` from a draft, and keeps all rules from then on.
 #![tactic(auto)]
 
+pub mod activators;
 pub mod build;
 mod chains;
 mod changes;
 pub mod entries;
-mod rosters;
 pub mod system;
+mod task_lists;
 
+pub use activators::{Activators, MAX_ACTIVATORS};
 pub use build::own_drafts_have_laws;
 pub use cpa_draft::{
     BuildFault, Draft, DraftPath, DraftResource, DraftSource, DraftTask, KindWord, Part, Raw,

@@ -6,7 +6,8 @@ ghost use Rattle.cpa_events.specs.declared.TheConstants.{MAX_STREAMS};
 
 use crate::chains::{chain_depth, chain_stream, chain_streams};
 use crate::entries::{Path, Resource, Source, Task, first_with_name, gap_of, slot_of};
-use crate::rosters::{Roster, gather};
+use crate::task_lists::{ResourceTasks, gather};
+use cpa_units::limits::MAX_CHAIN;
 use cpa_units::{NoMemory, PathId, ResId, SourceId, TaskId};
 use std::alloc::Global;
 use std::marker::Model;
@@ -18,20 +19,20 @@ pub struct System {
     pub(crate) sources: Vec<Source>,
     pub(crate) tasks: Vec<Task>,
     pub(crate) paths: Vec<Path>,
-    pub(crate) rosters: Vec<Roster>,
+    pub(crate) task_lists: Vec<ResourceTasks>,
 }
 
 impl Model for System {
     ghost use Rattle.cpa_model.specs.SystemLists.{SystemLists};
     ghost use Rattle.std.specs.Prelude.{length};
     ghost use Rattle.cpa_model.specs.Rules.{IsSystem};
-    ghost use Rattle.cpa_model.specs.Rosters.{AreRosters};
+    ghost use Rattle.cpa_model.specs.ResourceTasks.{AreTasksByResource};
 
     ghost Value = { SystemLists };
 
     ghost view = { λ s. record { resources = s.resources.items; sources = s.sources.items; tasks = s.tasks.items; paths = s.paths.items } };
 
-    ghost invariant = { λ s. IsSystem (record { resources = s.resources.items; sources = s.sources.items; tasks = s.tasks.items; paths = s.paths.items }) × AreRosters (length s.resources.items) s.tasks.items (length s.tasks.items) s.rosters.items };
+    ghost invariant = { λ s. IsSystem (record { resources = s.resources.items; sources = s.sources.items; tasks = s.tasks.items; paths = s.paths.items }) × AreTasksByResource (length s.resources.items) s.tasks.items (length s.tasks.items) s.task_lists.items };
 }
 
 impl System {
@@ -56,13 +57,13 @@ impl System {
         requires { IsSystem (record { resources = resources.items; sources = sources.items; tasks = tasks.items; paths = paths.items }) }
         ensures { IfOk result (λ s. s ≡ record { resources = resources.items; sources = sources.items; tasks = tasks.items; paths = paths.items }) }
     {
-        let rosters = gather(alloc, resources.as_slice(), tasks.as_slice())?;
+        let task_lists = gather(alloc, resources.as_slice(), tasks.as_slice())?;
         Ok(System {
             resources,
             sources,
             tasks,
             paths,
-            rosters,
+            task_lists,
         })
     }
 
@@ -137,7 +138,7 @@ impl System {
         ensures there { All (λ (t : TaskId). t.0 < length self.now.tasks) result.now }
         ensures rules { IsSystem self.now }
     {
-        self.rosters[res.0 as usize].tasks()
+        self.task_lists[res.0 as usize].tasks()
     }
 
     /// The resource with a name.
@@ -170,24 +171,27 @@ impl System {
         }
     }
 
-    /// The number of a task's streams: one for each source that reaches it along a chain.
+    /// The number of a task's streams: one for each chain from a source to it.
     pub fn streams(&self, task: TaskId) -> u32
         requires { task.0 < length self.now.tasks }
         ensures count { result ≡ length (streams_of self.now task.0) }
         ensures some { 1 ≤ result }
         ensures few { result ≤ MAX_STREAMS }
     {
-        chain_streams(self.tasks.as_slice(), task.0 as usize)
+        chain_streams(self.tasks.as_slice(), MAX_CHAIN as u32, task.0 as usize)
     }
 
-    /// The source of one of a task's streams.
+    /// The source of one of a task's streams, by the order of activators.
     pub fn stream(&self, task: TaskId, k: u32) -> SourceId
         requires task { task.0 < length self.now.tasks }
         requires stream { k < length (streams_of self.now task.0) }
         ensures source { result ≡ stream_at self.now task.0 k }
         ensures there { result.0 < length self.now.sources }
     {
-        chain_stream(self.tasks.as_slice(), task.0 as usize, k)
+        match chain_stream(self.tasks.as_slice(), MAX_CHAIN as u32, task.0 as usize, k) {
+            Ok(source) => source,
+            Err(_) => unreachable!(),
+        }
     }
 
     /// The source of a task's first stream.
@@ -196,15 +200,19 @@ impl System {
         ensures source { result ≡ root_of self.now task.0 }
         ensures there { result.0 < length self.now.sources }
     {
-        chain_stream(self.tasks.as_slice(), task.0 as usize, 0)
+        self.has_rules();
+        self.stream(task, 0)
     }
 
-    /// The number of tasks in a task's chain up to and with itself.
+    /// The number of tasks in a task's longest chain up to and with itself.
     pub fn depth(&self, task: TaskId) -> u32
         requires { task.0 < length self.now.tasks }
         ensures { result ≡ depth_of self.now task.0 }
     {
-        chain_depth(self.tasks.as_slice(), task.0 as usize)
+        match chain_depth(self.tasks.as_slice(), MAX_CHAIN as u32, task.0 as usize) {
+            None => 0,
+            Some(depth) => depth,
+        }
     }
 
     /// The slots of a resource's tasks and its gap, which are the cycle of a TDMA resource.

@@ -10,7 +10,7 @@ use Rattle.cpa_units.specs.Sets.{holds, Members}
 use Rattle.cpa_model.specs.SystemLists.{SystemLists, task_at, tasks_on, places_of, no_task}
 use Rattle.cpa_model.specs.Rules.{IsSystem, IsTask}
 use Rattle.cpa_model.proofs.SystemLaws.{no_id}
-use Rattle.cpa_model.proofs.RosterLaws.{on-each, on-found}
+use Rattle.cpa_model.proofs.ResourceTaskLaws.{on-each, on-found}
 use Rattle.cpa_session.specs.Spared.{place_before}
 use Rattle.cpa_session.specs.Carried.{carried, IsBegunAnew}
 use Rattle.cpa_session.proofs.CarriedLaws.{long-carried, carried-floor, carried-kept}

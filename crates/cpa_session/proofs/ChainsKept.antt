@@ -3,12 +3,13 @@ use Rattle.std.proofs.Common.{◌≡◌, ℕ, ◌<◌, length, Bool, true, List,
 use Rattle.std.proofs.lemmas.Bool.{cases_eq, cases_lt, false≢true}
 use Rattle.std.proofs.lemmas.List.{get_or-set_same, get_or-set_other, set_past, length-set}
 use Rattle.std.specs.Prelude.{slice_index_or}
+use Rattle.std.specs.List.{list_any}
 use Rattle.cpa_units.specs.declared.places.ResId.{ResId}
 use Rattle.cpa_model.specs.declared.entries.Task.{Task}
 use Rattle.cpa_model.specs.declared.entries.Turn.TheVariants as turn
-use Rattle.cpa_model.specs.SystemLists.{SystemLists, task_at, no_task}
+use Rattle.cpa_model.specs.SystemLists.{SystemLists, task_at, no_task, is_task}
 use Rattle.cpa_model.specs.Changes.{with_task_at, with_exec, with_turn, with_swapped, with_source, with_task, without_task}
-use Rattle.cpa_depend.specs.Cone.{LeadsTo, directly, through, Reads, itself, earlier, AreReads}
+use Rattle.cpa_depend.specs.Cone.{Activates, LeadsTo, directly, through, Reads, itself, earlier, AreReads}
 use Rattle.cpa_edit.specs.declared.edit.Edit.{Edit}
 use Rattle.cpa_edit.specs.declared.edit.Edit.TheVariants.{Exec, Priority, Swap, Slot, Source as SourceEdit, Add, Remove}
 use Rattle.cpa_edit.specs.Edited.{edited, change}
@@ -20,7 +21,7 @@ use Rattle.cpa_session.specs.Carried.{AreLong}
 use Rattle.cpa_session.specs.Editing.{keeps_chains}
 use Rattle.cpa_session.proofs.EditedLaws.{unrefused}
 
--- the same resources, and each task on its own and in its chain
+-- the same resources, and each task on its own and in its chains
 record IsInChains (s t : SystemLists) : Type 0 where
   resources : s.resources ≡ t.resources
   res : (i : ℕ) → (task_at s i).res ≡ (task_at t i).res
@@ -29,9 +30,12 @@ record IsInChains (s t : SystemLists) : Type 0 where
 in_chains-back : (s t : SystemLists) → IsInChains s t → IsInChains t s
 in_chains-back s t h = record { resources = sym h.resources; res = λ i. sym (h.res i); after = λ i. sym (h.after i) }
 
+activates-kept : (s t : SystemLists) → IsInChains s t → (j i : ℕ) → Activates s j i → Activates t j i
+activates-kept s t h j i on = ap (list_any (is_task j)) (sym (h.after i)) ∙ on
+
 leads-kept : (s t : SystemLists) → IsInChains s t → {j i : ℕ} → LeadsTo s j i → LeadsTo t j i
-leads-kept s t h {j} {i} (directly a) = directly (sym (h.after i) ∙ a)
-leads-kept s t h {j} {i} (through l a) = through (leads-kept s t h l) (sym (h.after i) ∙ a)
+leads-kept s t h {j} {i} (directly a) = directly (activates-kept s t h j i a)
+leads-kept s t h {j} {i} (through {k = k} l a) = through (leads-kept s t h l) (activates-kept s t h k i a)
 
 reads-kept : (s t : SystemLists) → IsInChains s t → (r q : ℕ) → Reads s r q → Reads t r q
 reads-kept s t h r q (itself) = itself

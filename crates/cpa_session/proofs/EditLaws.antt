@@ -1,12 +1,11 @@
 -- What each edit spares, and which can only raise bounds.
-use Rattle.std.proofs.Common.{◌≡◌, ℕ, zero, suc, ◌+◌, ◌-◌, ◌<◌, ◌≤◌, ◌&&◌, ◌==◌, nat_lt, length, Bool, true, false, List, [], ◌∷◌, ◌++◌, map, set, Some, None, refl, sym, ap, ◌∙◌, inl, inr, slice_index_or, arith, get_or-set_same, get_or-set_other}
+use Rattle.std.proofs.Common.{◌≡◌, ℕ, zero, suc, ◌+◌, ◌-◌, ◌<◌, ◌≤◌, ◌&&◌, nat_lt, length, Bool, true, false, List, [], ◌∷◌, ◌++◌, map, set, Some, None, refl, sym, ap, ◌∙◌, inl, inr, slice_index_or, arith, get_or-set_same, get_or-set_other}
 use Rattle.std.specs.Prelude.{filter, if◌then◌else◌}
-use Rattle.std.specs.List.{range_with_len, remove, list_any}
-use Rattle.std.proofs.lemmas.Bool.{cases_Bool, cases_lt, cases_eq, false≢true, lt-ltb, le-ltb, eq-eqb, and_from}
+use Rattle.std.specs.List.{AllZip, range_with_len, remove, list_any}
+use Rattle.std.proofs.lemmas.Bool.{cases_Bool, cases_lt, cases_eq, false≢true, lt-ltb, le-ltb, eq-eqb, eqb-false, and_from}
 use Rattle.std.proofs.lemmas.List.{length-set, set_past, map-id, get_or_append_left, length_push, get_or_push, get_or-map, length-map, append-nil}
 use Rattle.std.proofs.lemmas.List.Elements.{filter-append}
 use Rattle.std.proofs.lemmas.List.Edits.{length-remove, get_or-remove_below, get_or-remove_above}
-use Rattle.std.proofs.lemmas.List.Folds.{list_any_at}
 use Rattle.cpa_units.specs.Sets.{holds, Members}
 use Rattle.cpa_units.specs.declared.places.TaskId.{TaskId}
 use Rattle.cpa_units.proofs.PlaceLaws.{places, places-more}
@@ -17,14 +16,15 @@ use Rattle.cpa_model.specs.declared.entries.Source.{Source}
 use Rattle.cpa_model.specs.declared.entries.Task.{Task}
 use Rattle.cpa_model.specs.declared.entries.Activator.{Activator}
 use Rattle.cpa_model.specs.declared.entries.Activator.TheVariants.{Source as FromSource, Task as FromTask}
-use Rattle.cpa_model.specs.SystemLists.{SystemLists, task_at, source_at, no_task, no_source}
+use Rattle.cpa_model.specs.SystemLists.{SystemLists, task_at, source_at, task_places, tasks_on, is_on, is_source, is_task, is_fed_by, is_activated_by, no_task, no_source}
 use Rattle.cpa_model.specs.Streams.{model_of}
 use Rattle.cpa_model.specs.Changes.{with_task_at, with_source, with_task, without_task, place_without, activator_without, task_without}
-use Rattle.cpa_edit.specs.Edited.{is_fed_by}
+use Rattle.cpa_edit.proofs.AnyLaws.{any-filter, place-any}
 use Rattle.cpa_local.specs.Raising.{IsDenserActivator, IsRaising}
 use Rattle.cpa_local.proofs.PassingPlaces.{filter-agree}
-use Rattle.cpa_local.proofs.RaisingChanges.{raised-same}
+use Rattle.cpa_local.proofs.RaisingChanges.{each-itself, raised-same}
 use Rattle.cpa_session.specs.Spared.{place_before, IsSameActivator, IsSpared}
+use Rattle.cpa_session.proofs.SideBySide.{beside_none, beside_made}
 
 -- ---- lists of places
 
@@ -105,11 +105,15 @@ pub record IsInPlace (s t : SystemLists) (touched : List Bool) : Type 0 where
 
 -- what activates an untouched task sends the same
 abbrev pub SendSame : SystemLists → SystemLists → List Bool → Type 0
-SendSame s t touched = (i : ℕ) → i < length t.tasks → holds touched (task_at t i).res.0 ≡ false → IsSameActivator s t (place_before None) (task_at t i).after (task_at t i).after
+SendSame s t touched = (i : ℕ) → i < length t.tasks → holds touched (task_at t i).res.0 ≡ false
+    → AllZip (IsSameActivator s t (place_before None)) (task_at t i).after (task_at t i).after
 
-pub same-sources : (s t : SystemLists) (a : Activator) → s.sources ≡ t.sources → IsSameActivator s t (place_before None) a a
-same-sources s t (FromSource k) e = ap (λ (sources : List Source). model_of (slice_index_or sources k.0 no_source)) e
-same-sources s t (FromTask j) e = refl
+same-source : (s t : SystemLists) → s.sources ≡ t.sources → (a : Activator) → IsSameActivator s t (place_before None) a a
+same-source s t e (FromSource k) = ap (λ (sources : List Source). model_of (slice_index_or sources k.0 no_source)) e
+same-source s t e (FromTask j) = refl
+
+pub same-sources : (s t : SystemLists) (them : List Activator) → s.sources ≡ t.sources → AllZip (IsSameActivator s t (place_before None)) them them
+same-sources s t them e = each-itself (IsSameActivator s t (place_before None)) (same-source s t e) them
 
 pub spared-in_place : (s t : SystemLists) (touched : List Bool) → IsInPlace s t touched → SendSame s t touched → IsSpared s t touched (place_before None)
 spared-in_place s t touched h sent =
@@ -176,24 +180,28 @@ unfolding with_source
 in_place-source s k period jitter distance touched =
     record { resources = refl; count = refl; res = λ i. refl; same = λ i off. refl }
 
-module _ (s : SystemLists) (k period jitter distance : ℕ) (touched : List Bool) (feeds : (r : ℕ) → holds touched r ≡ list_any (λ (u : Task). is_fed_by k u.after && r == u.res.0) s.tasks) where
-  by_other : (i : ℕ) (a : Activator) → i < length s.tasks → (task_at s i).after ≡ a → holds touched (task_at s i).res.0 ≡ false → IsSameActivator s (with_source s k period jitter distance) (place_before None) a a
+module _ (s : SystemLists) (k period jitter distance : ℕ) (touched : List Bool) (feeds : (r : ℕ) → holds touched r ≡ list_any (is_fed_by s k) (tasks_on s r)) where
+  -- a task that the source feeds is on a resource that is touched
+  fed-touched : (i : ℕ) → i < length s.tasks → is_fed_by s k i ≡ true → Members touched (task_at s i).res.0
+  fed-touched i less fed =
+      let r = (task_at s i).res.0 in
+      feeds (task_at s i).res.0 ∙ any-filter (is_fed_by s k) (is_on s (task_at s i).res.0) (task_places s)
+      ∙ sym (place-any (λ j. is_on s (task_at s i).res.0 j && is_fed_by s k j) (length s.tasks) i less
+      (and_from (is_on s (task_at s i).res.0 i) (is_fed_by s k i) (eq-eqb (task_at s i).res.0 (task_at s i).res.0 refl) fed))
+
+  by_other : (a : Activator) → is_source k a ≡ false → IsSameActivator s (with_source s k period jitter distance) (place_before None) a a
   unfolding with_source
-  by_other i (FromTask j) less e off = refl
-  by_other i (FromSource m) less e off =
-      elim (cases_eq m.0 k) [
-        | inl same ↦
-            let fed : is_fed_by k (task_at s i).after ≡ true = rw e (eq-eqb m.0 k same) in
-            let on : list_any (λ (u : Task). is_fed_by k u.after && (task_at s i).res.0 == u.res.0) s.tasks ≡ true =
-            list_any_at (λ (u : Task). is_fed_by k u.after && (task_at s i).res.0 == u.res.0) s.tasks i no_task less
-            (and_from (is_fed_by k (task_at s i).after) ((task_at s i).res.0 == (task_at s i).res.0) fed (eq-eqb (task_at s i).res.0 (task_at s i).res.0 refl)) in
-            absurd (false≢true (sym off ∙ (feeds (task_at s i).res.0 ∙ on)))
-        | inr other ↦ ap model_of (sym (get_or-set_other s.sources k m.0 (record (source_at s k) { period = period; jitter = jitter; distance = distance }) no_source other))
-      ]
+  by_other (FromTask j) other = refl
+  by_other (FromSource m) other =
+      ap model_of (sym (get_or-set_other s.sources k m.0 (record (source_at s k) { period = period; jitter = jitter; distance = distance }) no_source (eqb-false m.0 k other)))
 
   pub sent-source : SendSame s (with_source s k period jitter distance) touched
   unfolding with_source
-  sent-source i less off = by_other i (task_at s i).after less refl off
+  sent-source i less off =
+      elim (cases_Bool (is_fed_by s k i)) [
+        | inl fed ↦ absurd (false≢true (sym off ∙ fed-touched i less fed))
+        | inr free ↦ beside_none (IsSameActivator s (with_source s k period jitter distance) (place_before None)) (is_source k) (task_at s i).after free by_other
+      ]
 
 -- ---- a task more
 
@@ -270,7 +278,7 @@ place-back gone j other =
     ]
 
 module _ (s : SystemLists) (gone : TaskId) (touched : List Bool) (there : gone.0 < length s.tasks) (on : Members touched (task_at s gone.0).res.0)
-    (free : (i : ℕ) (j : TaskId) → i < length s.tasks → (task_at s i).after ≡ FromTask j → j.0 ≡ gone.0 → ⊥) where
+    (free : (i : ℕ) → i < length s.tasks → is_activated_by s gone.0 i ≡ false) where
   abbrev t : SystemLists
   t = without_task s gone.0
 
@@ -306,9 +314,12 @@ module _ (s : SystemLists) (gone : TaskId) (touched : List Bool) (there : gone.0
   unfolding without_task
   resources-without = refl
 
-  moved : (i : ℕ) (a : Activator) → i < length s.tasks → (task_at s i).after ≡ a → IsSameActivator s t (place_before (Some gone)) a (activator_without gone.0 a)
-  moved i (FromSource k) less e = ap (λ (sources : List Source). model_of (slice_index_or sources k.0 no_source)) sources-without
-  moved i (FromTask j) less e = place-back gone.0 j.0 (free i j less e)
+  moved-one : (a : Activator) → is_task gone.0 a ≡ false → IsSameActivator s t (place_before (Some gone)) a (activator_without gone.0 a)
+  moved-one (FromSource k) other = ap (λ (sources : List Source). model_of (slice_index_or sources k.0 no_source)) sources-without
+  moved-one (FromTask j) other = place-back gone.0 j.0 (eqb-false j.0 gone.0 other)
+
+  moved : (i : ℕ) → i < length s.tasks → AllZip (IsSameActivator s t (place_before (Some gone))) (task_at s i).after (map (activator_without gone.0) (task_at s i).after)
+  moved i less = beside_made (IsSameActivator s t (place_before (Some gone))) (is_task gone.0) (activator_without gone.0) (task_at s i).after (free i less) moved-one
 
   res-kept : (i : ℕ) → i < length t.tasks → (task_at t i).res.0 ≡ (task_at s (skip gone.0 i)).res.0
   res-kept i less = ap (λ (v : Task). v.res.0) (kept-at i less)
@@ -324,7 +335,7 @@ module _ (s : SystemLists) (gone : TaskId) (touched : List Bool) (there : gone.0
             record {
               there = before;
               res = sym (res-kept i less);
-              after = rw it (moved (skip gone.0 i) (task_at s (skip gone.0 i)).after before refl);
+              after = rw it (moved (skip gone.0 i) before);
               best = sym (ap (λ (v : Task). v.best) it);
               worst = sym (ap (λ (v : Task). v.worst) it);
               turn = sym (ap (λ (v : Task). v.turn) it);
@@ -351,7 +362,7 @@ raising-source s k period jitter distance shorter wider closer =
     record {
       resources = refl;
       more = omega arith;
-      tasks = λ i less. record { res = refl; after = by (task_at s i).after; best = omega arith; worst = omega arith; turn = refl };
+      tasks = λ i less. record { res = refl; after = each-itself (IsDenserActivator s (record s { sources = set s.sources k given })) by (task_at s i).after; best = omega arith; worst = omega arith; turn = refl };
     }
   where
     given : Source

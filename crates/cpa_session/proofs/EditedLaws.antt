@@ -1,10 +1,11 @@
 -- An edit that isn't refused spares what it doesn't touch, and touches resources that are there.
-use Rattle.std.proofs.Common.{◌≡◌, ℕ, ◌<◌, ◌&&◌, ◌==◌, ◌↔◌, nat_le, length, Bool, true, false, List, [], ◌∷◌, Option, Some, None, Result, Ok, Err, refl, sym, ap, ◌∙◌, inl, inr, subst, slice_index_or, option_map, unwrap_or, arith}
+use Rattle.std.proofs.Common.{◌≡◌, ℕ, ◌<◌, ◌&&◌, ◌==◌, ◌↔◌, nat_le, length, Bool, true, false, List, [], ◌∷◌, Option, Some, None, Result, Ok, Err, refl, sym, ap, ◌∙◌, inl, inr, subst, option_map, unwrap_or, zero-add, arith}
 use Rattle.std.specs.Prelude.{is_none, position}
 use Rattle.std.specs.Str.{bytes_eq}
 use Rattle.std.specs.List.{list_any}
 use Rattle.std.proofs.lemmas.Bool.{cases_Bool, false≢true, leb-true, eq-eqb, eqb-true, and_parts, or_parts, or_cases, or_left, or_right}
-use Rattle.std.proofs.lemmas.List.Folds.{list_any_at, Any-from_list_any}
+use Rattle.std.proofs.lemmas.List.Folds.{Any-from_list_any}
+use Rattle.std.proofs.lemmas.List.FromFn.{length-range_with_len, get_or-range_with_len}
 use Rattle.std.proofs.lemmas.List.Quantifiers.{position-Some}
 use Rattle.cpa_units.specs.Sets.{holds, Members}
 use Rattle.cpa_units.specs.declared.places.ResId.{ResId}
@@ -14,8 +15,7 @@ use Rattle.cpa_model.specs.declared.entries.Resource.{Resource}
 use Rattle.cpa_model.specs.declared.entries.Path.{Path}
 use Rattle.cpa_model.specs.declared.entries.Task.{Task}
 use Rattle.cpa_model.specs.declared.entries.Turn.TheVariants as turn
-use Rattle.cpa_model.specs.declared.entries.Activator.TheVariants.{Task as FromTask}
-use Rattle.cpa_model.specs.SystemLists.{SystemLists, task_at, source_at, resource_named, source_named, task_named, no_task, no_resource}
+use Rattle.cpa_model.specs.SystemLists.{SystemLists, task_at, source_at, task_places, is_on, is_fed_by, is_activated_by, resource_named, source_named, task_named, no_task, no_resource}
 use Rattle.cpa_model.specs.Rules.{IsSystem, IsTask}
 use Rattle.cpa_edit.specs.declared.edit.Edit.{Edit}
 use Rattle.cpa_edit.specs.declared.edit.Edit.TheVariants.{Exec, Priority, Swap, Slot, Source as SourceEdit, Add, Remove}
@@ -23,9 +23,10 @@ use Rattle.cpa_edit.specs.declared.edit.EditRefusal.{EditRefusal}
 use Rattle.cpa_edit.specs.declared.edit.EditFault.{EditFault}
 use Rattle.cpa_edit.specs.declared.edit.EditFault.TheVariants.{Refused}
 use Rattle.cpa_edit.specs.Named.{resource_place, source_place, task_place, resource_of_task}
-use Rattle.cpa_edit.specs.Refused.{names_nothing, misfits, out_of_range, takes_priority, is_crossed, leaves_gap, is_known, is_full, chain_too_long, is_needed, is_after}
+use Rattle.cpa_edit.specs.Refused.{names_nothing, misfits, out_of_range, takes_priority, is_crossed, leaves_gap, is_known, is_full, chain_too_long, is_needed}
 use Rattle.cpa_model.specs.Changes.{with_task_at, with_exec, with_turn, with_swapped, with_source, without_task}
-use Rattle.cpa_edit.specs.Edited.{added_task, change, refusal, edit_result, first_broken, edited, touches, is_fed_by}
+use Rattle.cpa_edit.specs.Edited.{added_task, change, refusal, edit_result, first_broken, edited, touches}
+use Rattle.cpa_edit.proofs.AnyLaws.{any-filter, none-place}
 use Rattle.cpa_local.specs.Raising.{IsRaising}
 use Rattle.cpa_session.specs.Spared.{place_before, IsSpared}
 use Rattle.cpa_session.specs.Editing.{widens, gets_denser, raises, gone_by}
@@ -123,10 +124,14 @@ touches-there s t (Swap first second) r rules ok on =
       | inr at_first ↦ same-place r (resource_of_task s first) s at_first (named-on s first rules both.0)
     ]
 touches-there s t (SourceEdit name period jitter distance) r rules ok on =
-    let any = Any-from_list_any (λ (u : Task). is_fed_by (source_place s name) u.after && r == u.res.0) s.tasks on in
-    let entry : IsTask s (slice_index_or s.tasks any.0 any.1) = rules.tasks any.0 any.1 any.2 in
-    let there : any.1.res.0 < length s.resources = subst (λ (u : Task). u.res.0 < length s.resources) any.3 entry.placed in
-    same-place r any.1.res.0 s (and_parts (is_fed_by (source_place s name) any.1.after) (r == any.1.res.0) any.4).1 there
+    let fed : list_any (λ j. is_on s r j && is_fed_by s (source_place s name) j) (task_places s) ≡ true = sym (any-filter (is_fed_by s (source_place s name)) (is_on s r) (task_places s)) ∙ on in
+    let any = Any-from_list_any (λ j. is_on s r j && is_fed_by s (source_place s name) j) (task_places s) fed in
+    let less : any.0 < length s.tasks = rw length-range_with_len at any.2 in
+    let place : any.0 ≡ any.1 = sym (get_or-range_with_len 0 (length s.tasks) any.0 any.1 less ∙ zero-add any.0) ∙ any.3 in
+    let there : any.1 < length s.tasks = omega arith in
+    let entry : IsTask s (task_at s any.1) = rules.tasks any.1 no_task there in
+    let here : (task_at s any.1).res.0 ≡ r = eqb-true (task_at s any.1).res.0 r (and_parts (is_on s r any.1) (is_fed_by s (source_place s name) any.1) any.4).0 in
+    subst (λ (q : ℕ). q < length s.resources) here entry.placed
 touches-there s t (Add name res after best worst number) r rules ok on =
     let both = or_parts _ _ (names-there s t (Add name res after best worst number) ok) in
     let it = is_none-false (resource_named s res) both.0 in
@@ -151,11 +156,10 @@ spared-swapped s touched i j on_i on_j =
     spared-in_place s (with_task_at m j v) touched (in_place-trans s m (with_task_at m j v) touched first second) (λ k less off. same-sources s (with_task_at m j v) (task_at (with_task_at m j v) k).after refl)
 
 -- nothing is activated by a task that isn't needed
-needs-none : (s : SystemLists) (gone : TaskId) → is_needed s gone.0 ≡ false → (i : ℕ) (j : TaskId) → i < length s.tasks → (task_at s i).after ≡ FromTask j → j.0 ≡ gone.0 → ⊥
-needs-none s gone off i j less e same =
-    let parts = or_parts (list_any (λ (u : Task). is_after gone.0 u.after) s.tasks) (list_any (λ (p : Path). list_any (λ (j : TaskId). j.0 == gone.0) p.tasks) s.paths) off in
-    let here : is_after gone.0 (task_at s i).after ≡ true = rw e (eq-eqb j.0 gone.0 same) in
-    false≢true (sym parts.0 ∙ list_any_at (λ (u : Task). is_after gone.0 u.after) s.tasks i no_task less here)
+needs-none : (s : SystemLists) (gone : TaskId) → is_needed s gone.0 ≡ false → (i : ℕ) → i < length s.tasks → is_activated_by s gone.0 i ≡ false
+needs-none s gone off i less =
+    let parts = or_parts (list_any (is_activated_by s gone.0) (task_places s)) (list_any (λ (p : Path). list_any (λ (j : TaskId). j.0 == gone.0) p.tasks) s.paths) off in
+    none-place (is_activated_by s gone.0) (length s.tasks) i parts.0 less
 
 pub edit-spares : (s t : SystemLists) (e : Edit) (touched : List Bool) → IsSystem s → edited s e ≡ Ok t → ((r : ℕ) → holds touched r ≡ touches s e r) → IsSpared s t touched (place_before (gone_by s e))
 unfolding change touches names_nothing leaves_gap with_exec with_turn with_swapped

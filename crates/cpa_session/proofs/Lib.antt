@@ -6,4 +6,5 @@ pub mod EditedLaws
 pub mod KeepingLaws
 pub mod LeastLaws
 pub mod SearchLaws
+pub mod SideBySide
 pub mod SparedLaws

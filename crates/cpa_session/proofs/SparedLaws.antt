@@ -1,10 +1,9 @@
 -- What can't be reached by an edit keeps its bounds: each task there asks what it asked before.
-use Rattle.std.proofs.Common.{◌≡◌, ℕ, zero, suc, ◌<◌, ◌==◌, length, Bool, true, false, List, map, Option, Some, None, refl, sym, ap, ◌∙◌, inl, inr, subst, slice_index_or, arith}
+use Rattle.std.proofs.Common.{◌≡◌, ℕ, zero, suc, ◌<◌, ◌==◌, length, Bool, true, false, List, [], ◌∷◌, map, Option, Some, None, refl, sym, ap, ◌∙◌, inl, inr, slice_index_or, arith}
 use Rattle.std.specs.Prelude.{filter}
-use Rattle.std.specs.List.{sum_by}
-use Rattle.std.proofs.lemmas.Bool.{cases_Bool, false≢true, and_parts, and_left, eqb-true, ne_eqb, eq-eqb, cases_eq}
+use Rattle.std.specs.List.{AllZip, list_any, sum_by}
+use Rattle.std.proofs.lemmas.Bool.{cases_Bool, false≢true, and_parts, and_left, or_cases, or_left, or_right, eqb-true, ne_eqb, eq-eqb, cases_eq}
 use Rattle.cpa_units.specs.Sets.{holds, Members}
-use Rattle.cpa_units.specs.declared.places.TaskId.{TaskId}
 use Rattle.cpa_units.specs.declared.bound.Bound.{Bound}
 use Rattle.cpa_units.specs.declared.limits.TheConstants.{MAX_CHAIN}
 use Rattle.cpa_units.specs.Bounds.{bound_of}
@@ -14,9 +13,10 @@ use Rattle.cpa_model.specs.declared.entries.Kind.{Kind}
 use Rattle.cpa_model.specs.declared.entries.Kind.TheVariants.{Preemptive, RoundRobin, Tdma, Can}
 use Rattle.cpa_model.specs.declared.entries.Activator.{Activator}
 use Rattle.cpa_model.specs.declared.entries.Activator.TheVariants.{Source as FromSource, Task as FromTask}
-use Rattle.cpa_model.specs.SystemLists.{SystemLists, task_at, resource_at, resource_of, task_places, slot_of, gap_of, is_higher, is_other, higher_tasks, other_tasks, blocking_of, cycle_of, no_task, no_resource}
-use Rattle.cpa_model.specs.Rules.{IsSystem, IsTask, IsActivator}
-use Rattle.cpa_local.specs.Inputs.{sent_by, input_along, input}
+use Rattle.cpa_model.specs.SystemLists.{SystemLists, task_at, resource_at, resource_of, task_places, slot_of, gap_of, is_higher, is_other, higher_tasks, other_tasks, blocking_of, cycle_of, is_task, no_resource}
+use Rattle.cpa_model.specs.Rules.{IsSystem}
+use Rattle.cpa_model.proofs.SystemLaws.{activated-there}
+use Rattle.cpa_local.specs.Inputs.{sent_by, joined, sent_by_all, input_along, input}
 use Rattle.cpa_local.specs.Local.{rival_of, bound_by_kind, bound_at_input, response}
 use Rattle.cpa_depend.specs.Cone.{Activates, LeadsTo, directly, through, Reads, earlier, IsClosedUnder}
 use Rattle.cpa_session.specs.Spared.{IsSameActivator, IsSameTask, AreSameTests, IsSpared, AgreeApart}
@@ -49,25 +49,31 @@ module _ (s t : SystemLists) (touched reached : List Bool) (was : ℕ → ℕ) (
   pub same_task : (i : ℕ) → i < length t.tasks → holds reached (task_at t i).res.0 ≡ false → IsSameTask s t was i
   same_task i less off = h.spared.same i less (untouched (task_at t i).res.0 off)
 
-  before_task : (k : ℕ) (a b : Activator) → b ≡ FromTask (record { 0 = k }) → IsSameActivator s t was a b → a ≡ FromTask (record { 0 = was k })
-  before_task k (FromSource m) (FromSource n) e same = absurd (let f : ⊥ = cc in f)
-  before_task k (FromSource m) (FromTask n) e same = absurd same
-  before_task k (FromTask m) (FromSource n) e same = absurd same
-  before_task k (FromTask m) (FromTask n) e same =
-      let at : n ≡ record { 0 = k } = cc in
-      let at_k : n.0 ≡ k = ap (λ (id : TaskId). id.0) at in
-      let was_k : m.0 ≡ was k = same ∙ ap was at_k in
-      ap (λ (place : ℕ). FromTask (record { 0 = place })) was_k
+  before_one : (k : ℕ) (a b : Activator) → IsSameActivator s t was a b → is_task k b ≡ true → is_task (was k) a ≡ true
+  before_one k (FromSource m) (FromSource n) same on = absurd (false≢true on)
+  before_one k (FromSource m) (FromTask n) same on = absurd same
+  before_one k (FromTask m) (FromSource n) same on = absurd same
+  before_one k (FromTask m) (FromTask n) same on = eq-eqb m.0 (was k) (same ∙ ap was (eqb-true n.0 k on))
+
+  -- a task among some activators was among those that stood there before
+  before_task : (k : ℕ) (old new : List Activator) → AllZip (IsSameActivator s t was) old new → list_any (is_task k) new ≡ true → list_any (is_task (was k)) old ≡ true
+  before_task k [] [] same on = on
+  before_task k [] (b ∷ new) same on = absurd same
+  before_task k (a ∷ old) [] same on = absurd same
+  before_task k (a ∷ old) (b ∷ new) same on =
+      elim (or_cases (is_task k b) (list_any (is_task k) new) on) [
+        | inl here ↦ or_left (is_task (was k) a) (list_any (is_task (was k)) old) (before_one k a b same.0 here)
+        | inr later ↦ or_right (is_task (was k) a) (list_any (is_task (was k)) old) (before_task k old new same.1 later)
+      ]
 
   -- what activates a task that can't be reached can't be reached either, and activated it before
   activated_before : (j i : ℕ) → Activates t j i → i < length t.tasks → holds reached (task_at t i).res.0 ≡ false
       → (j < length t.tasks) × (holds reached (task_at t j).res.0 ≡ false) × Activates s (was j) (was i)
-  activated_before j i e less off =
-      let entry : IsTask t (task_at t i) = h.rules.tasks i no_task less in (
-        subst (λ (a : Activator). IsActivator t a) e entry.activated,
-        unread (task_at t i).res.0 (task_at t j).res.0 (earlier (directly e)) off,
-        before_task j (task_at s (was i)).after (task_at t i).after e (same_task i less off).after,
-      )
+  activated_before j i e less off = (
+    activated-there t h.rules i j less e,
+    unread (task_at t i).res.0 (task_at t j).res.0 (earlier (directly e)) off,
+    before_task j (task_at s (was i)).after (task_at t i).after (same_task i less off).after e,
+  )
 
   -- what leads to a task that can't be reached led to it before
   pub leads_before : (j i : ℕ) → LeadsTo t j i → i < length t.tasks → holds reached (task_at t i).res.0 ≡ false
@@ -166,24 +172,36 @@ module _ (s t : SystemLists) (touched reached : List Bool) (was : ℕ → ℕ) (
   -- ---- at vectors that agree
 
   module _ (x y : List Bound) (agree : AgreeApart t reached was x y) where
-    sent_same : (chain i : ℕ) (a b : Activator) → i < length t.tasks → holds reached (task_at t i).res.0 ≡ false → (task_at t i).after ≡ b → IsActivator t b → IsSameActivator s t was a b
+    sent_same : (chain : ℕ) (a b : Activator) → IsSameActivator s t was a b → ((m : ℕ) → is_task m b ≡ true → (m < length t.tasks) × (holds reached (task_at t m).res.0 ≡ false))
         → ((j : ℕ) → j < length t.tasks → holds reached (task_at t j).res.0 ≡ false → input_along s x chain (was j) ≡ input_along t y chain j)
         → sent_by s x (input_along s x chain) a ≡ sent_by t y (input_along t y chain) b
-    sent_same chain i (FromSource k) (FromSource m) less off e there same step = ap Some same
-    sent_same chain i (FromSource k) (FromTask m) less off e there same step = absurd same
-    sent_same chain i (FromTask j) (FromSource m) less off e there same step = absurd same
-    sent_same chain i (FromTask j) (FromTask m) less off e there same step =
-        let off_m : holds reached (task_at t m.0).res.0 ≡ false = unread (task_at t i).res.0 (task_at t m.0).res.0 (earlier (directly e)) off in
-        let it = same_task m.0 there off_m in
-        let bound : bound_of x (was m.0) ≡ bound_of y m.0 = agree m.0 there off_m in
-        let model : input_along s x chain (was m.0) ≡ input_along t y chain m.0 = step m.0 there off_m in
+    sent_same chain (FromSource k) (FromSource m) same out step = ap Some same
+    sent_same chain (FromSource k) (FromTask m) same out step = absurd same
+    sent_same chain (FromTask j) (FromSource m) same out step = absurd same
+    sent_same chain (FromTask j) (FromTask m) same out step =
+        let there = out m.0 (eq-eqb m.0 m.0 refl) in
+        let it = same_task m.0 there.0 there.1 in
+        let bound : bound_of x (was m.0) ≡ bound_of y m.0 = agree m.0 there.0 there.1 in
+        let model : input_along s x chain (was m.0) ≡ input_along t y chain m.0 = step m.0 there.0 there.1 in
         rw (same, it.best, bound, model) refl
+
+    -- some activators send what those sent that stood there before
+    all_sent_same : (chain : ℕ) (old new : List Activator) → AllZip (IsSameActivator s t was) old new
+        → ((m : ℕ) → list_any (is_task m) new ≡ true → (m < length t.tasks) × (holds reached (task_at t m).res.0 ≡ false))
+        → ((j : ℕ) → j < length t.tasks → holds reached (task_at t j).res.0 ≡ false → input_along s x chain (was j) ≡ input_along t y chain j)
+        → sent_by_all s x (input_along s x chain) old ≡ sent_by_all t y (input_along t y chain) new
+    all_sent_same chain [] [] same out step = refl
+    all_sent_same chain [] (b ∷ new) same out step = absurd same
+    all_sent_same chain (a ∷ old) [] same out step = absurd same
+    all_sent_same chain (a ∷ old) (b ∷ new) same out step =
+        let one = sent_same chain a b same.0 (λ m on. out m (or_left (is_task m b) (list_any (is_task m) new) on)) step in
+        let others = all_sent_same chain old new same.1 (λ m on. out m (or_right (is_task m b) (list_any (is_task m) new) on)) step in
+        ap (λ first. joined first (sent_by_all s x (input_along s x chain) old)) one ∙ ap (joined (sent_by t y (input_along t y chain) b)) others
 
     along_same : (chain i : ℕ) → i < length t.tasks → holds reached (task_at t i).res.0 ≡ false → input_along s x chain (was i) ≡ input_along t y chain i
     along_same zero i less off = refl
     along_same (suc chain) i less off =
-        let entry : IsTask t (task_at t i) = h.rules.tasks i no_task less in
-        sent_same chain i (task_at s (was i)).after (task_at t i).after less off refl entry.activated (same_task i less off).after (along_same chain)
+        all_sent_same chain (task_at s (was i)).after (task_at t i).after (same_task i less off).after (λ m on. let it = activated_before m i on less off in (it.0, it.1)) (along_same chain)
 
     -- an input is what it was
     pub input_same : (i : ℕ) → i < length t.tasks → holds reached (task_at t i).res.0 ≡ false → input s x (was i) ≡ input t y i

@@ -1,6 +1,7 @@
 -- What an edit of a system spares: the tasks whose resources it doesn't touch are as before, and ask of each other what they
 -- asked before. Incremental analysis stands on it: what reads nothing that was touched keeps its bounds.
 use Rattle.std.specs.Prelude.{ℕ, ◌≡◌, ◌<◌, ◌+◌, nat_lt, Bool, false, if◌then◌else◌, List, Option, Some, None, length, filter, map}
+use Rattle.std.specs.List.{AllZip}
 use Rattle.cpa_units.specs.declared.bound.Bound.{Bound}
 use Rattle.cpa_units.specs.Bounds.{bound_of}
 use Rattle.cpa_units.specs.Sets.{holds, Members}
@@ -22,11 +23,11 @@ IsSameActivator s t was (FromTask j) (FromTask m) = j.0 ≡ was m.0
 IsSameActivator s t was (FromSource k) (FromTask m) = ⊥
 IsSameActivator s t was (FromTask j) (FromSource m) = ⊥
 
--- task i of the new system is a task of the old one
+-- task i of the new system is a task of the old one, and has its activators, one for one
 pub record IsSameTask (s t : SystemLists) (was : ℕ → ℕ) (i : ℕ) : Type 0 where
   pub there : was i < length s.tasks
   pub res : (task_at s (was i)).res.0 ≡ (task_at t i).res.0
-  pub after : IsSameActivator s t was (task_at s (was i)).after (task_at t i).after
+  pub after : AllZip (IsSameActivator s t was) (task_at s (was i)).after (task_at t i).after
   pub best : (task_at s (was i)).best ≡ (task_at t i).best
   pub worst : (task_at s (was i)).worst ≡ (task_at t i).worst
   pub turn : (task_at s (was i)).turn ≡ (task_at t i).turn

@@ -1,339 +1,385 @@
--- Jobs that arrive at one time, activator by activator.
-use Rattle.std.proofs.Common.{◌≡◌, ◌≢◌, ℕ, zero, suc, ◌+◌, ◌-◌, ◌<◌, ◌≤◌, ◌++◌, length, List, ◌∷◌, true, false, cond, eqb, ltb, ◌&&◌, Option, Some, None, option_map, refl, sym, ◌∙◌, ap, subst, inl, inr, arith}
-use Rattle.std.proofs.lemmas.Bool.{cases_lt, cases_Bool, lt-ltb, le-ltb, eq-eqb, eqb-true, ne_eqb, false≢true}
-use Rattle.std.proofs.lemmas.List.{append-nil, append_assoc}
+-- Jobs that come at one time, cause by cause.
+use Rattle.std.proofs.Common.{◌≡◌, ◌≢◌, ℕ, zero, suc, ◌+◌, ◌-◌, ◌<◌, ◌≤◌, ◌++◌, ◌⊎◌, length, map, take, List, [], ◌∷◌, Bool, true, false, cond, eqb, ◌||◌, ◌&&◌, nat_le, nat_lt, get_or, Option, Some, None, option_map, refl, sym, ◌∙◌, ap, subst, inl, inr, arith, length-append}
+use Rattle.std.specs.Prelude.{filter, MatchOption}
+use Rattle.std.specs.List.{list_any, flat_map, range_with_len}
+use Rattle.std.proofs.lemmas.Bool.{cases_lt, cases_Bool, lt-ltb, le-ltb, le-leb, leb-true, eq-eqb, eqb-true, ne_eqb, false≢true}
+use Rattle.std.proofs.lemmas.List.{append-nil, append_assoc, map-append, get_or-map, length-map}
+use Rattle.std.proofs.lemmas.List.Folds.{list_any_at, list_any_more}
 use Rattle.std.proofs.lemmas.Option.{same_Some}
-use Rattle.std.specs.Prelude.{count_by, ◌==◌}
-use Rattle.cpa_model.specs.declared.entries.Activator.{Activator}
+use Rattle.cpa_units.specs.declared.places.ResId.{ResId}
+use Rattle.cpa_units.specs.declared.places.TaskId.{TaskId}
+use Rattle.cpa_units.specs.Sets.{holds, IsNextMember}
 use Rattle.cpa_model.specs.declared.entries.Activator.TheVariants.{Source, Task}
-use Rattle.cpa_model.specs.SystemLists.{SystemLists, task_at, place_of}
-use Rattle.cpa_trace.specs.Trace.{TraceLists, times_of}
+use Rattle.cpa_model.specs.SystemLists.{SystemLists, task_at, place_of, places_of, is_fed_by, is_activated_by}
+use Rattle.cpa_trace.specs.Trace.{TraceLists}
 use Rattle.cpa_sched.specs.Steps.{kind_of}
 use Rattle.cpa_sched.specs.States.{IsOn}
-use Rattle.cpa_sim.specs.declared.desks.Desk.{Desk}
+use Rattle.cpa_sim.specs.declared.dispatches.Dispatch.{Dispatch}
 use Rattle.cpa_sim.specs.declared.jobs.Job.{Job}
-use Rattle.cpa_sim.specs.Run.{arriving, is_chosen}
-use Rattle.cpa_sim.specs.Lines.{LineCounts, new_seen, with_arrivals}
-use Rattle.cpa_sim.specs.Simulation.{line_at, desk_at, runner, ends_at, ends_of, IsKept}
-use Rattle.cpa_sim.specs.Arrivals.{number_of, number_at, IsNext, AreGiven, by_events, by_desk, by_ends}
-use Rattle.cpa_sim.proofs.DeskLaws.{kept-same, kept-then, ends-kept}
-use Rattle.cpa_sim.proofs.GlideLaws.{chosen-is}
-use Rattle.cpa_sim.proofs.FollowerLaws.{AreLinked}
-
-zero-plus : (m : ℕ) → 0 + m ≡ m
-zero-plus m = omega arith
+use Rattle.cpa_sim.specs.declared.jobs.Cause.{Cause}
+use Rattle.cpa_sim.specs.declared.jobs.Causes.{Causes}
+use Rattle.cpa_sim.specs.Run.{is_chosen, causes_by, events_at, by_task, by_source}
+use Rattle.cpa_sim.specs.Lines.{LineCounts, causes_of, new_seen, with_arrivals}
+use Rattle.cpa_sim.specs.Simulation.{line_at, dispatch_at, runner, runs_at, ends_at, ends_of, IsUnchanged, AreEnding}
+use Rattle.cpa_sim.specs.Arrivals.{is_among, IsListOf, AreGiven, ended_of, first_of, IsNextEnd}
+use Rattle.cpa_sim.proofs.CauseLists.{by-none}
+use Rattle.cpa_sim.proofs.DispatchLaws.{unchanged-same, unchanged-then}
+use Rattle.cpa_sim.proofs.SameTaskLaws.{chosen-is}
+use Rattle.cpa_sim.proofs.RangeLaws.{filter-agree, passing-high, passing-rises, any-passing, flat_map-quiet}
 
 -- ---- jobs that arrive in two parts
 
-new-seen-add : (now a b : ℕ) → new_seen now (a + b) ≡ new_seen now a ++ new_seen now b
-new-seen-add now zero b = ap (new_seen now) (zero-plus b)
-new-seen-add now (suc a) b =
-    let e : suc a + b ≡ suc (a + b) = omega arith in
-    let job : Job = record { arrival = now; end = None } in
-    ap (new_seen now) e ∙ ap (λ js. job ∷ js) (new-seen-add now a b)
-
-seen-none : (now : ℕ) (kept : Option (List Job)) → option_map (λ js. js ++ new_seen now 0) kept ≡ kept
+seen-none : (now : ℕ) (kept : Option (List Job)) → option_map (λ js. js ++ new_seen now []) kept ≡ kept
 seen-none now None = refl
 seen-none now (Some js) = ap Some (append-nil js)
 
-seen-add : (now a b : ℕ) (kept : Option (List Job)) → option_map (λ js. js ++ new_seen now b) (option_map (λ js. js ++ new_seen now a) kept) ≡ option_map (λ js. js ++ new_seen now (a + b)) kept
+seen-add : (now : ℕ) (a b : List Cause) (kept : Option (List Job)) → option_map (λ js. js ++ new_seen now b) (option_map (λ js. js ++ new_seen now a) kept) ≡ option_map (λ js. js ++ new_seen now (a ++ b)) kept
 seen-add now a b None = refl
-seen-add now a b (Some js) = ap Some (append_assoc js (new_seen now a) (new_seen now b) ∙ ap (λ ks. js ++ ks) (sym (new-seen-add now a b)))
+seen-add now a b (Some js) =
+    ap Some (append_assoc js (new_seen now a) (new_seen now b)
+    ∙ ap (λ ks. js ++ ks) (sym (map-append (λ (cause : Cause). let made : Job = record { arrival = now; end = None; cause = cause } in made) a b)))
 
-pub arrivals-none : (now : ℕ) (line : LineCounts) → with_arrivals now 0 line ≡ line
+pub arrivals-none : (now : ℕ) (line : LineCounts) → with_arrivals now [] line ≡ line
 arrivals-none now line =
     let e : line.count + 0 ≡ line.count = omega arith in
-    ap (λ n. let made : LineCounts = record { count = n; done = line.done; left = line.left; kept = option_map (λ js. js ++ new_seen now 0) line.kept } in made) e
+    ap (λ n. let made : LineCounts = record { count = n; done = line.done; left = line.left; kept = option_map (λ js. js ++ new_seen now []) line.kept } in made) e
     ∙ ap (λ k. let made : LineCounts = record { count = line.count; done = line.done; left = line.left; kept = k } in made) (seen-none now line.kept)
 
-arrivals-add : (now a b : ℕ) (line : LineCounts) → with_arrivals now b (with_arrivals now a line) ≡ with_arrivals now (a + b) line
+arrivals-add : (now : ℕ) (a b : List Cause) (line : LineCounts) → with_arrivals now b (with_arrivals now a line) ≡ with_arrivals now (a ++ b) line
 arrivals-add now a b line =
-    let e : line.count + a + b ≡ line.count + (a + b) = omega arith in
+    let e : line.count + length a + length b ≡ line.count + length (a ++ b) = omega (arith, length-append a b) in
     ap (λ n. let made : LineCounts = record { count = n; done = line.done; left = line.left; kept = option_map (λ js. js ++ new_seen now b) (option_map (λ js. js ++ new_seen now a) line.kept) } in made) e
-    ∙ ap (λ k. let made : LineCounts = record { count = line.count + (a + b); done = line.done; left = line.left; kept = k } in made) (seen-add now a b line.kept)
+    ∙ ap (λ k. let made : LineCounts = record { count = line.count + length (a ++ b); done = line.done; left = line.left; kept = k } in made) (seen-add now a b line.kept)
 
 module _ (s : SystemLists) (now : ℕ) where
-  pub given-none : (lines : List LineCounts) (desks : List Desk) → length lines ≡ length s.tasks → length desks ≡ length s.resources → AreGiven s now (λ i. 0) lines desks lines desks
-  given-none lines desks count_lines count_desks =
+  pub given-none : (lines : List LineCounts) (dispatches : List Dispatch) → length lines ≡ length s.tasks → length dispatches ≡ length s.resources → AreGiven s now (λ i. []) lines dispatches lines dispatches
+  given-none lines dispatches count_lines count_dispatches =
       record {
         count_lines = count_lines;
-        count_desks = count_desks;
+        count_dispatches = count_dispatches;
         arrived = λ i less. sym (arrivals-none now (line_at lines i));
-        kept = λ r less. kept-same (kind_of s r) (desk_at desks r) (desk_at desks r) refl;
+        unchanged = λ r less. unchanged-same (kind_of s r) (dispatch_at dispatches r) (dispatch_at dispatches r) refl;
         asked = λ i less more. refl;
       }
 
-  pub given-same : (c d : ℕ → ℕ) (l1 : List LineCounts) (d1 : List Desk) (l2 : List LineCounts) (d2 : List Desk) → AreGiven s now c l1 d1 l2 d2 → ((i : ℕ) → i < length s.tasks → c i ≡ d i) → AreGiven s now d l1 d1 l2 d2
+  pub given-same : (c d : ℕ → List Cause) (l1 : List LineCounts) (d1 : List Dispatch) (l2 : List LineCounts) (d2 : List Dispatch) → AreGiven s now c l1 d1 l2 d2 → ((i : ℕ) → i < length s.tasks → c i ≡ d i) → AreGiven s now d l1 d1 l2 d2
   given-same c d l1 d1 l2 d2 h same =
       record {
         count_lines = h.count_lines;
-        count_desks = h.count_desks;
-        arrived = λ i less. h.arrived i less ∙ ap (λ m. with_arrivals now m (line_at l1 i)) (same i less);
-        kept = h.kept;
+        count_dispatches = h.count_dispatches;
+        arrived = λ i less. h.arrived i less ∙ ap (λ new. with_arrivals now new (line_at l1 i)) (same i less);
+        unchanged = h.unchanged;
         asked = λ i less more. sym (same i less) ∙ h.asked i less more;
       }
 
   module _ (placed : (i : ℕ) → i < length s.tasks → (task_at s i).res.0 < length s.resources) where
-    pub given-then : (c d : ℕ → ℕ) (l1 : List LineCounts) (d1 : List Desk) (l2 : List LineCounts) (d2 : List Desk) (l3 : List LineCounts) (d3 : List Desk) → AreGiven s now c l1 d1 l2 d2 → AreGiven s now d l2 d2 l3 d3 → AreGiven s now (λ i. c i + d i) l1 d1 l3 d3
+    pub given-then : (c d : ℕ → List Cause) (l1 : List LineCounts) (d1 : List Dispatch) (l2 : List LineCounts) (d2 : List Dispatch) (l3 : List LineCounts) (d3 : List Dispatch) → AreGiven s now c l1 d1 l2 d2 → AreGiven s now d l2 d2 l3 d3 → AreGiven s now (λ i. c i ++ d i) l1 d1 l3 d3
     given-then c d l1 d1 l2 d2 l3 d3 first then =
         record {
           count_lines = then.count_lines;
-          count_desks = then.count_desks;
+          count_dispatches = then.count_dispatches;
           arrived = λ i less. then.arrived i less ∙ (ap (with_arrivals now (d i)) (first.arrived i less) ∙ arrivals-add now (c i) (d i) (line_at l1 i));
-          kept = λ r less. kept-then (kind_of s r) (desk_at d1 r) (desk_at d2 r) (desk_at d3 r) (first.kept r less) (then.kept r less);
+          unchanged = λ r less. unchanged-then (kind_of s r) (dispatch_at d1 r) (dispatch_at d2 r) (dispatch_at d3 r) (first.unchanged r less) (then.unchanged r less);
           asked = λ i less more.
               let r = (task_at s i).res.0 in
-              let same = (then.kept r (placed i less)).same more in
-              let none = first.asked i less (subst (λ (x : Desk). x.gone < x.ticks) same more) in
-              omega (arith, none, then.asked i less more);
+              let same = (then.unchanged r (placed i less)).same more in
+              let none = first.asked i less (subst (λ (x : Dispatch). x.gone < x.ticks) same more) in
+              ap (λ new. new ++ d i) none ∙ then.asked i less more;
         }
 
--- ---- the tasks that follow one activator
+-- ---- the tasks of a list, one after the other
 
-module _ (s : SystemLists) (now number count : ℕ) (l0 : List LineCounts) (d0 : List Desk) where
-  -- those before the next one have got their jobs
-  pub record IsHalfway (next : Option ℕ) (lines : List LineCounts) (desks : List Desk) : Type 0 where
-    pub count_lines : length lines ≡ length s.tasks
-    pub count_desks : length desks ≡ length s.resources
-    pub there : (j : ℕ) → next ≡ Some j → j < length s.tasks
-    pub follows : (j : ℕ) → next ≡ Some j → number_at s j ≡ number
-    pub arrived : (i : ℕ) → i < length s.tasks → number_at s i ≡ number → ((j : ℕ) → next ≡ Some j → i < j) → line_at lines i ≡ with_arrivals now count (line_at l0 i)
-    pub later : (i j : ℕ) → next ≡ Some j → j ≤ i → line_at lines i ≡ line_at l0 i
-    pub others : (i : ℕ) → number_at s i ≢ number → line_at lines i ≡ line_at l0 i
-    pub kept : (r : ℕ) → r < length s.resources → IsKept (kind_of s r) (desk_at d0 r) (desk_at desks r)
-    pub asked : (i : ℕ) → i < length s.tasks → number_at s i ≡ number → ((j : ℕ) → next ≡ Some j → i < j) → (desk_at desks (task_at s i).res.0).gone < (desk_at desks (task_at s i).res.0).ticks → count ≡ 0
+-- the jobs of one task
+pub given-one : (s : SystemLists) (now t : ℕ) (new : List Cause) (l1 : List LineCounts) (d1 : List Dispatch) (l2 : List LineCounts) (d2 : List Dispatch)
+    → length l2 ≡ length s.tasks → length d2 ≡ length s.resources → line_at l2 t ≡ with_arrivals now new (line_at l1 t) → ((i : ℕ) → i ≢ t → line_at l2 i ≡ line_at l1 i)
+    → ((r : ℕ) → r < length s.resources → IsUnchanged (kind_of s r) (dispatch_at d1 r) (dispatch_at d2 r))
+    → (dispatch_at d2 (task_at s t).res.0).gone ≡ (dispatch_at d2 (task_at s t).res.0).ticks → AreGiven s now (λ i. cond (eqb t i) new []) l1 d1 l2 d2
+given-one s now t new l1 d1 l2 d2 count_lines count_dispatches here others unchanged passed =
+    record {
+      count_lines = count_lines;
+      count_dispatches = count_dispatches;
+      arrived = λ i less.
+          elim (cases_Bool (eqb t i)) [
+            | inl same ↦ rw same (subst (λ k. line_at l2 k ≡ with_arrivals now new (line_at l1 k)) (eqb-true t i same) here)
+            | inr differs ↦ rw differs (others i (λ e. absurd (false≢true (sym differs ∙ eq-eqb t i (sym e)))) ∙ sym (arrivals-none now (line_at l1 i)))
+          ];
+      unchanged = unchanged;
+      asked = λ i less more.
+          elim (cases_Bool (eqb t i)) [
+            | inl same ↦
+                let e = eqb-true t i same in
+                let more' = subst (λ k. (dispatch_at d2 (task_at s k).res.0).gone < (dispatch_at d2 (task_at s k).res.0).ticks) (sym e) more in
+                absurd (omega (arith, more', passed))
+            | inr differs ↦ rw differs refl
+          ];
+    }
 
-  pub halfway-first : (next : Option ℕ) → IsNext s number 0 next → length l0 ≡ length s.tasks → length d0 ≡ length s.resources → IsHalfway next l0 d0
-  halfway-first next first count_lines count_desks =
-      record {
-        count_lines = count_lines;
-        count_desks = count_desks;
-        there = first.there;
-        follows = first.follows;
-        arrived = λ i less e before. absurd (first.none i (omega arith) less before e);
-        later = λ i j e more. refl;
-        others = λ i differs. refl;
-        kept = λ r less. kept-same (kind_of s r) (desk_at d0 r) (desk_at d0 r) refl;
-        asked = λ i less e before more. absurd (first.none i (omega arith) less before e);
-      }
+-- a place in a list of tasks
+abbrev pub place_in : List TaskId → ℕ → ℕ
+place_in tasks m = (get_or tasks m (record { 0 = 0 })).0
 
-  pub halfway-more : (placed : (i : ℕ) → i < length s.tasks → (task_at s i).res.0 < length s.resources) (t : ℕ) (next : Option ℕ) (l1 : List LineCounts) (d1 : List Desk) (l2 : List LineCounts) (d2 : List Desk)
-      → IsHalfway (Some t) l1 d1 → IsNext s number (t + 1) next → length l2 ≡ length s.tasks → length d2 ≡ length s.resources
-      → line_at l2 t ≡ with_arrivals now count (line_at l1 t) → ((i : ℕ) → i ≢ t → line_at l2 i ≡ line_at l1 i)
-      → ((r : ℕ) → r < length s.resources → IsKept (kind_of s r) (desk_at d1 r) (desk_at d2 r))
-      → ((desk_at d2 (task_at s t).res.0).gone < (desk_at d2 (task_at s t).res.0).ticks → count ≡ 0) → IsHalfway next l2 d2
-  halfway-more placed t next l1 d1 l2 d2 h after count_lines count_desks here elsewhere keeps asks =
-      let follows : number_at s t ≡ number = h.follows t refl in
-      record {
-        count_lines = count_lines;
-        count_desks = count_desks;
-        there = after.there;
-        follows = after.follows;
-        arrived = λ i less e before.
-            elim (cases_lt i t) [
-              | inl early ↦ elsewhere i (λ f. absurd (omega arith)) ∙ h.arrived i less e (λ j f. let same = same_Some t j f in omega arith)
-              | inr late ↦ elim (cases_lt t i) [
-                | inl more ↦ absurd (after.none i (omega arith) less before e)
-                | inr same ↦
-                    let f : t ≡ i = omega arith in
-                    subst (λ k. line_at l2 k ≡ with_arrivals now count (line_at l0 k)) f (here ∙ ap (with_arrivals now count) (h.later t t refl (omega arith)))
-              ]
-            ];
-        later = λ i j e more.
-            let low = after.from_on j e in
-            elsewhere i (λ f. absurd (omega arith)) ∙ h.later i t refl (omega arith);
-        others = λ i differs. elsewhere i (λ f. absurd (differs (ap (number_at s) f ∙ follows))) ∙ h.others i differs;
-        kept = λ r less. kept-then (kind_of s r) (desk_at d0 r) (desk_at d1 r) (desk_at d2 r) (h.kept r less) (keeps r less);
-        asked = λ i less e before more.
-            elim (cases_lt i t) [
-              | inl early ↦
-                  let same = (keeps (task_at s i).res.0 (placed i less)).same more in
-                  h.asked i less e (λ j f. let same = same_Some t j f in omega arith) (subst (λ (x : Desk). x.gone < x.ticks) same more)
-              | inr late ↦ elim (cases_lt t i) [
-                | inl more' ↦ absurd (after.none i (omega arith) less before e)
-                | inr same ↦
-                    let f : i ≡ t = omega arith in
-                    asks (subst (λ k. (desk_at d2 (task_at s k).res.0).gone < (desk_at d2 (task_at s k).res.0).ticks) f more)
-              ]
-            ];
-      }
+among-places : (tasks : List TaskId) (i : ℕ) → is_among tasks i ≡ list_any (λ x. eqb x i) (places_of tasks)
+among-places [] i = refl
+among-places (task ∷ tasks) i = ap (λ b. eqb task.0 i || b) (among-places tasks i)
 
-  pub halfway-end : (l1 : List LineCounts) (d1 : List Desk) → IsHalfway None l1 d1 → AreGiven s now (λ i. cond (eqb (number_at s i) number) count 0) l0 d0 l1 d1
-  halfway-end l1 d1 h =
-      record {
-        count_lines = h.count_lines;
-        count_desks = h.count_desks;
-        arrived = λ i less.
-            elim (cases_Bool (eqb (number_at s i) number)) [
-              | inl same ↦ rw same (h.arrived i less (eqb-true (number_at s i) number same) (λ j e. cc))
-              | inr differs ↦ rw differs (h.others i (λ e. absurd (apart i differs e)) ∙ sym (arrivals-none now (line_at l0 i)))
-            ];
-        kept = h.kept;
-        asked = λ i less more.
-            elim (cases_Bool (eqb (number_at s i) number)) [
-              | inl same ↦ rw same (h.asked i less (eqb-true (number_at s i) number same) (λ j e. cc) more)
-              | inr differs ↦ rw differs refl
-            ];
-      }
-    where
-      apart : (i : ℕ) → eqb (number_at s i) number ≡ false → number_at s i ≡ number → ⊥
-      apart i differs e = let t = eq-eqb (number_at s i) number e in let f = rw differs at t in cc
+-- a list of those that pass a test
+module _ (s : SystemLists) (p : ℕ → Bool) (tasks : List TaskId) (are : places_of tasks ≡ filter p (range_with_len 0 (length s.tasks))) where
+  pub among-is : (i : ℕ) → i < length s.tasks → is_among tasks i ≡ p i
+  among-is i there = among-places tasks i ∙ (ap (list_any (λ x. eqb x i)) are ∙ any-passing p 0 (length s.tasks) i (omega arith) (omega arith))
 
--- ---- all activators
+  pub list-of : IsListOf s tasks
+  list-of = are ∙ filter-agree p (is_among tasks) 0 (length s.tasks) (λ k low high. sym (among-is k (omega arith)))
 
-module _ (s : SystemLists) (tr : TraceLists) (now : ℕ) where
-  -- of the first so many sources
-  abbrev pub events_below : ℕ → ℕ → ℕ
-  events_below k i = cond (ltb (number_at s i) k) (count_by (λ time. time == now) (times_of tr (number_at s i))) 0
+not-among : (tasks : List TaskId) (m x : ℕ) → ((k : ℕ) → k < m → k < length tasks → place_in tasks k ≢ x) → is_among (take m tasks) x ≡ false
+not-among tasks zero x differ = refl
+not-among [] (suc m) x differ = refl
+not-among (task ∷ tasks) (suc m) x differ =
+    let here : eqb task.0 x ≡ false = ne_eqb task.0 x (differ 0 (omega arith) (omega arith)) in
+    rw here (not-among tasks m x (λ k less there. differ (suc k) (omega arith) (omega arith)))
 
-  pub events-more : (k i fresh : ℕ) → fresh ≡ count_by (λ time. time == now) (times_of tr k) → events_below k i + cond (eqb (number_at s i) k) fresh 0 ≡ events_below (k + 1) i
-  events-more k i fresh is =
-      let n = number_at s i in
-      elim (cases_lt n k) [
-        | inl below ↦
-            let a : ltb n k ≡ true = lt-ltb n k below in
-            let b : ltb n (k + 1) ≡ true = lt-ltb n (k + 1) (omega arith) in
-            let d : eqb n k ≡ false = neq n k (λ e. absurd (omega arith)) in
-            rw (a, b, d) (omega arith)
-        | inr above ↦ elim (cases_lt k n) [
-          | inl more ↦
-              let a : ltb n k ≡ false = le-ltb n k (omega arith) in
-              let b : ltb n (k + 1) ≡ false = le-ltb n (k + 1) (omega arith) in
-              let d : eqb n k ≡ false = neq n k (λ e. absurd (omega arith)) in
-              rw (a, b, d) refl
-          | inr same ↦
-              let e : n ≡ k = omega arith in
-              let a : ltb n k ≡ false = le-ltb n k (omega arith) in
-              let b : ltb n (k + 1) ≡ true = lt-ltb n (k + 1) (omega arith) in
-              let d : eqb n k ≡ true = eq-eqb n k e in
-              rw (a, b, d) (zero-plus fresh ∙ is ∙ ap (λ m. count_by (λ time. time == now) (times_of tr m)) (sym e))
-        ]
+module _ (s : SystemLists) (tasks : List TaskId) (are : IsListOf s tasks) where
+  place-is : (m : ℕ) → m < length tasks → get_or (filter (is_among tasks) (range_with_len 0 (length s.tasks))) m 0 ≡ place_in tasks m
+  place-is m there = ap (λ xs. get_or xs m 0) (sym are) ∙ get_or-map place_of tasks m (record { 0 = 0 }) 0 there
+
+  long : length (filter (is_among tasks) (range_with_len 0 (length s.tasks))) ≡ length tasks
+  long = ap length (sym are) ∙ length-map tasks place_of
+
+  pub listed-there : (m : ℕ) → m < length tasks → place_in tasks m < length s.tasks
+  listed-there m there = omega (arith, passing-high (is_among tasks) 0 (length s.tasks) m (omega (arith, long)), place-is m there)
+
+  -- each stands there once
+  pub not-yet : (m : ℕ) → m < length tasks → is_among (take m tasks) (place_in tasks m) ≡ false
+  not-yet m there =
+      not-among tasks m (place_in tasks m)
+      (λ k less low e. absurd (omega (arith, e, place-is k low, place-is m there, passing-rises (is_among tasks) 0 (length s.tasks) k m less (omega (arith, long)))))
+
+  pub listed-among : (m : ℕ) → m < length tasks → is_among tasks (place_in tasks m) ≡ true
+  listed-among m there = list_any_at (λ (t : TaskId). eqb t.0 (place_in tasks m)) tasks m (record { 0 = 0 }) there (eq-eqb (place_in tasks m) (place_in tasks m) refl)
+
+  -- one more
+  pub listed-more : (new : List Cause) (m : ℕ) → m < length tasks → (i : ℕ) → cond (is_among (take m tasks) i) new [] ++ cond (eqb (place_in tasks m) i) new [] ≡ cond (is_among (take (m + 1) tasks) i) new []
+  listed-more new m there i =
+      let more = list_any_more (λ (t : TaskId). eqb t.0 i) tasks m (record { 0 = 0 }) there in
+      elim (cases_Bool (eqb (place_in tasks m) i)) [
+        | inl same ↦
+            let e = eqb-true (place_in tasks m) i same in
+            let none : is_among (take m tasks) i ≡ false = subst (λ x. is_among (take m tasks) x ≡ false) e (not-yet m there) in
+            rw (more, none, same) refl
+        | inr differs ↦
+            let same_before = either (is_among (take m tasks) i) in
+            rw (more, differs, same_before) (append-nil (cond (is_among (take m tasks) i) new []))
       ]
     where
-      neq : (a b : ℕ) → a ≢ b → eqb a b ≡ false
-      neq a b differs =
-          elim (cases_Bool (eqb a b)) [
-            | inl same ↦ absurd (differs (eqb-true a b same))
-            | inr apart ↦ apart
-          ]
+      either : (b : Bool) → (b || false) ≡ b
+      either true = refl
+      either false = refl
 
-  -- they are no more than those of all sources
-  pub events-le : (k i : ℕ) → k ≤ length s.sources → events_below k i ≤ by_events s tr now i
-  events-le k i within =
-      let n = number_at s i in
-      let S = length s.sources in
-      elim (cases_lt n k) [
-        | inl below ↦
-            let a : ltb n k ≡ true = lt-ltb n k below in
-            let b : ltb n S ≡ true = lt-ltb n S (omega arith) in
-            rw (a, b) (omega arith)
-        | inr above ↦ let a : ltb n k ≡ false = le-ltb n k above in rw a (omega arith)
+-- one of some lists, as it is read
+pub listed-read : {X : Type 0} (f : X → List TaskId) (xs : List X) (k : ℕ) (x : X) → k < length xs → x ≡ get_or xs k x → get_or (map f xs) k [] ≡ f x
+listed-read f xs k x there e = get_or-map f xs k x [] there ∙ ap f (sym e)
+
+-- ---- the first task of which a job ends
+
+too-high : (from t j : ℕ) → Some t ≡ Some j → nat_le from t ≡ false → from ≤ j → ⊥
+too-high from t j e high low = false≢true (sym high ∙ le-leb from t (omega (arith, same_Some t j e)))
+
+-- up to which resource
+abbrev pub upto_resource : ℕ → Option ResId → ℕ
+upto_resource n None = n
+upto_resource n (Some res) = res.0
+
+pub upto-all : (n : ℕ) (place : Option ResId) → ((res : ResId) → place ≡ Some res → ⊥) → upto_resource n place ≡ n
+upto-all n None none = refl
+upto-all n (Some res) none = absurd (none res refl)
+
+module _ (dispatches : List Dispatch) (from : ℕ) where
+  pub member-there : (ended : List Bool) (m : ℕ) (res : ResId) → AreEnding dispatches ended → IsNextMember ended m res.0 → res.0 < length dispatches
+  member-there ended m res are is =
+      elim (cases_lt res.0 (length dispatches)) [
+        | inl there ↦ there
+        | inr past ↦ absurd (false≢true (sym (are.past res.0 past) ∙ is.member))
       ]
 
-module _ (s : SystemLists) where
-  -- the job that ends on a resource sends one to each task that follows its own
-  pub ends-one : (desk : Desk) (task i : ℕ) → ((j : ℕ) → ends_at desk j ≡ cond (eqb task j) 1 0) → cond (eqb (number_at s i) (length s.sources + task)) 1 0 ≡ by_desk s desk i
-  ends-one desk task i ends =
-      let n = number_at s i in
-      let S = length s.sources in
-      elim (cases_lt n S) [
-        | inl source ↦
-            let a : ltb n S ≡ true = lt-ltb n S source in
-            let b : eqb n (S + task) ≡ false = ne_eqb n (S + task) (λ e. absurd (omega arith)) in
-            rw (a, b) refl
-        | inr fed ↦
-            let a : ltb n S ≡ false = le-ltb n S fed in
-            let same : eqb n (S + task) ≡ eqb task (n - S) =
-            elim (cases_Bool (eqb task (n - S))) [
-              | inl e ↦ let f = eqb-true task (n - S) e in eq-eqb n (S + task) (omega (arith, f)) ∙ sym e
-              | inr differs ↦ ne_eqb n (S + task) (λ e. absurd (false≢true (sym differs ∙ eq-eqb task (n - S) (omega (arith, e))))) ∙ sym differs
-            ] in
-            rw a (ap (λ b. cond b 1 0) same ∙ sym (ends (n - S)))
-      ]
+  -- so far as some resources have been looked at
+  pub record IsFirstEnd (m : ℕ) (next : Option ℕ) : Type 0 where
+    pub from_on : (j : ℕ) → next ≡ Some j → from ≤ j
+    pub found : (j : ℕ) → next ≡ Some j → (r : ℕ) × (r < m) × (ends_at (dispatch_at dispatches r) j ≡ 1)
+    pub least : (r j : ℕ) → r < m → from ≤ j → ends_at (dispatch_at dispatches r) j ≡ 1 → (i : ℕ) × (next ≡ Some i) × (i ≤ j)
 
-  -- of the jobs that ran on the first so many resources
-  abbrev pub ends_below : List Desk → ℕ → ℕ → ℕ
-  ends_below desks r i =
-      cond (ltb (number_at s i) (length s.sources)) 0 (cond (ltb (task_at s (number_at s i - length s.sources)).res.0 r) (ends_of s desks (number_at s i - length s.sources)) 0)
+  pub first-start : IsFirstEnd 0 None
+  first-start = record { from_on = λ j e. cc; found = λ j e. cc; least = λ r j less low e. absurd (omega arith) }
 
-  pub ends-more : (olds : List Desk) (desk : Desk) (r i : ℕ) → desk.running ≡ (desk_at olds r).running → desk.ends ≡ (desk_at olds r).ends
-      → ((j : ℕ) → runner (desk_at olds r) ≡ Some j → IsOn s r j) → ends_below olds r i + by_desk s desk i ≡ ends_below olds (r + 1) i
-  ends-more olds desk r i running ends on =
-      let n = number_at s i in
-      let S = length s.sources in
-      let j = n - S in
-      let q = (task_at s j).res.0 in
-      let is : ends_at desk j ≡ ends_at (desk_at olds r) j =
-      ap (λ o. cond (is_chosen (option_map place_of o) j && desk.ends) 1 0) running ∙ ap (λ b. cond (is_chosen (runner (desk_at olds r)) j && b) 1 0) ends in
-      elim (cases_Bool (ltb n S)) [
-        | inl source ↦ rw source refl
-        | inr task ↦ elim (cases_lt q r) [
-          | inl below ↦
-              let a : ltb q r ≡ true = lt-ltb q r below in
-              let b : ltb q (r + 1) ≡ true = lt-ltb q (r + 1) (omega arith) in
-              let none : ends_at desk j ≡ 0 = is ∙ apart j (λ e. absurd (omega arith)) in
-              rw (task, a, b) (omega (arith, none))
-          | inr above ↦ elim (cases_lt r q) [
-            | inl more ↦
-                let a : ltb q r ≡ false = le-ltb q r (omega arith) in
-                let b : ltb q (r + 1) ≡ false = le-ltb q (r + 1) (omega arith) in
-                let none : ends_at desk j ≡ 0 = is ∙ apart j (λ e. absurd (omega arith)) in
-                rw (task, a, b) (zero-plus (ends_at desk j) ∙ none)
-            | inr same ↦
-                let e : r ≡ q = omega arith in
-                let a : ltb q r ≡ false = le-ltb q r (omega arith) in
-                let b : ltb q (r + 1) ≡ true = lt-ltb q (r + 1) (omega arith) in
-                rw (task, a, b) (zero-plus (ends_at desk j) ∙ is ∙ ap (λ m. ends_at (desk_at olds m) j) e)
-          ]
+  module _ (m : ℕ) (o next : Option ℕ) (ends : (j : ℕ) → ends_at (dispatch_at dispatches m) j ≡ cond (is_chosen o j) 1 0) (h : IsFirstEnd m next) where
+    -- whoever ends there
+    ended-there : (j : ℕ) → ends_at (dispatch_at dispatches m) j ≡ 1 → o ≡ Some j
+    ended-there j e =
+        elim (cases_Bool (is_chosen o j)) [
+          | inl passes ↦ chosen-is o j passes
+          | inr fails ↦
+              let none : ends_at (dispatch_at dispatches m) j ≡ 0 = rw fails at (ends j) in
+              absurd (omega (arith, none, e))
         ]
+
+    -- it is none that comes first
+    pub first-other : ((j : ℕ) → o ≡ Some j → from ≤ j → (i : ℕ) × (next ≡ Some i) × (i ≤ j)) → IsFirstEnd (m + 1) next
+    first-other later =
+        record {
+          from_on = h.from_on;
+          found = λ j e. let f = h.found j e in (f.0, omega (arith, f.1), f.2);
+          least = λ r j less low e.
+              elim (cases_lt r m) [
+                | inl before ↦ h.least r j before low e
+                | inr here ↦
+                    let same : r ≡ m = omega arith in
+                    later j (ended-there j (subst (λ q. ends_at (dispatch_at dispatches q) j ≡ 1) same e)) low
+              ];
+        }
+
+    -- it is the first
+    pub first-this : (t : ℕ) → o ≡ Some t → from ≤ t → ((i : ℕ) → next ≡ Some i → t < i) → IsFirstEnd (m + 1) (Some t)
+    first-this t is low before =
+        record {
+          from_on = λ j e. let same = same_Some t j e in omega (arith, same);
+          found = λ j e.
+              let same : t ≡ j = same_Some t j e in
+              let passes : is_chosen o j ≡ true = rw is (eq-eqb t j same) in
+              (m, omega arith, ends j ∙ rw passes refl);
+          least = λ r j less l e.
+              elim (cases_lt r m) [
+                | inl early ↦
+                    let f = h.least r j early l e in
+                    let more = before f.0 f.1 in
+                    (t, refl, omega (arith, more, f.2))
+                | inr here ↦
+                    let at : r ≡ m = omega arith in
+                    let same = same_Some t j (sym is ∙ ended-there j (subst (λ q. ends_at (dispatch_at dispatches q) j ≡ 1) at e)) in
+                    (t, refl, omega (arith, same))
+              ];
+        }
+
+  -- resources on which nothing ends
+  quiet-ends : (dispatch : Dispatch) (j : ℕ) → dispatch.ends ≡ false → ends_at dispatch j ≡ 0
+  quiet-ends dispatch j none = elim (cases_Bool (runs_at dispatch j)) [ inl runs ↦ rw (runs, none) refl | inr rests ↦ rw rests refl ]
+
+  first-quiet : (m n : ℕ) (next : Option ℕ) → m ≤ n → ((r : ℕ) → m ≤ r → r < n → (dispatch_at dispatches r).ends ≡ false) → IsFirstEnd m next → IsFirstEnd n next
+  first-quiet m n next low quiet h =
+      record {
+        from_on = h.from_on;
+        found = λ j e. let f = h.found j e in (f.0, omega (arith, f.1), f.2);
+        least = λ r j less l e.
+            elim (cases_lt r m) [
+              | inl before ↦ h.least r j before l e
+              | inr after ↦ absurd (omega (arith, quiet-ends (dispatch_at dispatches r) j (quiet r after less), e))
+            ];
+      }
+
+  -- up to the next resource on which a job ends, or past all of them
+  pub first-upto : (ended : List Bool) (m : ℕ) (place : Option ResId) (next : Option ℕ) → AreEnding dispatches ended → m ≤ length dispatches
+      → MatchOption place ((r : ℕ) → m ≤ r → holds ended r ≡ false) (λ res. IsNextMember ended m res.0) → IsFirstEnd m next → IsFirstEnd (upto_resource (length dispatches) place) next
+  first-upto ended m None next are low none h = first-quiet m (length dispatches) next low (λ r after less. sym (are.there r less) ∙ none r after) h
+  first-upto ended m (Some res) next are low is h = first-quiet m res.0 next is.past (λ r after less. sym (are.there r (omega (arith, less, member-there ended m res are is))) ∙ is.first r after less) h
+
+  pub next-there : (ended : List Bool) (m : ℕ) (place : Option ResId) → AreEnding dispatches ended → MatchOption place ((r : ℕ) → m ≤ r → holds ended r ≡ false) (λ res. IsNextMember ended m res.0)
+      → (res : ResId) → place ≡ Some res → res.0 < length dispatches
+  next-there ended m None are is res e = cc
+  next-there ended m (Some q) are is res e = subst (λ (x : ResId). x.0 < length dispatches) (same_Some q res e) (member-there ended m q are is)
+
+  -- one resource more
+  pub first-more : (m : ℕ) (o next : Option ℕ) → ((j : ℕ) → ends_at (dispatch_at dispatches m) j ≡ cond (is_chosen o j) 1 0) → IsFirstEnd m next → IsFirstEnd (m + 1) (first_of next from o)
+  first-more m None next ends h = first-other m None next ends h (λ j e low. cc)
+  first-more m (Some t) None ends h =
+      elim (cases_Bool (nat_le from t)) [
+        | inl low ↦ rw low (first-this m (Some t) None ends h t refl (leb-true from t low) (λ i e. cc))
+        | inr high ↦ rw high (first-other m (Some t) None ends h (λ j e low. absurd (too-high from t j e high low)))
       ]
-    where
-      apart : (j : ℕ) → (task_at s j).res.0 ≢ r → ends_at (desk_at olds r) j ≡ 0
-      apart j differs =
-          elim (cases_Bool (is_chosen (runner (desk_at olds r)) j)) [
-            | inl runs ↦ absurd (differs (eqb-true (task_at s j).res.0 r (on j (chosen-is (runner (desk_at olds r)) j runs)).here))
-            | inr rests ↦ rw rests refl
-          ]
-
-  pub ends-all : (links : AreLinked s) (desks : List Desk) (i : ℕ) → i < length s.tasks → (a : Activator) → (task_at s i).after ≡ a
-      → cond (ltb (number_of s a) (length s.sources)) 0 (cond (ltb (task_at s (number_of s a - length s.sources)).res.0 (length s.resources)) (ends_of s desks (number_of s a - length s.sources)) 0) ≡ cond (ltb (number_of s a) (length s.sources)) 0 (ends_of s desks (number_of s a - length s.sources))
-  ends-all links desks i there (Source k) e = let a : ltb k.0 (length s.sources) ≡ true = lt-ltb k.0 (length s.sources) (links.sourced i k.0 there e) in rw a refl
-  ends-all links desks i there (Task j) e =
-      let same : length s.sources + j.0 - length s.sources ≡ j.0 = omega arith in
-      let placed : ltb (task_at s (length s.sources + j.0 - length s.sources)).res.0 (length s.resources) ≡ true =
-      ap (λ m. ltb (task_at s m).res.0 (length s.resources)) same ∙ lt-ltb (task_at s j.0).res.0 (length s.resources) (links.placed j.0 (links.fed i j.0 there e)) in
-      rw placed refl
-
-  pub ends-none : (desks : List Desk) (i : ℕ) → 0 ≡ ends_below desks 0 i
-  ends-none desks i =
-      let n = number_at s i in
-      elim (cases_Bool (ltb n (length s.sources))) [
-        | inl source ↦ rw source refl
-        | inr task ↦
-            let q = (task_at s (n - length s.sources)).res.0 in
-            let above : ltb q 0 ≡ false = le-ltb q 0 (omega arith) in
-            rw (task, above) refl
-      ]
-
-  -- they are no more than those of all resources
-  pub ends-le : (desks : List Desk) (r i : ℕ) → ends_below desks r i ≤ by_ends s desks i
-  ends-le desks r i =
-      let n = number_at s i in
-      elim (cases_Bool (ltb n (length s.sources))) [
-        | inl source ↦ rw source (omega arith)
-        | inr task ↦ elim (cases_Bool (ltb (task_at s (n - length s.sources)).res.0 r)) [
-          | inl below ↦ rw (task, below) (omega arith)
-          | inr above ↦ rw (task, above) (omega arith)
+  first-more m (Some t) (Some i) ends h =
+      elim (cases_Bool (nat_le from t)) [
+        | inl low ↦ elim (cases_lt t i) [
+          | inl before ↦
+              let b : nat_lt t i ≡ true = lt-ltb t i before in
+              rw (low, b) (first-this m (Some t) (Some i) ends h t refl (leb-true from t low) (λ k e. let same = same_Some i k e in omega (arith, same)))
+          | inr after ↦
+              let b : nat_lt t i ≡ false = le-ltb t i after in
+              rw (low, b) (first-other m (Some t) (Some i) ends h (λ j e l. let same = same_Some t j e in (i, refl, omega (arith, same))))
         ]
+        | inr high ↦ rw high (first-other m (Some t) (Some i) ends h (λ j e low. absurd (too-high from t j e high low)))
       ]
 
-module _ (s : SystemLists) (tr : TraceLists) (now : ℕ) where
-  -- what arrives in all
-  pub arrives : (links : AreLinked s) (olds news : List Desk) → ((r : ℕ) → r < length s.resources → IsKept (kind_of s r) (desk_at olds r) (desk_at news r))
-      → (i : ℕ) → i < length s.tasks → (a : Activator) → (task_at s i).after ≡ a
-      → cond (ltb (number_of s a) (length s.sources)) (count_by (λ time. time == now) (times_of tr (number_of s a))) 0 + cond (ltb (number_of s a) (length s.sources)) 0 (ends_of s news (number_of s a - length s.sources)) ≡ arriving tr now (ends_of s olds) a
-  arrives links olds news keeps i there (Source k) e = let a : ltb k.0 (length s.sources) ≡ true = lt-ltb k.0 (length s.sources) (links.sourced i k.0 there e) in rw a (omega arith)
-  arrives links olds news keeps i there (Task j) e =
-      let a : ltb (length s.sources + j.0) (length s.sources) ≡ false = le-ltb (length s.sources + j.0) (length s.sources) (omega arith) in
-      let same : length s.sources + j.0 - length s.sources ≡ j.0 = omega arith in
-      rw (a, same) (zero-plus (ends_of s news j.0) ∙ ends-kept s olds news keeps j.0 (links.placed j.0 (links.fed i j.0 there e)))
+-- once all have been looked at
+pub first-all : (s : SystemLists) (dispatches : List Dispatch) (from : ℕ) (next : Option ℕ) → length dispatches ≡ length s.resources
+    → ((i : ℕ) → i < length s.tasks → (task_at s i).res.0 < length s.resources) → ((r j : ℕ) → r < length s.resources → runner (dispatch_at dispatches r) ≡ Some j → IsOn s r j)
+    → IsFirstEnd dispatches from (length dispatches) next → IsNextEnd s dispatches from next
+first-all s dispatches from next count places on h =
+    record {
+      from_on = h.from_on;
+      there = λ j e. let f = h.found j e in (on-it f.0 j (omega (arith, f.1, count)) f.2).task;
+      ends = λ j e.
+          let f = h.found j e in
+          let here : (task_at s j).res.0 ≡ f.0 = eqb-true (task_at s j).res.0 f.0 (on-it f.0 j (omega (arith, f.1, count)) f.2).here in
+          ap (λ r. ends_at (dispatch_at dispatches r) j) here ∙ f.2;
+      none = λ i low there before.
+          elim (one-or-none (dispatch_at dispatches (task_at s i).res.0) i) [
+            | inl one ↦
+                let f = h.least (task_at s i).res.0 i (omega (arith, count, places i there)) low one in
+                let more = before f.0 f.1 in
+                absurd (omega (arith, more, f.2))
+            | inr none ↦ none
+          ];
+    }
+  where
+    one-or-none : (dispatch : Dispatch) (i : ℕ) → (ends_at dispatch i ≡ 1) ⊎ (ends_at dispatch i ≡ 0)
+    one-or-none dispatch i =
+        elim (cases_Bool (is_chosen (runner dispatch) i && dispatch.ends)) [
+          | inl passes ↦ inl (rw passes refl)
+          | inr fails ↦ inr (rw fails refl)
+        ]
+
+    runs : (dispatch : Dispatch) (j : ℕ) → ends_at dispatch j ≡ 1 → is_chosen (runner dispatch) j ≡ true
+    runs dispatch j e =
+        elim (cases_Bool (is_chosen (runner dispatch) j)) [
+          | inl passes ↦ passes
+          | inr fails ↦
+              let none : ends_at dispatch j ≡ 0 = rw fails refl in
+              absurd (omega (arith, none, e))
+        ]
+
+    on-it : (r j : ℕ) → r < length s.resources → ends_at (dispatch_at dispatches r) j ≡ 1 → IsOn s r j
+    on-it r j there e = on r j there (chosen-is (runner (dispatch_at dispatches r)) j (runs (dispatch_at dispatches r) j e))
+
+-- ---- the tasks before it have started theirs
+
+-- up to which task
+abbrev pub upto : ℕ → Option ℕ → ℕ
+upto n None = n
+upto n (Some j) = j
+
+module _ (s : SystemLists) (lines : List LineCounts) (dispatches : List Dispatch) (i : ℕ) where
+  -- what the first so many tasks start
+  abbrev pub started_below : ℕ → List Cause
+  started_below k = flat_map (λ j. by_task s (ended_of s lines dispatches) j i) (range_with_len 0 k)
+
+  quiet-task : (j : ℕ) → ends_of s dispatches j ≡ 0 → by_task s (ended_of s lines dispatches) j i ≡ []
+  quiet-task j none = by-none (is_activated_by s j i) (Task (record { 0 = j })) (ended_of s lines dispatches j) (ap (range_with_len ((line_at lines j).done - 1)) none)
+
+  -- none before the next one
+  pub quiet-before : (from : ℕ) (next : Option ℕ) → from ≤ length s.tasks → ((j : ℕ) → from ≤ j → j < length s.tasks → ((k : ℕ) → next ≡ Some k → j < k) → ends_of s dispatches j ≡ 0)
+      → ((j : ℕ) → next ≡ Some j → from ≤ j) → ((j : ℕ) → next ≡ Some j → j < length s.tasks) → started_below from ≡ started_below (upto (length s.tasks) next)
+  quiet-before from None low none after there =
+      flat_map-quiet (λ j. by_task s (ended_of s lines dispatches) j i) from (length s.tasks) low (λ j l h. quiet-task j (none j l h (λ k e. cc)))
+  quiet-before from (Some t) low none after there =
+      let less = there t refl in
+      flat_map-quiet (λ j. by_task s (ended_of s lines dispatches) j i) from t (after t refl) (λ j l h. quiet-task j (none j l (omega arith) (λ k e. let same = same_Some t k e in omega (arith, same))))
+
+  -- a task whose job ends starts one job of each task that it activates
+  pub started-one : (t : ℕ) → ends_of s dispatches t ≡ 1 → is_activated_by s t i ≡ true → length (by_task s (ended_of s lines dispatches) t i) ≡ 1
+  started-one t one activates = rw (activates, one) refl
+
+-- ---- the events
+
+module _ (s : SystemLists) (tr : TraceLists) (now i : ℕ) where
+  -- what the first so many sources start
+  abbrev pub fed_below : ℕ → List Cause
+  fed_below k = flat_map (λ q. by_source s tr now q i) (range_with_len 0 k)
+
+  pub length-fed : (k : ℕ) → is_fed_by s k i ≡ true → length (by_source s tr now k i) ≡ length (events_at tr k now)
+  length-fed k feeds = rw feeds (length-map (events_at tr k now) (λ n. let made : Cause = record { by = Source (record { 0 = k }); number = n } in made))

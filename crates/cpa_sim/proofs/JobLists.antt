@@ -1,4 +1,4 @@
--- Lists of jobs in the order of their arrivals, of which the first ones are complete.
+-- Lists of jobs in the order in which they came, of which the first ones are complete.
 use Rattle.std.proofs.Common.{ℕ, zero, suc, ◌≡◌, ◌<◌, ◌≤◌, ◌-◌, nat_le, false, List, [], ◌∷◌, length, Some, None}
 use Rattle.std.specs.Prelude.{if◌then◌else◌, slice_index_or, slice_set}
 use Rattle.std.specs.List.{AllByRecursion}
@@ -22,8 +22,8 @@ AreFresh needs done jobs = (k : ℕ) → done < k → k < length jobs → (slice
 -- a job after so many ticks more, which ends at this time if it needs no more
 abbrev pub after_ticks : ℕ → ℕ → Progress → Progress
 after_ticks ticks now job =
-    if nat_le job.left ticks then record { arrival = job.arrival; left = 0; end = Some now }
-    else record { arrival = job.arrival; left = job.left - ticks; end = None }
+    if nat_le job.left ticks then record { arrival = job.arrival; left = 0; end = Some now; cause = job.cause }
+    else record { arrival = job.arrival; left = job.left - ticks; end = None; cause = job.cause }
 
 -- the jobs after the earliest that isn't complete has got so many ticks
 abbrev pub jobs_after : ℕ → ℕ → ℕ → List Progress → List Progress

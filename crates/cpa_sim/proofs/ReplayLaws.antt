@@ -25,7 +25,7 @@ second false b c e none = absurd (false≢true e)
 
 module _ (s : SystemLists) (tr : TraceLists) (p : ReplayLists) (is : IsReplay s tr p) where
   someone : someone_waits s (run s tr p.time) ≡ list_any has_pending p.lines
-  someone = someone-is s tr (can-run s tr is.rules is.can) p.time p.keeps p.lines p.desks p.feeds is.at
+  someone = someone-is s tr (can-run s tr is.rules is.can) p.time p.keeps p.lines p.dispatches p.feeds is.at
 
   not-yet : on_of p ≡ true → is_over s tr p.time ≡ false
   not-yet on =

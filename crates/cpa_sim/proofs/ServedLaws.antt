@@ -6,21 +6,22 @@ use Rattle.cpa_model.specs.SystemLists.{SystemLists, place_of, task_at}
 use Rattle.cpa_trace.specs.Trace.{TraceLists, phase_of, need}
 use Rattle.cpa_sched.specs.Steps.{Choice}
 use Rattle.cpa_sched.specs.States.{IsOn}
-use Rattle.cpa_sim.specs.declared.desks.Desk.{Desk}
+use Rattle.cpa_sim.specs.declared.dispatches.Dispatch.{Dispatch}
 use Rattle.cpa_sim.specs.declared.feeds.Feed.{Feed}
+use Rattle.cpa_sim.specs.declared.jobs.Cause.{Cause}
 use Rattle.cpa_sim.specs.declared.jobs.Served.{Served}
 use Rattle.cpa_sim.specs.Run.{Progress, is_open, waits, is_chosen, choice_at, run}
 use Rattle.cpa_sim.specs.Arrivals.{AreGiven}
 use Rattle.cpa_sim.specs.Lines.{LineCounts, worked, served_line}
 use Rattle.cpa_sim.proofs.JobLists.{AreInOrder}
-use Rattle.cpa_sim.specs.Simulation.{line_at, desk_at, runner, runs_at, waiting, IsServed, IsAt}
+use Rattle.cpa_sim.specs.Simulation.{line_at, dispatch_at, runner, runs_at, waiting, IsServed, IsAt}
 use Rattle.cpa_sim.specs.Served.{first_open, numbered, served_at, last_of, ran_by, RanWithin}
 use Rattle.cpa_sim.proofs.LineLaws.{ordered-more}
-use Rattle.cpa_sim.proofs.GlideLaws.{Glides, chosen, jobs_at, left_at, picked, chosen-pending, after, task}
-use Rattle.cpa_sim.proofs.KeptLaws.{CanRun, kept}
+use Rattle.cpa_sim.proofs.SameTaskLaws.{SameTasksRun, chosen, jobs_at, left_at, picked, chosen-pending, after, task}
+use Rattle.cpa_sim.proofs.InvariantLaws.{CanRun, holds-always}
 use Rattle.cpa_sim.proofs.ChoiceLaws.{step-picks}
 use Rattle.cpa_sim.proofs.RunLaws.{choice-is}
-use Rattle.cpa_sim.proofs.SimLaws.{IsJump, done_at, done-is, glides, who-waits}
+use Rattle.cpa_sim.proofs.SimLaws.{IsJump, done_at, done-is, same_tasks-run, who-waits}
 
 pub first-open : (d : ℕ) (js : List Progress) → AreInOrder d js → first_open js ≡ d
 first-open zero [] a = refl
@@ -40,7 +41,7 @@ served-on s tr can t r j there got =
     of-choice : (o : Option ℕ) → (choice_at s tr t (run s tr t) r).task ≡ o → option_map (numbered (λ i. first_open ((run s tr t).jobs i))) o ≡ Some j → IsOn s r j.task.0
     of-choice None chosen e = absurd (none-some j e)
     of-choice (Some i) chosen e =
-        let k = kept s tr can t in
+        let k = holds-always s tr can t in
         let w : ℕ → Bool = λ i. waits ((run s tr t).jobs i) in
         let p = step-picks s r w ((run s tr t).resources r) t (phase_of tr r) (k.held r there) (k.frames r there) in
         let on = (p.task i (ap (λ (c : Choice). c.task) (sym (choice-is s tr t r)) ∙ chosen)).on in
@@ -63,7 +64,7 @@ last-worked needs ticks now line =
 passes-is : (o : ℕ → Option ℕ) (q r i : ℕ) → eqb q r ≡ true → o r ≡ Some i → is_chosen (o q) i ≡ true
 passes-is o q r i same e = rw (eqb-true q r same, e) (eq-eqb i i refl)
 
-module _ (s : SystemLists) (tr : TraceLists) (t n : ℕ) (w : ℕ → Bool) (d : ℕ → ℕ) (o : ℕ → Option ℕ) (g : Glides s tr t n w d o) where
+module _ (s : SystemLists) (tr : TraceLists) (t n : ℕ) (w : ℕ → Bool) (d : ℕ → ℕ) (o : ℕ → Option ℕ) (g : SameTasksRun s tr t n w d o) where
   -- in each of the ticks the earliest pending job is the one that was at first
   order-in : (u i : ℕ) → u < n → i < length s.tasks → chosen s tr t n w d o i ≡ true → AreInOrder (d i) ((run s tr (t + u)).jobs i)
   order-in u i less there passes =
@@ -85,38 +86,38 @@ module _ (s : SystemLists) (tr : TraceLists) (t n : ℕ) (w : ℕ → Bool) (d :
 
 -- ---- as the simulator has it
 
-module _ (s : SystemLists) (tr : TraceLists) (can : CanRun s tr) (t : ℕ) (keeping : Bool) (lines : List LineCounts) (desks : List Desk) (feeds : List Feed) (at : IsAt s tr t keeping lines desks feeds) (n : ℕ) (ran : List Desk) (jump : IsJump s tr t lines desks feeds n ran)
-    (served_lines : List LineCounts) (served : (i : ℕ) → i < length s.tasks → line_at served_lines i ≡ served_line (need s tr i) (runs_at (desk_at ran (task_at s i).res.0) i) n (t + n) (line_at lines i))
-    (served_desks : List Desk) (serves : (r : ℕ) → r < length s.resources → IsServed s r lines n (desk_at ran r) (desk_at served_desks r))
-    (count : ℕ → ℕ) (next_lines : List LineCounts) (next_desks : List Desk) (given : AreGiven s (t + n) count served_lines served_desks next_lines next_desks) where
+module _ (s : SystemLists) (tr : TraceLists) (can : CanRun s tr) (t : ℕ) (keeping : Bool) (lines : List LineCounts) (dispatches : List Dispatch) (feeds : List Feed) (at : IsAt s tr t keeping lines dispatches feeds) (n : ℕ) (ran : List Dispatch) (jump : IsJump s tr t lines dispatches feeds n ran)
+    (served_lines : List LineCounts) (served : (i : ℕ) → i < length s.tasks → line_at served_lines i ≡ served_line (need s tr i) (runs_at (dispatch_at ran (task_at s i).res.0) i) n (t + n) (line_at lines i))
+    (served_dispatches : List Dispatch) (serves : (r : ℕ) → r < length s.resources → IsServed s r lines n (dispatch_at ran r) (dispatch_at served_dispatches r))
+    (causes : ℕ → List Cause) (next_lines : List LineCounts) (next_dispatches : List Dispatch) (given : AreGiven s (t + n) causes served_lines served_dispatches next_lines next_dispatches) where
   -- the job that ran on a resource
-  last-is : (r i : ℕ) → r < length s.resources → runner (desk_at ran r) ≡ Some i → last_of (line_at next_lines i) (desk_at next_desks r).ends ≡ done_at s tr t i
+  last-is : (r i : ℕ) → r < length s.resources → runner (dispatch_at ran r) ≡ Some i → last_of (line_at next_lines i) (dispatch_at next_dispatches r).ends ≡ done_at s tr t i
   last-is r i there e =
-      let w = who-waits s tr can t keeping lines desks feeds at n ran jump r i there e in
-      let passes : runs_at (desk_at ran (task_at s i).res.0) i ≡ true = passes-is (λ q. runner (desk_at ran q)) (task_at s i).res.0 r i w.on.here e in
-      let ends : (desk_at next_desks r).ends ≡ nat_le (line_at lines i).left n = (given.kept r there).ends ∙ (serves r there).ends i e in
+      let w = who-waits s tr can t keeping lines dispatches feeds at n ran jump r i there e in
+      let passes : runs_at (dispatch_at ran (task_at s i).res.0) i ≡ true = passes-is (λ q. runner (dispatch_at ran q)) (task_at s i).res.0 r i w.on.here e in
+      let ends : (dispatch_at next_dispatches r).ends ≡ nat_le (line_at lines i).left n = (given.unchanged r there).ends ∙ (serves r there).ends i e in
       let done : (line_at next_lines i).done ≡ (worked (need s tr i) n (t + n) (line_at lines i)).done =
       ap (λ (l : LineCounts). l.done) (given.arrived i w.on.task)
       ∙ (ap (λ (l : LineCounts). l.done) (served i w.on.task) ∙ ap (λ b. (served_line (need s tr i) b n (t + n) (line_at lines i)).done) passes) in
       ap (λ b. (line_at next_lines i).done - cond b 1 0) ends
-      ∙ (ap (λ m. m - cond (nat_le (line_at lines i).left n) 1 0) done ∙ (last-worked (need s tr i) n (t + n) (line_at lines i) ∙ done-is s tr can t keeping lines desks feeds at i w.on.task))
+      ∙ (ap (λ m. m - cond (nat_le (line_at lines i).left n) 1 0) done ∙ (last-worked (need s tr i) n (t + n) (line_at lines i) ∙ done-is s tr can t keeping lines dispatches feeds at i w.on.task))
 
-  runner-is : (r : ℕ) → r < length s.resources → runner (desk_at next_desks r) ≡ runner (desk_at ran r)
-  runner-is r there = ap (option_map place_of) ((given.kept r there).running ∙ (serves r there).running)
+  runner-is : (r : ℕ) → r < length s.resources → runner (dispatch_at next_dispatches r) ≡ runner (dispatch_at ran r)
+  runner-is r there = ap (option_map place_of) ((given.unchanged r there).running ∙ (serves r there).running)
 
   -- who gets each tick of the jump
-  pub jump-ran : (r u : ℕ) → r < length s.resources → t ≤ u → u < t + n → served_at s tr u r ≡ ran_by next_lines next_desks r
+  pub jump-ran : (r u : ℕ) → r < length s.resources → t ≤ u → u < t + n → served_at s tr u r ≡ ran_by next_lines next_dispatches r
   jump-ran r u there from before =
       let e : t + (u - t) ≡ u = omega arith in
-      let g = glides s tr can t keeping lines desks feeds at n ran jump in
-      let h = served-in s tr t n (waiting lines) (done_at s tr t) (λ r. runner (desk_at ran r)) g r (u - t) there (omega arith) in
-      let h' : served_at s tr u r ≡ option_map (numbered (done_at s tr t)) (runner (desk_at ran r)) = rw e at h in
+      let g = same_tasks-run s tr can t keeping lines dispatches feeds at n ran jump in
+      let h = served-in s tr t n (waiting lines) (done_at s tr t) (λ r. runner (dispatch_at ran r)) g r (u - t) there (omega arith) in
+      let h' : served_at s tr u r ≡ option_map (numbered (done_at s tr t)) (runner (dispatch_at ran r)) = rw e at h in
       h'
-      ∙ (sym (numbered-agree (λ i. last_of (line_at next_lines i) (desk_at next_desks r).ends) (done_at s tr t) (runner (desk_at ran r)) (λ i o. last-is r i there o))
-      ∙ ap (option_map (numbered (λ i. last_of (line_at next_lines i) (desk_at next_desks r).ends))) (sym (runner-is r there)))
+      ∙ (sym (numbered-agree (λ i. last_of (line_at next_lines i) (dispatch_at next_dispatches r).ends) (done_at s tr t) (runner (dispatch_at ran r)) (λ i o. last-is r i there o))
+      ∙ ap (option_map (numbered (λ i. last_of (line_at next_lines i) (dispatch_at next_dispatches r).ends))) (sym (runner-is r there)))
 
-  pub jump-within : RanWithin next_lines next_desks
+  pub jump-within : RanWithin next_lines next_dispatches
   jump-within r i there e =
-      let less : r < length s.resources = omega (arith, there, given.count_desks) in
-      let w = who-waits s tr can t keeping lines desks feeds at n ran jump r i less (sym (runner-is r less) ∙ e) in
+      let less : r < length s.resources = omega (arith, there, given.count_dispatches) in
+      let w = who-waits s tr can t keeping lines dispatches feeds at n ran jump r i less (sym (runner-is r less) ∙ e) in
       omega (arith, given.count_lines, w.on.task)

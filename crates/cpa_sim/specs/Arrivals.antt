@@ -1,57 +1,87 @@
--- The jobs that arrive at one time, and which tasks follow each source and each task.
-use Rattle.std.specs.Prelude.{ℕ, ◌≡◌, ◌≢◌, ◌<◌, ◌≤◌, ◌+◌, ◌-◌, ◌==◌, nat_lt, if◌then◌else◌, List, length, Option, Some, None, option_map, slice_index_or, count_by}
+-- The jobs that come at one time, and which tasks follow each source and each task.
+use Rattle.std.specs.Prelude.{ℕ, ◌≡◌, ◌<◌, ◌≤◌, ◌-◌, ◌++◌, ◌==◌, ◌&&◌, nat_lt, nat_le, Bool, true, if◌then◌else◌, List, [], ◌∷◌, filter, length, Option, Some, None, slice_index_or, slice_set}
+use Rattle.std.specs.List.{list_any, range_with_len}
 use Rattle.cpa_units.specs.declared.places.TaskId.{TaskId}
 use Rattle.cpa_model.specs.declared.entries.Activator.{Activator}
 use Rattle.cpa_model.specs.declared.entries.Activator.TheVariants.{Source, Task}
-use Rattle.cpa_model.specs.SystemLists.{SystemLists, place_of, task_at}
-use Rattle.cpa_trace.specs.Trace.{TraceLists, times_of}
+use Rattle.cpa_model.specs.SystemLists.{SystemLists, places_of, task_at, is_fed_by, is_activated_by}
 use Rattle.cpa_sched.specs.Steps.{kind_of}
-use Rattle.cpa_sim.specs.declared.desks.Desk.{Desk}
+use Rattle.cpa_sim.specs.declared.dispatches.Dispatch.{Dispatch}
+use Rattle.cpa_sim.specs.declared.jobs.Cause.{Cause}
 use Rattle.cpa_sim.specs.Lines.{LineCounts, with_arrivals}
-use Rattle.cpa_sim.specs.Simulation.{line_at, desk_at, ends_at, ends_of, IsKept}
+use Rattle.cpa_sim.specs.Run.{by_task}
+use Rattle.cpa_sim.specs.Simulation.{line_at, dispatch_at, ends_of, IsUnchanged}
 
--- activators by number: first the sources, then the tasks
-abbrev pub number_of : SystemLists → Activator → ℕ
-number_of s (Source k) = k.0
-number_of s (Task j) = length s.sources + j.0
+-- one of some lists of tasks
+abbrev pub listed : List (List TaskId) → ℕ → List TaskId
+listed lists k = slice_index_or lists k []
 
--- that of a task's activator
-abbrev pub number_at : SystemLists → ℕ → ℕ
-number_at s i = number_of s (task_at s i).after
+-- a task more in one of them
+abbrev pub with_task : List (List TaskId) → ℕ → TaskId → List (List TaskId)
+with_task lists k task = slice_set lists k (listed lists k ++ task ∷ [])
 
--- the first task from a place on that follows an activator
-pub record IsNext (s : SystemLists) (number from : ℕ) (next : Option ℕ) : Type 0 where
+-- whether an activator has one of so many lists for sources and for tasks
+abbrev pub HasList : Activator → ℕ → ℕ → Type 0
+HasList (Source k) sources tasks = k.0 < sources
+HasList (Task j) sources tasks = j.0 < tasks
+
+-- a task more among those that follow an activator, in the lists for sources and for tasks
+abbrev pub with_fed : Activator → TaskId → List (List TaskId) → List (List TaskId)
+with_fed (Source k) task lists = with_task lists k.0 task
+with_fed (Task j) task lists = lists
+
+abbrev pub with_activated : Activator → TaskId → List (List TaskId) → List (List TaskId)
+with_activated (Source k) task lists = lists
+with_activated (Task j) task lists = with_task lists j.0 task
+
+-- lists of those of the first so many tasks that have each source and each task among their activators
+pub record AreFollowers (s : SystemLists) (tasks : ℕ) (by_source by_task : List (List TaskId)) : Type 0 where
+  pub count_sources : length by_source ≡ length s.sources
+  pub count_tasks : length by_task ≡ length s.tasks
+  pub fed : (k : ℕ) → k < length s.sources → places_of (listed by_source k) ≡ filter (is_fed_by s k) (range_with_len 0 tasks)
+  pub activated : (j : ℕ) → j < length s.tasks → places_of (listed by_task j) ≡ filter (is_activated_by s j) (range_with_len 0 tasks)
+
+-- no task has more than one activator
+abbrev pub HasSingle : SystemLists → Type 0
+HasSingle s = (i : ℕ) → i < length s.tasks → length (task_at s i).after ≤ 1
+
+-- whether a task is in a list
+abbrev pub is_among : List TaskId → ℕ → Bool
+is_among tasks i = list_any (λ (t : TaskId). t.0 == i) tasks
+
+-- a list of tasks of a system, each once, in their order
+abbrev pub IsListOf : SystemLists → List TaskId → Type 0
+IsListOf s tasks = places_of tasks ≡ filter (is_among tasks) (range_with_len 0 (length s.tasks))
+
+-- each task has got the jobs with these causes, and where it has got one, nothing is foreseen of its resource any more
+pub record AreGiven (s : SystemLists) (now : ℕ) (causes : ℕ → List Cause) (lines : List LineCounts) (dispatches : List Dispatch) (next_lines : List LineCounts) (next_dispatches : List Dispatch) : Type 0 where
+  pub count_lines : length next_lines ≡ length s.tasks
+  pub count_dispatches : length next_dispatches ≡ length s.resources
+  pub arrived : (i : ℕ) → i < length s.tasks → line_at next_lines i ≡ with_arrivals now (causes i) (line_at lines i)
+  pub unchanged : (r : ℕ) → r < length s.resources → IsUnchanged (kind_of s r) (dispatch_at dispatches r) (dispatch_at next_dispatches r)
+  pub asked : (i : ℕ) → i < length s.tasks → (dispatch_at next_dispatches (task_at s i).res.0).gone < (dispatch_at next_dispatches (task_at s i).res.0).ticks → causes i ≡ []
+
+-- which jobs of a task end now: the last that is complete, if one does
+abbrev pub ended_of : SystemLists → List LineCounts → List Dispatch → ℕ → List ℕ
+ended_of s lines dispatches j = range_with_len ((line_at lines j).done - 1) (ends_of s dispatches j)
+
+-- what the last complete job of task j starts at task i
+abbrev pub by_last : SystemLists → List LineCounts → ℕ → ℕ → List Cause
+by_last s lines j i = by_task s (λ k. range_with_len ((line_at lines k).done - 1) 1) j i
+
+-- whether a task stands before another one, if there is one
+abbrev pub comes_before : ℕ → Option ℕ → Bool
+comes_before i None = true
+comes_before i (Some j) = nat_lt i j
+
+-- the first of two tasks, of which the second counts from a place on, where there are any
+abbrev pub first_of : Option ℕ → ℕ → Option ℕ → Option ℕ
+first_of next from None = next
+first_of next from (Some j) = if nat_le from j && comes_before j next then Some j else next
+
+-- the first task from a place on of which a job ends now
+pub record IsNextEnd (s : SystemLists) (dispatches : List Dispatch) (from : ℕ) (next : Option ℕ) : Type 0 where
   pub from_on : (j : ℕ) → next ≡ Some j → from ≤ j
   pub there : (j : ℕ) → next ≡ Some j → j < length s.tasks
-  pub follows : (j : ℕ) → next ≡ Some j → number_at s j ≡ number
-  pub none : (i : ℕ) → from ≤ i → i < length s.tasks → ((j : ℕ) → next ≡ Some j → i < j) → number_at s i ≢ number
-
--- an entry of a list of tasks
-abbrev pub entry_at : List (Option TaskId) → ℕ → Option ℕ
-entry_at tasks k = option_map place_of (slice_index_or tasks k None)
-
--- lists of the tasks from a place on that follow each activator
-pub record AreFollowers (s : SystemLists) (from : ℕ) (firsts nexts : List (Option TaskId)) : Type 0 where
-  pub count_firsts : length firsts ≡ length s.sources + length s.tasks
-  pub count_nexts : length nexts ≡ length s.tasks
-  pub firsts_are : (p : ℕ) → p < length s.sources + length s.tasks → IsNext s p from (entry_at firsts p)
-  pub nexts_are : (i : ℕ) → from ≤ i → i < length s.tasks → IsNext s (number_at s i) (i + 1) (entry_at nexts i)
-
--- each task has got so many jobs, and where it has got one, nothing is foreseen of its resource any more
-pub record AreGiven (s : SystemLists) (now : ℕ) (count : ℕ → ℕ) (lines : List LineCounts) (desks : List Desk) (next_lines : List LineCounts) (next_desks : List Desk) : Type 0 where
-  pub count_lines : length next_lines ≡ length s.tasks
-  pub count_desks : length next_desks ≡ length s.resources
-  pub arrived : (i : ℕ) → i < length s.tasks → line_at next_lines i ≡ with_arrivals now (count i) (line_at lines i)
-  pub kept : (r : ℕ) → r < length s.resources → IsKept (kind_of s r) (desk_at desks r) (desk_at next_desks r)
-  pub asked : (i : ℕ) → i < length s.tasks → (desk_at next_desks (task_at s i).res.0).gone < (desk_at next_desks (task_at s i).res.0).ticks → count i ≡ 0
-
--- how many jobs arrive for a task by events, and by the ends of those that ran on a resource
-abbrev pub by_events : SystemLists → TraceLists → ℕ → ℕ → ℕ
-by_events s tr now i = if nat_lt (number_at s i) (length s.sources) then count_by (λ time. time == now) (times_of tr (number_at s i)) else 0
-
-abbrev pub by_desk : SystemLists → Desk → ℕ → ℕ
-by_desk s desk i = if nat_lt (number_at s i) (length s.sources) then 0 else ends_at desk (number_at s i - length s.sources)
-
--- and by all ends
-abbrev pub by_ends : SystemLists → List Desk → ℕ → ℕ
-by_ends s desks i = if nat_lt (number_at s i) (length s.sources) then 0 else ends_of s desks (number_at s i - length s.sources)
+  pub ends : (j : ℕ) → next ≡ Some j → ends_of s dispatches j ≡ 1
+  pub none : (i : ℕ) → from ≤ i → i < length s.tasks → ((j : ℕ) → next ≡ Some j → i < j) → ends_of s dispatches i ≡ 0

@@ -1,13 +1,13 @@
 -- A run that is followed from one moment to the next.
-use Rattle.std.specs.Prelude.{ℕ, ◌≡◌, ◌<◌, ◌≤◌, ◌+◌, Bool, false, nat_lt, List, Option}
+use Rattle.std.specs.Prelude.{ℕ, ◌≡◌, ◌<◌, ◌≤◌, ◌+◌, Bool, true, false, nat_lt, List, length}
 use Rattle.cpa_units.specs.declared.limits.TheConstants.{HORIZON, MAX_TRACE_TIME}
 use Rattle.cpa_units.specs.declared.places.TaskId.{TaskId}
 use Rattle.cpa_model.specs.SystemLists.{SystemLists}
 use Rattle.cpa_model.specs.Rules.{IsSystem}
 use Rattle.cpa_trace.specs.Trace.{TraceLists}
-use Rattle.cpa_sim.specs.declared.desks.Desk.{Desk}
+use Rattle.cpa_sim.specs.declared.dispatches.Dispatch.{Dispatch}
 use Rattle.cpa_sim.specs.declared.feeds.Feed.{Feed}
-use Rattle.cpa_sim.specs.Arrivals.{AreFollowers}
+use Rattle.cpa_sim.specs.Arrivals.{AreFollowers, HasSingle}
 use Rattle.cpa_sim.specs.Lines.{LineCounts}
 use Rattle.cpa_sim.specs.Outcome.{CanReplay, events_from, is_over}
 use Rattle.cpa_sim.specs.Simulation.{IsAt, IsSoon}
@@ -15,11 +15,12 @@ use Rattle.cpa_sim.specs.Served.{RanWithin}
 
 -- what is known of a run as far as it was followed, and whether its jobs are kept
 pub record ReplayLists : Type 0 where
-  pub firsts : List (Option TaskId)
-  pub nexts : List (Option TaskId)
+  pub by_source : List (List TaskId)
+  pub by_task : List (List TaskId)
+  pub single : Bool
   pub keeps : Bool
   pub lines : List LineCounts
-  pub desks : List Desk
+  pub dispatches : List Dispatch
   pub feeds : List Feed
   pub time : ℕ
   pub soon : ℕ
@@ -29,10 +30,11 @@ pub record ReplayLists : Type 0 where
 pub record IsReplay (s : SystemLists) (tr : TraceLists) (p : ReplayLists) : Type 0 where
   pub rules : IsSystem s
   pub can : CanReplay s tr
-  pub followers : AreFollowers s 0 p.firsts p.nexts
-  pub at : IsAt s tr p.time p.keeps p.lines p.desks p.feeds
+  pub followers : AreFollowers s (length s.tasks) p.by_source p.by_task
+  pub single : p.single ≡ true → HasSingle s
+  pub at : IsAt s tr p.time p.keeps p.lines p.dispatches p.feeds
   pub coming : IsSoon s tr p.time p.soon p.feeds
-  pub ran : RanWithin p.lines p.desks
+  pub ran : RanWithin p.lines p.dispatches
   pub events : (u : ℕ) → events_from tr u ≡ nat_lt u p.quiet
   pub last : p.quiet ≤ MAX_TRACE_TIME + 1
   pub before : (u : ℕ) → u < p.time → is_over s tr u ≡ false

@@ -2,11 +2,11 @@
 use Rattle.std.specs.Prelude.{ℕ, ◌≡◌, ◌<◌, ◌+◌, ◌-◌, Bool, if◌then◌else◌, List, [], ◌∷◌, length, Option, Some, option_map}
 use Rattle.cpa_model.specs.SystemLists.{SystemLists}
 use Rattle.cpa_trace.specs.Trace.{TraceLists}
-use Rattle.cpa_sim.specs.declared.desks.Desk.{Desk}
+use Rattle.cpa_sim.specs.declared.dispatches.Dispatch.{Dispatch}
 use Rattle.cpa_sim.specs.declared.jobs.Served.{Served}
 use Rattle.cpa_sim.specs.Run.{Progress, is_open, choice_at, run}
 use Rattle.cpa_sim.specs.Lines.{LineCounts}
-use Rattle.cpa_sim.specs.Simulation.{line_at, desk_at, runner}
+use Rattle.cpa_sim.specs.Simulation.{line_at, dispatch_at, runner}
 
 -- the number of the earliest job that isn't complete
 abbrev pub first_open : List Progress → ℕ
@@ -26,9 +26,9 @@ abbrev pub last_of : LineCounts → Bool → ℕ
 last_of line ends = line.done - (if ends then 1 else 0)
 
 -- the job that the simulator gave the ticks that it passed last
-abbrev pub ran_by : List LineCounts → List Desk → ℕ → Option Served
-ran_by lines desks r = option_map (numbered (λ i. last_of (line_at lines i) (desk_at desks r).ends)) (runner (desk_at desks r))
+abbrev pub ran_by : List LineCounts → List Dispatch → ℕ → Option Served
+ran_by lines dispatches r = option_map (numbered (λ i. last_of (line_at lines i) (dispatch_at dispatches r).ends)) (runner (dispatch_at dispatches r))
 
 -- the tasks that run are in the list
-abbrev pub RanWithin : List LineCounts → List Desk → Type 0
-RanWithin lines desks = (r i : ℕ) → r < length desks → runner (desk_at desks r) ≡ Some i → i < length lines
+abbrev pub RanWithin : List LineCounts → List Dispatch → Type 0
+RanWithin lines dispatches = (r i : ℕ) → r < length dispatches → runner (dispatch_at dispatches r) ≡ Some i → i < length lines

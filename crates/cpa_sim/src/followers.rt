@@ -1,56 +1,93 @@
-//! Which tasks follow each source and each task.
+//! Which tasks each source and each task activates.
 
-ghost use Rattle.std.specs.Prelude.{◌≡◌, ◌<◌, ◌+◌, ℕ, length, IfOk};
+ghost use Rattle.std.specs.Prelude.{◌≡◌, ◌<◌, ◌+◌, ℕ, [], length, map, replicate, true, OnOk, IfOk};
 ghost use Rattle.cpa_model.specs.SystemLists.{task_at};
-ghost use Rattle.cpa_sim.specs.Arrivals.{AreFollowers, number_of, number_at};
+ghost use Rattle.cpa_sim.specs.Arrivals.{with_task, HasList, with_fed, with_activated, AreFollowers, HasSingle};
 
 use cpa_model::{Activator, System};
 use cpa_units::{NoMemory, TaskId};
 use std::alloc::Global;
 
-/// The tasks that follow each activator, as lists in the order of the tasks. Activators are numbered: first
-/// the sources, then the tasks.
+/// The tasks that have each source and each task among their activators, in the order of the tasks.
 #[derive(Debug, Drop)]
 pub(crate) struct Followers {
-    /// The first task that follows each activator.
-    pub(crate) firsts: Vec<Option<TaskId>>,
-    /// The next task that follows the same activator as each task.
-    pub(crate) nexts: Vec<Option<TaskId>>,
+    /// Those of each source.
+    pub(crate) by_source: Vec<Vec<TaskId>>,
+    /// Those of each task.
+    pub(crate) by_task: Vec<Vec<TaskId>>,
+    /// Whether no task has more than one activator.
+    pub(crate) single: bool,
 }
 
-/// The number of an activator.
-pub(crate) fn number(system: &System, after: Activator) -> usize
-    ensures { result ≡ number_of system.now after }
+/// As many empty lists.
+fn empty_lists(alloc: Global, count: u32) -> Result<Vec<Vec<TaskId>>, NoMemory>
+    ensures { IfOk result (λ v. map (λ w. w.items) v.items ≡ replicate count []) }
+{
+    let mut lists = Vec::new(alloc);
+    for _ in 0..count {
+        lists.push(Vec::new(alloc))?;
+    }
+    Ok(lists)
+}
+
+/// Adds a task to one of some lists.
+fn push_at(lists: &mut Vec<Vec<TaskId>>, place: usize, task: TaskId) -> Result<(), NoMemory>
+    requires { place < length lists.old.items }
+    ensures { OnOk result (map (λ w. w.items) lists.new.items ≡ with_task (map (λ w. w.items) lists.old.items) place task) }
+{
+    lists[place].push(task)?;
+    Ok(())
+}
+
+/// Adds a task to those that follow one of its activators.
+fn put(followers: &mut Followers, task: TaskId, after: Activator) -> Result<(), NoMemory>
+    requires { HasList after (length followers.old.by_source.items) (length followers.old.by_task.items) }
+    ensures fed { OnOk result (map (λ v. v.items) followers.new.by_source.items ≡ with_fed after task (map (λ v. v.items) followers.old.by_source.items)) }
+    ensures activated { OnOk result (map (λ v. v.items) followers.new.by_task.items ≡ with_activated after task (map (λ v. v.items) followers.old.by_task.items)) }
 {
     match after {
-        Activator::Source(source) => source.0 as usize,
-        Activator::Task(task) => system.sources() as usize + task.0 as usize,
+        Activator::Source(source) => push_at(&mut followers.by_source, source.0 as usize, task),
+        Activator::Task(before) => push_at(&mut followers.by_task, before.0 as usize, task),
     }
 }
 
-/// Puts a task before those that come after it.
-fn put(system: &System, followers: &mut Followers, task: TaskId)
+/// Adds a task to those that follow each of its activators.
+fn put_all(system: &System, followers: &mut Followers, task: TaskId) -> Result<(), NoMemory>
     requires there { task.0 < length system.now.tasks }
-    requires so_far { AreFollowers system.now (task.0 + 1) followers.old.firsts.items followers.old.nexts.items }
-    ensures { AreFollowers system.now task.0 followers.new.firsts.items followers.new.nexts.items }
+    requires so_far { AreFollowers system.now task.0 (map (λ v. v.items) followers.old.by_source.items) (map (λ v. v.items) followers.old.by_task.items) }
+    ensures { OnOk result (AreFollowers system.now (task.0 + 1) (map (λ v. v.items) followers.new.by_source.items) (map (λ v. v.items) followers.new.by_task.items)) }
 {
-    let number = number(system, system.task(task).after);
-    followers.nexts[task.0 as usize] = followers.firsts[number];
-    followers.firsts[number] = Some(task);
+    for after in system.task(task).after.as_slice() {
+        put(followers, task, *after)?;
+    }
+    Ok(())
 }
 
-/// The followers of each activator.
-pub(crate) fn find_followers(alloc: Global, system: &System) -> Result<Followers, NoMemory>
-    ensures { IfOk result (λ f. AreFollowers system.now 0 f.firsts.items f.nexts.items) }
+/// Whether no task has more than one activator.
+fn has_single(system: &System) -> bool
+    ensures { result ≡ true → HasSingle system.now }
 {
-    let tasks = system.tasks();
-    let activators = system.sources() as usize + tasks as usize;
-    let mut followers = Followers {
-        firsts: vec![in alloc; None; activators]?,
-        nexts: vec![in alloc; None; tasks as usize]?,
-    };
-    for k in 0..tasks {
-        put(system, &mut followers, TaskId(tasks - 1 - k));
+    for k in 0..system.tasks() {
+        if system.task(TaskId(k)).after.len() > 1 {
+            return false;
+        }
     }
+    true
+}
+
+/// The followers of each source and each task.
+pub(crate) fn find_followers(alloc: Global, system: &System) -> Result<Followers, NoMemory>
+    ensures single { IfOk result (λ f. f.single ≡ true → HasSingle system.now) }
+    ensures followers { IfOk result (λ f. AreFollowers system.now (length system.now.tasks) (map (λ v. v.items) f.by_source.items) (map (λ v. v.items) f.by_task.items)) }
+{
+    let mut followers = Followers {
+        by_source: empty_lists(alloc, system.sources())?,
+        by_task: empty_lists(alloc, system.tasks())?,
+        single: false,
+    };
+    for k in 0..system.tasks() {
+        put_all(system, &mut followers, TaskId(k))?;
+    }
+    followers.single = has_single(system);
     Ok(followers)
 }

@@ -30,11 +30,12 @@ pub struct Replay {
 }
 
 impl Model for Replay {
+    ghost use Rattle.std.specs.Prelude.{map};
     ghost use Rattle.cpa_sim.specs.Replays.{ReplayLists};
 
     ghost Value = { ReplayLists };
 
-    ghost view = { λ p. record { firsts = p.followers.firsts.items; nexts = p.followers.nexts.items; keeps = p.sim.keeps; lines = p.sim.lines.items; desks = p.sim.desks.items; feeds = p.sim.feeds.items; time = p.sim.time; soon = p.sim.soon; quiet = p.quiet } };
+    ghost view = { λ p. record { by_source = map (λ v. v.items) p.followers.by_source.items; by_task = map (λ v. v.items) p.followers.by_task.items; single = p.followers.single; keeps = p.sim.keeps; lines = p.sim.lines.items; dispatches = p.sim.dispatches.items; feeds = p.sim.feeds.items; time = p.sim.time; soon = p.sim.soon; quiet = p.quiet } };
 }
 
 impl Replay {
@@ -94,7 +95,7 @@ impl Replay {
         ensures keeps { self.new.keeps ≡ false }
         ensures later { self.old.time < self.new.time }
         ensures within { self.new.time ≤ end_of system.now trace.now }
-        ensures ran { (r u : ℕ) → r < length system.now.resources → self.old.time ≤ u → u < self.new.time → served_at system.now trace.now u r ≡ ran_by self.new.lines self.new.desks r }
+        ensures ran { (r u : ℕ) → r < length system.now.resources → self.old.time ≤ u → u < self.new.time → served_at system.now trace.now u r ≡ ran_by self.new.lines self.new.dispatches r }
     {
         self.step(system, trace).unwrap();
     }
@@ -108,7 +109,7 @@ impl Replay {
         ensures memory { self.old.keeps ≡ false → IsOk result }
         ensures later { OnOk result (self.old.time < self.new.time) }
         ensures within { OnOk result (self.new.time ≤ end_of system.now trace.now) }
-        ensures ran { OnOk result ((r u : ℕ) → r < length system.now.resources → self.old.time ≤ u → u < self.new.time → served_at system.now trace.now u r ≡ ran_by self.new.lines self.new.desks r) }
+        ensures ran { OnOk result ((r u : ℕ) → r < length system.now.resources → self.old.time ≤ u → u < self.new.time → served_at system.now trace.now u r ≡ ran_by self.new.lines self.new.dispatches r) }
     {
         let most = most_ticks(self.sim.time, self.quiet);
         advance(system, trace, &self.followers, &mut self.sim, most)?;
@@ -117,14 +118,14 @@ impl Replay {
 
     /// The job that got the ticks of a resource since the moment before; none where nobody did.
     pub fn ran(&self, res: ResId) -> Option<Served>
-        requires there { res.0 < length self.now.desks }
-        requires within { RanWithin self.now.lines self.now.desks }
-        ensures { result ≡ ran_by self.now.lines self.now.desks res.0 }
+        requires there { res.0 < length self.now.dispatches }
+        requires within { RanWithin self.now.lines self.now.dispatches }
+        ensures { result ≡ ran_by self.now.lines self.now.dispatches res.0 }
     {
-        let desk = self.sim.desks[res.0 as usize];
-        let task = desk.running?;
+        let dispatch = self.sim.dispatches[res.0 as usize];
+        let task = dispatch.running?;
         let done = self.sim.lines[task.0 as usize].done();
-        let job = done.saturating_sub(u64::from(desk.ends));
+        let job = done.saturating_sub(u64::from(dispatch.ends));
         Some(Served { task, job })
     }
 

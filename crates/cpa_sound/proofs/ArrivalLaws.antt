@@ -1,23 +1,13 @@
--- Where a task's jobs come from: the events of a source keep apart, and a fed task's arrivals are its feeder's ends.
-use Rattle.std.proofs.Common.{◌≡◌, ℕ, zero, suc, ◌+◌, ◌-◌, ◌<◌, ◌≤◌, length, List, [], ◌∷◌, cond, eqb, ltb, Some, refl, sym, ◌∙◌, inl, inr, arith, get_or}
+-- What jobs need, how many end in a tick, and how many events of a source come before a time.
+use Rattle.std.proofs.Common.{◌≡◌, ℕ, zero, suc, ◌+◌, ◌-◌, ◌<◌, ◌≤◌, length, List, [], ◌∷◌, cond, eqb, ltb, refl, ◌∙◌, inl, inr, arith, get_or}
 use Rattle.std.specs.List.{count_by}
 use Rattle.std.proofs.lemmas.Bool.{cases_lt, cases_order, lt-ltb, le-ltb, eq-eqb, ne_eqb}
 use Rattle.std.proofs.lemmas.List.Sums.{sum_by-cons}
 use Rattle.std.proofs.lemmas.List.{get_or_past}
-use Rattle.cpa_model.specs.declared.entries.Activator.TheVariants.{Source}
-use Rattle.cpa_events.specs.Streams.{stream_delta_plus, IsStream}
-use Rattle.cpa_events.proofs.EventLaws.{delta_minus-of_one}
-use Rattle.cpa_model.specs.Streams.{source_stream, model_of}
-use Rattle.cpa_sound.proofs.CoursesHold.{KeepsNear}
-use Rattle.cpa_model.specs.SystemLists.{SystemLists, task_at, source_at}
-use Rattle.cpa_sound.specs.Course.{KeepsApart}
+use Rattle.cpa_model.specs.SystemLists.{SystemLists, task_at}
 use Rattle.cpa_trace.specs.Trace.{TraceLists, times_of, executions_of, need, Obeys}
 use Rattle.cpa_sim.specs.Run.{ended_count, served, ends_in, run}
-use Rattle.cpa_sound.specs.RunCourse.{arrived_before, course_of}
-use Rattle.cpa_sim.proofs.LineLaws.{length-new}
-use Rattle.cpa_sim.proofs.JobCount.{ended-served, length-suc}
-use Rattle.cpa_sim.proofs.RunLaws.{jobs-zero}
-use Rattle.cpa_sound.proofs.RunLaws.{arrived-zero, arrived-suc}
+use Rattle.cpa_sim.proofs.JobCount.{ended-served}
 
 -- ---- what a job needs
 
@@ -43,7 +33,7 @@ module _ (s : SystemLists) (tr : TraceLists) where
 
 -- ---- counting the events before a time
 
-events_before : List ℕ → ℕ → ℕ
+pub events_before : List ℕ → ℕ → ℕ
 events_before times t = count_by (λ e. ltb e t) times
 
 before-cons : (x : ℕ) (xs : List ℕ) (t : ℕ) → events_before (x ∷ xs) t ≡ cond (ltb x t) 1 0 + events_before xs t
@@ -59,12 +49,12 @@ before-ge x xs t h = before-cons x xs t ∙ rw (le-ltb x t h) refl
 now-cons : (x : ℕ) (xs : List ℕ) (t : ℕ) → count_by (λ e. eqb e t) (x ∷ xs) ≡ cond (eqb x t) 1 0 + count_by (λ e. eqb e t) xs
 now-cons x xs t = sum_by-cons (λ e. cond (eqb e t) 1 0) x xs
 
-before-none : (xs : List ℕ) → events_before xs 0 ≡ 0
+pub before-none : (xs : List ℕ) → events_before xs 0 ≡ 0
 unfolding events_before
 before-none [] = refl
 before-none (x ∷ xs) = omega (arith, before-ge x xs 0 (omega arith), before-none xs)
 
-before-suc : (xs : List ℕ) (t : ℕ) → events_before xs (t + 1) ≡ events_before xs t + count_by (λ e. eqb e t) xs
+pub before-suc : (xs : List ℕ) (t : ℕ) → events_before xs (t + 1) ≡ events_before xs t + count_by (λ e. eqb e t) xs
 unfolding events_before
 before-suc [] t = refl
 before-suc (x ∷ xs) t =
@@ -82,17 +72,17 @@ before-suc (x ∷ xs) t =
     apart : (x ≡ t → ⊥) → count_by (λ e. eqb e t) (x ∷ xs) ≡ 0 + count_by (λ e. eqb e t) xs
     apart ne = now-cons x xs t ∙ rw (ne_eqb x t ne) refl
 
-before-le : (xs : List ℕ) (t : ℕ) → events_before xs t ≤ length xs
+pub before-le : (xs : List ℕ) (t : ℕ) → events_before xs t ≤ length xs
 unfolding events_before
 before-le [] t = omega arith
 before-le (x ∷ xs) t =
     elim (cases_lt x t) [ inl h ↦ omega (arith, before-lt x xs t h, before-le xs t) | inr h ↦ omega (arith, before-ge x xs t h, before-le xs t) ]
 
 -- no event is before an earlier one
-IsInTimeOrder : List ℕ → Type 0
+pub IsInTimeOrder : List ℕ → Type 0
 IsInTimeOrder times = (k l : ℕ) → k ≤ l → l < length times → get_or times k 0 ≤ get_or times l 0
 
-in_order-from : (s : SystemLists) (tr : TraceLists) (k : ℕ) → Obeys s tr → IsInTimeOrder (times_of tr k)
+pub in_order-from : (s : SystemLists) (tr : TraceLists) (k : ℕ) → Obeys s tr → IsInTimeOrder (times_of tr k)
 unfolding IsInTimeOrder
 in_order-from s tr k obeys n l le last =
     let e : n + (l - n) ≡ l = omega arith in
@@ -116,7 +106,7 @@ none_before x (y ∷ xs) t h le =
     omega (arith, before-ge y xs t (omega arith), none_before x xs t (λ l in_list. h (suc l) (omega arith)) le)
 
 -- event k is before a time where more than k events are
-is_before : (xs : List ℕ) (k t : ℕ) → IsInTimeOrder xs → k < events_before xs t → get_or xs k 0 < t
+pub is_before : (xs : List ℕ) (k t : ℕ) → IsInTimeOrder xs → k < events_before xs t → get_or xs k 0 < t
 unfolding events_before
 is_before [] k t order h = absurd (omega arith)
 is_before (x ∷ xs) zero t order h =
@@ -131,7 +121,7 @@ is_before (x ∷ xs) (suc k) t order h =
     ]
 
 -- and no sooner where no more than k are
-is_from : (xs : List ℕ) (k t : ℕ) → IsInTimeOrder xs → k < length xs → events_before xs t ≤ k → t ≤ get_or xs k 0
+pub is_from : (xs : List ℕ) (k t : ℕ) → IsInTimeOrder xs → k < length xs → events_before xs t ≤ k → t ≤ get_or xs k 0
 unfolding events_before
 is_from [] k t order last h = absurd (omega arith)
 is_from (x ∷ xs) zero t order last h =
@@ -141,45 +131,3 @@ is_from (x ∷ xs) (suc k) t order last h =
       | inl less ↦ is_from xs k t (in_order-tail x xs order) (omega arith) (omega (arith, before-lt x xs t less))
       | inr more ↦ let first = in_order-head x xs k order (omega arith) in omega arith
     ]
-
-module _ (s : SystemLists) (tr : TraceLists) (i k : ℕ) (after : (task_at s i).after ≡ Source (record { 0 = k })) where
-  arrived-events : (t : ℕ) → arrived_before s tr i t ≡ events_before (times_of tr k) t
-  arrived-events zero = arrived-zero s tr i ∙ sym (before-none (times_of tr k))
-  arrived-events (suc zero) =
-      let first = before-suc (times_of tr k) 0 in
-      let none = before-none (times_of tr k) in
-      let here : length ((run s tr 0).jobs i) ≡ count_by (λ e. eqb e 0) (times_of tr k) =
-      rw (jobs-zero s tr i, after) (length-new (need s tr i) 0 0 (count_by (λ e. eqb e 0) (times_of tr k))) in
-      let one : 0 + 1 ≡ 1 = omega arith in
-      let first' = rw one at first in
-      omega (arith, arrived-suc s tr 0 i, here, first', none)
-  arrived-events (suc (suc t)) =
-      let e : suc t + 1 ≡ suc (suc t) = omega arith in
-      let e' : t + 1 ≡ suc t = omega arith in
-      let step = rw e at (before-suc (times_of tr k) (suc t)) in
-      let more = rw (after, e') at (length-suc s tr t i) in
-      omega (arith, arrived-suc s tr (suc t) i, arrived-suc s tr t i, more, step, arrived-events (suc t))
-
-  -- a source's events keep apart as its model says, where the trace obeys
-  pub source-apart : IsStream (source_stream s k) → Obeys s tr → (t : ℕ) → KeepsApart (course_of s tr i) (Some (model_of (source_at s k))) t
-  source-apart regular obeys t n gap a b first last before =
-      let times : List ℕ = times_of tr k in
-      let order = in_order-from s tr k obeys in
-      let low = rw (arrived-events a) at first.0 in
-      let high = rw (arrived-events (a + 1)) at first.1 in
-      let low' = rw (arrived-events b) at last.0 in
-      let high' = rw (arrived-events (b + 1)) at last.1 in
-      let inside : n + gap < length times = omega (arith, high', before-le times (b + 1)) in
-      let far = obeys.apart k n gap inside in
-      omega (arith, delta_minus-of_one (source_stream s k) (gap + 1) regular, far, is_from times n a order (omega arith) low, is_before times (n + gap) (b + 1) order high')
-
-  -- and near, where the trace does
-  pub source-near : Obeys s tr → ((n gap : ℕ) → n + gap < length (times_of tr k) → get_or (times_of tr k) (n + gap) 0 ≤ get_or (times_of tr k) n 0 + stream_delta_plus (source_stream s k) (gap + 1)) → KeepsNear (course_of s tr i) (Some (model_of (source_at s k)))
-  source-near obeys near n gap a b first last =
-      let times : List ℕ = times_of tr k in
-      let order = in_order-from s tr k obeys in
-      let high = rw (arrived-events (a + 1)) at first.1 in
-      let low' = rw (arrived-events b) at last.0 in
-      let high' = rw (arrived-events (b + 1)) at last.1 in
-      let inside : n + gap < length times = omega (arith, high', before-le times (b + 1)) in
-      omega (arith, near n gap inside, is_from times (n + gap) b order inside low', is_before times n (a + 1) order high)

@@ -1,10 +1,11 @@
 -- What the fields of a job in a run say: when it arrived and when it ended.
 use Rattle.std.proofs.Common.{◌≡◌, ℕ, zero, suc, ◌+◌, ◌-◌, ◌<◌, ◌≤◌, ◌++◌, length, List, [], ◌∷◌, true, Option, Some, None, refl, sym, ◌∙◌, inl, inr, ◌⊎◌, arith, subst, ap, get_or}
 use Rattle.std.proofs.lemmas.Bool.{cases_lt, cases_Bool, false≢true}
-use Rattle.cpa_model.specs.SystemLists.{SystemLists, task_at}
+use Rattle.cpa_model.specs.SystemLists.{SystemLists}
 use Rattle.cpa_sound.specs.Course.{Arrives}
 use Rattle.cpa_trace.specs.Trace.{TraceLists, need}
-use Rattle.cpa_sim.specs.Run.{no_job, Progress, is_unset, is_open, after_tick, serve, new_jobs, arriving, runs_in, served, ends_in, run}
+use Rattle.cpa_sim.specs.declared.jobs.Cause.{Cause}
+use Rattle.cpa_sim.specs.Run.{no_job, Progress, is_unset, is_open, after_tick, serve, new_jobs, arriving, runs_in, served, ended_in, run}
 use Rattle.cpa_sound.specs.RunCourse.{arrived_before, course_of}
 use Rattle.cpa_sound.specs.BoundsHold.{job_at, HasJob}
 use Rattle.cpa_sim.proofs.LineLaws.{serve-here, serve-there, length-new}
@@ -24,15 +25,15 @@ get-right : (js ks : List Progress) (k : ℕ) → get_or (js ++ ks) (length js +
 get-right [] ks k = let e : 0 + k ≡ k = omega arith in rw e refl
 get-right (j ∷ js) ks k = let e : suc (length js) + k ≡ suc (length js + k) = omega arith in rw e (get-right js ks k)
 
-get-new : (needs : ℕ → ℕ) (first now n k : ℕ) → k < n → (get_or (new_jobs needs first now n) k no_job).arrival ≡ now
-get-new needs first now zero k h = absurd (omega arith)
-get-new needs first now (suc n) zero h = refl
-get-new needs first now (suc n) (suc k) h = get-new needs (first + 1) now n k (omega arith)
+get-new : (needs : ℕ → ℕ) (first now : ℕ) (new : List Cause) (k : ℕ) → k < length new → (get_or (new_jobs needs first now new) k no_job).arrival ≡ now
+get-new needs first now [] k h = absurd (omega arith)
+get-new needs first now (cause ∷ new) zero h = refl
+get-new needs first now (cause ∷ new) (suc k) h = get-new needs (first + 1) now new k (omega arith)
 
-pub get-new_end : (needs : ℕ → ℕ) (first now n k : ℕ) → (get_or (new_jobs needs first now n) k no_job).end ≡ None
-get-new_end needs first now zero k = refl
-get-new_end needs first now (suc n) zero = refl
-get-new_end needs first now (suc n) (suc k) = get-new_end needs (first + 1) now n k
+pub get-new_end : (needs : ℕ → ℕ) (first now : ℕ) (new : List Cause) (k : ℕ) → (get_or (new_jobs needs first now new) k no_job).end ≡ None
+get-new_end needs first now [] k = refl
+get-new_end needs first now (cause ∷ new) zero = refl
+get-new_end needs first now (cause ∷ new) (suc k) = get-new_end needs (first + 1) now new k
 
 -- ---- a tick
 
@@ -43,6 +44,10 @@ tick-arrival now job =
 tick-end : (now : ℕ) (job : Progress) → ((after_tick now job).end ≡ Some now) ⊎ ((after_tick now job).end ≡ None)
 tick-end now job =
     elim (cases_lt 1 job.left) [ inl more ↦ inr (rw (tick-more now job more) refl) | inr last ↦ inl (rw (tick-last now job last) refl) ]
+
+pub tick-cause : (now : ℕ) (job : Progress) → (after_tick now job).cause ≡ job.cause
+tick-cause now job =
+    elim (cases_lt 1 job.left) [ inl more ↦ rw (tick-more now job more) refl | inr last ↦ rw (tick-last now job last) refl ]
 
 serve-arrival : (now : ℕ) (js : List Progress) (k : ℕ) → (get_or (serve now js) k no_job).arrival ≡ (get_or js k no_job).arrival
 serve-arrival now [] k = refl
@@ -84,7 +89,7 @@ module _ (s : SystemLists) (tr : TraceLists) where
       ]
 
   unfoldable pub new_at : ℕ → ℕ → List Progress
-  new_at t i = new_jobs (need s tr i) (length (served s tr t (run s tr t) i)) (t + 1) (arriving tr (t + 1) (ends_in s tr t (run s tr t)) (task_at s i).after)
+  new_at t i = new_jobs (need s tr i) (length (served s tr t (run s tr t) i)) (t + 1) (arriving s tr (t + 1) (ended_in s tr t (run s tr t)) i)
 
   pub old-job : (t i k : ℕ) → HasJob s tr t i k → job_at s tr (suc t) i k ≡ get_or (served s tr t (run s tr t) i) k no_job
   unfolding new_at
@@ -101,9 +106,9 @@ module _ (s : SystemLists) (tr : TraceLists) where
 
   arrival-zero : (i k : ℕ) → HasJob s tr 0 i k → (job_at s tr 0 i k).arrival ≡ 0
   arrival-zero i k has =
-      let n : ℕ = arriving tr 0 (λ j. 0) (task_at s i).after in
+      let new : List Cause = arriving s tr 0 (λ j. []) i in
       let has' = rw (jobs-zero s tr i) at has in
-      ap (λ js. (get_or js k no_job).arrival) (jobs-zero s tr i) ∙ get-new (need s tr i) 0 0 n k (omega (arith, has', length-new (need s tr i) 0 0 n))
+      ap (λ js. (get_or js k no_job).arrival) (jobs-zero s tr i) ∙ get-new (need s tr i) 0 0 new k (omega (arith, has', length-new (need s tr i) 0 0 new))
 
   arrival-old : (t i k : ℕ) → HasJob s tr t i k → (job_at s tr (suc t) i k).arrival ≡ (job_at s tr t i k).arrival
   arrival-old t i k has = ap (λ (job : Progress). job.arrival) (old-job t i k has) ∙ served-arrival t i k
@@ -111,19 +116,19 @@ module _ (s : SystemLists) (tr : TraceLists) where
   arrival-new : (t i k : ℕ) → length ((run s tr t).jobs i) ≤ k → HasJob s tr (suc t) i k → (job_at s tr (suc t) i k).arrival ≡ t + 1
   unfolding new_at
   arrival-new t i k past has =
-      let n : ℕ = arriving tr (t + 1) (ends_in s tr t (run s tr t)) (task_at s i).after in
+      let new : List Cause = arriving s tr (t + 1) (ended_in s tr t (run s tr t)) i in
       ap (λ (job : Progress). job.arrival) (new-job t i k past)
-      ∙ get-new (need s tr i) (length (served s tr t (run s tr t) i)) (t + 1) n (k - length ((run s tr t).jobs i)) (omega (arith, length-suc s tr t i))
+      ∙ get-new (need s tr i) (length (served s tr t (run s tr t) i)) (t + 1) new (k - length ((run s tr t).jobs i)) (omega (arith, length-suc s tr t i))
 
   -- a job has no end when it comes
   pub end-zero : (i k : ℕ) → (job_at s tr 0 i k).end ≡ None
-  end-zero i k = ap (λ js. (get_or js k no_job).end) (jobs-zero s tr i) ∙ get-new_end (need s tr i) 0 0 (arriving tr 0 (λ j. 0) (task_at s i).after) k
+  end-zero i k = ap (λ js. (get_or js k no_job).end) (jobs-zero s tr i) ∙ get-new_end (need s tr i) 0 0 (arriving s tr 0 (λ j. []) i) k
 
   pub end-new : (t i k : ℕ) → length ((run s tr t).jobs i) ≤ k → (job_at s tr (suc t) i k).end ≡ None
   unfolding new_at
   end-new t i k past =
       ap (λ (job : Progress). job.end) (new-job t i k past)
-      ∙ get-new_end (need s tr i) (length (served s tr t (run s tr t) i)) (t + 1) (arriving tr (t + 1) (ends_in s tr t (run s tr t)) (task_at s i).after) (k - length ((run s tr t).jobs i))
+      ∙ get-new_end (need s tr i) (length (served s tr t (run s tr t) i)) (t + 1) (arriving s tr (t + 1) (ended_in s tr t (run s tr t)) i) (k - length ((run s tr t).jobs i))
 
   -- a job's arrival is the time at which it came
   pub arrival-is : (t i k : ℕ) → HasJob s tr t i k → Arrives (course_of s tr i) k (job_at s tr t i k).arrival × ((job_at s tr t i k).arrival ≤ t)

@@ -4,13 +4,14 @@ use Rattle.std.proofs.lemmas.Bool.{cases_lt, cases_Bool, lt-ltb, le-ltb, le-leb,
 use Rattle.cpa_sound.proofs.Serving.{work}
 use Rattle.cpa_sim.proofs.LineLaws.{serve-here, serve-there, ended-closed, ended-open}
 use Rattle.cpa_sim.proofs.LineLaws.{ended-le}
+use Rattle.cpa_sim.specs.declared.jobs.Cause.{Cause}
 use Rattle.cpa_sim.specs.Run.{no_job, Progress, is_open, waits, ended_count, after_tick, serve, new_jobs}
 use Rattle.cpa_sound.proofs.CourseLaws.{work-one, work-mono}
 
-pub tick-last : (now : ℕ) (job : Progress) → job.left ≤ 1 → after_tick now job ≡ record { arrival = job.arrival; left = 0; end = Some now }
+pub tick-last : (now : ℕ) (job : Progress) → job.left ≤ 1 → after_tick now job ≡ record { arrival = job.arrival; left = 0; end = Some now; cause = job.cause }
 tick-last now job h = cond-true _ _ _ (le-leb job.left 1 h)
 
-pub tick-more : (now : ℕ) (job : Progress) → 1 < job.left → after_tick now job ≡ record { arrival = job.arrival; left = job.left - 1; end = None }
+pub tick-more : (now : ℕ) (job : Progress) → 1 < job.left → after_tick now job ≡ record { arrival = job.arrival; left = job.left - 1; end = None; cause = job.cause }
 tick-more now job h = cond-false _ _ _ (lt-leb job.left 1 h)
 
 pub waits-less : (js : List Progress) → waits js ≡ true → ended_count js < length js
@@ -40,14 +41,14 @@ module _ (needs : ℕ → ℕ) (some : (k : ℕ) → 0 < needs k) where
   Fits k (job ∷ jobs) received = Fits1 k job received × Fits (k + 1) jobs received
 
   -- jobs that have just come
-  pub fits-new : (k now n received : ℕ) → received ≤ work needs k → Fits k (new_jobs needs k now n) received
-  fits-new k now zero received h = tt
-  fits-new k now (suc n) received h = (
+  pub fits-new : (k now : ℕ) (new : List Cause) (received : ℕ) → received ≤ work needs k → Fits k (new_jobs needs k now new) received
+  fits-new k now [] received h = tt
+  fits-new k now (cause ∷ new) received h = (
     record {
       still = omega (arith, work-one needs k);
       goes_on = sym (lt-ltb received (work needs (k + 1)) (omega (arith, work-one needs k, some k)));
     },
-    fits-new (k + 1) now n received (omega (arith, work-one needs k)),
+    fits-new (k + 1) now new received (omega (arith, work-one needs k)),
   )
 
   pub fits-append : (k : ℕ) (js ks : List Progress) (received : ℕ) → Fits k js received → Fits (k + length js) ks received → Fits k (js ++ ks) received

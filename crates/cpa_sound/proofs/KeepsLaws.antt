@@ -1,13 +1,10 @@
--- The laws that every run of a system keeps, in the courses of its tasks.
-use Rattle.std.specs.Prelude.{◌≡◌, ℕ, ◌+◌, ◌<◌, ◌≤◌, List, ◌∷◌, length, Some, true}
+-- How every run of a system serves its tasks, in their courses.
+use Rattle.std.specs.Prelude.{◌≡◌, ℕ, ◌+◌, ◌<◌, ◌≤◌, List, ◌∷◌, length, true}
 use Rattle.std.specs.List.{sum_by, filter, AllByRecursion}
 use Rattle.cpa_model.specs.declared.entries.Kind.{Kind}
 use Rattle.cpa_model.specs.declared.entries.Kind.TheVariants.{Preemptive, RoundRobin, Tdma, Can}
-use Rattle.cpa_model.specs.declared.entries.Activator.{Activator}
-use Rattle.cpa_model.specs.declared.entries.Activator.TheVariants.{Source, Task}
-use Rattle.cpa_model.specs.SystemLists.{SystemLists, task_at, source_at, resource_of, task_places, slot_of, shares_resource, is_higher, higher_tasks, cycle_of}
-use Rattle.cpa_model.specs.Streams.{model_of}
-use Rattle.cpa_sound.specs.Course.{Course, KeepsApart}
+use Rattle.cpa_model.specs.SystemLists.{SystemLists, task_at, resource_of, task_places, slot_of, shares_resource, is_higher, higher_tasks, cycle_of}
+use Rattle.cpa_sound.specs.Course.{Course}
 use Rattle.cpa_sound.proofs.Serving.{IsPending, IsStarted, IsInOrder, AnyOf}
 use Rattle.cpa_sound.proofs.Turns.{Turns, TakesTurn, AreTurns}
 
@@ -61,17 +58,7 @@ RunsByKind s course i RoundRobin = RunsByTurns s course i
 RunsByKind s course i (Tdma gap) = RunsBySlots course i (slot_of (task_at s i).turn) (cycle_of s (task_at s i).res.0)
 RunsByKind s course i (Can bit) = RunsByFrames s course i × (0 < bit)
 
--- a task's jobs come as its activator says
-abbrev pub ComesFrom : SystemLists → (ℕ → Course) → ℕ → Activator → Type 0
-ComesFrom s course i (Source k) = (t : ℕ) → KeepsApart (course i) (Some (model_of (source_at s k.0))) t
-ComesFrom s course i (Task j) = (j.0 < length s.tasks) × ((t : ℕ) → (course i).arrived (t + 1) ≡ (course j.0).ended t)
-
 -- how a run serves its tasks: each task's jobs in order, and by the rule of its resource's kind
 pub record KeepsSteps (s : SystemLists) (course : ℕ → Course) : Type 0 where
   pub order : (i : ℕ) → i < length s.tasks → IsInOrder (course i) (task_at s i).best (task_at s i).worst
   pub runs : (i : ℕ) → i < length s.tasks → RunsByKind s course i (resource_of s i).kind
-
--- the laws of a run
-pub record KeepsLaws (s : SystemLists) (course : ℕ → Course) : Type 0 where
-  pub steps : KeepsSteps s course
-  pub comes : (i : ℕ) → i < length s.tasks → ComesFrom s course i (task_at s i).after

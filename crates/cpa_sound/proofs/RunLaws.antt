@@ -1,12 +1,13 @@
--- What a run keeps: each task's jobs are served in order, and a fed task's arrivals are its feeder's ends.
-use Rattle.std.proofs.Common.{ap, ◌≡◌, ℕ, zero, suc, ◌+◌, ◌<◌, ◌≤◌, ◌++◌, length, List, true, false, cond, refl, ◌∙◌, inl, inr, ◌⊎◌, arith, add-one, length-append, get_or, ltb}
+-- What a run keeps: each task's jobs are served in order.
+use Rattle.std.proofs.Common.{ap, ◌≡◌, ℕ, zero, suc, ◌+◌, ◌<◌, ◌≤◌, ◌++◌, length, List, [], true, false, cond, refl, ◌∙◌, inl, inr, ◌⊎◌, arith, add-one, length-append, get_or, ltb}
 use Rattle.std.proofs.lemmas.Bool.{cases_Bool, cond-true, cond-false}
-use Rattle.cpa_model.specs.SystemLists.{SystemLists, task_at}
+use Rattle.cpa_model.specs.SystemLists.{SystemLists}
 use Rattle.cpa_sound.proofs.Serving.{work, IsInOrder}
 use Rattle.cpa_trace.specs.Trace.{TraceLists, need}
 use Rattle.cpa_sim.proofs.JobCount.{length-serve, length-served}
 use Rattle.cpa_sim.proofs.RunLaws.{jobs-zero, jobs-suc}
-use Rattle.cpa_sim.specs.Run.{no_job, Progress, is_open, waits, ended_count, serve, new_jobs, arriving, runs_in, served, ends_in, run}
+use Rattle.cpa_sim.specs.declared.jobs.Cause.{Cause}
+use Rattle.cpa_sim.specs.Run.{no_job, Progress, is_open, waits, ended_count, serve, new_jobs, arriving, runs_in, served, ended_in, run}
 use Rattle.cpa_sound.specs.RunCourse.{received_before, arrived_before, course_of}
 use Rattle.cpa_sound.proofs.CourseLaws.{work-zero, work-mono}
 use Rattle.cpa_sound.proofs.JobLaws.{Fits, fits-new, fits-append, fits-serve, ended_paid, next_unpaid, waits-less, fits-open}
@@ -54,13 +55,13 @@ module _ (s : SystemLists) (tr : TraceLists) where
       fits : Fits (need s tr i) some 0 jobs received
       for_arrived : received ≤ work (need s tr i) (length jobs)
 
-    appended : (js : List Progress) (received now n : ℕ) → Served js received → Served (js ++ new_jobs (need s tr i) (length js) now n) received
-    appended js received now n h =
+    appended : (js : List Progress) (received now : ℕ) (new : List Cause) → Served js received → Served (js ++ new_jobs (need s tr i) (length js) now new) received
+    appended js received now new h =
         let e : 0 + length js ≡ length js = omega arith in
-        let fresh = fits-new (need s tr i) some (length js) now n received h.for_arrived in
-        let more = work-mono (need s tr i) (length js) (length (js ++ new_jobs (need s tr i) (length js) now n)) (omega (arith, length-append js (new_jobs (need s tr i) (length js) now n))) in
+        let fresh = fits-new (need s tr i) some (length js) now new received h.for_arrived in
+        let more = work-mono (need s tr i) (length js) (length (js ++ new_jobs (need s tr i) (length js) now new)) (omega (arith, length-append js (new_jobs (need s tr i) (length js) now new))) in
         record {
-          fits = fits-append (need s tr i) some 0 js (new_jobs (need s tr i) (length js) now n) received h.fits (rw e fresh);
+          fits = fits-append (need s tr i) some 0 js (new_jobs (need s tr i) (length js) now new) received h.fits (rw e fresh);
           for_arrived = omega (arith, h.for_arrived, more);
         }
 
@@ -82,25 +83,25 @@ module _ (s : SystemLists) (tr : TraceLists) where
     unfolding received_before
     served_at zero =
         rw (jobs-zero s tr i)
-        (record { fits = fits-new (need s tr i) some 0 0 (arriving tr 0 (λ j. 0) (task_at s i).after) 0 (omega arith); for_arrived = omega arith })
+        (record { fits = fits-new (need s tr i) some 0 0 (arriving s tr 0 (λ j. []) i) 0 (omega arith); for_arrived = omega arith })
     served_at (suc t) =
         let before = served_at t in
         elim (cases_Bool (runs_in s tr t (run s tr t) i)) [
           | inl e ↦
               let now = ticked ((run s tr t).jobs i) (received_before s tr i t) (t + 1) (waits_to_run t e) before in
               let now' = rw (← (served-runs t i e)) at now in
-              rw (jobs-suc s tr t i, received-suc t i, e) (appended (served s tr t (run s tr t) i) (received_before s tr i t + 1) (t + 1) (arriving tr (t + 1) (ends_in s tr t (run s tr t)) (task_at s i).after) now')
+              rw (jobs-suc s tr t i, received-suc t i, e) (appended (served s tr t (run s tr t) i) (received_before s tr i t + 1) (t + 1) (arriving s tr (t + 1) (ended_in s tr t (run s tr t)) i) now')
           | inr e ↦
               let now' = rw (← (served-idle t i e)) at before in
               let same : received_before s tr i t + 0 ≡ received_before s tr i t = omega arith in
-              rw (jobs-suc s tr t i, received-suc t i, e, same) (appended (served s tr t (run s tr t) i) (received_before s tr i t) (t + 1) (arriving tr (t + 1) (ends_in s tr t (run s tr t)) (task_at s i).after) now')
+              rw (jobs-suc s tr t i, received-suc t i, e, same) (appended (served s tr t (run s tr t) i) (received_before s tr i t) (t + 1) (arriving s tr (t + 1) (ended_in s tr t (run s tr t)) i) now')
         ]
 
     more_jobs : (t : ℕ) → length ((run s tr t).jobs i) ≤ length ((run s tr (t + 1)).jobs i)
     more_jobs t =
         rw add-one
         (rw (jobs-suc s tr t i)
-        (omega (arith, length-served s tr t i, length-append (served s tr t (run s tr t) i) (new_jobs (need s tr i) (length (served s tr t (run s tr t) i)) (t + 1) (arriving tr (t + 1) (ends_in s tr t (run s tr t)) (task_at s i).after)))))
+        (omega (arith, length-served s tr t i, length-append (served s tr t (run s tr t) i) (new_jobs (need s tr i) (length (served s tr t (run s tr t) i)) (t + 1) (arriving s tr (t + 1) (ended_in s tr t (run s tr t)) i)))))
 
     more_arrive : (t : ℕ) → arrived_before s tr i t ≤ arrived_before s tr i (t + 1)
     more_arrive zero = omega (arith, arrived-zero i)

@@ -1,42 +1,43 @@
 -- Closed vectors bound every run.
-use Rattle.std.proofs.Common.{◌≡◌, ℕ, zero, suc, ◌+◌, ◌-◌, [], ◌∷◌, ◌<◌, ◌≤◌, length, List, true, false, Option, Some, None, refl, sym, ◌∙◌, inl, inr, ◌⊎◌, arith, ap, add-one, get_or}
-use Rattle.std.proofs.lemmas.Bool.{cases_lt, cases_Bool, ltb-true, ltb-false, false≢true}
+use Rattle.std.proofs.Common.{◌≡◌, ℕ, zero, suc, ◌+◌, [], ◌∷◌, ◌<◌, ◌≤◌, length, List, Bool, true, false, Option, Some, None, refl, sym, ◌∙◌, inl, inr, ◌⊎◌, arith, ap, add-one, get_or}
+use Rattle.std.proofs.lemmas.Bool.{cases_lt, cases_order, cases_Bool, ltb-true, ltb-false, false≢true}
 use Rattle.cpa_units.specs.declared.bound.Bound.{Bound}
 use Rattle.cpa_model.specs.declared.entries.Kind.{Kind}
 use Rattle.cpa_model.specs.declared.entries.Kind.TheVariants.{Preemptive, RoundRobin, Tdma, Can}
-use Rattle.cpa_model.specs.declared.entries.Activator.{Activator}
-use Rattle.cpa_model.specs.declared.entries.Activator.TheVariants.{Source, Task}
-use Rattle.cpa_model.specs.SystemLists.{SystemLists, task_at, resource_of}
+use Rattle.cpa_model.specs.SystemLists.{SystemLists, task_at, resource_of, streams_of, stream_at}
 use Rattle.cpa_local.specs.Inputs.{input}
 use Rattle.cpa_local.specs.Solution.{IsClosed}
 use Rattle.cpa_sound.proofs.Serving.{work, EndsAfter}
 use Rattle.cpa_trace.specs.Trace.{TraceLists, need, Obeys}
 use Rattle.cpa_model.specs.Rules.{IsSystem}
-use Rattle.cpa_sound.proofs.RuleLaws.{feeder_there, bit-some}
+use Rattle.cpa_sound.proofs.RuleLaws.{bit-some}
 use Rattle.cpa_sim.specs.Run.{no_job, Progress, is_unset, is_open, ended_count, runs_in, served, run}
 use Rattle.cpa_sound.specs.RunCourse.{received_before, course_of}
-use Rattle.cpa_sound.proofs.KeepsLaws.{RunsByKind, ComesFrom, KeepsLaws}
-use Rattle.cpa_sound.proofs.CoursesHold.{SourcesAreNear, IsChain, last_task, CoursesHold}
-use Rattle.cpa_sound.proofs.PathLaws.{places_of, chain_from, last_from, sum-places}
+use Rattle.cpa_sound.proofs.KeepsLaws.{RunsByKind, KeepsSteps}
+use Rattle.cpa_sound.proofs.CoursesHold.{SourcesAreNear, IsChain, Passes, CoursesHold}
+use Rattle.cpa_sound.proofs.PathLaws.{places_of, chain_from, sum-places}
 use Rattle.cpa_model.specs.Rules.{IsLinked}
 use Rattle.cpa_units.specs.declared.bound.Bound.TheVariants.{Within}
 use Rattle.cpa_units.specs.declared.places.TaskId.{TaskId}
 use Rattle.cpa_units.specs.Bounds.{bound_of, sum_bounds}
-use Rattle.std.specs.Prelude.{All}
-use Rattle.cpa_local.proofs.ResponseLaws.{source-is_stream}
-use Rattle.cpa_sound.specs.BoundsHold.{job_at, HasJob, IsDoneBy, SourcesStayNear, HoldIn}
-use Rattle.cpa_sound.proofs.CourseLaws.{ended-mono, ended-le-arrived, complete, paid}
+use Rattle.std.specs.Prelude.{All, drop}
+use Rattle.cpa_sound.specs.BoundsHold.{job_at, HasJob, causes_at, stream_of, origin_of, jobs_of_stream, HasArrival, stream_arrival, IsDoneBy, HasPassedBy, SourcesStayNear, HoldIn}
+use Rattle.cpa_sound.proofs.CourseLaws.{arrived-mono, ended-mono, complete, paid}
+use Rattle.cpa_sound.proofs.Parts.{of_stream, ArePart, count_from}
+use Rattle.cpa_sound.proofs.PartLaws.{jobs_in-here, job-order, Member, listed}
 use Rattle.cpa_sound.proofs.RunLaws.{served-runs, served-idle, arrived-one}
-use Rattle.cpa_sim.proofs.JobCount.{fed}
-use Rattle.cpa_sound.proofs.ArrivalLaws.{source-apart, source-near}
+use Rattle.cpa_sound.proofs.CauseRuns.{source-near, keeps-causes}
 use Rattle.cpa_sound.proofs.KindRuns.{order, open-by, preemptive-runs, can-runs, ring-runs}
 use Rattle.cpa_sound.proofs.SlotRuns.{slots-run}
 use Rattle.cpa_sound.proofs.FieldLaws.{serve-end, old-job, end-zero, end-new, arrival-is}
-use Rattle.cpa_sound.specs.Laws.{LocalBounds, ClosedVectorsBoundEveryRun, LeastSolutionsBoundEveryRun}
+use Rattle.cpa_sound.specs.Laws.{LocalBounds, ClosedVectorsBoundEveryRun, LeastSolutionsBoundEveryRun, EachJobHasAStream, ACauseStartsOneJob}
 use Rattle.cpa_local.proofs.ResponseLaws.{input-is_input}
 use Rattle.cpa_sound.proofs.DistanceLaws.{within_from_apart}
 use Rattle.cpa_sound.proofs.LocalBounds.{IsKnownBefore, local_bound}
-use Rattle.cpa_sound.proofs.CausalLaws.{courses_hold, last_in_range}
+use Rattle.cpa_units.specs.declared.limits.TheConstants.{MAX_CHAIN}
+use Rattle.cpa_sound.proofs.KeepsCauses.{KeepsCauses}
+use Rattle.cpa_sound.proofs.CauseStreams.{belongs, stream-origin, one-job}
+use Rattle.cpa_sound.proofs.CausalLaws.{courses_hold, chain_in_range}
 use Rattle.cpa_sched.proofs.OptionLaws.{some-injective}
 
 -- ---- the laws of a run hold in every run
@@ -48,16 +49,8 @@ module _ (s : SystemLists) (tr : TraceLists) (rules : IsSystem s) (obeys : Obeys
   runs-by_kind i h (Tdma gap) kind = slots-run s tr rules obeys i gap h kind
   runs-by_kind i h (Can bit) kind = (can-runs s tr rules obeys i bit h kind, bit-some s rules i bit h kind)
 
-  comes-from : (i : ℕ) → i < length s.tasks → (a : Activator) → (task_at s i).after ≡ a → ComesFrom s (course_of s tr) i a
-  comes-from i h (Source k) e = source-apart s tr i k.0 e (source-is_stream s [] rules k.0) obeys
-  comes-from i h (Task j) e = (feeder_there s rules i j.0 h e, λ t. arrived-one s tr t i ∙ fed s tr i j.0 e t)
-
-  pub laws : KeepsLaws s (course_of s tr)
-  laws =
-      record {
-        steps = record { order = order s tr rules obeys; runs = λ i h. runs-by_kind i h (resource_of s i).kind refl };
-        comes = λ i h. comes-from i h (task_at s i).after refl;
-      }
+  pub steps : KeepsSteps s (course_of s tr)
+  steps = record { order = order s tr rules obeys; runs = λ i h. runs-by_kind i h (resource_of s i).kind refl }
 
   -- ---- ends
 
@@ -136,78 +129,101 @@ module _ (s : SystemLists) (tr : TraceLists) (rules : IsSystem s) (obeys : Obeys
             ];
       }
 
+  -- two arrivals of a stream are two jobs of it, between which come as many of it as between the arrivals
+  module _ (t i q n gap : ℕ) (has : HasArrival s tr t i q (n + gap)) where
+    abbrev own : ℕ → Bool
+    own = of_stream (stream_of s tr t i) q
+
+    abbrev arrived_job : ℕ → ℕ
+    arrived_job n = get_or (jobs_of_stream s tr t i q) n 0
+
+    first : Member own (length ((run s tr t).jobs i)) n (arrived_job n)
+    first = listed own (length ((run s tr t).jobs i)) n 0 (omega (arith, has))
+
+    second : Member own (length ((run s tr t).jobs i)) (n + gap) (arrived_job (n + gap))
+    second = listed own (length ((run s tr t).jobs i)) (n + gap) 0 has
+
+    arrivals-are : ArePart (course_of s tr i) own (arrived_job n) (arrived_job (n + gap)) (stream_arrival s tr t i q n) (stream_arrival s tr t i q (n + gap))
+    arrivals-are =
+        record {
+          first = first.own;
+          last = second.own;
+          order = job-order own (arrived_job n) (arrived_job (n + gap)) first.own second.own (omega (arith, first.number, second.number));
+          comes = (arrival-is s tr t i (arrived_job n) first.there).0;
+          follows = (arrival-is s tr t i (arrived_job (n + gap)) second.there).0;
+        }
+
+    arrival-by : stream_arrival s tr t i q (n + gap) < t + 1
+    arrival-by = omega (arith, (arrival-is s tr t i (arrived_job (n + gap)) second.there).1)
+
+    count-is : count_from own (arrived_job n) (arrived_job (n + gap)) ≡ gap + 1
+    count-is = omega (arith, first.number, second.number, jobs_in-here own (arrived_job (n + gap)) second.own)
+
   module _ (x : List Bound) (closed : IsClosed s x) where
-    hold : CoursesHold s x (course_of s tr)
-    hold = courses_hold s x (course_of s tr) laws rules closed
+    hold : (t : ℕ) → CoursesHold s x (course_of s tr) (causes_at s tr t) t
+    hold t = courses_hold s x (course_of s tr) (causes_at s tr t) t steps (keeps-causes s tr obeys rules t steps.order) rules closed
 
-    sources-near : SourcesStayNear s tr → (i : ℕ) → i < length s.tasks → SourcesAreNear s (course_of s tr) i (task_at s i).after
-    sources-near near i h = near_from (task_at s i).after refl
-      where
-        near_from : (a : Activator) → (task_at s i).after ≡ a → SourcesAreNear s (course_of s tr) i a
-        near_from (Source k) e = source-near s tr i k.0 e obeys (near k.0)
-        near_from (Task j) e = tt
+    sources-near : (t : ℕ) → SourcesStayNear s tr → SourcesAreNear s (course_of s tr) (causes_at s tr t) t
+    sources-near t near i k h starts = source-near s tr obeys rules t i k h starts (steps.order i h) near
 
-    chain-holds : (i : ℕ) (js : List ℕ) (r k t : ℕ) → IsChain s i js → sum_bounds (bound_of x) (i ∷ js) ≡ Within r → HasJob s tr t i k → (job_at s tr t i k).arrival + r ≤ t → IsDoneBy s tr t (last_task i js) k ((job_at s tr t i k).arrival + r)
-    chain-holds i js r k t chain sum has le =
-        let arrival = (arrival-is s tr t i k has).0 in
-        let a : ℕ = (job_at s tr t i k).arrival in
-        let last : ℕ = last_task i js in
-        let done = hold.paths i js r chain sum k a arrival in
-        let hl = last_in_range s x (course_of s tr) laws rules closed i js chain in
-        let o = order s tr rules obeys last hl in
-        let there : HasJob s tr t last k =
-        omega (
-          arith,
-          done,
-          ended-mono (course_of s tr last) (task_at s last).best (task_at s last).worst o (a + r) t le,
-          ended-le-arrived (course_of s tr last) (task_at s last).best (task_at s last).worst o t,
-          o.more_arrive t,
-          arrived-one s tr t last,
-        ) in
-        complete-by last k (a + r) t hl there le done
+    -- ---- passages
 
-    path-holds : (ts : List TaskId) → 0 < length ts → All (λ (i : TaskId). i.0 < length s.tasks) ts → IsLinked s ts → (r k t : ℕ) → sum_bounds (λ (i : TaskId). bound_of x i.0) ts ≡ Within r → HasJob s tr t (get_or ts 0 (record { 0 = 0 })).0 k → (job_at s tr t (get_or ts 0 (record { 0 = 0 })).0 k).arrival + r ≤ t → IsDoneBy s tr t (get_or ts (length ts - 1) (record { 0 = 0 })).0 k ((job_at s tr t (get_or ts 0 (record { 0 = 0 })).0 k).arrival + r)
+    passage-holds : (t due : ℕ) → due ≤ t → (i : TaskId) (further : List TaskId) (k : ℕ) → IsChain s i.0 (places_of further) → HasJob s tr t i.0 k → Passes (course_of s tr) (causes_at s tr t) i.0 k (places_of further) due → HasPassedBy s tr t i k further due
+    passage-holds t due le i [] k chain has done = complete-by i.0 k due t chain has le done
+    passage-holds t due le i (j ∷ further) k chain has passes =
+        let hj = chain_in_range s x (course_of s tr) (causes_at s tr t) t steps (keeps-causes s tr obeys rules t steps.order) rules closed j.0 (places_of further) chain.2 in
+        let soon = arrived-mono (course_of s tr j.0) (task_at s j.0).best (task_at s j.0).worst (steps.order j.0 hj) (due + 1) (t + 1) (omega arith) in
+        let there : HasJob s tr t j.0 passes.0 = omega (arith, passes.1, soon, arrived-one s tr t j.0) in
+        (passes.0, (there, passes.2), passage-holds t due le j further passes.0 chain.2 there passes.3)
+
+    path-holds : (ts : List TaskId) → 0 < length ts → All (λ (i : TaskId). i.0 < length s.tasks) ts → IsLinked s ts → (r k t : ℕ) → sum_bounds (λ (i : TaskId). bound_of x i.0) ts ≡ Within r → HasJob s tr t (get_or ts 0 (record { 0 = 0 })).0 k → (job_at s tr t (get_or ts 0 (record { 0 = 0 })).0 k).arrival + r ≤ t → HasPassedBy s tr t (get_or ts 0 (record { 0 = 0 })) k (drop 1 ts) ((job_at s tr t (get_or ts 0 (record { 0 = 0 })).0 k).arrival + r)
     path-holds [] some there linked r k t sum has le = absurd (omega arith)
-    path-holds (u ∷ ts) some there linked r k t sum has le =
-        let done = chain-holds u.0 (places_of ts) r k t (chain_from s u ts there linked) (sum-places x (u ∷ ts) ∙ sum) has le in
-        let e : length (u ∷ ts) - 1 ≡ length ts = omega arith in
-        rw (e, ← last_from u (record { 0 = 0 }) ts) done
+    path-holds (i ∷ further) some there linked r k t sum has le =
+        let a : ℕ = (job_at s tr t i.0 k).arrival in
+        let chain = chain_from s i further there linked in
+        let arrival = (arrival-is s tr t i.0 k has).0 in
+        passage-holds t (a + r) le i further k chain has ((hold t).paths i.0 (places_of further) r chain (sum-places x (i ∷ further) ∙ sum) k a (a + r) arrival (omega arith) le)
 
     pub hold-in : HoldIn s x tr
     hold-in =
         record {
           in_time = λ i r k t h number has le.
               let arrival = (arrival-is s tr t i k has).0 in
-              complete-by i k ((job_at s tr t i k).arrival + r) t h has le (hold.in_time i r h number k (job_at s tr t i k).arrival arrival);
+              complete-by i k ((job_at s tr t i k).arrival + r) t h has le ((hold t).in_time i r h number k (job_at s tr t i k).arrival arrival le);
           not_before = λ i k t e h has is.
               let arrival = (arrival-is s tr t i k has).0 in
               let when = end-is t i k e h has is in
-              let late = hold.not_before i h k (job_at s tr t i k).arrival (when.0 + 1) arrival when.2.1 in
+              let late = (hold t).not_before i h k (job_at s tr t i k).arrival (when.0 + 1) arrival when.2.1 in
               omega (arith, late, when.1);
           paths = λ p r k t path sum has le. path-holds p.tasks path.some path.there path.linked r k t sum has le;
           apart = λ i k gap t m h e has.
-              let first = (arrival-is s tr t i k (omega arith)).0 in
-              let second = (arrival-is s tr t i (k + gap) has).0 in
-              let far = rw e at (hold.apart i ((job_at s tr t i (k + gap)).arrival + 1) h) in
-              far k gap (job_at s tr t i k).arrival (job_at s tr t i (k + gap)).arrival first second (omega arith);
-          near = λ near i k gap t m h e has.
-              let first = (arrival-is s tr t i k (omega arith)).0 in
-              let second = (arrival-is s tr t i (k + gap) has).0 in
-              let close = rw e at (hold.near (sources-near near) i h) in
-              close k gap (job_at s tr t i k).arrival (job_at s tr t i (k + gap)).arrival first second;
+              let first = arrival-is s tr t i k (omega arith) in
+              let second = arrival-is s tr t i (k + gap) has in
+              let far = rw e at ((hold t).apart i h) in
+              far k gap (job_at s tr t i k).arrival (job_at s tr t i (k + gap)).arrival first.0 second.0 (omega (arith, second.1));
+          streams_apart = λ i q n gap t m st h e is has.
+              let z : 0 + q ≡ q = omega arith in
+              let streams = rw e at ((hold t).streams i h) in
+              let far = rw z at (streams q st is) in
+              rw (count-is t i q n gap has) at (far _ _ _ _ (arrivals-are t i q n gap has) (arrival-by t i q n gap has));
+          streams_near = λ near i q n gap t m st h e is has.
+              let z : 0 + q ≡ q = omega arith in
+              let streams = rw e at ((hold t).near (sources-near t near) i h) in
+              let close = rw z at (streams q st is) in
+              rw (count-is t i q n gap has) at (close _ _ _ _ (arrivals-are t i q n gap has) (arrival-by t i q n gap has));
         }
 
 -- a job keeps its bound where all before did
 pub local_bounds : LocalBounds
 local_bounds s x tr rules closed obeys t kept apart i r k a h number arrival now =
-    let l = laws s tr rules obeys in
+    let l = steps s tr rules obeys in
     let known : IsKnownBefore s x (course_of s tr) t =
     record {
-      comes = λ j below. within_from_apart (course_of s tr j) (task_at s j).best (task_at s j).worst (l.steps.order j below) (input s x j) (input-is_input s x rules j) t (apart j below);
+      comes = λ j below. within_from_apart (course_of s tr j) (task_at s j).best (task_at s j).worst (l.order j below) (input s x j) (input-is_input s x rules j below) t (apart j below);
       bound = kept;
     } in
     let known' : IsKnownBefore s x (course_of s tr) (a + r) = rw now known in
-    let done = local_bound s x (course_of s tr) l.steps rules closed i h k a r number arrival known' in
+    let done = local_bound s x (course_of s tr) l rules closed i h k a r number arrival known' in
     rw now at done
 
 -- closed vectors bound every run
@@ -216,3 +232,34 @@ closed_vectors_bound_every_run s x rules closed tr obeys = hold-in s tr rules ob
 
 pub least_solutions_bound_every_run : LeastSolutionsBoundEveryRun
 least_solutions_bound_every_run s x rules least = closed_vectors_bound_every_run s x rules least.closed
+
+-- ---- what causes lead to
+
+module _ (s : SystemLists) (tr : TraceLists) (rules : IsSystem s) (obeys : Obeys s tr) (t : ℕ) where
+  causes-kept : KeepsCauses s (course_of s tr) (causes_at s tr t) t
+  causes-kept = keeps-causes s tr obeys rules t (order s tr rules obeys)
+
+  has-arrived : (i k : ℕ) → HasJob s tr t i k → k < (course_of s tr i).arrived (t + 1)
+  has-arrived i k has = omega (arith, has, arrived-one s tr t i)
+
+  own-stream : (i k : ℕ) → i < length s.tasks → HasJob s tr t i k → (stream_of s tr t i k < length (streams_of s i)) × (stream_at s i (stream_of s tr t i k) ≡ origin_of s tr t i k)
+  own-stream i k h has = (
+    belongs s rules (course_of s tr) (order s tr rules obeys) (causes_at s tr t) t causes-kept MAX_CHAIN i k h (rules.chains i h) (has-arrived i k has),
+    stream-origin s rules (course_of s tr) (order s tr rules obeys) (causes_at s tr t) t causes-kept MAX_CHAIN i k h (rules.chains i h) (has-arrived i k has),
+  )
+
+  not-twice : (i k l : ℕ) → i < length s.tasks → HasJob s tr t i k → HasJob s tr t i l → causes_at s tr t i k ≡ causes_at s tr t i l → k < l → ⊥
+  not-twice i k l h has has' same = one-job s rules (course_of s tr) (order s tr rules obeys) (causes_at s tr t) t causes-kept i k l h (has-arrived i k has) (has-arrived i l has') same
+
+pub each_job_has_a_stream : EachJobHasAStream
+each_job_has_a_stream s tr rules obeys t i k h has = own-stream s tr rules obeys t i k h has
+
+pub a_cause_starts_one_job : ACauseStartsOneJob
+a_cause_starts_one_job s tr rules obeys t i k l h has has' same =
+    elim (cases_order k l) [
+      | inl e ↦ e
+      | inr o ↦ elim o [
+        | inl less ↦ absurd (not-twice s tr rules obeys t i k l h has has' same less)
+        | inr more ↦ absurd (not-twice s tr rules obeys t i l k h has' has (sym same) more)
+      ]
+    ]

@@ -2,7 +2,7 @@ ghost use Rattle.std.specs.Prelude.{◌≡◌, All, IfOk, true};
 ghost use Rattle.cpa_model.specs.Built.{has_executions};
 
 use cpa_audit::{ScheduleFault, audit, audit_text, read_schedule};
-use cpa_model::{Draft, DraftResource, DraftSource, DraftTask, KindWord, Raw, System};
+use cpa_model::{Draft, DraftResource, DraftSource, DraftTask, KindWord, Raw, RawList, System};
 use cpa_trace::read_trace;
 use std::alloc::{AllocError, Global};
 use std::test::Fail;
@@ -91,6 +91,13 @@ fn raw(alloc: Global, text: &str) -> Result<Raw, AllocError> {
     Ok(Raw::new(Vec::from_slice(alloc, text.as_bytes())?))
 }
 
+/// The list of one name.
+fn one(alloc: Global, text: &str) -> Result<RawList, AllocError> {
+    let mut names = Vec::new(alloc);
+    names.push(raw(alloc, text)?)?;
+    Ok(RawList::new(names))
+}
+
 fn resources(alloc: Global, made: &Made) -> Result<Vec<DraftResource>, AllocError> {
     let mut resources = Vec::new(alloc);
     for (name, kind, gap) in made.resources {
@@ -124,7 +131,7 @@ fn task(alloc: Global, row: &Row) -> Result<DraftTask, AllocError>
     Ok(DraftTask {
         name: raw(alloc, row.words[0])?,
         on: raw(alloc, row.words[1])?,
-        after: raw(alloc, row.words[2])?,
+        after: one(alloc, row.words[2])?,
         best: Some(row.ticks),
         worst: Some(row.ticks),
         payload: None,

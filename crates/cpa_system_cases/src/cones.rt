@@ -4,6 +4,7 @@ ghost use Rattle.std.specs.Prelude.{◌<◌, ◌≤◌, length};
 
 use crate::made::{Made, build};
 use cpa_depend::{cone, reads, reads_of_all};
+use cpa_file::read_system;
 use cpa_model::{KindWord, System};
 use cpa_units::{ResId, ResSet};
 use std::test::Fail;
@@ -76,6 +77,40 @@ fn crossing_chains(rt: HostRuntime) -> Result<(), Fail> {
     let wanted = [(both, all), (both, all), (all, third), (last, last)];
     assert!(rt;
         system.resources() == 4 && all_around(&system) == wanted && read_by(&system) == [all, last]
+    );
+    Ok(())
+}
+
+/// A task on r after one on p and one on q, and one on t after it.
+const JOINED: &str = "format = 2
+resource = [
+  { name = \"p\", kind = \"preemptive\" },
+  { name = \"q\", kind = \"can\" },
+  { name = \"r\", kind = \"round-robin\" },
+  { name = \"t\", kind = \"tdma\" },
+]
+source = [{ name = \"s\", period = 100 }]
+task = [
+  { name = \"d\", on = \"t\", after = \"c\", best = 1, worst = 1, slot = 1 },
+  { name = \"c\", on = \"r\", after = [\"a\", \"s\", \"b\"], best = 1, worst = 1, slot = 1 },
+  { name = \"a\", on = \"p\", after = \"s\", best = 1, worst = 1, priority = 1 },
+  { name = \"b\", on = \"q\", after = \"s\", best = 1, worst = 1, priority = 1 },
+]
+";
+
+#[test]
+fn joined_chains(rt: HostRuntime) -> Result<(), Fail> {
+    let alloc = rt.alloc();
+    let system = read_system(alloc, JOINED.as_bytes())?;
+    let wanted = [
+        ([true, false, false, false], [true, false, true, true]),
+        ([false, true, false, false], [false, true, true, true]),
+        ([true, true, true, false], [false, false, true, true]),
+        ([true, true, true, true], [false, false, false, true]),
+    ];
+    let table = [wanted[2].0, wanted[3].0];
+    assert!(rt;
+        system.resources() == 4 && all_around(&system) == wanted && read_by(&system) == table
     );
     Ok(())
 }

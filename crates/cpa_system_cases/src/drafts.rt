@@ -1,19 +1,27 @@
 mod cases;
+mod wholes;
 
-use cases::{
-    A, BASE, CASES, CPU, Case, Job, PATHS, RESOURCES, Res, S, SOURCES, Src, TASKS, W, Way,
-};
+use cases::{A, BASE, CPU, Case, Job, PATHS, RESOURCES, Res, S, SOURCES, Src, TASKS, W, Way};
 use cpa_draft::{
     BuildFault, Draft, DraftPath, DraftResource, DraftSource, DraftTask, Part, Raw, RawList,
     Refusal, judge,
 };
 use std::alloc::{AllocError, Global};
 use std::test::Fail;
+use wholes::CASES;
 
 fn needs_shared<T: Send + Sync>(_value: &T) {}
 
 fn raw(alloc: Global, text: &str) -> Result<Raw, AllocError> {
     Ok(Raw::new(Vec::from_slice(alloc, text.as_bytes())?))
+}
+
+fn raws(alloc: Global, texts: &[&str]) -> Result<RawList, AllocError> {
+    let mut names = Vec::new(alloc);
+    for text in texts {
+        names.push(raw(alloc, text)?)?;
+    }
+    Ok(RawList::new(names))
 }
 
 fn resource(alloc: Global, given: &Res) -> Result<DraftResource, AllocError> {
@@ -39,7 +47,7 @@ fn task(alloc: Global, given: &Job) -> Result<DraftTask, AllocError> {
     Ok(DraftTask {
         name: raw(alloc, given.name)?,
         on: raw(alloc, given.on)?,
-        after: raw(alloc, given.after)?,
+        after: raws(alloc, given.after)?,
         best: given.best,
         worst: given.worst,
         payload: given.payload,
@@ -50,13 +58,9 @@ fn task(alloc: Global, given: &Job) -> Result<DraftTask, AllocError> {
 }
 
 fn path(alloc: Global, given: &Way) -> Result<DraftPath, AllocError> {
-    let mut tasks = Vec::new(alloc);
-    for name in given.tasks {
-        tasks.push(raw(alloc, name)?)?;
-    }
     Ok(DraftPath {
         name: raw(alloc, given.name)?,
-        tasks: RawList::new(tasks),
+        tasks: raws(alloc, given.tasks)?,
         deadline: given.deadline,
     })
 }
@@ -231,13 +235,22 @@ fn numbered(alloc: Global, letter: &str, place: u32) -> Result<Raw, AllocError> 
     Ok(Raw::new(format!(in alloc; "{letter}{place}")?.into_bytes()))
 }
 
+/// The names of so many tasks from one on.
+fn tasks_from(alloc: Global, first: u32, count: u32) -> Result<RawList, AllocError> {
+    let mut names = Vec::new(alloc);
+    for place in 0..count {
+        names.push(numbered(alloc, "t", first + place)?)?;
+    }
+    Ok(RawList::new(names))
+}
+
 /// A task of a chain, the first of which is activated by a source.
 fn link(alloc: Global, place: u32) -> Result<DraftTask, AllocError> {
     Ok(DraftTask {
         name: numbered(alloc, "t", place)?,
         after: match place.checked_sub(1) {
-            None => raw(alloc, "s")?,
-            Some(before) => numbered(alloc, "t", before)?,
+            None => raws(alloc, &["s"])?,
+            Some(before) => tasks_from(alloc, before, 1)?,
         },
         priority: Some(place as i64),
         ..task(alloc, &A)?
@@ -264,6 +277,116 @@ fn refuses_long_chains(rt: HostRuntime) -> Result<(), Fail> {
     ];
     let long = Some((7, Part::Task, 33));
     assert_eq!(rt; seen, [None, long, long]);
+    Ok(())
+}
+
+/// What is told of layers of so many tasks, those of the first after the source, and those of each later one after all
+/// of the layer before.
+fn told_of_layers(
+    alloc: Global,
+    layers: u32,
+    width: u32,
+) -> Result<Option<(u8, Part, u64)>, AllocError> {
+    let mut draft = without_tasks(alloc)?;
+    for layer in 0..layers {
+        for place in 0..width {
+            let after = match layer.checked_sub(1) {
+                None => raws(alloc, &["s"])?,
+                Some(before) => tasks_from(alloc, before * width, width)?,
+            };
+            draft.tasks.push(DraftTask {
+                name: numbered(alloc, "t", layer * width + place)?,
+                after,
+                priority: Some((layer * width + place) as i64),
+                ..task(alloc, &A)?
+            })?;
+        }
+    }
+    Ok(told(alloc, &draft))
+}
+
+/// Layers have very many chains, and streams.
+#[test]
+fn refuses_layers(rt: HostRuntime) -> Result<(), Fail> {
+    let alloc = rt.alloc();
+    let seen = [
+        told_of_layers(alloc, 32, 1)?,
+        told_of_layers(alloc, 6, 2)?,
+        told_of_layers(alloc, 7, 2)?,
+        told_of_layers(alloc, 2, 32)?,
+        told_of_layers(alloc, 32, 16)?,
+        told_of_layers(alloc, 33, 16)?,
+    ];
+    let wanted = [
+        None,
+        None,
+        Some((14, Part::Task, 13)),
+        None,
+        Some((14, Part::Task, 33)),
+        Some((7, Part::Task, 513)),
+    ];
+    assert_eq!(rt; seen, wanted);
+    Ok(())
+}
+
+/// A task after 33 others, and then these, each with no activator, or with the source.
+fn told_of_full(alloc: Global, names: &[&str]) -> Result<Option<(u8, Part, u64)>, AllocError> {
+    let mut draft = without_tasks(alloc)?;
+    draft.tasks.push(DraftTask {
+        name: raw(alloc, "full")?,
+        after: tasks_from(alloc, 0, 33)?,
+        priority: Some(100),
+        ..task(alloc, &A)?
+    })?;
+    for place in 0..33 {
+        draft.tasks.push(DraftTask {
+            name: numbered(alloc, "t", place)?,
+            after: raws(alloc, names)?,
+            priority: Some(place as i64),
+            ..task(alloc, &A)?
+        })?;
+    }
+    Ok(told(alloc, &draft))
+}
+
+/// A task after another, of which the source is an activator so many times.
+fn told_of_doubles(alloc: Global, count: u32) -> Result<Option<(u8, Part, u64)>, AllocError> {
+    let mut draft = without_tasks(alloc)?;
+    draft.tasks.push(task(alloc, &Job { after: &["d"], ..A })?)?;
+    let mut names = Vec::new(alloc);
+    for _ in 0..count {
+        names.push(raw(alloc, "s")?)?;
+    }
+    draft.tasks.push(DraftTask {
+        name: raw(alloc, "d")?,
+        after: RawList::new(names),
+        priority: Some(2),
+        ..task(alloc, &A)?
+    })?;
+    Ok(told(alloc, &draft))
+}
+
+/// The place is that of the first task with too many streams, an empty list or a double; and doubles count.
+#[test]
+fn refuses_full_lists(rt: HostRuntime) -> Result<(), Fail> {
+    let alloc = rt.alloc();
+    let seen = [
+        told_of_full(alloc, &[])?,
+        told_of_full(alloc, &["s"])?,
+        told_of_doubles(alloc, 1)?,
+        told_of_doubles(alloc, 2)?,
+        told_of_doubles(alloc, 32)?,
+        told_of_doubles(alloc, 33)?,
+    ];
+    let wanted = [
+        Some((14, Part::Task, 2)),
+        Some((14, Part::Task, 1)),
+        None,
+        Some((14, Part::Task, 2)),
+        Some((14, Part::Task, 2)),
+        Some((14, Part::Task, 1)),
+    ];
+    assert_eq!(rt; seen, wanted);
     Ok(())
 }
 

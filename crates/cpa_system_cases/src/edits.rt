@@ -1,12 +1,12 @@
-mod systems;
+pub(crate) mod systems;
 
-use crate::made::build;
+use crate::made::{Made, build};
 use cpa_edit::{EditFault, EditRefusal, ScriptFault, Step, apply, read_script};
-use cpa_model::{Activator, System, Turn};
+use cpa_model::{Activator, Activators, System, Turn};
 use cpa_units::{PathId, ResId, ResSet, SourceId, TaskId};
 use std::alloc::{AllocError, Global};
 use std::test::Fail;
-use systems::{CROSSING_CHAINS, WORKS};
+use systems::{CROSSING_CHAINS, JOINED, LADDER, WORKS};
 
 fn needs_shared<T: Send + Sync>(_value: &T) {}
 
@@ -246,6 +246,68 @@ const REFUSED: &[(&str, u8)] = &[
     ("add a cpu sa 9 3 9", 5),
 ];
 
+const BUS_AND_CPU: [bool; 4] = [true, true, false, false];
+
+const CPU_AND_TABLE: [bool; 4] = [true, false, false, true];
+
+/// The same of the system with several activators.
+const JOINED_ACCEPTED: &[(&str, [bool; 4])] = &[
+    ("source sa 10 1 0", CPU_AND_TABLE),
+    ("source sb 20 5 20", CPU),
+    ("source sc 40 5 0", BUS_AND_CPU),
+    ("add y ring k 1 1 1", RING),
+    ("add y ring k 1 1 1\nremove y", RING),
+    ("remove z", CPU),
+];
+
+const JOINED_REFUSED: &[(&str, u8)] = &[
+    // A first, a third and a last activator.
+    ("remove x", 6),
+    ("remove m", 6),
+    ("remove n", 6),
+    ("remove k", 6),
+    ("remove z\nremove x", 6),
+    ("add y ring z 1 1 1\nremove z", 6),
+];
+
+/// And of the longest chain, whose last task has as many streams as there may be.
+const LADDER_ACCEPTED: &[(&str, [bool; 4])] = &[
+    ("add u table t30 1 1 1", TABLE),
+    ("remove t31", RING),
+];
+
+const LADDER_REFUSED: &[(&str, u8)] = &[
+    ("add u table t31 1 1 1", 9),
+    ("add t31 table t31 1 1 1", 7),
+    ("remove t0", 6),
+    ("remove t30", 6),
+];
+
+/// A system, scripts whose last edit is accepted, and scripts whose last edit is refused.
+struct Judged {
+    system: &'static Made,
+    accepted: &'static [(&'static str, [bool; 4])],
+    refused: &'static [(&'static str, u8)],
+}
+
+const JUDGED: &[Judged] = &[
+    Judged {
+        system: WORKS,
+        accepted: ACCEPTED,
+        refused: REFUSED,
+    },
+    Judged {
+        system: JOINED,
+        accepted: JOINED_ACCEPTED,
+        refused: JOINED_REFUSED,
+    },
+    Judged {
+        system: LADDER,
+        accepted: LADDER_ACCEPTED,
+        refused: LADDER_REFUSED,
+    },
+];
+
 /// What becomes of the last edit of a script over a copy of a system.
 fn last_of(alloc: Global, system: &System, text: &str) -> Result<Result<[bool; 4], u8>, Fail> {
     let mut copy = system.copy(alloc)?;
@@ -253,14 +315,15 @@ fn last_of(alloc: Global, system: &System, text: &str) -> Result<Result<[bool; 4
 }
 
 /// The first script of which something else comes than is wanted.
-fn wrongly_judged(alloc: Global, system: &System) -> Result<Option<&'static str>, Fail> {
-    for (text, touched) in ACCEPTED {
-        if last_of(alloc, system, text)? != Ok(*touched) {
+fn wrongly_judged(alloc: Global, judged: &Judged) -> Result<Option<&'static str>, Fail> {
+    let system = build(alloc, judged.system)?;
+    for (text, touched) in judged.accepted {
+        if last_of(alloc, &system, text)? != Ok(*touched) {
             return Ok(Some(*text));
         }
     }
-    for (text, number) in REFUSED {
-        if last_of(alloc, system, text)? != Err(*number) {
+    for (text, number) in judged.refused {
+        if last_of(alloc, &system, text)? != Err(*number) {
             return Ok(Some(*text));
         }
     }
@@ -270,9 +333,10 @@ fn wrongly_judged(alloc: Global, system: &System) -> Result<Option<&'static str>
 #[test]
 fn accepts_and_refuses(rt: HostRuntime) -> Result<(), Fail> {
     let alloc = rt.alloc();
-    let system = build(alloc, WORKS)?;
-    let wrong = wrongly_judged(alloc, &system)?;
-    assert!(rt; wrong.is_none(), "{wrong:?}");
+    for judged in JUDGED {
+        let wrong = wrongly_judged(alloc, judged)?;
+        assert!(rt; wrong.is_none(), "{wrong:?}");
+    }
     Ok(())
 }
 
@@ -296,15 +360,22 @@ fn found_place(system: &System, name: &[u8]) -> u64 {
     u64::from(system.find_task(name).unwrap_or(TaskId(1000)).0)
 }
 
-/// The numbers of each task: its resource, its activator, its executions, its turn, and the place that its name has.
+/// The numbers of each of a task's activators.
+fn add_activators(numbers: &mut Vec<u64>, after: &Activators) -> Result<(), AllocError> {
+    for k in 0..after.len() {
+        let [by_task, place] = activator_numbers(after.get(k));
+        numbers.extend_from_slice(&[by_task, place])?;
+    }
+    Ok(())
+}
+
+/// The numbers of each task: its resource, its activators, its executions, its turn, and the place that its name has.
 fn add_tasks(numbers: &mut Vec<u64>, system: &System) -> Result<(), AllocError> {
     for i in 0..system.tasks() {
         let task = system.task(TaskId(i));
-        let [by_task, place] = activator_numbers(task.after);
+        numbers.push(u64::from(task.res.0))?;
+        add_activators(numbers, &task.after)?;
         numbers.extend_from_slice(&[
-            u64::from(task.res.0),
-            by_task,
-            place,
             task.best,
             task.worst,
             turn_number(task.turn),
@@ -323,7 +394,7 @@ fn add_sources(numbers: &mut Vec<u64>, system: &System) -> Result<(), AllocError
 }
 
 /// The tasks of each resource, behind their number.
-fn add_rosters(numbers: &mut Vec<u64>, system: &System) -> Result<(), AllocError> {
+fn add_task_lists(numbers: &mut Vec<u64>, system: &System) -> Result<(), AllocError> {
     for r in 0..system.resources() {
         let tasks = system.tasks_on(ResId(r));
         numbers.push(tasks.len() as u64)?;
@@ -351,7 +422,7 @@ fn numbers_of(alloc: Global, system: &System) -> Result<Vec<u64>, AllocError> {
     let mut numbers = Vec::new(alloc);
     add_sources(&mut numbers, system)?;
     add_tasks(&mut numbers, system)?;
-    add_rosters(&mut numbers, system)?;
+    add_task_lists(&mut numbers, system)?;
     add_paths(&mut numbers, system)?;
     Ok(numbers)
 }
@@ -441,6 +512,45 @@ const CHANGES: &[(&str, &[u64])] = &[
     ]),
 ];
 
+/// The numbers of the system with several activators.
+#[rattlefmt::skip]
+const JOINED_BEFORE: &[u64] = &[
+    10, 0, 0, 20, 0, 0, 40, 0, 0,
+    0, 0, 2, 1, 1, 9, 0,
+    0, 0, 2, 1, 2, 7, 1,
+    0, 0, 0, 0, 1, 1, 3, 1, 2,
+    1, 1, 2, 0, 2, 1, 2, 1, 3,
+    3, 1, 1, 0, 0, 1, 2, 1, 3, 1, 2, 3, 4,
+    3, 0, 1, 2, 1, 3, 0, 1, 4,
+    3, 2, 3, 4,
+];
+
+#[rattlefmt::skip]
+const JOINED_CHANGES: &[(&str, &[u64])] = &[
+    ("", JOINED_BEFORE),
+    ("remove x\nremove m\nremove n\nremove k", JOINED_BEFORE),
+    // Whoever stood behind `z` has moved up, in each place of each list.
+    ("remove z", &[
+        10, 0, 0, 20, 0, 0, 40, 0, 0,
+        0, 0, 2, 1, 2, 7, 0,
+        0, 0, 0, 0, 1, 1, 3, 1, 1,
+        1, 1, 1, 0, 2, 1, 2, 1, 2,
+        3, 1, 0, 0, 0, 1, 1, 1, 2, 1, 2, 3, 3,
+        2, 0, 1, 1, 2, 0, 1, 3,
+        3, 1, 2, 3,
+    ]),
+    ("add y ring m 4 5 6\nremove z", &[
+        10, 0, 0, 20, 0, 0, 40, 0, 0,
+        0, 0, 2, 1, 2, 7, 0,
+        0, 0, 0, 0, 1, 1, 3, 1, 1,
+        1, 1, 1, 0, 2, 1, 2, 1, 2,
+        3, 1, 0, 0, 0, 1, 1, 1, 2, 1, 2, 3, 3,
+        2, 1, 1, 4, 5, 6, 4,
+        2, 0, 1, 1, 2, 1, 4, 1, 3,
+        3, 1, 2, 3,
+    ]),
+];
+
 /// Whether a system has these numbers.
 fn has_numbers(alloc: Global, system: &System, numbers: &[u64]) -> Result<bool, AllocError> {
     Ok(numbers_of(alloc, system)?.as_slice() == numbers)
@@ -454,8 +564,12 @@ fn changes_to(alloc: Global, system: &System, text: &str, numbers: &[u64]) -> Re
 }
 
 /// The first script after which the system has other numbers.
-fn wrongly_changed(alloc: Global, system: &System) -> Result<Option<&'static str>, Fail> {
-    for (text, numbers) in CHANGES {
+fn wrongly_changed(
+    alloc: Global,
+    system: &System,
+    changes: &'static [(&'static str, &'static [u64])],
+) -> Result<Option<&'static str>, Fail> {
+    for (text, numbers) in changes {
         if !changes_to(alloc, system, text, numbers)? {
             return Ok(Some(*text));
         }
@@ -467,10 +581,12 @@ fn wrongly_changed(alloc: Global, system: &System) -> Result<Option<&'static str
 fn changes_what_is_named(rt: HostRuntime) -> Result<(), Fail> {
     let alloc = rt.alloc();
     let system = build(alloc, WORKS)?;
-    let wrong = wrongly_changed(alloc, &system)?;
+    let joined = build(alloc, JOINED)?;
+    let wrong = wrongly_changed(alloc, &system, CHANGES)?;
+    let other = wrongly_changed(alloc, &joined, JOINED_CHANGES)?;
     assert!(rt;
-        wrong.is_none() && has_numbers(alloc, &system, BEFORE)?,
-        "{wrong:?}"
+        wrong.is_none() && other.is_none() && has_numbers(alloc, &system, BEFORE)?,
+        "{wrong:?} {other:?}"
     );
     Ok(())
 }

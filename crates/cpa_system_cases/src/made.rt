@@ -15,7 +15,8 @@ pub(crate) type ResourceRow = (&'static str, KindWord, Option<i64>, Option<i64>)
 /// A source's name, its period, its jitter and its least distance.
 pub(crate) type SourceRow = (&'static str, i64, Option<i64>, Option<i64>);
 
-/// A task's name, its resource and what activates it; its least and greatest execution; its priority or its slot.
+/// A task's name, its resource and its activators, with a blank between each two; its least and greatest execution; its priority or
+/// its slot.
 pub(crate) type TaskRow = ([&'static str; 3], (i64, i64), (Option<i64>, Option<i64>));
 
 /// A path's name and its tasks.
@@ -31,6 +32,15 @@ pub(crate) struct Made {
 
 fn raw(alloc: Global, text: &str) -> Result<Raw, AllocError> {
     Ok(Raw::new(Vec::from_slice(alloc, text.as_bytes())?))
+}
+
+/// The names in a text, with a blank between each two.
+fn names_in(alloc: Global, text: &str) -> Result<RawList, AllocError> {
+    let mut names = Vec::new(alloc);
+    for name in text.split(' ') {
+        names.push(raw(alloc, name)?)?;
+    }
+    Ok(RawList::new(names))
 }
 
 fn resources(alloc: Global, rows: &[ResourceRow]) -> Result<Vec<DraftResource>, AllocError> {
@@ -67,7 +77,7 @@ fn task(alloc: Global, row: &TaskRow) -> Result<DraftTask, AllocError>
     Ok(DraftTask {
         name: raw(alloc, name)?,
         on: raw(alloc, on)?,
-        after: raw(alloc, after)?,
+        after: names_in(alloc, after)?,
         best: Some(best),
         worst: Some(worst),
         payload: None,

@@ -17,6 +17,15 @@ fn raw(alloc: Global, text: &str) -> Result<Raw, AllocError> {
     Ok(Raw::new(Vec::from_slice(alloc, text.as_bytes())?))
 }
 
+/// The names in a text, with a blank between each two.
+fn names_in(alloc: Global, text: &str) -> Result<RawList, AllocError> {
+    let mut names = Vec::new(alloc);
+    for name in text.split(' ') {
+        names.push(raw(alloc, name)?)?;
+    }
+    Ok(RawList::new(names))
+}
+
 fn resource(alloc: Global, name: &str, kind: KindWord) -> Result<DraftResource, AllocError> {
     Ok(DraftResource {
         name: raw(alloc, name)?,
@@ -64,10 +73,11 @@ enum Runs {
     Frame(i64, Option<bool>),
 }
 
-/// A task's name, its resource and what activates it; how long it runs; its priority or its slot.
+/// A task's name, its resource and its activators, with a blank between each two; how long it runs; its priority or its slot.
 type Row = ([&'static str; 3], Runs, (Option<i64>, Option<i64>));
 
-/// Two tasks on a processor, a frame between them, another frame, two tasks on a TDMA bus.
+/// Two tasks on a processor, a frame between them, another frame, two tasks on a TDMA bus, of which the second comes after both
+/// frames.
 const ROWS: [Row; 6] = [
     (["a", "cpu", "sa"], Runs::Between(2, 7), (Some(1), None)),
     (["f", "bus", "a"], Runs::Frame(8, None), (Some(1), None)),
@@ -78,7 +88,7 @@ const ROWS: [Row; 6] = [
         (Some(2), None),
     ),
     (["x", "table", "sb"], Runs::Between(2, 7), (None, Some(30))),
-    (["y", "table", "g"], Runs::Between(2, 7), (None, Some(12))),
+    (["y", "table", "g f"], Runs::Between(2, 7), (None, Some(12))),
 ];
 
 fn task(alloc: Global, row: &Row) -> Result<DraftTask, AllocError>
@@ -92,7 +102,7 @@ fn task(alloc: Global, row: &Row) -> Result<DraftTask, AllocError>
     Ok(DraftTask {
         name: raw(alloc, name)?,
         on: raw(alloc, on)?,
-        after: raw(alloc, after)?,
+        after: names_in(alloc, after)?,
         best,
         worst,
         payload,
@@ -142,15 +152,19 @@ fn draft(alloc: Global) -> Result<Draft, AllocError>
     })
 }
 
-/// The source of a task's stream, where it has one alone.
-fn only_stream(system: &System, task: TaskId) -> Option<SourceId>
+/// What a task's last activator is.
+fn last_activator(system: &System, task: TaskId) -> Activator
     requires { task.0 < length system.now.tasks }
 {
-    if system.streams(task) == 1 {
-        Some(system.stream(task, 0))
-    } else {
-        None
-    }
+    let after = &system.task(task).after;
+    after.get(after.len() - 1)
+}
+
+/// The source of a task's last stream.
+fn last_stream(system: &System, task: TaskId) -> SourceId
+    requires { task.0 < length system.now.tasks }
+{
+    system.stream(task, system.streams(task) - 1)
 }
 
 /// The place, the kind and the limit of the resource with a name.
@@ -163,27 +177,32 @@ fn resource_of(system: &System, name: &str) -> Option<(ResId, Kind, u64)> {
     Some((res, resource.kind, resource.limit))
 }
 
-/// What a system has of a task: how it is activated, how long it runs, its turn, and the beginning and the length of its chain.
+/// What a system has of a task: how many activators and streams, and the last of each; how long it runs; its turn; the source of its
+/// first stream, and the length of its longest chain.
 #[derive(Clone, Copy, Debug, PartialEq)]
 struct Seen {
     task: TaskId,
+    counts: (u32, u32),
     after: Activator,
+    last: SourceId,
     executions: (u64, u64),
     turn: Turn,
     root: SourceId,
     depth: u32,
 }
 
-/// What it has of the task with a name, where the task's one stream comes from the beginning of its chain.
+/// What it has of the task with a name.
 fn task_of(system: &System, name: &str) -> Option<Seen> {
     let task = system.find_task(name.as_bytes())?;
-    if system.tasks() <= task.0 || only_stream(system, task) != Some(system.root(task)) {
+    if system.tasks() <= task.0 {
         return None;
     }
     let it = system.task(task);
     Some(Seen {
         task,
-        after: it.after,
+        counts: (it.after.len(), system.streams(task)),
+        after: last_activator(system, task),
+        last: last_stream(system, task),
         executions: (it.best, it.worst),
         turn: it.turn,
         root: system.root(task),
@@ -244,14 +263,15 @@ fn builds_a_system(rt: HostRuntime) -> Result<(), Fail> {
     Ok(())
 }
 
-/// The name of each task of the system, its place, its activator, its executions, its turn, its source and the length of its
-/// chain. The executions of frames are those of the case *frame_lengths*.
+/// The name of each task of the system, and what it has of it. The executions of frames are those of the case *frame_lengths*.
 const TASKS: [(&str, Seen); 6] = [
     (
         "a",
         Seen {
             task: TaskId(0),
+            counts: (1, 1),
             after: Activator::Source(SourceId(0)),
+            last: SourceId(0),
             executions: (2, 7),
             turn: Turn::Priority(1),
             root: SourceId(0),
@@ -262,7 +282,9 @@ const TASKS: [(&str, Seen); 6] = [
         "f",
         Seen {
             task: TaskId(1),
+            counts: (1, 1),
             after: Activator::Task(TaskId(0)),
+            last: SourceId(0),
             executions: (222, 270),
             turn: Turn::Priority(1),
             root: SourceId(0),
@@ -273,7 +295,9 @@ const TASKS: [(&str, Seen); 6] = [
         "b",
         Seen {
             task: TaskId(2),
+            counts: (1, 1),
             after: Activator::Task(TaskId(1)),
+            last: SourceId(0),
             executions: (2, 7),
             turn: Turn::Priority(2),
             root: SourceId(0),
@@ -284,7 +308,9 @@ const TASKS: [(&str, Seen); 6] = [
         "g",
         Seen {
             task: TaskId(3),
+            counts: (1, 1),
             after: Activator::Source(SourceId(1)),
+            last: SourceId(1),
             executions: (134, 160),
             turn: Turn::Priority(2),
             root: SourceId(1),
@@ -295,7 +321,9 @@ const TASKS: [(&str, Seen); 6] = [
         "x",
         Seen {
             task: TaskId(4),
+            counts: (1, 1),
             after: Activator::Source(SourceId(1)),
+            last: SourceId(1),
             executions: (2, 7),
             turn: Turn::Slot(30),
             root: SourceId(1),
@@ -306,11 +334,13 @@ const TASKS: [(&str, Seen); 6] = [
         "y",
         Seen {
             task: TaskId(5),
-            after: Activator::Task(TaskId(3)),
+            counts: (2, 2),
+            after: Activator::Task(TaskId(1)),
+            last: SourceId(0),
             executions: (2, 7),
             turn: Turn::Slot(12),
             root: SourceId(1),
-            depth: 2,
+            depth: 3,
         },
     ),
 ];

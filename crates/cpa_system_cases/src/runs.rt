@@ -1,10 +1,14 @@
+mod systems;
+
 use crate::made::{Made, build};
-use cpa_model::{KindWord, System};
-use cpa_sim::{replay, sim_text};
+use cpa_file::read_system;
+use cpa_model::{Activator, KindWord, System};
+use cpa_sim::{Cause, replay, sim_text};
 use cpa_trace::read_trace;
-use cpa_units::TaskId;
+use cpa_units::{SourceId, TaskId};
 use std::alloc::Global;
 use std::test::Fail;
+use systems::{AT_ONCE, FAN, TURNS, TWO_ACTIVATORS};
 
 /// A system without anything.
 const EMPTY: &Made = &Made {
@@ -159,5 +163,88 @@ fn replays_nothing(rt: HostRuntime) -> Result<(), Fail> {
     let alloc = rt.alloc();
     let seen = texts(alloc, EMPTY, &[""])?;
     assert!(rt; seen.as_slice() == "summary jobs 0 done 0 end 0\n".as_bytes());
+    Ok(())
+}
+
+/// Systems, their traces, and the texts of the runs.
+const JOINED: &[(&str, &str, &str)] = &[
+    // Each event of two sources starts a job, and each passage follows what its job started.
+    (
+        TWO_ACTIVATORS,
+        "event,sa,0\nevent,sb,0\n",
+        "task m jobs 2 done 2 worst 6\ntask n jobs 2 done 2 worst 2\npath p passages 2 worst 8\nsummary jobs 4 done 4 end 8\n",
+    ),
+    // Jobs that come at one time: first those that tasks start, in the order of the tasks, then that of the source.
+    (
+        AT_ONCE,
+        "event,s,0\nevent,u,3\nexec,c,1\nexec,c,2\nexec,c,9\n",
+        "task a jobs 1 done 1 worst 3\ntask b jobs 1 done 1 worst 3\ntask c jobs 3 done 3 worst 12\npath pa passages 1 worst 4\npath pb passages 1 worst 6\nsummary jobs 5 done 5 end 15\n",
+    ),
+    // The events of two sources in turn: the second job of `a` starts the third of `c`.
+    (
+        TURNS,
+        "event,sa,0\nevent,sa,10\nevent,sa,20\nevent,sb,5\nevent,sb,15\nexec,a,1\nexec,a,2\nexec,a,1\nexec,b,4\nexec,b,3\nexec,c,1\nexec,c,3\nexec,c,2\nexec,c,3\nexec,d,1\nexec,d,2\n",
+        "task a jobs 3 done 3 worst 2\ntask b jobs 2 done 2 worst 4\ntask c jobs 5 done 5 worst 3\ntask d jobs 5 done 5 worst 2\npath pa passages 3 worst 6\npath pb passages 2 worst 9\nsummary jobs 15 done 15 end 26\n",
+    ),
+    // Jobs of 32 tasks that end at one time.
+    (
+        FAN,
+        "event,s,7\nexec,u,1\nexec,u,2\nexec,u,3\nexec,u,4\nexec,u,5\nexec,u,6\nexec,u,7\nexec,u,8\nexec,u,9\nexec,u,10\nexec,u,11\nexec,u,12\nexec,u,13\nexec,u,14\nexec,u,15\nexec,u,16\nexec,u,17\nexec,u,18\nexec,u,19\nexec,u,20\nexec,u,21\nexec,u,22\nexec,u,23\nexec,u,24\nexec,u,25\nexec,u,26\nexec,u,27\nexec,u,28\nexec,u,29\nexec,u,30\nexec,u,31\nexec,u,32\n",
+        "task t0 jobs 1 done 1 worst 2\ntask t1 jobs 1 done 1 worst 2\ntask t2 jobs 1 done 1 worst 2\ntask t3 jobs 1 done 1 worst 2\ntask t4 jobs 1 done 1 worst 2\ntask t5 jobs 1 done 1 worst 2\ntask t6 jobs 1 done 1 worst 2\ntask t7 jobs 1 done 1 worst 2\ntask t8 jobs 1 done 1 worst 2\ntask t9 jobs 1 done 1 worst 2\ntask t10 jobs 1 done 1 worst 2\ntask t11 jobs 1 done 1 worst 2\ntask t12 jobs 1 done 1 worst 2\ntask t13 jobs 1 done 1 worst 2\ntask t14 jobs 1 done 1 worst 2\ntask t15 jobs 1 done 1 worst 2\ntask t16 jobs 1 done 1 worst 2\ntask t17 jobs 1 done 1 worst 2\ntask t18 jobs 1 done 1 worst 2\ntask t19 jobs 1 done 1 worst 2\ntask t20 jobs 1 done 1 worst 2\ntask t21 jobs 1 done 1 worst 2\ntask t22 jobs 1 done 1 worst 2\ntask t23 jobs 1 done 1 worst 2\ntask t24 jobs 1 done 1 worst 2\ntask t25 jobs 1 done 1 worst 2\ntask t26 jobs 1 done 1 worst 2\ntask t27 jobs 1 done 1 worst 2\ntask t28 jobs 1 done 1 worst 2\ntask t29 jobs 1 done 1 worst 2\ntask t30 jobs 1 done 1 worst 2\ntask t31 jobs 1 done 1 worst 2\ntask u jobs 32 done 32 worst 528\npath first passages 1 worst 3\npath second passages 1 worst 5\npath last passages 1 worst 530\nsummary jobs 64 done 64 end 537\n",
+    ),
+];
+
+#[test]
+fn replays_joined_tasks(rt: HostRuntime) -> Result<(), Fail> {
+    let alloc = rt.alloc();
+    for (file, rows, written) in JOINED {
+        let system = read_system(alloc, file.as_bytes())?;
+        let seen = text(alloc, &system, rows)?;
+        assert!(rt; seen.as_slice() == written.as_bytes(), "{written}");
+    }
+    Ok(())
+}
+
+/// The causes of the jobs of a task in the run of a system under a trace.
+fn causes(alloc: Global, file: &str, rows: &str, task: TaskId) -> Result<Vec<Cause>, Fail> {
+    let system = read_system(alloc, file.as_bytes())?;
+    let trace = read_trace(alloc, &system, rows.as_bytes())?;
+    let outcome = replay(alloc, &system, &trace)?;
+    let mut causes = Vec::new(alloc);
+    if task.0 < system.tasks() {
+        for k in 0..outcome.count(task) {
+            causes.push(outcome.job(task, k).cause)?;
+        }
+    }
+    Ok(causes)
+}
+
+fn of_source(source: u32, number: u64) -> Cause {
+    Cause {
+        by: Activator::Source(SourceId(source)),
+        number,
+    }
+}
+
+fn of_task(task: u32, number: u64) -> Cause {
+    Cause {
+        by: Activator::Task(TaskId(task)),
+        number,
+    }
+}
+
+#[test]
+fn tells_causes(rt: HostRuntime) -> Result<(), Fail> {
+    let alloc = rt.alloc();
+    let rows = "event,sb,0\nevent,sa,0\nevent,sa,10";
+    let of_m = causes(alloc, TWO_ACTIVATORS, rows, TaskId(0))?;
+    let of_n = causes(alloc, TWO_ACTIVATORS, rows, TaskId(1))?;
+    let of_c = causes(alloc, AT_ONCE, "event,s,0\nevent,u,3", TaskId(2))?;
+    let rows = "event,sb,5\nevent,sa,0\nevent,sa,10";
+    let in_turn = causes(alloc, TURNS, rows, TaskId(2))?;
+    assert!(rt; of_m.as_slice() == [of_source(0, 0), of_source(1, 0), of_source(0, 1)].as_slice());
+    assert!(rt; of_n.as_slice() == [of_task(0, 0), of_task(0, 1), of_task(0, 2)].as_slice());
+    assert!(rt; of_c.as_slice() == [of_task(0, 0), of_task(1, 0), of_source(1, 0)].as_slice());
+    assert!(rt; in_turn.as_slice() == [of_task(0, 0), of_task(1, 0), of_task(0, 1)].as_slice());
     Ok(())
 }

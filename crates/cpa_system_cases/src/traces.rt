@@ -2,6 +2,7 @@ mod systems;
 
 ghost use Rattle.cpa_trace.specs.Trace.{FitsSystem};
 
+use crate::edits::systems::LADDER;
 use crate::made::build;
 use cpa_model::System;
 use cpa_trace::{Breach, Trace, TraceFault, obeys, read_trace};
@@ -103,6 +104,12 @@ const REFUSALS: &[(&[u8], TraceFault)] = &[
     (b"event,\"s,a\",0", TraceFault::UnknownName(1)),
 ];
 
+/// What is wrong with a file that has so many events at 0 of the source of a ladder: each starts a job for each of the 528 streams.
+fn fault_on_ladder(alloc: Global, events: u32) -> Result<Option<TraceFault>, Fail> {
+    let system = build(alloc, LADDER)?;
+    Ok(fault_after(alloc, &system, "event,sa,0\n", events, "")?)
+}
+
 /// What is wrong with a file.
 fn fault_of(alloc: Global, system: &System, bytes: &[u8]) -> Option<TraceFault> {
     read_trace(alloc, system, bytes).err()
@@ -118,6 +125,11 @@ fn refuses_the_first_row(rt: HostRuntime) -> Result<(), Fail> {
             "{bytes:?}"
         );
     }
+    let told = [
+        fault_on_ladder(alloc, 3_787)?,
+        fault_on_ladder(alloc, 3_788)?,
+    ];
+    assert!(rt; told == [None, Some(TraceFault::TooMany)]);
     Ok(())
 }
 

@@ -9,7 +9,7 @@ use Rattle.std.proofs.lemmas.Nat.{shr_below}
 use Rattle.std.specs.Int.Bits.{and_lt}
 use Rattle.std.specs.Int.{trailing_zeros}
 use Rattle.std.proofs.lemmas.Nat.Bits.{shr_and_one, bit_at-zero, bit_at-lt, bit_at_lowest, bit_at-suc, bit_at_or, bit_at_and, bit_at_ones, bit_at_ones_above, bit_at_above, bit_at_set_same, bit_at_set_other, bit_at-trailing_zeros}
-use Rattle.cpa_units.specs.Sets.{holds, Members, HaveCommon, IsNext, truths}
+use Rattle.cpa_units.specs.Sets.{holds, Members, HaveCommon, IsNextMember, truths}
 
 -- ---- members are bits
 
@@ -129,7 +129,7 @@ next-none n k e r past =
       | inr over ↦ holds-past 64 n r over
     ]
 
-pub next-is : (n k : ℕ) → n < 2 ^ 64 → k < 64 → (n / 2 ^ k ≡ 0 → ⊥) → IsNext (truths 64 n) k (k + trailing_zeros w64 (n / 2 ^ k))
+pub next-is : (n k : ℕ) → n < 2 ^ 64 → k < 64 → (n / 2 ^ k ≡ 0 → ⊥) → IsNextMember (truths 64 n) k (k + trailing_zeros w64 (n / 2 ^ k))
 next-is n k small within some =
     let rest = n / 2 ^ k in
     let few : rest < 2 ^ (64 - k) = shr_below n (64 - k) k (let whole : 64 - k + k ≡ 64 = omega (arith, within) in rw whole small) in

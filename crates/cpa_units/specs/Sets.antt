@@ -14,7 +14,7 @@ abbrev pub HaveCommon : List Bool → List Bool → Type 0
 HaveCommon a b = (place : ℕ) × Members a place × Members b place
 
 -- the least member from a place on
-pub record IsNext (set : List Bool) (from place : ℕ) : Type 0 where
+pub record IsNextMember (set : List Bool) (from place : ℕ) : Type 0 where
   pub past : from ≤ place
   pub small : place < 64
   pub member : Members set place

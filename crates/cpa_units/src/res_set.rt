@@ -1,7 +1,7 @@
 //! Sets of resources, as a system has at most 64 of them.
 
 ghost use Rattle.std.specs.Prelude.{◌≡◌, ℕ, ◌<◌, ◌≤◌, ◌||◌, ◌==◌, ◌↔◌, IsTrue, MatchOption, nat_lt, false};
-ghost use Rattle.cpa_units.specs.Sets.{holds, HaveCommon, IsNext};
+ghost use Rattle.cpa_units.specs.Sets.{holds, HaveCommon, IsNextMember};
 
 use crate::places::ResId;
 use std::marker::Model;
@@ -80,7 +80,7 @@ impl ResSet {
     /// The least member whose place is at least `from`; none where there is none.
     pub fn next(self, from: u32) -> Option<ResId>
         requires { from ≤ 64 }
-        ensures { MatchOption result ((r : ℕ) → from ≤ r → holds self r ≡ false) (λ res. IsNext self from res.0) }
+        ensures { MatchOption result ((r : ℕ) → from ≤ r → holds self r ≡ false) (λ res. IsNextMember self from res.0) }
     {
         let bits = self.bits;
         if from == 64 {

@@ -17,23 +17,23 @@ use Rattle.cpa_fix.specs.Rounds.{TasksOn, IsRaised, AgreeOutside}
 use Rattle.cpa_board.specs.Seats.{BoardId, SeatView, IsBetween, has_seen}
 use Rattle.cpa_board.specs.Machine.{greater}
 use Rattle.cpa_workers.specs.Words.{bound_read, bound_at, IsNoLower}
-use Rattle.cpa_workers.specs.Workers.{IsHired, IsLook, IsFinding, AreFindings, IsWork}
+use Rattle.cpa_workers.specs.Workers.{IsSeated, IsLook, IsFinding, AreFindings, IsWork}
 use Rattle.cpa_workers.proofs.WordLaws.{bound_read-limit, IsNoLower_refl, IsNoLower_trans}
-use Rattle.cpa_workers.proofs.SeatLaws.{hired-seen, hired-joined}
+use Rattle.cpa_workers.proofs.SeatLaws.{seated-seen, seated-joined}
 
 -- ---- looks
 
 -- before any load
-pub look-start : (s : SystemLists) (board : BoardId) (dirty : List Bool) (starts : List Bound) (seat : SeatView) → IsVector s starts → IsHired s board starts seat → IsLook s dirty starts starts seat.seen
-look-start s board dirty starts seat vector hired =
-    record { vector = vector; above = IsNowhereAbove_refl starts; below = hired.low; kept = λ i off. refl }
+pub look-start : (s : SystemLists) (board : BoardId) (dirty : List Bool) (starts : List Bound) (seat : SeatView) → IsVector s starts → IsSeated s board starts seat → IsLook s dirty starts starts seat.seen
+look-start s board dirty starts seat vector seated =
+    record { vector = vector; above = IsNowhereAbove_refl starts; below = seated.low; kept = λ i off. refl }
 
 -- one word of a task on a dirty resource more, of which the seat has then seen this value
-pub look-load : (s : SystemLists) (board : BoardId) (dirty : List Bool) (starts x : List Bound) (words more : List ℕ) (seat : SeatView) (i n : ℕ) → IsVector s starts → i < length s.tasks → Members dirty (task_at s i).res.0 → seat.seen ≡ more → IsHired s board starts seat → get_or more i 0 ≡ n → IsNoLower words more → IsLook s dirty starts x words → IsLook s dirty starts (set x i (bound_read n)) more
-look-load s board dirty starts x words more seat i n vector in_range on seen hired now up h =
+pub look-load : (s : SystemLists) (board : BoardId) (dirty : List Bool) (starts x : List Bound) (words more : List ℕ) (seat : SeatView) (i n : ℕ) → IsVector s starts → i < length s.tasks → Members dirty (task_at s i).res.0 → seat.seen ≡ more → IsSeated s board starts seat → get_or more i 0 ≡ n → IsNoLower words more → IsLook s dirty starts x words → IsLook s dirty starts (set x i (bound_read n)) more
+look-load s board dirty starts x words more seat i n vector in_range on seen seated now up h =
     let here : i < length x = rw h.vector.long in_range in
     let same : bound_of (set x i (bound_read n)) i ≡ bound_read n = get_or-set_same x i (bound_read n) (Within 0) here in
-    let start : IsAtMost (bound_of starts i) (bound_read n) = subst (IsAtMost (bound_of starts i)) (ap (λ (v : List ℕ). bound_at v i) seen ∙ ap bound_read now) (hired.low i) in
+    let start : IsAtMost (bound_of starts i) (bound_read n) = subst (IsAtMost (bound_of starts i)) (ap (λ (v : List ℕ). bound_at v i) seen ∙ ap bound_read now) (seated.low i) in
     let low : IsAtMost (Within (task_at s i).best) (bound_read n) = IsAtMost_trans (Within (task_at s i).best) (bound_of starts i) (bound_read n) (vector.low i in_range) start in
     record {
       vector = record {
@@ -63,32 +63,32 @@ look-load s board dirty starts x words more seat i n vector in_range on seen hir
 
 -- a worker that looks at words of its seat
 pub record IsLooking (s : SystemLists) (board : BoardId) (dirty : List Bool) (starts : List Bound) (first : List ℕ) (seat : SeatView) (x : List Bound) : Type 0 where
-  pub hired : IsHired s board starts seat
+  pub seated : IsSeated s board starts seat
   pub grew : IsNoLower first seat.seen
   pub look : IsLook s dirty starts x seat.seen
 
 -- it looks first at these, and then at others
-pub looking-more : (s : SystemLists) (board : BoardId) (dirty : List Bool) (starts : List Bound) (first : List ℕ) (seat next : SeatView) (x y : List Bound) → IsHired s board starts next → IsNoLower seat.seen next.seen → IsLook s dirty starts y next.seen → IsLooking s board dirty starts first seat x → IsLooking s board dirty starts first next y
-looking-more s board dirty starts first seat next x y hired grew look h = record { hired = hired; grew = IsNoLower_trans first seat.seen next.seen h.grew grew; look = look }
+pub looking-more : (s : SystemLists) (board : BoardId) (dirty : List Bool) (starts : List Bound) (first : List ℕ) (seat next : SeatView) (x y : List Bound) → IsSeated s board starts next → IsNoLower seat.seen next.seen → IsLook s dirty starts y next.seen → IsLooking s board dirty starts first seat x → IsLooking s board dirty starts first next y
+looking-more s board dirty starts first seat next x y seated grew look h = record { seated = seated; grew = IsNoLower_trans first seat.seen next.seen h.grew grew; look = look }
 
-pub looking-start : (s : SystemLists) (board : BoardId) (dirty : List Bool) (starts : List Bound) (seat : SeatView) (x : List Bound) → IsVector s starts → IsHired s board starts seat → x ≡ starts → IsLooking s board dirty starts seat.seen seat x
-looking-start s board dirty starts seat x vector hired is =
+pub looking-start : (s : SystemLists) (board : BoardId) (dirty : List Bool) (starts : List Bound) (seat : SeatView) (x : List Bound) → IsVector s starts → IsSeated s board starts seat → x ≡ starts → IsLooking s board dirty starts seat.seen seat x
+looking-start s board dirty starts seat x vector seated is =
     record {
-      hired = hired;
+      seated = seated;
       grew = IsNoLower_refl seat.seen;
-      look = subst (λ (v : List Bound). IsLook s dirty starts v seat.seen) (sym is) (look-start s board dirty starts seat vector hired);
+      look = subst (λ (v : List Bound). IsLook s dirty starts v seat.seen) (sym is) (look-start s board dirty starts seat vector seated);
     }
 
 pub looking-load : (s : SystemLists) (board : BoardId) (dirty : List Bool) (starts : List Bound) (first : List ℕ) (seat next : SeatView) (x : List Bound) (place n : ℕ) (b : Bound) → IsVector s (least_of s) → IsVector s starts → place < length s.tasks →
     Members dirty (task_at s place).res.0 → IsBetween seat place n → next ≡ has_seen seat place n → b ≡ bound_read n → IsLooking s board dirty starts first seat x → IsLooking s board dirty starts first next (set x place b)
 looking-load s board dirty starts first seat next x place n b least vector in_range on between is read h =
-    let both = hired-seen s board starts seat place n least in_range between h.hired in
+    let both = seated-seen s board starts seat place n least in_range between h.seated in
     let more : List ℕ = set seat.seen place n in
-    let here : place < length seat.seen = rw h.hired.long in_range in
+    let here : place < length seat.seen = rw h.seated.long in_range in
     rw read
     (subst (λ (v : SeatView). IsLooking s board dirty starts first v (set x place (bound_read n))) (sym is)
     record {
-      hired = both.0;
+      seated = both.0;
       grew = IsNoLower_trans first seat.seen more h.grew both.1;
       look = look-load s board dirty starts x seat.seen more (has_seen seat place n) place n vector in_range on refl both.0 (get_or-set_same seat.seen place n 0 here) both.1 h.look;
     })
@@ -103,8 +103,8 @@ look-grows s dirty starts x words more up h =
     }
 
 -- what a worker looks at is nowhere above the least solution
-pub look-least : (s : SystemLists) (board : BoardId) (dirty : List Bool) (starts x : List Bound) (seat : SeatView) → IsHired s board starts seat → IsLook s dirty starts x seat.seen → IsNowhereAbove x (least_of s)
-look-least s board dirty starts x seat hired h i = IsAtMost_trans (bound_of x i) (bound_at seat.seen i) (bound_of (least_of s) i) (h.below i) (hired.high i)
+pub look-least : (s : SystemLists) (board : BoardId) (dirty : List Bool) (starts x : List Bound) (seat : SeatView) → IsSeated s board starts seat → IsLook s dirty starts x seat.seen → IsNowhereAbove x (least_of s)
+look-least s board dirty starts x seat seated h i = IsAtMost_trans (bound_of x i) (bound_at seat.seen i) (bound_of (least_of s) i) (h.below i) (seated.high i)
 
 -- ---- one finding
 
@@ -224,9 +224,9 @@ findings-both s dirty starts one other both first second more trail marks joined
 
 -- ---- all of a worker's work
 
-pub work-start : (s : SystemLists) (board : BoardId) (dirty : List Bool) (starts : List Bound) (seat : SeatView) (found : List (Option Reading)) (trail : Marks) → IsHired s board starts seat → found ≡ replicate (length s.resources) None → trail.room ≡ length s.tasks → ((i : ℕ) → IsMarked trail i → ⊥) → IsWork s board dirty starts seat found trail
-work-start s board dirty starts seat found trail hired none room unmarked =
-    record { hired = hired; findings = findings-none s dirty starts found seat.seen trail none unmarked; room = omega arith }
+pub work-start : (s : SystemLists) (board : BoardId) (dirty : List Bool) (starts : List Bound) (seat : SeatView) (found : List (Option Reading)) (trail : Marks) → IsSeated s board starts seat → found ≡ replicate (length s.resources) None → trail.room ≡ length s.tasks → ((i : ℕ) → IsMarked trail i → ⊥) → IsWork s board dirty starts seat found trail
+work-start s board dirty starts seat found trail seated none room unmarked =
+    record { seated = seated; findings = findings-none s dirty starts found seat.seen trail none unmarked; room = omega arith }
 
 pub work-joined : (s : SystemLists) (board : BoardId) (dirty : List Bool) (starts : List Bound) (one other seat : SeatView) (found more both : List (Option Reading)) (trail marks joined : Marks) →
     seat ≡ record one { seen = greater one.seen other.seen } →
@@ -234,10 +234,10 @@ pub work-joined : (s : SystemLists) (board : BoardId) (dirty : List Bool) (start
     IsKept trail joined → NewMarksAre trail joined (IsMarked marks) → AreMarked joined (IsMarked marks) →
     IsWork s board dirty starts one found trail → IsWork s board dirty starts other more marks → IsWork s board dirty starts seat both joined
 work-joined s board dirty starts one other seat found more both trail marks joined is long taken same kept fresh all h k =
-    let seats = hired-joined s board starts one other h.hired k.hired in
+    let seats = seated-joined s board starts one other h.seated k.seated in
     subst (λ (v : SeatView). IsWork s board dirty starts v both joined) (sym is)
     record {
-      hired = seats.0;
+      seated = seats.0;
       findings = findings-both s dirty starts found more both one.seen other.seen (greater one.seen other.seen) trail marks joined long taken same seats.1 seats.2 kept fresh all h.findings k.findings;
       room = let old = h.room in let more_room = kept.room in omega arith;
     }
@@ -245,12 +245,12 @@ work-joined s board dirty starts one other seat found more both trail marks join
 pub work-visited : (s : SystemLists) (board : BoardId) (dirty : List Bool) (starts at from seen x : List Bound) (found : List (Option Reading)) (seat looked told : SeatView) (trail after : Marks) (r : ℕ) →
     r < length s.resources → Members dirty r → IsNoLower seat.seen looked.seen → IsLook s dirty starts at looked.seen → from ≡ at →
     IsRaised s r from x trail after → IsSound s r seen x → IsNowhereAbove at seen → AgreeOutside s r seen x →
-    IsHired s board starts told → IsNoLower looked.seen told.seen → ((i : ℕ) → i < length s.tasks → (task_at s i).res.0 ≡ r → IsAtMost (bound_of x i) (bound_at told.seen i)) →
+    IsSeated s board starts told → IsNoLower looked.seen told.seen → ((i : ℕ) → i < length s.tasks → (task_at s i).res.0 ≡ r → IsAtMost (bound_of x i) (bound_at told.seen i)) →
     IsWork s board dirty starts seat found trail → IsWork s board dirty starts told (set found r (Some (record { seen = seen }))) after
-work-visited s board dirty starts at from seen x found seat looked told trail after r in_range on grew look same raised sound up agree hired more announced h =
+work-visited s board dirty starts at from seen x found seat looked told trail after r in_range on grew look same raised sound up agree seated more announced h =
     let here : IsRaised s r at x trail after = subst (λ (v : List Bound). IsRaised s r v x trail after) same raised in
     record {
-      hired = hired;
+      seated = seated;
       findings =
           findings-put s dirty starts seen found seat.seen told.seen trail after r in_range (IsNoLower_trans seat.seen looked.seen told.seen grew more)
           (finding-new s dirty starts at seen x looked.seen told.seen r trail after on look here sound up agree more announced)

@@ -11,18 +11,18 @@ use Rattle.cpa_units.proofs.BoundLaws.{IsAtMost_refl, IsAtMost_trans}
 use Rattle.cpa_units.specs.declared.places.TaskId.{TaskId}
 use Rattle.cpa_model.specs.SystemLists.{SystemLists, task_at, places_of, tasks_on}
 use Rattle.cpa_model.proofs.SystemLaws.{no_id}
-use Rattle.cpa_model.proofs.RosterLaws.{on-found}
+use Rattle.cpa_model.proofs.ResourceTaskLaws.{on-found}
 use Rattle.cpa_local.specs.Solution.{IsVector, least_of}
 use Rattle.cpa_board.specs.Seats.{BoardId, SeatView, IsBetween, has_seen}
 use Rattle.cpa_board.specs.Machine.{greater}
 use Rattle.cpa_board.proofs.MachineLaws.{greater-index, length-greater}
 use Rattle.cpa_workers.specs.Words.{bound_read, bound_at, words_of, least_words, IsNoLower}
-use Rattle.cpa_workers.specs.Workers.{IsHired}
+use Rattle.cpa_workers.specs.Workers.{IsSeated}
 use Rattle.cpa_workers.proofs.WordLaws.{bound_read-mono, bound_read-word, bound_read-below, bound_read-above, bound_read-max, word_of-mono, words_of-at, IsNoLower_trans}
 
 -- the first seat of a round
-pub hired-first : (s : SystemLists) (board : BoardId) (x : List Bound) (seat : SeatView) → IsVector s x → IsNowhereAbove x (least_of s) → seat.board ≡ board → seat.caps ≡ least_words s → seat.seen ≡ words_of x → IsHired s board x seat
-hired-first s board x seat vector below at caps seen =
+pub seated-first : (s : SystemLists) (board : BoardId) (x : List Bound) (seat : SeatView) → IsVector s x → IsNowhereAbove x (least_of s) → seat.board ≡ board → seat.caps ≡ least_words s → seat.seen ≡ words_of x → IsSeated s board x seat
+seated-first s board x seat vector below at caps seen =
     let here : (i : ℕ) → bound_at seat.seen i ≡ bound_of x i = λ i. ap (λ (v : List ℕ). bound_at v i) seen ∙ ap bound_read (words_of-at x i) ∙ bound_read-word (bound_of x i) (limit i) in
     record {
       at = at;
@@ -39,8 +39,8 @@ hired-first s board x seat vector below at caps seen =
     ]
 
 -- a seat has seen a value between what it had seen of a word and the cap
-pub hired-seen : (s : SystemLists) (board : BoardId) (x : List Bound) (seat : SeatView) (i n : ℕ) → IsVector s (least_of s) → i < length s.tasks → IsBetween seat i n → IsHired s board x seat → IsHired s board x (has_seen seat i n) × IsNoLower seat.seen (set seat.seen i n)
-hired-seen s board x seat i n least in_range between h =
+pub seated-seen : (s : SystemLists) (board : BoardId) (x : List Bound) (seat : SeatView) (i n : ℕ) → IsVector s (least_of s) → i < length s.tasks → IsBetween seat i n → IsSeated s board x seat → IsSeated s board x (has_seen seat i n) × IsNoLower seat.seen (set seat.seen i n)
+seated-seen s board x seat i n least in_range between h =
     let here : i < length seat.seen = rw h.long in_range in
     let same : get_or (set seat.seen i n) i 0 ≡ n = get_or-set_same seat.seen i n 0 here in
     let up : IsNoLower seat.seen (set seat.seen i n) = λ j. elim (cases_eq j i) [
@@ -63,9 +63,9 @@ hired-seen s board x seat i n least in_range between h =
     )
 
 -- two seats become one
-pub hired-joined : (s : SystemLists) (board : BoardId) (x : List Bound) (one other : SeatView) → IsHired s board x one → IsHired s board x other →
-    IsHired s board x (record one { seen = greater one.seen other.seen }) × IsNoLower one.seen (greater one.seen other.seen) × IsNoLower other.seen (greater one.seen other.seen)
-hired-joined s board x one other h k =
+pub seated-joined : (s : SystemLists) (board : BoardId) (x : List Bound) (one other : SeatView) → IsSeated s board x one → IsSeated s board x other →
+    IsSeated s board x (record one { seen = greater one.seen other.seen }) × IsNoLower one.seen (greater one.seen other.seen) × IsNoLower other.seen (greater one.seen other.seen)
+seated-joined s board x one other h k =
     let both : List ℕ = greater one.seen other.seen in
     let first : IsNoLower one.seen both = λ i. rw (greater-index one.seen other.seen i) (bound_read-mono (get_or one.seen i 0) (max (get_or one.seen i 0) (get_or other.seen i 0)) (omega arith)) in
     let second : IsNoLower other.seen both = λ i. rw (greater-index one.seen other.seen i) (bound_read-mono (get_or other.seen i 0) (max (get_or one.seen i 0) (get_or other.seen i 0)) (omega arith)) in (
@@ -80,12 +80,12 @@ hired-joined s board x one other h k =
       second,
     )
 
-pub hired-range : (s : SystemLists) (board : BoardId) (x : List Bound) (seat : SeatView) → IsVector s (least_of s) → IsHired s board x seat → length seat.caps ≡ length s.tasks
-hired-range s board x seat least h = ap length h.caps ∙ length-map (least_of s) word_of ∙ least.long
+pub seated-range : (s : SystemLists) (board : BoardId) (x : List Bound) (seat : SeatView) → IsVector s (least_of s) → IsSeated s board x seat → length seat.caps ≡ length s.tasks
+seated-range s board x seat least h = ap length h.caps ∙ length-map (least_of s) word_of ∙ least.long
 
 -- a bound up to the least solution has a word up to the cap
-pub hired-cap : (s : SystemLists) (board : BoardId) (x : List Bound) (seat : SeatView) (i : ℕ) (b : Bound) → RespectsLimit MAX_LIMIT b → IsAtMost b (bound_of (least_of s) i) → IsHired s board x seat → word_of b ≤ get_or seat.caps i 0
-hired-cap s board x seat i b limit below h =
+pub seated-cap : (s : SystemLists) (board : BoardId) (x : List Bound) (seat : SeatView) (i : ℕ) (b : Bound) → RespectsLimit MAX_LIMIT b → IsAtMost b (bound_of (least_of s) i) → IsSeated s board x seat → word_of b ≤ get_or seat.caps i 0
+seated-cap s board x seat i b limit below h =
     let cap : get_or seat.caps i 0 ≡ word_of (bound_of (least_of s) i) = ap (λ (v : List ℕ). get_or v i 0) h.caps ∙ words_of-at (least_of s) i in
     rw cap (word_of-mono b (bound_of (least_of s) i) limit below)
 
@@ -93,7 +93,7 @@ hired-cap s board x seat i b limit below h =
 
 -- the bounds of the first tasks of a list have been told
 pub record IsTold (s : SystemLists) (board : BoardId) (starts x : List Bound) (tasks : List TaskId) (first : List ℕ) (seat : SeatView) (count : ℕ) : Type 0 where
-  pub hired : IsHired s board starts seat
+  pub seated : IsSeated s board starts seat
   pub grew : IsNoLower first seat.seen
   pub told : (k : ℕ) → k < count → IsAtMost (bound_of x (get_or tasks k no_id).0) (bound_at seat.seen (get_or tasks k no_id).0)
 
@@ -101,12 +101,12 @@ pub told-more : (s : SystemLists) (board : BoardId) (starts x : List Bound) (tas
     word_of (bound_of x (get_or tasks count no_id).0) ≤ n → IsBetween seat (get_or tasks count no_id).0 n → next ≡ has_seen seat (get_or tasks count no_id).0 n → IsTold s board starts x tasks first seat count → IsTold s board starts x tasks first next (count + 1)
 told-more s board starts x tasks first seat next count n least vector in_range value between is h =
     let place = (get_or tasks count no_id).0 in
-    let both = hired-seen s board starts seat place n least in_range between h.hired in
+    let both = seated-seen s board starts seat place n least in_range between h.seated in
     let more : List ℕ = set seat.seen place n in
-    let here : place < length seat.seen = rw h.hired.long in_range in
+    let here : place < length seat.seen = rw h.seated.long in_range in
     subst (λ (v : SeatView). IsTold s board starts x tasks first v (count + 1)) (sym is)
     record {
-      hired = both.0;
+      seated = both.0;
       grew = IsNoLower_trans first seat.seen more h.grew both.1;
       told = λ k less. elim (cases_eq (get_or tasks k no_id).0 place) [
         | inl same ↦ rw (same, get_or-set_same seat.seen place n 0 here) (bound_read-above n (bound_of x place) (vector.high place in_range) value)

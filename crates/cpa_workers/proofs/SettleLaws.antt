@@ -31,7 +31,7 @@ pub outcome-closed : (s : SystemLists) (board : BoardId) (dirty : List Bool) (st
 outcome-closed s board dirty starts seat words found trail least h long between =
     record {
       long = long;
-      low = λ i. IsAtMost_trans (bound_of starts i) (bound_at seat.seen i) (bound_at words i) (h.hired.low i) (up i);
+      low = λ i. IsAtMost_trans (bound_of starts i) (bound_at seat.seen i) (bound_at words i) (h.seated.low i) (up i);
       high = high;
       findings = record {
         long = h.findings.long;
@@ -44,13 +44,13 @@ outcome-closed s board dirty starts seat words found trail least h long between 
     up : (i : ℕ) → IsAtMost (bound_at seat.seen i) (bound_at words i)
     up i = elim (cases_lt i (length s.tasks)) [
       | inl less ↦ bound_read-mono (get_or seat.seen i 0) (get_or words i 0) (between i less).0
-      | inr past ↦ let e : get_or seat.seen i 0 ≡ 0 = get_or_past seat.seen i 0 (rw h.hired.long past) in bound_read-mono (get_or seat.seen i 0) (get_or words i 0) (omega arith)
+      | inr past ↦ let e : get_or seat.seen i 0 ≡ 0 = get_or_past seat.seen i 0 (rw h.seated.long past) in bound_read-mono (get_or seat.seen i 0) (get_or words i 0) (omega arith)
     ]
 
     high : (i : ℕ) → IsAtMost (bound_at words i) (bound_of (least_of s) i)
     high i = elim (cases_lt i (length s.tasks)) [
       | inl less ↦
-          let cap : get_or seat.caps i 0 ≡ word_of (bound_of (least_of s) i) = ap (λ (v : List ℕ). get_or v i 0) h.hired.caps ∙ words_of-at (least_of s) i in
+          let cap : get_or seat.caps i 0 ≡ word_of (bound_of (least_of s) i) = ap (λ (v : List ℕ). get_or v i 0) h.seated.caps ∙ words_of-at (least_of s) i in
           bound_read-below (get_or words i 0) (bound_of (least_of s) i) (least.high i less) (subst (λ (k : ℕ). get_or words i 0 ≤ k) cap (between i less).1)
       | inr past ↦ let e : get_or words i 0 ≡ 0 = get_or_past words i 0 (rw long past) in rw e (zero_at_most (bound_of (least_of s) i))
     ]

@@ -20,7 +20,7 @@ AreDirty s dirty list = All (λ r. (r.0 < length s.resources) × Members dirty r
 
 -- a seat of a round that began at `starts`: it is at the board, the least solution is its caps, and what it has seen lies
 -- between the two
-pub record IsHired (s : SystemLists) (board : BoardId) (starts : List Bound) (seat : SeatView) : Type 0 where
+pub record IsSeated (s : SystemLists) (board : BoardId) (starts : List Bound) (seat : SeatView) : Type 0 where
   pub at : seat.board ≡ board
   pub caps : seat.caps ≡ least_words s
   pub long : length seat.seen ≡ length s.tasks
@@ -49,7 +49,7 @@ pub record AreFindings (s : SystemLists) (dirty : List Bool) (starts : List Boun
 
 -- what a worker has, and hands in: a seat, readings that its words stand for, and a trail
 pub record IsWork (s : SystemLists) (board : BoardId) (dirty : List Bool) (starts : List Bound) (seat : SeatView) (found : List (Option Reading)) (trail : Marks) : Type 0 where
-  pub hired : IsHired s board starts seat
+  pub seated : IsSeated s board starts seat
   pub findings : AreFindings s dirty starts found seat.seen trail
   pub room : length s.tasks ≤ trail.room
 

@@ -7,7 +7,7 @@ ghost use Rattle.cpa_units.specs.Sets.{Members};
 ghost use Rattle.cpa_model.specs.SystemLists.{task_at};
 ghost use Rattle.cpa_local.specs.Solution.{IsVector, least_of};
 ghost use Rattle.cpa_workers.specs.Words.{bound_at, IsNoLower};
-ghost use Rattle.cpa_workers.specs.Workers.{AreDirty, IsHired, IsLook, IsWork};
+ghost use Rattle.cpa_workers.specs.Workers.{AreDirty, IsSeated, IsLook, IsWork};
 
 use crate::gate::Gate;
 use crate::words::read_word;
@@ -43,9 +43,9 @@ fn look_on(job: &Job, seat: &mut Seat, res: ResId, x: &mut Vector)
     requires in_range { res.0 < length job.now.system.now.resources }
     requires dirty { Members job.now.dirty res.0 }
     requires vector { IsVector job.now.system.now job.now.starts.now }
-    requires hired { IsHired job.now.system.now job.now.board.now job.now.starts.now seat.old }
+    requires seated { IsSeated job.now.system.now job.now.board.now job.now.starts.now seat.old }
     requires look { IsLook job.now.system.now job.now.dirty job.now.starts.now x.old seat.old.seen }
-    ensures hired { IsHired job.now.system.now job.now.board.now job.now.starts.now seat.new }
+    ensures seated { IsSeated job.now.system.now job.now.board.now job.now.starts.now seat.new }
     ensures grew { IsNoLower seat.old.seen seat.new.seen }
     ensures look { IsLook job.now.system.now job.now.dirty job.now.starts.now x.new seat.new.seen }
 {
@@ -60,8 +60,8 @@ fn look_on(job: &Job, seat: &mut Seat, res: ResId, x: &mut Vector)
 fn look(alloc: Global, job: &Job, seat: &mut Seat, res: ResId) -> Result<Vector, NoMemory>
     requires in_range { res.0 < length job.now.system.now.resources }
     requires vector { IsVector job.now.system.now job.now.starts.now }
-    requires hired { IsHired job.now.system.now job.now.board.now job.now.starts.now seat.old }
-    ensures hired { IsHired job.now.system.now job.now.board.now job.now.starts.now seat.new }
+    requires seated { IsSeated job.now.system.now job.now.board.now job.now.starts.now seat.old }
+    ensures seated { IsSeated job.now.system.now job.now.board.now job.now.starts.now seat.new }
     ensures grew { IsNoLower seat.old.seen seat.new.seen }
     ensures look { IfOk result (λ x. IsLook job.now.system.now job.now.dirty job.now.starts.now x seat.new.seen) }
 {
@@ -81,8 +81,8 @@ fn announce(job: &Job, seat: &mut Seat, res: ResId, x: &Vector)
     requires in_range { res.0 < length job.now.system.now.resources }
     requires vector { IsVector job.now.system.now x.now }
     requires below { IsNowhereAbove x.now (least_of job.now.system.now) }
-    requires hired { IsHired job.now.system.now job.now.board.now job.now.starts.now seat.old }
-    ensures hired { IsHired job.now.system.now job.now.board.now job.now.starts.now seat.new }
+    requires seated { IsSeated job.now.system.now job.now.board.now job.now.starts.now seat.old }
+    ensures seated { IsSeated job.now.system.now job.now.board.now job.now.starts.now seat.new }
     ensures grew { IsNoLower seat.old.seen seat.new.seen }
     ensures told { (i : ℕ) → i < length job.now.system.now.tasks → (task_at job.now.system.now i).res.0 ≡ res.0 → IsAtMost (bound_of x.now i) (bound_at seat.new.seen i) }
 {
@@ -117,7 +117,7 @@ fn visit(
 pub fn work<G: Gate>(alloc: Global, job: &Job, mut seat: Seat, gate: &G) -> Result<Handed, NoMemory>
     requires list { AreDirty job.now.system.now job.now.dirty job.now.list.now }
     requires vector { IsVector job.now.system.now job.now.starts.now }
-    requires hired { IsHired job.now.system.now job.now.board.now job.now.starts.now seat }
+    requires seated { IsSeated job.now.system.now job.now.board.now job.now.starts.now seat }
     ensures { IfOk result (λ h. IsWork job.now.system.now job.now.board.now job.now.dirty job.now.starts.now h.seat h.found h.trail) }
 {
     let mut found = Readings::none(alloc, job.system)?;

@@ -23,7 +23,7 @@ pub(crate) struct Src {
 pub(crate) struct Job {
     pub(crate) name: &'static str,
     pub(crate) on: &'static str,
-    pub(crate) after: &'static str,
+    pub(crate) after: &'static [&'static str],
     pub(crate) best: Option<i64>,
     pub(crate) worst: Option<i64>,
     pub(crate) payload: Option<i64>,
@@ -84,7 +84,7 @@ pub(crate) const S: Src = Src {
 pub(crate) const A: Job = Job {
     name: "a",
     on: "cpu",
-    after: "s",
+    after: &["s"],
     best: Some(1),
     worst: Some(1),
     payload: None,
@@ -94,7 +94,7 @@ pub(crate) const A: Job = Job {
 
 pub(crate) const B: Job = Job {
     name: "b",
-    after: "a",
+    after: &["a"],
     priority: Some(2),
     ..A
 };
@@ -388,9 +388,59 @@ pub(crate) const TASKS: &[(Job, u8)] = &[
     (Job { name: "b", ..C }, 4),
     (Job { on: "a", ..C }, 5),
     (Job { on: "s", ..C }, 5),
-    (Job { after: "cpu", ..C }, 5),
-    (Job { after: "", ..C }, 5),
-    (Job { after: "c", ..C }, 6),
+    (
+        Job {
+            after: &["cpu"],
+            ..C
+        },
+        5,
+    ),
+    (Job { after: &[""], ..C }, 5),
+    (Job { after: &["c"], ..C }, 6),
+    (
+        Job {
+            after: &["s", "b"],
+            ..C
+        },
+        0,
+    ),
+    (
+        Job {
+            after: &["s", "zz"],
+            ..C
+        },
+        5,
+    ),
+    (
+        Job {
+            after: &["s", "x y"],
+            ..C
+        },
+        5,
+    ),
+    (
+        Job {
+            after: &["s", "a", "c"],
+            ..C
+        },
+        6,
+    ),
+    (Job { after: &[], ..C }, 14),
+    (
+        Job {
+            after: &["a", "s", "a"],
+            ..C
+        },
+        14,
+    ),
+    (
+        Job {
+            after: &["s", "s"],
+            best: Some(2),
+            ..C
+        },
+        10,
+    ),
     (
         Job {
             priority: Some(1),
@@ -609,138 +659,4 @@ pub(crate) const PATHS: &[(Way, u8)] = &[
         },
         11,
     ),
-];
-
-/// Drafts with more than one fault, and faults of several entries.
-pub(crate) const CASES: &[Case] = &[
-    BASE,
-    Case {
-        resources: &[],
-        sources: &[],
-        tasks: &[],
-        paths: &[],
-        ..BASE
-    },
-    // An unknown name at the third task comes before a ring of the first two, and the ring before a priority.
-    Case {
-        tasks: &[
-            Job { after: "b", ..A },
-            Job {
-                after: "a",
-                priority: Some(1),
-                ..B
-            },
-            Job {
-                after: "zz",
-                priority: Some(2),
-                ..C
-            },
-        ],
-        paths: &[],
-        want: Some((5, Part::Task, 3)),
-        ..BASE
-    },
-    Case {
-        tasks: &[
-            Job { after: "b", ..A },
-            Job {
-                after: "a",
-                priority: Some(1),
-                ..B
-            },
-            Job {
-                priority: Some(2),
-                ..C
-            },
-        ],
-        paths: &[],
-        want: Some((6, Part::Task, 1)),
-        ..BASE
-    },
-    Case {
-        tasks: &[
-            A,
-            Job {
-                after: "a",
-                priority: Some(1),
-                ..B
-            },
-            Job {
-                priority: Some(2),
-                ..C
-            },
-        ],
-        paths: &[],
-        want: Some((8, Part::Task, 2)),
-        ..BASE
-    },
-    // A task that follows a ring reaches no source either.
-    Case {
-        tasks: &[
-            Job { after: "c", ..A },
-            Job { after: "b", ..B },
-            Job { after: "s", ..C },
-        ],
-        want: Some((6, Part::Task, 2)),
-        ..BASE
-    },
-    Case {
-        tasks: &[
-            Job { after: "b", ..A },
-            Job { after: "c", ..B },
-            Job { after: "b", ..C },
-        ],
-        want: Some((6, Part::Task, 1)),
-        ..BASE
-    },
-    // A resource comes before a source, whatever the place.
-    Case {
-        resources: &[
-            CPU,
-            BUS,
-            Res {
-                name: "r",
-                limit: Some(0),
-                ..CPU
-            },
-        ],
-        sources: &[Src { period: 0, ..S }],
-        want: Some((2, Part::Resource, 3)),
-        ..BASE
-    },
-    // An earlier reason comes before an earlier part.
-    Case {
-        resources: &[Res { name: "", ..CPU }],
-        tasks: &[
-            A,
-            Job {
-                worst: Some(0),
-                ..B
-            },
-        ],
-        want: Some((2, Part::Task, 2)),
-        ..BASE
-    },
-    // The first of three with one priority is no fault, the other two are.
-    Case {
-        tasks: &[
-            A,
-            Job {
-                priority: Some(1),
-                ..B
-            },
-            Job {
-                priority: Some(1),
-                ..C
-            },
-        ],
-        want: Some((8, Part::Task, 2)),
-        ..BASE
-    },
-    // A source comes before a task with its name, wherever the task's own fault stands.
-    Case {
-        sources: &[S, Src { name: "b", ..S }],
-        want: Some((4, Part::Task, 2)),
-        ..BASE
-    },
 ];

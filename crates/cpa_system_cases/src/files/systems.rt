@@ -9,6 +9,26 @@ task = [
 ]
 ";
 
+pub(crate) const TWO_ACTIVATORS: &str = "format = 2
+resource = [{ name = \"cpu\", kind = \"preemptive\" }, { name = \"q\", kind = \"preemptive\" }]
+source = [{ name = \"sa\", period = 10 }, { name = \"sb\", period = 20 }]
+task = [
+  { name = \"m\", on = \"cpu\", after = [\"sa\", \"sb\"], best = 1, worst = 3, priority = 1 },
+  { name = \"n\", on = \"q\", after = \"m\", best = 2, worst = 2, priority = 1 },
+]
+path = [{ name = \"p\", tasks = [\"m\", \"n\"], deadline = 10 }]
+";
+
+pub(crate) const SHARED_SOURCE: &str = "format = 2
+resource = [{ name = \"p\", kind = \"preemptive\" }]
+source = [{ name = \"s\", period = 100 }]
+task = [
+  { name = \"a\", on = \"p\", after = \"s\", best = 1, worst = 1, priority = 1 },
+  { name = \"b\", on = \"p\", after = \"s\", best = 1, worst = 1, priority = 2 },
+  { name = \"c\", on = \"p\", after = [\"a\", \"b\"], best = 1, worst = 1, priority = 3 },
+]
+";
+
 pub(crate) const LONG_WINDOW: &str = "format = 1
 resource = [{ name = \"cpu\", kind = \"preemptive\" }]
 source = [{ name = \"sa\", period = 70 }, { name = \"sb\", period = 100 }]

@@ -6,7 +6,7 @@ use Rattle.cpa_model.specs.SystemLists.{SystemLists, task_places, places_of}
 use Rattle.cpa_assign.specs.Placing.{IsLowestOf, NoneIsLowest}
 use Rattle.cpa_assign.proofs.MeetLaws.{begun, next, best, none_meets}
 use Rattle.cpa_assign.proofs.CountLaws.{count-without, some-passes, none-passes}
-use Rattle.cpa_assign.proofs.PlacingLaws.{roster-long, roster-few, marks-tell, marks-long, marks-count, set-tells}
+use Rattle.cpa_assign.proofs.PlacingLaws.{task_list-long, task_list-few, marks-tell, marks-long, marks-count, set-tells}
 use Rattle.cpa_assign.proofs.order.assign.Goals as goal
 
 pub loop-placed-init : goal.loop-placed-init
@@ -28,7 +28,7 @@ pub returns-in_default : goal.returns-in_default
 returns-in_default c =
     let s : SystemLists = c.args.system.now in
     let free : ℕ → Bool = holds c.loop-placed.free.items in
-    let some = some-passes free 0 (length s.tasks) (omega (arith, c.loop-placed.invariant.placed, c.loop-placed.invariant.left, c.loop-placed-test.true, c.loop-placed.auto.placed-end, roster-long s c.args.res.0 c.tasks_on-count.result.now c.tasks_on-count.ensures.places)) in
+    let some = some-passes free 0 (length s.tasks) (omega (arith, c.loop-placed.invariant.placed, c.loop-placed.invariant.left, c.loop-placed-test.true, c.loop-placed.auto.placed-end, task_list-long s c.args.res.0 c.tasks_on-count.result.now c.tasks_on-count.ensures.places)) in
     λ o order meets.
     none_meets s c.args.res.0 c.tasks.ensures.rules c.requires free (places_of c.loop-placed.tasks.items) some.0 (c.loop-placed.invariant.part c.tasks.ensures.rules c.requires) some.1
     (subst (λ (marks : List Bool). NoneIsLowest s c.args.res.0 (holds marks)) c.as_slice.ensures.value c.in_default.ensures.none) o order meets
@@ -55,7 +55,7 @@ returns c =
     let s : SystemLists = c.args.system.now in
     let free : ℕ → Bool = holds c.loop-placed.free.items in
     let inv = c.loop-placed.invariant in
-    let none : length (filter free (task_places s)) ≡ 0 = omega (arith, inv.placed, inv.left, c.loop-placed-test.false, c.loop-placed.auto.placed-end, roster-long s c.args.res.0 c.tasks_on-count.result.now c.tasks_on-count.ensures.places) in
+    let none : length (filter free (task_places s)) ≡ 0 = omega (arith, inv.placed, inv.left, c.loop-placed-test.false, c.loop-placed.auto.placed-end, task_list-long s c.args.res.0 c.tasks_on-count.result.now c.tasks_on-count.ensures.places) in
     best s c.args.res.0 c.tasks.ensures.rules c.requires free (places_of c.loop-placed.tasks.items) (inv.part c.tasks.ensures.rules c.requires)
     (λ j less. none-passes free 0 (length s.tasks) none j (omega arith) (omega (arith, less)))
 
@@ -63,4 +63,4 @@ pub invariant_of-result : goal.invariant_of-result
 invariant_of-result c =
     let inv = c.loop-placed.invariant in
     let rules = c.tasks.ensures.rules in
-    omega (arith, inv.left, roster-few c.args.system.now c.args.res.0, rules.few_tasks)
+    omega (arith, inv.left, task_list-few c.args.system.now c.args.res.0, rules.few_tasks)

@@ -2,7 +2,7 @@ use Rattle.std.proofs.Common.{◌≤◌, ◌*◌, ◌+◌, ◌∙◌, length, ap
 use Rattle.cpa_units.specs.Bounds.{sum_bounds}
 use Rattle.cpa_model.specs.SystemLists.{is_on, tasks_on}
 use Rattle.cpa_model.proofs.SystemLaws.{no_id}
-use Rattle.cpa_model.proofs.RosterLaws.{roster-few}
+use Rattle.cpa_model.proofs.ResourceTaskLaws.{task_list-few}
 use Rattle.cpa_local.proofs.VectorLaws.{weaker_limit}
 use Rattle.cpa_report.proofs.PathLaws.{plus-limit}
 use Rattle.cpa_buffer.specs.Buffers.{buffer_of, buffer_on}
@@ -13,7 +13,7 @@ pub plus-sum-requires : goal.plus-sum-requires
 plus-sum-requires c =
     let s = c.args.system.now in
     let k = c.loop-task.task-index in
-    let few : length c.tasks_on-task-items.result.now ≤ length s.tasks = roster-few (is_on s c.args.res.0) (length s.tasks) c.tasks_on-task-items.result.now c.tasks_on-task-items.ensures.places in
+    let few : length c.tasks_on-task-items.result.now ≤ length s.tasks = task_list-few (is_on s c.args.res.0) (length s.tasks) c.tasks_on-task-items.result.now c.tasks_on-task-items.ensures.places in
     weaker_limit (k * 68719476736 + 68719476736) 18446744073709551615 _ (omega (arith, few, c.loop-task-test.true, c.tasks_on-task-items.ensures.rules.few_tasks))
     (plus-limit (k * 68719476736) 68719476736 c.loop-task.sum c.buffer.result c.loop-task.invariant.few c.buffer.ensures.few)
 

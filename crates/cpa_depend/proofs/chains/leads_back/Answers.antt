@@ -1,7 +1,7 @@
 use Rattle.std.proofs.Common.{◌≡◌, ◌∙◌, ℕ, get_or, refl, sym, inl, inr, subst, arith}
 use Rattle.std.proofs.lemmas.Bool.{cases_lt, false≢true}
 use Rattle.cpa_model.proofs.SystemLaws.{no_id}
-use Rattle.cpa_model.proofs.RosterLaws.{on-each}
+use Rattle.cpa_model.proofs.ResourceTaskLaws.{on-each}
 use Rattle.cpa_depend.specs.Cone.{HasEarlierOn}
 use Rattle.cpa_depend.proofs.ChainLaws.{back-none}
 use Rattle.cpa_depend.proofs.chains.leads_back.Goals as goal

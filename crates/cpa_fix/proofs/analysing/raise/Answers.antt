@@ -1,5 +1,5 @@
 use Rattle.cpa_model.proofs.SystemLaws.{no_id}
-use Rattle.cpa_model.proofs.RosterLaws.{on-each}
+use Rattle.cpa_model.proofs.ResourceTaskLaws.{on-each}
 use Rattle.cpa_fix.proofs.RaiseLaws.{raise-task, raised-whole}
 use Rattle.cpa_fix.proofs.analysing.raise.Goals as goal
 

@@ -2,7 +2,7 @@ use Rattle.std.proofs.Common.{◌≡◌, ◌<◌, ◌∙◌, ℕ, get_or, sym, s
 use Rattle.std.proofs.lemmas.Bool.{false≢true}
 use Rattle.cpa_units.specs.Bounds.{bound_of}
 use Rattle.cpa_model.proofs.SystemLaws.{no_id}
-use Rattle.cpa_model.proofs.RosterLaws.{on-each, on-found}
+use Rattle.cpa_model.proofs.ResourceTaskLaws.{on-each, on-found}
 use Rattle.cpa_fix.proofs.solving.differs_on.Goals as goal
 
 pub returns-then-not-is_same-clause-yes : goal.returns-then-not-is_same-clause-yes

@@ -6,7 +6,7 @@ use Rattle.cpa_window.specs.Rivals.{IsRival}
 use Rattle.cpa_model.specs.declared.entries.Task.{Task}
 use Rattle.cpa_model.specs.SystemLists.{is_on, task_at, task_places, tasks_on, is_other}
 use Rattle.cpa_model.proofs.SystemLaws.{no_id}
-use Rattle.cpa_model.proofs.RosterLaws.{roster-few}
+use Rattle.cpa_model.proofs.ResourceTaskLaws.{task_list-few}
 use Rattle.cpa_local.specs.Local.{rival_of}
 use Rattle.cpa_local.proofs.RivalLaws.{places-long, other-on, others-few, passing-more, failing-more, found-all}
 use Rattle.cpa_local.proofs.neighbours.gather_others.Goals as goal
@@ -19,7 +19,7 @@ bounds-rivals-count c =
 
 pub offset_bounds-rivals-count : goal.offset_bounds-rivals-count
 offset_bounds-rivals-count c =
-    let few = roster-few (is_on c.args.system.now c.task.result.now.res.0) (length c.args.system.now.tasks) c.tasks_on-other-items.result.now c.tasks_on-other-items.ensures.places in
+    let few = task_list-few (is_on c.args.system.now c.task.result.now.res.0) (length c.args.system.now.tasks) c.tasks_on-other-items.result.now c.tasks_on-other-items.ensures.places in
     let small : c.loop-other.count ≤ 512 = omega (arith, c.loop-other.invariant.few, c.loop-other-test.true, c.tasks_on-other-items.ensures.rules.few_tasks) in
     omega (arith, small)
 

@@ -8,6 +8,6 @@ pub loop-task-preserved : goal.loop-task-preserved
 loop-task-preserved c =
     let within : c.loop-task.task-index < length c.loop-task.tasks = omega arith in
     let x = get_or c.loop-task.tasks c.loop-task.task-index c.task-item.result in
-    rw (c.activator_without-task.ensures)
+    rw (c.close_up.ensures)
     (map_over_more (task_without c.args.removed.0) c.args.tasks.now c.loop-task.tasks c.loop-task.task-index x (omega arith) c.loop-task.invariant
     (get_or_default c.loop-task.tasks c.loop-task.task-index c.task-item.result x within))

@@ -1,28 +1,40 @@
-use Rattle.std.proofs.Common.{◌∙◌, ◌+◌, ◌<◌, ◌≤◌, ℕ, cond, eqb, length, refl, ap, arith}
+use Rattle.std.proofs.Common.{◌∙◌, ◌+◌, ◌++◌, ◌<◌, ◌≤◌, length, refl, sym, ap, arith}
 use Rattle.std.proofs.lemmas.List.{length-set}
-use Rattle.std.specs.Prelude.{count_by, ◌==◌}
+use Rattle.cpa_units.proofs.PlaceLaws.{flat_map-places_more}
 use Rattle.cpa_trace.specs.Trace.{times_of}
 use Rattle.cpa_sim.specs.declared.feeds.Feed.{Feed}
+use Rattle.cpa_sim.specs.Run.{by_source}
 use Rattle.cpa_sim.specs.Feeds.{no_feed, IsPassed, IsAhead}
 use Rattle.cpa_sim.specs.Lines.{LineCounts}
-use Rattle.cpa_sim.specs.Arrivals.{number_at}
 use Rattle.cpa_sim.proofs.PlaceLaws.{below-more, above-same}
-use Rattle.cpa_sim.proofs.ArrivalLaws.{events_below, events-more, events-le, given-same, given-then}
-use Rattle.cpa_sim.proofs.FollowerLaws.{linked}
+use Rattle.cpa_sim.proofs.RangeLaws.{part-le}
+use Rattle.cpa_sim.proofs.ArrivalLaws.{fed_below, length-fed, given-none, given-same, given-then}
+use Rattle.cpa_sim.proofs.FollowerLaws.{placed}
 use Rattle.cpa_sim.proofs.arrivals.take_all_events.Goals as goal
 
 -- what has arrived so far and arrives now is part of what arrives in all
 pub take_event-requires-clause-few : goal.take_event-requires-clause-few
-take_event-requires-clause-few c = λ i there.
+take_event-requires-clause-few c = λ i there feeds.
     let s = c.args.system.now in
     let tr = c.args.trace.now in
     let now = c.args.now in
     let k = c.loop-k.k in
     let l0 = c.args.lines.now.items in
     let so_far = ap (λ (l : LineCounts). l.count) (c.loop-k.invariant.given.arrived i there) in
-    let more = events-more s tr now k i (count_by (λ time. time == now) (times_of tr k)) refl in
-    let all = events-le s tr now (k + 1) i (omega (arith, c.sources-k-end.ensures.count)) in
-    omega (arith, so_far, more, all, c.requires.few i there)
+    let low : k < length s.sources = omega (arith, c.sources-k-end.ensures.count) in
+    omega (arith, so_far, length-fed s tr now i k feeds, part-le (λ q. by_source s tr now q i) k (length s.sources) low, c.requires.few i there)
+
+pub loop-k-init : goal.loop-k-init
+loop-k-init c =
+    record {
+      count = c.requires.feeds;
+      given = given-none c.args.system.now c.args.now c.args.lines.now.items c.args.dispatches.now.items c.requires.lines c.requires.dispatches;
+      later = omega (arith, c.requires.horizon);
+      soonest = λ i less. absurd (omega arith);
+      ahead = λ i less. absurd (omega arith);
+      passed = λ i less. absurd (omega arith);
+      same = λ i low. refl;
+    }
 
 pub loop-k-preserved : goal.loop-k-preserved
 loop-k-preserved c =
@@ -35,15 +47,12 @@ loop-k-preserved c =
     let old = c.args.feeds.now.items in
     let feed = c.in_ok-feed.feed in
     let l0 = c.args.lines.now.items in
-    let d0 = c.args.desks.now.items in
-    let links = linked s c.sources-k-end.ensures.rules in
+    let d0 = c.args.dispatches.now.items in
     let there : k < length feeds = omega (arith, inv.count, c.sources-k-end.ensures.count) in
-    let fresh = count_by (λ time. time == now) (times_of tr k) in
-    let count : ℕ → ℕ = λ i. cond (eqb (number_at s i) k) fresh 0 in
-    let whole = given-then s now links.placed (events_below s tr now k) count l0 d0 c.loop-k.lines.items c.loop-k.desks.items c.take_event.new.lines.items c.take_event.new.desks.items inv.given c.in_ok-feed.ensures.given in
+    let whole = given-then s now (placed s c.sources-k-end.ensures.rules) (λ i. fed_below s tr now i k) (by_source s tr now k) l0 d0 c.loop-k.lines.items c.loop-k.dispatches.items c.take_event.new.lines.items c.take_event.new.dispatches.items inv.given c.in_ok-feed.ensures.given in
     record {
       count = length-set feeds k feed ∙ inv.count;
-      given = given-same s now (λ i. events_below s tr now k i + count i) (events_below s tr now (k + 1)) l0 d0 c.take_event.new.lines.items c.take_event.new.desks.items whole (λ i less. events-more s tr now k i fresh refl);
+      given = given-same s now (λ i. fed_below s tr now i k ++ by_source s tr now k i) (λ i. fed_below s tr now i (k + 1)) l0 d0 c.take_event.new.lines.items c.take_event.new.dispatches.items whole (λ i less. sym (flat_map-places_more (λ q. by_source s tr now q i) k));
       later = omega (arith, inv.later, c.in_ok-feed.ensures.later, c.min-soon.ensures);
       soonest = below-more (λ i (x : Feed). c.min-soon.result ≤ x.time) feeds k feed no_feed there (λ i less. omega (arith, inv.soonest i less, c.min-soon.ensures)) (omega (arith, c.min-soon.ensures));
       ahead = below-more (λ i (x : Feed). IsAhead (times_of tr i) x.time x.next) feeds k feed no_feed there inv.ahead c.in_ok-feed.ensures.ahead;

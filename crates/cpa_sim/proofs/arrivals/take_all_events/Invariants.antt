@@ -3,13 +3,13 @@ use Rattle.cpa_trace.specs.Trace.{times_of}
 use Rattle.cpa_sim.specs.Feeds.{IsPassed, IsAhead}
 use Rattle.cpa_sim.specs.Simulation.{feed_at}
 use Rattle.cpa_sim.specs.Arrivals.{AreGiven}
-use Rattle.cpa_sim.proofs.ArrivalLaws.{events_below}
+use Rattle.cpa_sim.proofs.ArrivalLaws.{fed_below}
 use Rattle.cpa_sim.proofs.arrivals.take_all_events.Given as goal
 
 abbrev pub invariant-loop-k : goal.invariant-loop-k
 invariant-loop-k l = record {
   count : length l.feeds.items ≡ length l.system.sources;
-  given : AreGiven l.system l.now (events_below l.system l.trace l.now l.k) l.initial.lines.items l.initial.desks.items l.lines.items l.desks.items;
+  given : AreGiven l.system l.now (λ i. fed_below l.system l.trace l.now i l.k) l.initial.lines.items l.initial.dispatches.items l.lines.items l.dispatches.items;
   later : l.now < l.soon;
   soonest : (i : ℕ) → i < l.k → l.soon ≤ (feed_at l.feeds.items i).time;
   ahead : (i : ℕ) → i < l.k → IsAhead (times_of l.trace i) (feed_at l.feeds.items i).time (feed_at l.feeds.items i).next;

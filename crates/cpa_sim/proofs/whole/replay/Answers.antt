@@ -13,7 +13,7 @@ returns-clause-run c =
     let run = c.moments.run in
     let inv = c.moments.invariant in
     let end = ended s tr run.time (sym (c.goes_on.ensures s tr inv.run) ∙ c.moments-test.false) inv.within in
-    c.seen.ensures ∙ outcome-is s tr (can-run s tr inv.run.rules inv.run.can) run.time run.keeps run.lines run.desks run.feeds inv.run.at inv.keeps end
+    c.seen.ensures ∙ outcome-is s tr (can-run s tr inv.run.rules inv.run.can) run.time run.keeps run.lines run.dispatches run.feeds inv.run.at inv.keeps end
 
 pub returns-clause-seen : goal.returns-clause-seen
 returns-clause-seen c =

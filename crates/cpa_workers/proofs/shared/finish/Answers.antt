@@ -1,6 +1,6 @@
 use Rattle.std.proofs.Common.{◌≡◌, length, arith}
 use Rattle.cpa_local.proofs.SolutionLaws.{least_of-is_least}
-use Rattle.cpa_workers.proofs.SeatLaws.{hired-range}
+use Rattle.cpa_workers.proofs.SeatLaws.{seated-range}
 use Rattle.cpa_workers.proofs.SettleLaws.{outcome-closed, take-front}
 use Rattle.cpa_workers.proofs.shared.finish.Goals as goal
 
@@ -8,7 +8,7 @@ pub returns : goal.returns
 returns c =
     let s = c.args.system.now in
     let least = (least_of-is_least s c.tasks.ensures.rules).vector in
-    let range = hired-range s _ _ c.args.handed.seat least c.requires.hired in
+    let range = seated-range s _ _ c.args.handed.seat least c.requires.seated in
     let count = c.tasks.ensures.count in
     let made = c.in_ok-words.ensures.len in
     let room = c.close.auto.out in

@@ -1,13 +1,13 @@
 use Rattle.std.proofs.Common.{get_or, arith}
 use Rattle.cpa_local.proofs.SolutionLaws.{least_of-is_least}
 use Rattle.cpa_model.proofs.SystemLaws.{no_id}
-use Rattle.cpa_workers.proofs.SeatLaws.{hired-range, hired-cap, told-more, told-whole}
+use Rattle.cpa_workers.proofs.SeatLaws.{seated-range, seated-cap, told-more, told-whole}
 use Rattle.cpa_workers.proofs.worker.announce.Goals as goal
 
 pub raise-requires-clause-word : goal.raise-requires-clause-word
 raise-requires-clause-word c =
     let s = c.args.job.now.system.now in
-    let range = hired-range s _ _ c.loop-task.seat (least_of-is_least s c.tasks_on-task-items.ensures.rules).vector c.loop-task.invariant.hired in
+    let range = seated-range s _ _ c.loop-task.seat (least_of-is_least s c.tasks_on-task-items.ensures.rules).vector c.loop-task.invariant.seated in
     let there = c.tasks_on-task-items.ensures.there c.loop-task.task-index no_id c.loop-task-test.true in
     omega (arith, range, there)
 
@@ -17,7 +17,7 @@ raise-requires-clause-cap c =
     let place = (get_or c.tasks_on-task-items.result.now c.loop-task.task-index no_id).0 in
     let there = c.tasks_on-task-items.ensures.there c.loop-task.task-index no_id c.loop-task-test.true in
     rw (c.word.ensures, c.get.ensures)
-    (hired-cap s _ _ c.loop-task.seat place _ (c.requires.vector.high place there) (c.requires.below place) c.loop-task.invariant.hired)
+    (seated-cap s _ _ c.loop-task.seat place _ (c.requires.vector.high place there) (c.requires.below place) c.loop-task.invariant.seated)
 
 pub loop-task-preserved : goal.loop-task-preserved
 loop-task-preserved c =

@@ -2,19 +2,19 @@ use Rattle.std.proofs.Common.{ap, ◌∙◌, get_or, arith}
 use Rattle.cpa_units.specs.Sets.{holds}
 use Rattle.cpa_local.proofs.SolutionLaws.{least_of-is_least}
 use Rattle.cpa_model.proofs.SystemLaws.{no_id}
-use Rattle.cpa_model.proofs.RosterLaws.{on-each}
-use Rattle.cpa_workers.proofs.SeatLaws.{hired-range}
+use Rattle.cpa_model.proofs.ResourceTaskLaws.{on-each}
+use Rattle.cpa_workers.proofs.SeatLaws.{seated-range}
 use Rattle.cpa_workers.proofs.WordLaws.{IsNoLower_refl}
 use Rattle.cpa_workers.proofs.FindingLaws.{looking-load}
 use Rattle.cpa_workers.proofs.worker.look_on.Goals as goal
 
 pub loop-task-init : goal.loop-task-init
-loop-task-init c = record { hired = c.requires.hired; grew = IsNoLower_refl c.args.seat.now.seen; look = c.requires.look }
+loop-task-init c = record { seated = c.requires.seated; grew = IsNoLower_refl c.args.seat.now.seen; look = c.requires.look }
 
 pub load-word-requires-clause-word : goal.load-word-requires-clause-word
 load-word-requires-clause-word c =
     let s = c.args.job.now.system.now in
-    let range = hired-range s _ _ c.loop-task.seat (least_of-is_least s c.tasks_on-task-items.ensures.rules).vector c.loop-task.invariant.hired in
+    let range = seated-range s _ _ c.loop-task.seat (least_of-is_least s c.tasks_on-task-items.ensures.rules).vector c.loop-task.invariant.seated in
     let there = c.tasks_on-task-items.ensures.there c.loop-task.task-index no_id c.loop-task-test.true in
     omega (arith, range, there)
 

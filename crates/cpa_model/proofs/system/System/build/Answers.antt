@@ -17,21 +17,21 @@ pub build_paths-requires-clause-named : goal.build_paths-requires-clause-named
 build_paths-requires-clause-named c = rw (c.path_entries.ensures) (unrefused c.args.draft c.in_ok-tables.ensures.refusal).paths_named
 
 pub build_tasks-requires-clause-fits : goal.build_tasks-requires-clause-fits
-build_tasks-requires-clause-fits c = rw (c.task_entries.ensures) (tasks-fit-types c.args.draft (unrefused c.args.draft c.in_ok-tables.ensures.refusal))
+build_tasks-requires-clause-fits c = rw (c.task_entries.ensures) (tasks-fit-types c.args.draft (unrefused c.args.draft c.in_ok-tables.ensures.refusal) c.requires.executions)
 
 pub build_paths-requires-clause-fits : goal.build_paths-requires-clause-fits
 build_paths-requires-clause-fits c =
     rw (c.path_entries.ensures) (paths-fit-types c.args.draft (unrefused c.args.draft c.in_ok-tables.ensures.refusal) c.requires.executions)
 
-pub build_rosters-requires-clause-few : goal.build_rosters-requires-clause-few
+pub build_task_lists-requires-clause-few : goal.build_task_lists-requires-clause-few
 unfolding system_of
-build_rosters-requires-clause-few c =
+build_task_lists-requires-clause-few c =
     rw (c.as_slice-2.ensures.value, c.in_ok-tasks.ensures.ok, c.task_entries.ensures)
     (system-kept c.args.draft (unrefused c.args.draft c.in_ok-tables.ensures.refusal) c.requires.executions).few_tasks
 
-pub build_rosters-requires-clause-placed : goal.build_rosters-requires-clause-placed
+pub build_task_lists-requires-clause-placed : goal.build_task_lists-requires-clause-placed
 unfolding system_of
-build_rosters-requires-clause-placed c =
+build_task_lists-requires-clause-placed c =
     let kept = system-kept c.args.draft (unrefused c.args.draft c.in_ok-tables.ensures.refusal) c.requires.executions in
     rw (
       c.as_slice.ensures.value,
@@ -57,7 +57,7 @@ invariant_of-result c = (
     c.path_entries.ensures,
   )
       (system-kept c.args.draft (unrefused c.args.draft c.in_ok-tables.ensures.refusal) c.requires.executions),
-  rw (c.as_slice.ensures.value, c.as_slice-2.ensures.value) at c.in_ok-rosters.ensures.ok,
+  rw (c.as_slice.ensures.value, c.as_slice-2.ensures.value) at c.in_ok-task_lists.ensures.ok,
 )
 
 pub returns-clause-ok : goal.returns-clause-ok

@@ -6,7 +6,7 @@ use Rattle.cpa_model.specs.declared.entries.Task.{Task}
 use Rattle.cpa_model.specs.Rules.{IsSystem}
 use Rattle.cpa_model.specs.SystemLists.{resource_at, task_at, no_resource, is_on, slot_of, gap_of, tasks_on}
 use Rattle.cpa_model.proofs.SystemLaws.{slot-small, gap-small}
-use Rattle.cpa_model.proofs.RosterLaws.{roster-few, slots-next, slots-all}
+use Rattle.cpa_model.proofs.ResourceTaskLaws.{task_list-few, slots-next, slots-all}
 use Rattle.cpa_model.proofs.system.System.cycle.Goals as goal
 
 pub loop-task-init : goal.loop-task-init
@@ -22,7 +22,7 @@ pub overflow_add-cycle : goal.overflow_add-cycle
 overflow_add-cycle c =
     let rules : IsSystem c.args.self.now = rw (← c.self.view_is) c.self.invariant.0 in
     let few : length c.tasks_on-task-items.result.now ≤ length c.args.self.now.tasks =
-    roster-few (is_on c.args.self.now c.args.res.0) (length c.args.self.now.tasks) c.tasks_on-task-items.result.now c.tasks_on-task-items.ensures.places in
+    task_list-few (is_on c.args.self.now c.args.res.0) (length c.args.self.now.tasks) c.tasks_on-task-items.result.now c.tasks_on-task-items.ensures.places in
     let small = slot-small _ c.task.result.now.turn c.task.ensures.rules.turn_fits in
     omega (arith, rules.few_tasks, c.loop-task.invariant.small, c.slot_of-cycle.ensures)
 

@@ -1,11 +1,11 @@
 use Rattle.std.proofs.Common.{◌++◌, ◌∷◌, [], refl, ap, ◌∙◌, arith}
 use Rattle.cpa_model.specs.Changes.{with_task}
-use Rattle.cpa_model.proofs.RosterLaws.{rosters-push, rosters-by}
+use Rattle.cpa_model.proofs.ResourceTaskLaws.{task_lists-push, task_lists-by}
 use Rattle.cpa_model.proofs.ChangedLaws.{pushed-placed}
 use Rattle.cpa_model.proofs.system.System.push_task.Goals as goal
 
-pub enrol-requires : goal.enrol-requires
-enrol-requires c =
+pub list_task-requires : goal.list_task-requires
+list_task-requires c =
     let less = pushed-placed c.self.inside.resources.items c.self.inside.sources.items c.self.inside.tasks.items c.self.inside.paths.items c.args.task (rw (← c.self.view_is) at c.requires.rules) in
     omega (arith, less, c.self.invariant.1.long)
 
@@ -15,7 +15,7 @@ invariant_of-self-2 c =
     let less = pushed-placed c.self.inside.resources.items c.self.inside.sources.items c.self.inside.tasks.items c.self.inside.paths.items c.args.task (rw (← c.self.view_is) at c.requires.rules) in
     let tasks = c.in_ok-push.ensures.items ∙ ap (λ ts. ts ++ c.args.task ∷ []) c.in_ok-reserve.ensures.items in (
       rw tasks (rw (← c.self.view_is) at c.requires.rules),
-      rosters-by _ _ _ _ _ tasks c.in_ok-enrol.ensures.ok (rosters-push _ c.self.inside.tasks.items c.args.task _ c.self.inside.rosters.items (omega arith) less c.self.invariant.1),
+      task_lists-by _ _ _ _ _ tasks c.in_ok-list_task.ensures.ok (task_lists-push _ c.self.inside.tasks.items c.args.task _ c.self.inside.task_lists.items (omega arith) less c.self.invariant.1),
     )
 
 pub returns-clause-ok : goal.returns-clause-ok

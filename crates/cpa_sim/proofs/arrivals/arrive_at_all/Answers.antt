@@ -1,0 +1,46 @@
+use Rattle.std.proofs.Common.{◌≡◌, ◌∙◌, ◌+◌, ◌++◌, false, take, [], cond, eqb, ap, arith}
+use Rattle.cpa_sim.specs.Lines.{LineCounts, causes_of, with_arrivals}
+use Rattle.cpa_sim.specs.Simulation.{line_at}
+use Rattle.cpa_sim.specs.Arrivals.{is_among}
+use Rattle.cpa_sim.proofs.FollowerLaws.{placed}
+use Rattle.cpa_sim.proofs.ArrivalLaws.{arrivals-none, given-none, given-same, given-then, given-one, place_in, listed-there, not-yet, listed-among, listed-more}
+use Rattle.cpa_sim.proofs.arrivals.arrive_at_all.Goals as goal
+
+pub arrive_at-requires-clause-there : goal.arrive_at-requires-clause-there
+arrive_at-requires-clause-there c = listed-there c.args.system.now c.args.tasks.now c.requires.tasks c.loop-task.task-index c.loop-task-test.true
+
+-- the next task has the jobs that it had
+pub arrive_at-requires-clause-few : goal.arrive_at-requires-clause-few
+arrive_at-requires-clause-few c =
+    let s = c.args.system.now in
+    let tasks = c.args.tasks.now in
+    let m = c.loop-task.task-index in
+    let t = place_in tasks m in
+    let there = listed-there s tasks c.requires.tasks m c.loop-task-test.true in
+    let none : is_among (take m tasks) t ≡ false = not-yet s tasks c.requires.tasks m c.loop-task-test.true in
+    let same : line_at c.loop-task.lines.items t ≡ line_at c.args.lines.now.items t =
+    c.loop-task.invariant.arrived t there ∙ (ap (λ b. with_arrivals c.args.now (cond b (causes_of c.args.causes) []) (line_at c.args.lines.now.items t)) none ∙ arrivals-none c.args.now (line_at c.args.lines.now.items t)) in
+    let few = c.requires.few t there (listed-among s tasks c.requires.tasks m c.loop-task-test.true) in
+    omega (arith, ap (λ (l : LineCounts). l.count) same, few)
+
+pub loop-task-init : goal.loop-task-init
+loop-task-init c = given-none c.args.system.now c.args.now c.args.lines.now.items c.args.dispatches.now.items c.requires.lines c.requires.dispatches
+
+pub loop-task-preserved : goal.loop-task-preserved
+loop-task-preserved c =
+    let s = c.args.system.now in
+    let now = c.args.now in
+    let tasks = c.args.tasks.now in
+    let m = c.loop-task.task-index in
+    let new = causes_of c.args.causes in
+    let l0 = c.args.lines.now.items in
+    let d0 = c.args.dispatches.now.items in
+    let l1 = c.loop-task.lines.items in
+    let d1 = c.loop-task.dispatches.items in
+    let l2 = c.arrive_at.new.lines.items in
+    let d2 = c.arrive_at.new.dispatches.items in
+    let made = c.in_ok-arrive_at.ensures in
+    let one = given-one s now (place_in tasks m) new l1 d1 l2 d2 made.count_lines made.count_dispatches made.arrived made.others made.unchanged made.asked in
+    let both = given-then s now (placed s c.has_rules.ensures) (λ i. cond (is_among (take m tasks) i) new []) (λ i. cond (eqb (place_in tasks m) i) new []) l0 d0 l1 d1 l2 d2 c.loop-task.invariant one in
+    given-same s now (λ i. cond (is_among (take m tasks) i) new [] ++ cond (eqb (place_in tasks m) i) new []) (λ i. cond (is_among (take (m + 1) tasks) i) new []) l0 d0 l2 d2 both
+    (λ i less. listed-more s tasks c.requires.tasks new m c.loop-task-test.true i)

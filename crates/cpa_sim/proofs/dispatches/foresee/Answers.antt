@@ -1,0 +1,36 @@
+use Rattle.std.proofs.Common.{◌≡◌, ◌∙◌, ◌+◌, false, None, option_map, ap, sym, subst, arith}
+use Rattle.std.specs.List.{list_any}
+use Rattle.cpa_model.specs.SystemLists.{place_of}
+use Rattle.cpa_trace.specs.Trace.{phase_of}
+use Rattle.cpa_sched.specs.Steps.{kind_of}
+use Rattle.cpa_sched.specs.States.{seen}
+use Rattle.cpa_sched.specs.Stretches.{IsStretch, state_later}
+use Rattle.cpa_sched.proofs.StretchLaws.{later-none}
+use Rattle.cpa_sim.specs.Simulation.{waiting, is_busy, state_now}
+use Rattle.cpa_sim.proofs.StretchLaws.{idle-none, idle-stretch}
+use Rattle.cpa_sim.proofs.dispatches.foresee.Goals as goal
+
+pub returns-then-not-is_busy-clause-foresees : goal.returns-then-not-is_busy-clause-foresees
+returns-then-not-is_busy-clause-foresees c = λ n less.
+    let s = c.args.system.now in
+    let r = c.args.res.0 in
+    let w = waiting c.args.lines.now in
+    let phase = phase_of c.args.trace.now r in
+    let st = state_now (kind_of s r) c.args.dispatch.now in
+    let idle : is_busy s r w ≡ false = ap (list_any w) (sym c.tasks_on.ensures.places) ∙ (sym c.is_busy.ensures ∙ c.if-not-is_busy.true) in
+    let rests = idle-stretch s r w (idle-none s r w idle) st c.args.now phase c.requires.belongs.holder c.requires.frame (n + 1) in
+    subst (IsStretch s r st w c.args.now phase (n + 1) None) (sym (later-none (kind_of s r) (seen c.refresh.new.dispatch.state) (c.refresh.new.dispatch.gone + n) ∙ c.refresh.ensures.state)) rests
+
+pub returns-clause-foresees : goal.returns-clause-foresees
+returns-clause-foresees c = λ n less.
+    let s = c.args.system.now in
+    let r = c.args.res.0 in
+    let w = waiting c.args.lines.now in
+    let phase = phase_of c.args.trace.now r in
+    let o = option_map place_of c.begin_now-stretch.result.task in
+    let m = c.refresh.new.dispatch.gone + n in
+    let e : m ≡ n = omega (arith, c.refresh.ensures.gone) in
+    let end = state_later (kind_of s r) o (seen c.begin_now-stretch.new.state) m in
+    let h = c.begin_now-stretch.ensures.stretch m (omega (arith, less, c.ticks_within-dispatch.ensures.most)) in
+    let h' = subst (λ v. IsStretch s r (seen c.refresh.new.dispatch.state) w c.args.now phase (v + 1) o end) e h in
+    subst (λ st. IsStretch s r st w c.args.now phase (n + 1) o end) c.refresh.ensures.state h'

@@ -1,0 +1,16 @@
+use Rattle.std.proofs.Common.{◌≡◌, ℕ, ◌+◌, ◌<◌, ◌≤◌, length}
+use Rattle.cpa_trace.specs.Trace.{phase_of}
+use Rattle.cpa_sched.specs.Steps.{kind_of}
+use Rattle.cpa_sim.specs.Simulation.{dispatch_at, waiting, state_now, Foresees, HasEnough}
+use Rattle.cpa_sim.proofs.dispatches.foresee_all.Given as goal
+
+abbrev pub invariant-loop-k : goal.invariant-loop-k
+invariant-loop-k l = record {
+  count : length l.dispatches.items ≡ length l.system.resources;
+  some : 1 ≤ l.ticks;
+  most : l.ticks ≤ l.most;
+  foresees : (r : ℕ) → r < l.k → Foresees l.system r (state_now (kind_of l.system r) (dispatch_at l.initial.dispatches.items r)) (waiting l.lines) l.now (phase_of l.trace r) (dispatch_at l.dispatches.items r);
+  enough : (r : ℕ) → r < l.k → HasEnough l.lines (dispatch_at l.dispatches.items r);
+  fits : (r : ℕ) → r < l.k → (dispatch_at l.dispatches.items r).gone + l.ticks ≤ (dispatch_at l.dispatches.items r).ticks;
+  same : (r : ℕ) → l.k ≤ r → dispatch_at l.dispatches.items r ≡ dispatch_at l.initial.dispatches.items r;
+}

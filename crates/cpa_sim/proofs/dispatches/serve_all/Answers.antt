@@ -1,0 +1,72 @@
+use Rattle.std.proofs.Common.{◌≡◌, ◌≢◌, ◌∙◌, ◌<◌, ℕ, length, nat_le, Some, ap, sym, subst, inl, inr, arith}
+use Rattle.std.proofs.lemmas.Bool.{cases_lt, eqb-true}
+use Rattle.std.proofs.lemmas.List.{get_or_read, length-set}
+use Rattle.cpa_units.specs.Sets.{holds}
+use Rattle.cpa_model.specs.SystemLists.{task_at}
+use Rattle.cpa_sched.specs.States.{IsWaiting}
+use Rattle.cpa_sim.specs.declared.dispatches.Dispatch.{Dispatch}
+use Rattle.cpa_trace.specs.Trace.{need}
+use Rattle.cpa_sim.specs.Lines.{LineCounts, has_pending, served_line}
+use Rattle.cpa_sim.specs.Simulation.{line_at, dispatch_at, no_dispatch, runner, runs_at, waiting, IsServed}
+use Rattle.cpa_sim.proofs.PlaceLaws.{below-more, above-same}
+use Rattle.cpa_sim.proofs.DispatchLaws.{runs-elsewhere, with-this, with-other}
+use Rattle.cpa_sim.proofs.dispatches.serve_all.Goals as goal
+
+pub serve-ends-requires-clause-waits : goal.serve-ends-requires-clause-waits
+serve-ends-requires-clause-waits c = λ i e.
+    let s = c.args.system.now in
+    let k = c.loop-k.k in
+    let dispatches = c.loop-k.dispatches.items in
+    let there : k < length dispatches = omega (arith, c.loop-k.invariant.count_dispatches, c.resources-k-end.ensures.count) in
+    let here = get_or_read dispatches k c.index_mut-dispatch.result.now there c.index_mut-dispatch.ensures.value no_dispatch ∙ c.loop-k.invariant.same k (omega arith) in
+    let h = c.requires.waits k i (omega (arith, c.resources-k-end.ensures.count)) (sym (ap runner here) ∙ e) in
+    let on : (task_at s i).res.0 ≡ k = eqb-true (task_at s i).res.0 k h.on.here in
+    let same = c.loop-k.invariant.still i h.on.task (omega (arith, on)) in
+    record { on = h.on; waits_now = ap has_pending same ∙ h.waits_now }
+
+pub loop-k-preserved : goal.loop-k-preserved
+loop-k-preserved c =
+    let s = c.args.system.now in
+    let tr = c.args.trace.now in
+    let k = c.loop-k.k in
+    let dispatches = c.loop-k.dispatches.items in
+    let lines = c.loop-k.lines.items in
+    let old = c.args.dispatches.now.items in
+    let first = c.args.lines.now.items in
+    let inv = c.loop-k.invariant in
+    let dispatch = c.serve-ends.new.dispatch in
+    let there : k < length dispatches = omega (arith, inv.count_dispatches, c.resources-k-end.ensures.count) in
+    let here = get_or_read dispatches k c.index_mut-dispatch.result.now there c.index_mut-dispatch.ensures.value no_dispatch ∙ inv.same k (omega arith) in
+    let more = c.with_if-ended.ensures in
+    let waits : (i : ℕ) → runner (dispatch_at old k) ≡ Some i → IsWaiting s k (waiting first) i = λ i e. c.requires.waits k i (omega (arith, c.resources-k-end.ensures.count)) e in
+    let line : (i : ℕ) → line_at c.serve-ends.new.lines.items i ≡ served_line (need s tr i) (runs_at (dispatch_at old k) i) c.args.ticks c.args.now (line_at lines i) = λ i. subst (λ (x : Dispatch). line_at c.serve-ends.new.lines.items i ≡ served_line (need s tr i) (runs_at x i) c.args.ticks c.args.now (line_at lines i)) here (c.serve-ends.ensures.lines i) in
+    let elsewhere : (i : ℕ) → (task_at s i).res.0 ≢ k → line_at c.serve-ends.new.lines.items i ≡ line_at lines i = λ i differs. line i ∙ ap (λ b. served_line (need s tr i) b c.args.ticks c.args.now (line_at lines i)) (runs-elsewhere s k i (waiting first) (dispatch_at old k) waits differs) in
+    record {
+      count = c.serve-ends.ensures.count;
+      count_dispatches = length-set dispatches k dispatch ∙ inv.count_dispatches;
+      ran = λ i task less.
+          elim (cases_lt (task_at s i).res.0 k) [
+            | inl before ↦ elsewhere i (λ e. absurd (omega arith)) ∙ inv.ran i task before
+            | inr after ↦
+                let on : k ≡ (task_at s i).res.0 = omega arith in
+                line i
+                ∙ (ap (λ r. served_line (need s tr i) (runs_at (dispatch_at old r) i) c.args.ticks c.args.now (line_at lines i)) on
+                ∙ ap (served_line (need s tr i) (runs_at (dispatch_at old (task_at s i).res.0) i) c.args.ticks c.args.now) (inv.still i task after))
+          ];
+      still = λ i task more. elsewhere i (λ e. absurd (omega arith)) ∙ inv.still i task (omega arith);
+      served = below-more (λ r (x : Dispatch). IsServed s r first c.args.ticks (dispatch_at old r) x) dispatches k dispatch no_dispatch there inv.served
+          (let h = subst (λ (x : Dispatch). IsServed s k lines c.args.ticks x dispatch) here c.serve-ends.ensures.served in
+          record {
+            running = h.running;
+            ends = λ i e.
+                let p = waits i e in
+                let on : (task_at s i).res.0 ≡ k = eqb-true (task_at s i).res.0 k p.on.here in
+                h.ends i e ∙ ap (λ (l : LineCounts). nat_le l.left c.args.ticks) (inv.still i p.on.task (omega (arith, on)));
+            state = h.state;
+            unchanged = h.unchanged;
+          });
+      ended = below-more (λ r (x : Dispatch). holds c.with_if-ended.result r ≡ x.ends) dispatches k dispatch no_dispatch there (λ r less. more r ∙ (with-other k r c.serve-ends.result (holds c.loop-k.ended r) (λ e. absurd (omega (arith, e, less))) ∙ inv.ended r less))
+          (more k ∙ (with-this k c.serve-ends.result (holds c.loop-k.ended k) (inv.past k (omega arith)) ∙ c.serve-ends.ensures.ends));
+      past = λ r after. more r ∙ (with-other k r c.serve-ends.result (holds c.loop-k.ended r) (λ e. absurd (omega (arith, e, after))) ∙ inv.past r (omega (arith, after)));
+      same = above-same old dispatches k dispatch no_dispatch inv.same;
+    }

@@ -1,0 +1,327 @@
+//! Who runs on each resource. Times are in ticks.
+
+ghost use Rattle.std.specs.Prelude.{◌≡◌, ◌<◌, ◌≤◌, ◌+◌, ◌^◌, ◌==◌, ◌&&◌, ◌||◌, ℕ, length, Some, None, true, false, All, option_map, IfSome};
+ghost use Rattle.std.specs.List.{list_any};
+ghost use Rattle.cpa_units.specs.declared.limits.TheConstants.{HORIZON};
+ghost use Rattle.cpa_units.specs.Sets.{holds};
+ghost use Rattle.cpa_model.specs.SystemLists.{place_of, places_of, task_at};
+ghost use Rattle.cpa_trace.specs.Trace.{phase_of, need};
+ghost use Rattle.cpa_sched.specs.Steps.{kind_of, completed};
+ghost use Rattle.cpa_sched.specs.Stretches.{IsStretch, state_later};
+ghost use Rattle.cpa_sched.specs.States.{seen, Belongs, FrameWaits, IsWaiting};
+ghost use Rattle.cpa_sim.specs.Lines.{served_line};
+ghost use Rattle.cpa_sim.specs.Outcome.{CanReplay};
+ghost use Rattle.cpa_sim.specs.Run.{settled};
+ghost use Rattle.cpa_sim.specs.Simulation.{line_at, dispatch_at, runner, runs_at, waiting, state_by, state_now, Foresees, HasEnough, IsServed, AreEnding};
+
+use crate::lines::{Line, work};
+use cpa_model::System;
+use cpa_sched::{Queue, ResState, Stretch, begin, completed, go_on};
+use cpa_trace::Trace;
+use cpa_units::limits::{HORIZON, MAX_PHASE};
+use cpa_units::{ResId, ResSet, TaskId};
+
+/// What is dispatched on a resource: as long as the same tasks wait, the same task runs, or nobody does,
+/// for so many ticks.
+#[derive(Clone, Copy, Debug)]
+pub(crate) struct Dispatch {
+    /// The state after the first of these ticks; the state now, where none of them has gone by.
+    pub(crate) state: ResState,
+    pub(crate) running: Option<TaskId>,
+    /// How many ticks were foreseen.
+    pub(crate) ticks: u64,
+    /// How many of them have gone by.
+    pub(crate) gone: u64,
+    /// Whether the job that ran is complete now.
+    pub(crate) ends: bool,
+}
+
+/// The tasks that wait.
+#[derive(Clone, Copy)]
+pub(crate) struct Waiting<'a> {
+    pub(crate) lines: &'a [Line],
+}
+
+impl Queue for Waiting<'_> {
+    ghost use Rattle.cpa_sim.specs.Simulation.{waiting};
+
+    ghost waiting = { λ q i. waiting q.lines.now i };
+
+    fn waits(&self, task: TaskId) -> bool {
+        let place = task.0 as usize;
+        if place < self.lines.len() {
+            self.lines[place].waits()
+        } else {
+            false
+        }
+    }
+}
+
+/// Whether some of a resource's tasks waits.
+fn is_busy(lines: &[Line], tasks: &[TaskId]) -> bool
+    requires { All (λ (t : TaskId). t.0 < length lines.now) tasks.now }
+    ensures { result ≡ list_any (waiting lines.now) (places_of tasks.now) }
+{
+    for task in tasks {
+        if lines[task.0 as usize].waits() {
+            return true;
+        }
+    }
+    false
+}
+
+/// How a resource goes on from now while the same tasks wait, for at most so many ticks, and its state
+/// after the first of them. A phase that is past the limit of traces counts nowhere.
+fn begin_now(
+    system: &System,
+    trace: &Trace,
+    lines: &[Line],
+    state: &mut ResState,
+    res: ResId,
+    now: u64,
+    most: u64,
+) -> Stretch
+    requires there { res.0 < length system.now.resources }
+    requires can { CanReplay system.now trace.now }
+    requires belongs { Belongs system.now res.0 (seen state.old) }
+    requires frame { FrameWaits (kind_of system.now res.0) (seen state.old) (waiting lines.now) }
+    requires some { 1 ≤ most }
+    requires horizon { now + most ≤ HORIZON }
+    ensures stretch { (n : ℕ) → n < result.ticks → IsStretch system.now res.0 (seen state.old) (waiting lines.now) now (phase_of trace.now res.0) (n + 1) (option_map place_of result.task) (state_later (kind_of system.now res.0) (option_map place_of result.task) (seen state.new) n) }
+    ensures some { 1 ≤ result.ticks }
+    ensures waits { IfSome result.task (λ t. IsWaiting system.now res.0 (waiting lines.now) t.0) }
+{
+    let queue = Waiting { lines };
+    let phase = trace.phase(res).min(MAX_PHASE);
+    begin(system, res, state, &queue, now, phase, most)
+}
+
+/// For how many ticks of a stretch the job that runs isn't complete before the last of them is over.
+fn ticks_within(lines: &[Line], stretch: Stretch) -> u64
+    requires some { 1 ≤ stretch.ticks }
+    requires there { IfSome stretch.task (λ t. t.0 < length lines.now) }
+    requires waits { IfSome stretch.task (λ t. waiting lines.now t.0 ≡ true) }
+    ensures some { 1 ≤ result }
+    ensures most { result ≤ stretch.ticks }
+    ensures enough { (i : ℕ) → option_map place_of stretch.task ≡ Some i → result ≤ (line_at lines.now i).left }
+{
+    match stretch.task {
+        None => stretch.ticks,
+        Some(task) => stretch.ticks.min(lines[task.0 as usize].left()),
+    }
+}
+
+/// Brings the state of a resource to date: nothing is foreseen any more.
+pub(crate) fn refresh(system: &System, dispatch: &mut Dispatch, res: ResId)
+    requires { res.0 < length system.now.resources }
+    ensures state { seen dispatch.new.state ≡ state_now (kind_of system.now res.0) dispatch.old }
+    ensures gone { dispatch.new.gone ≡ 0 }
+    ensures ticks { dispatch.new.ticks ≡ 0 }
+    ensures running { dispatch.new.running ≡ dispatch.old.running }
+    ensures ends { dispatch.new.ends ≡ dispatch.old.ends }
+{
+    dispatch.ticks = 0;
+    if dispatch.gone == 0 {
+        return;
+    }
+    go_on(
+        system,
+        res,
+        &mut dispatch.state,
+        dispatch.running,
+        dispatch.gone - 1,
+    );
+    dispatch.gone = 0;
+}
+
+/// Foresees what becomes of a resource from now on. Where none of its tasks waits, nobody runs for as long
+/// as that stays so, also past the ends of slots and gaps.
+fn foresee(
+    system: &System,
+    trace: &Trace,
+    lines: &[Line],
+    dispatch: &mut Dispatch,
+    res: ResId,
+    now: u64,
+)
+    requires there { res.0 < length system.now.resources }
+    requires can { CanReplay system.now trace.now }
+    requires lines { length lines.now ≡ length system.now.tasks }
+    requires belongs { Belongs system.now res.0 (state_now (kind_of system.now res.0) dispatch.old) }
+    requires frame { FrameWaits (kind_of system.now res.0) (state_now (kind_of system.now res.0) dispatch.old) (waiting lines.now) }
+    requires horizon { now < HORIZON }
+    ensures foresees { Foresees system.now res.0 (state_now (kind_of system.now res.0) dispatch.old) (waiting lines.now) now (phase_of trace.now res.0) dispatch.new }
+    ensures some { dispatch.new.gone < dispatch.new.ticks }
+    ensures enough { HasEnough lines.now dispatch.new }
+{
+    refresh(system, dispatch, res);
+    let most = HORIZON - now;
+    let mut state = dispatch.state;
+    let stretch = begin_now(system, trace, lines, &mut state, res, now, most);
+    if stretch.task.is_none() && stretch.ticks < most && !is_busy(lines, system.tasks_on(res)) {
+        dispatch.running = None;
+        dispatch.ticks = most;
+        return;
+    }
+    dispatch.state = state;
+    dispatch.running = stretch.task;
+    dispatch.ticks = ticks_within(lines, stretch);
+}
+
+/// Foresees what becomes of a resource, where nothing is foreseen of it so far.
+fn foresee_more(
+    system: &System,
+    trace: &Trace,
+    lines: &[Line],
+    dispatch: &mut Dispatch,
+    res: ResId,
+    now: u64,
+)
+    requires there { res.0 < length system.now.resources }
+    requires can { CanReplay system.now trace.now }
+    requires lines { length lines.now ≡ length system.now.tasks }
+    requires belongs { Belongs system.now res.0 (state_now (kind_of system.now res.0) dispatch.old) }
+    requires frame { FrameWaits (kind_of system.now res.0) (state_now (kind_of system.now res.0) dispatch.old) (waiting lines.now) }
+    requires horizon { now < HORIZON }
+    requires foresees { Foresees system.now res.0 (state_now (kind_of system.now res.0) dispatch.old) (waiting lines.now) now (phase_of trace.now res.0) dispatch.old }
+    requires enough { HasEnough lines.now dispatch.old }
+    ensures foresees { Foresees system.now res.0 (state_now (kind_of system.now res.0) dispatch.old) (waiting lines.now) now (phase_of trace.now res.0) dispatch.new }
+    ensures some { dispatch.new.gone < dispatch.new.ticks }
+    ensures enough { HasEnough lines.now dispatch.new }
+{
+    if dispatch.gone < dispatch.ticks {
+        return;
+    }
+    foresee(system, trace, lines, dispatch, res, now);
+}
+
+/// Foresees what becomes of all resources. Answers for how many ticks from now on, at most so many, the
+/// same tasks run on all of them, and no job is complete before the last of them is over.
+pub(crate) fn foresee_all(
+    system: &System,
+    trace: &Trace,
+    lines: &[Line],
+    dispatches: &mut Vec<Dispatch>,
+    now: u64,
+    most: u64,
+) -> u64
+    requires can { CanReplay system.now trace.now }
+    requires lines { length lines.now ≡ length system.now.tasks }
+    requires dispatches { length dispatches.old.items ≡ length system.now.resources }
+    requires belongs { (r : ℕ) → r < length system.now.resources → Belongs system.now r (state_now (kind_of system.now r) (dispatch_at dispatches.old.items r)) }
+    requires frames { (r : ℕ) → r < length system.now.resources → FrameWaits (kind_of system.now r) (state_now (kind_of system.now r) (dispatch_at dispatches.old.items r)) (waiting lines.now) }
+    requires foresees { (r : ℕ) → r < length system.now.resources → Foresees system.now r (state_now (kind_of system.now r) (dispatch_at dispatches.old.items r)) (waiting lines.now) now (phase_of trace.now r) (dispatch_at dispatches.old.items r) }
+    requires enough { (r : ℕ) → r < length system.now.resources → HasEnough lines.now (dispatch_at dispatches.old.items r) }
+    requires some { 1 ≤ most }
+    requires horizon { now < HORIZON }
+    ensures count { length dispatches.new.items ≡ length system.now.resources }
+    ensures foresees { (r : ℕ) → r < length system.now.resources → Foresees system.now r (state_now (kind_of system.now r) (dispatch_at dispatches.old.items r)) (waiting lines.now) now (phase_of trace.now r) (dispatch_at dispatches.new.items r) }
+    ensures enough { (r : ℕ) → r < length system.now.resources → HasEnough lines.now (dispatch_at dispatches.new.items r) }
+    ensures some { 1 ≤ result }
+    ensures most { result ≤ most }
+    ensures fits { (r : ℕ) → r < length system.now.resources → (dispatch_at dispatches.new.items r).gone + result ≤ (dispatch_at dispatches.new.items r).ticks }
+{
+    let mut ticks = most;
+    for k in 0..system.resources() {
+        let dispatch = &mut dispatches[k as usize];
+        foresee_more(system, trace, lines, dispatch, ResId(k), now);
+        ticks = ticks.min(dispatch.ticks - dispatch.gone);
+    }
+    ticks
+}
+
+/// Where the job that ran is complete, nothing is foreseen any more, and no frame is started.
+fn complete(system: &System, dispatch: &mut Dispatch, res: ResId)
+    requires there { res.0 < length system.now.resources }
+    requires belongs { Belongs system.now res.0 (state_now (kind_of system.now res.0) dispatch.old) }
+    ensures state { seen dispatch.new.state ≡ completed (kind_of system.now res.0) (state_now (kind_of system.now res.0) dispatch.old) }
+    ensures gone { dispatch.new.gone ≡ 0 }
+    ensures ticks { dispatch.new.ticks ≡ 0 }
+    ensures running { dispatch.new.running ≡ dispatch.old.running }
+    ensures ends { dispatch.new.ends ≡ dispatch.old.ends }
+{
+    refresh(system, dispatch, res);
+    completed(system, res, &mut dispatch.state);
+}
+
+/// Lets the task that runs on a resource do so for some ticks, after which it is `now`. Answers whether its
+/// job ends.
+fn serve(
+    system: &System,
+    trace: &Trace,
+    lines: &mut Vec<Line>,
+    dispatch: &mut Dispatch,
+    res: ResId,
+    ticks: u64,
+    now: u64,
+) -> bool
+    requires there { res.0 < length system.now.resources }
+    requires can { CanReplay system.now trace.now }
+    requires lines { length lines.old.items ≡ length system.now.tasks }
+    requires horizon { now ≤ HORIZON }
+    requires fits { dispatch.old.gone + ticks ≤ dispatch.old.ticks }
+    requires belongs { Belongs system.now res.0 (state_by (kind_of system.now res.0) (runner dispatch.old) (seen dispatch.old.state) (dispatch.old.gone + ticks)) }
+    requires waits { (i : ℕ) → runner dispatch.old ≡ Some i → IsWaiting system.now res.0 (waiting lines.old.items) i }
+    ensures count { length lines.new.items ≡ length system.now.tasks }
+    ensures lines { (i : ℕ) → line_at lines.new.items i ≡ served_line (need system.now trace.now i) (runs_at dispatch.old i) ticks now (line_at lines.old.items i) }
+    ensures served { IsServed system.now res.0 lines.old.items ticks dispatch.old dispatch.new }
+    ensures ends { result ≡ dispatch.new.ends }
+{
+    dispatch.gone += ticks;
+    match dispatch.running {
+        None => {
+            dispatch.ends = false;
+            false
+        }
+        Some(task) => {
+            let line = &mut lines[task.0 as usize];
+            let ends = work(system, trace, task, line, ticks, now);
+            dispatch.ends = ends;
+            if ends {
+                complete(system, dispatch, res);
+            }
+            ends
+        }
+    }
+}
+
+/// A set with a resource more, if that is to be a member.
+fn with_if(set: ResSet, res: ResId, member: bool) -> ResSet
+    requires { res.0 < 64 }
+    ensures { (r : ℕ) → holds result r ≡ ((r == res.0 && member) || holds set r) }
+{
+    if member { set.with(res) } else { set }
+}
+
+/// Lets each task that runs do so for some ticks, after which it is `now`. Answers the resources on which
+/// a job ends.
+pub(crate) fn serve_all(
+    system: &System,
+    trace: &Trace,
+    lines: &mut Vec<Line>,
+    dispatches: &mut Vec<Dispatch>,
+    ticks: u64,
+    now: u64,
+) -> ResSet
+    requires can { CanReplay system.now trace.now }
+    requires lines { length lines.old.items ≡ length system.now.tasks }
+    requires dispatches { length dispatches.old.items ≡ length system.now.resources }
+    requires horizon { now ≤ HORIZON }
+    requires fits { (r : ℕ) → r < length system.now.resources → (dispatch_at dispatches.old.items r).gone + ticks ≤ (dispatch_at dispatches.old.items r).ticks }
+    requires belongs { (r : ℕ) → r < length system.now.resources → Belongs system.now r (state_by (kind_of system.now r) (runner (dispatch_at dispatches.old.items r)) (seen (dispatch_at dispatches.old.items r).state) ((dispatch_at dispatches.old.items r).gone + ticks)) }
+    requires waits { (r i : ℕ) → r < length system.now.resources → runner (dispatch_at dispatches.old.items r) ≡ Some i → IsWaiting system.now r (waiting lines.old.items) i }
+    requires placed { (i : ℕ) → i < length system.now.tasks → (task_at system.now i).res.0 < length system.now.resources }
+    ensures count { length lines.new.items ≡ length system.now.tasks }
+    ensures count_dispatches { length dispatches.new.items ≡ length system.now.resources }
+    ensures lines { (i : ℕ) → i < length system.now.tasks → line_at lines.new.items i ≡ served_line (need system.now trace.now i) (runs_at (dispatch_at dispatches.old.items (task_at system.now i).res.0) i) ticks now (line_at lines.old.items i) }
+    ensures served { (r : ℕ) → r < length system.now.resources → IsServed system.now r lines.old.items ticks (dispatch_at dispatches.old.items r) (dispatch_at dispatches.new.items r) }
+    ensures ended { AreEnding dispatches.new.items result }
+{
+    let mut ended = ResSet::none();
+    for k in 0..system.resources() {
+        let dispatch = &mut dispatches[k as usize];
+        let ends = serve(system, trace, lines, dispatch, ResId(k), ticks, now);
+        ended = with_if(ended, ResId(k), ends);
+    }
+    ended
+}
