@@ -23,6 +23,14 @@ def call(command):
     return took, done.stderr.decode().split()[-1], done.stdout.decode().split("\n")[0]
 
 
+def spent(command):
+    """Seconds of processors and of the clock that a call takes, its peak memory in megabytes, and the last line that it writes."""
+    done = subprocess.run(["/usr/bin/time", "-f", "%U %S %e %M", *command], capture_output=True, text=True, check=False)
+    user, system, clock, peak = map(float, done.stderr.split()[-4:])
+    lines = done.stdout.splitlines() or [""]
+    return user + system, clock, peak / 1024, lines[-1]
+
+
 def answer(program, text, *words):
     """The status and the text of a command over a file with this text, which stands after its first word."""
     with tempfile.NamedTemporaryFile("w", suffix=".toml") as file:

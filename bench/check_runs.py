@@ -3,8 +3,8 @@
 
 Random systems with all four kinds of resource get random traces that obey. The step rules of docs/FILES.md and
 docs/DEFINITIONS.md are followed here once more: what is seen of each task, how many jobs are pending at each time, and who
-gets which tick. `buffers` must tell those peaks, none of them above its bound, and each bound must be the most events of the
-task's line of `analyse` in its greatest response. `audit` must take the schedule that was recorded here, and of one with a
+gets which tick, and from which job each one comes. `buffers` must tell those peaks, none of them above its bound, and each bound must be
+the most events of the task's streams in its greatest response; no response is above that. `audit` must take the schedule that was recorded here, and of one with a
 row changed, left out, added or exchanged it must tell the first place that differs, with what is expected there.
 
     python3 bench/check_runs.py [COUNT, 300 if absent] [SEED, 1 if absent]
@@ -23,7 +23,7 @@ KINDS = ("preemptive", "round-robin", "tdma", "can")
 
 
 def made(draw):
-    """A system: its resources, sources and tasks; a task comes after a source or after an earlier task."""
+    """A system: its resources, sources, tasks and paths; a task comes after sources and earlier tasks, mostly after one."""
     resources = [{"name": f"r{k}", "kind": draw.choice(KINDS)} for k in range(draw.randint(1, 4))]
     for it in resources:
         it["gap"] = draw.randint(0, 5) if it["kind"] == "tdma" else 0
@@ -33,26 +33,52 @@ def made(draw):
         sources.append({"name": f"s{k}", "period": period, "jitter": draw.choice((0, 0, draw.randint(0, 60))), "distance": draw.choice((0, draw.randint(0, period)))})
     tasks = []
     for k in range(draw.randint(1, 8)):
-        on, after = draw.choice(resources), draw.choice(sources + tasks[-3:])
+        on, several = draw.choice(resources), sources + tasks[-3:]
+        after = [it["name"] for it in draw.sample(several, min(len(several), draw.choice((1, 1, 1, 2, 3))))]
         worst = draw.randint(1, 9)
-        tasks.append({"name": f"t{k}", "on": on["name"], "after": after["name"], "best": draw.randint(1, worst), "worst": worst, "priority": k, "slot": draw.randint(1, 4)})
+        tasks.append({"name": f"t{k}", "on": on["name"], "after": after, "streams": 0, "best": draw.randint(1, worst), "worst": worst, "priority": k, "slot": draw.randint(1, 4)})
+        streams = {it["name"]: it["streams"] for it in tasks} | {it["name"]: 1 for it in sources}
+        while sum(streams[name] for name in after) > 32:
+            after.pop()
+        if not after:
+            after.append(sources[0]["name"])
+        tasks[-1]["streams"] = sum(streams[name] for name in after)
     order = list(range(len(tasks)))
     draw.shuffle(order)
     for task, priority in zip(tasks, order):
         task["priority"] = priority
-    return {"resource": resources, "source": sources, "task": tasks}
+    return {"resource": resources, "source": sources, "task": tasks, "path": [path_of(draw, tasks, k) for k in range(draw.randint(0, 2))]}
+
+
+def path_of(draw, tasks, place):
+    """A path that ends at any task, each of which has the one before it among its activators."""
+    names = {it["name"]: it for it in tasks}
+    way = [draw.choice(tasks)["name"]]
+    while draw.random() < 0.8:
+        earlier = [name for name in names[way[0]]["after"] if name in names]
+        if not earlier:
+            break
+        way.insert(0, draw.choice(earlier))
+    return {"name": f"w{place}", "tasks": way}
+
+
+def quoted(names):
+    return "[" + ", ".join(f'"{name}"' for name in names) + "]"
 
 
 def file_of(system):
     kinds = {it["name"]: it["kind"] for it in system["resource"]}
-    rows = ["format = 1"]
+    rows = [f"format = {1 if all(len(it['after']) == 1 for it in system['task']) else 2}"]
     for it in system["resource"]:
         rows += ["[[resource]]", f"name = \"{it['name']}\"", f"kind = \"{it['kind']}\"", "limit = 2000"] + ([f"gap = {it['gap']}"] if it["kind"] == "tdma" else [])
     for it in system["source"]:
         rows += ["[[source]]", f"name = \"{it['name']}\"", *(f"{key} = {it[key]}" for key in ("period", "jitter", "distance"))]
     for it in system["task"]:
         turn = "priority" if kinds[it["on"]] in ("preemptive", "can") else "slot"
-        rows += ["[[task]]", *(f"{key} = \"{it[key]}\"" for key in ("name", "on", "after")), *(f"{key} = {it[key]}" for key in ("best", "worst", turn))]
+        rows += ["[[task]]", *(f"{key} = \"{it[key]}\"" for key in ("name", "on")), *(f"{key} = {it[key]}" for key in ("best", "worst", turn))]
+        rows.append(f"after = {quoted(it['after'])}" if len(it["after"]) > 1 else f"after = \"{it['after'][0]}\"")
+    for it in system["path"]:
+        rows += ["[[path]]", f"name = \"{it['name']}\"", f"tasks = {quoted(it['tasks'])}"]
     return "\n".join(rows) + "\n"
 
 
@@ -104,21 +130,22 @@ class Run:
         self.time = 0
         self.go()
 
-    def arrive(self, task):
+    def arrive(self, task, cause):
         several = self.jobs[task]
         given = self.executions[task]
         needs = given[len(several)] if len(several) < len(given) else self.tasks[task]["worst"]
-        several.append({"arrival": self.time, "needs": needs, "end": None})
+        several.append({"arrival": self.time, "needs": needs, "end": None, "cause": cause})
 
-    def activate(self, name):
+    def activate(self, name, number):
         for task in self.tasks.values():
-            if task["after"] == name:
-                self.arrive(task["name"])
+            if name in task["after"]:
+                self.arrive(task["name"], (name, number))
 
     def come(self):
         for name, times in self.events.items():
-            for _ in range(times.count(self.time)):
-                self.activate(name)
+            for number, time in enumerate(times):
+                if time == self.time:
+                    self.activate(name, number)
 
     def pending(self, task):
         return [place for place, job in enumerate(self.jobs[task]) if job["end"] is None]
@@ -180,8 +207,9 @@ class Run:
         self.time += 1
         for name, it, _ in ended:
             it["end"], self.frame[name] = self.time, None
-        for _, _, task in ended:
-            self.activate(task)
+        order = list(self.tasks)
+        for _, it, task in sorted(ended, key=lambda one: order.index(one[2])):
+            self.activate(task, self.jobs[task].index(it))
         self.come()
         self.see()
 
@@ -193,6 +221,17 @@ class Run:
             self.tick(going)
 
 
+def passages(run, way):
+    """The times of the passages of the jobs of a path's first task."""
+    times = []
+    for first, job in enumerate(run.jobs[way[0]]):
+        number = first
+        for before, task in zip(way, way[1:]):
+            number = next(place for place, it in enumerate(run.jobs[task]) if it["cause"] == (before, number))
+        times.append(run.jobs[way[-1]][number]["end"] - job["arrival"])
+    return times
+
+
 def tell(system, run):
     """What `simulate` writes of the tasks."""
     text = ""
@@ -200,20 +239,46 @@ def tell(system, run):
         jobs = run.jobs[it["name"]]
         worst = max((job["end"] - job["arrival"] for job in jobs), default="none")
         text += f"task {it['name']} jobs {len(jobs)} done {len(jobs)} worst {worst}\n"
+    for it in system["path"]:
+        times = passages(run, it["tasks"])
+        text += f"path {it['name']} passages {len(times)} worst {max(times, default='none')}\n"
     every = sum(len(jobs) for jobs in run.jobs.values())
     return text + f"summary jobs {every} done {every} end {run.time}\n"
 
 
-def most_events(line, window):
-    """The most events of a task's line in a window that is as long as its bound."""
-    period, jitter, distance = (int(line[place]) for place in (4, 6, 8))
-    most = -(-(window + jitter) // period)
-    return min(most, -(-window // distance)) if distance else most
+def streams_of(system, bounds, name):
+    """The streams that a source or a task sends, none where one is unbounded."""
+    for it in system["source"]:
+        if it["name"] == name:
+            return [(it["period"], it["jitter"], it["distance"])]
+    best, bound = next(it["best"] for it in system["task"] if it["name"] == name), bounds[name]
+    streams = input_of(system, bounds, name)
+    if streams is None or bound == "overload":
+        return None
+    return [(period, jitter + bound - best, max(distance - (bound - best), best)) for period, jitter, distance in streams]
+
+
+def input_of(system, bounds, task):
+    several = [streams_of(system, bounds, name) for name in next(it["after"] for it in system["task"] if it["name"] == task)]
+    return None if None in several else sum(several, [])
+
+
+def most_events(streams, window):
+    """The most events of some streams in a window."""
+    most = 0
+    for period, jitter, distance in streams:
+        own = -(-(window + jitter) // period)
+        most += min(own, -(-window // distance)) if distance else own
+    return most
 
 
 def tell_buffers(system, run, report):
     lines = {line[1]: line for line in (row.split() for row in report.splitlines()) if line[0] == "task"}
-    bounds = {name: "overload" if "overload" in line else most_events(line, int(line[-1])) for name, line in lines.items()}
+    least = {name: line[-1] if line[-1] == "overload" else int(line[-1]) for name, line in lines.items()}
+    bounds = {name: "overload" if bound == "overload" else most_events(input_of(system, least, name), bound) for name, bound in least.items()}
+    for it in system["task"]:
+        if least[it["name"]] != "overload":
+            assert all(job["end"] - job["arrival"] <= least[it["name"]] for job in run.jobs[it["name"]]), it["name"]
     text = ""
     for name, bound in bounds.items():
         text += f"buffer {name} bound {bound} peak {run.peaks[name]}\n"

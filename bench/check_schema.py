@@ -22,7 +22,7 @@ except ImportError:
 TOP = os.path.join(os.path.dirname(os.path.abspath(__file__)), "..")
 FIRST_LINE = "#:schema ../docs/lokwurmi.schema.json\n"
 # what a JSON schema can say; the other examples are refused for several keys or entries together, as a distance above its period
-SAID = {"13", "1", "3", "9", "11"}
+SAID = {"13", "1", "3", "9", "11", "14"}
 faults = []
 
 
@@ -74,6 +74,10 @@ def accepts(part, place, key, value):
 
 
 hold(validator.is_valid({"format": 1, **WHOLE}), "a file with all keys isn't accepted")
+for number, names, is_in in ((1, ["s"], False), (2, "s", True), (2, ["s", "t"], True), (2, [], False), (2, ["s", "s"], False), (2, [1], False)):
+    file = {"format": number, **copy.deepcopy(WHOLE)}
+    file["task"][1]["after"] = names
+    hold(validator.is_valid(file) == is_in, f"format {number} with after = {names!r}")
 told = {}
 part = None
 for row in re.findall(r"^\| (\w*) ?\| (`.*?) \| (.*?) \| (.*?) \| (.*?) \|$", page.split("## Refusals")[0], re.M):

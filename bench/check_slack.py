@@ -1,8 +1,9 @@
 #!/usr/bin/env python3
 """Holds the answers of `lokwurmi slack` against `lokwurmi analyse`, over random systems.
 
-The systems are those of compare.py, with all four kinds and paths over two tasks, and every task of each is asked for. In three
-of four the deadlines are made anew, so that all are met, with more or less to spare. With as many ticks as are told all
+The systems are those of compare.py, with all four kinds and paths over two tasks, in every other one with tasks that have up to
+three activators, and every task of each is asked for. In three of four the deadlines are made anew, so that all are met, with
+more or less to spare. With as many ticks as are told all
 deadlines have to be met, with one more not, or the execution is the greatest there is; and where there is none, one has to be
 missed already. One worker and two have to answer alike. Ends with 1 at the first answer that doesn't fit.
 
@@ -55,17 +56,19 @@ def main():
     count = int(sys.argv[1]) if len(sys.argv) > 1 else 300
     begin = int(sys.argv[2]) if len(sys.argv) > 2 else 0
     ends = {"missed": 0, "limit": 0, "none": 0}
+    several = 0
     for number in range(begin, begin + count):
         text = made_system(number)
         if number % 4:
             text = relaxed(text, number)
+        several += "after = [" in text
         for task in re.findall(r'^name = "(t\d+)"', text, re.M):
             got = answer(PROGRAM, text, "slack", task)
             if not fits(text, task, got) or answer(PROGRAM, text, "slack", task, "--workers", "2") != got:
                 print(f"system {number}, task {task}: {got}\n{text}")
                 sys.exit(1)
             ends[got[1].split()[-1]] += 1
-    print(f"{count} systems, answers that end with missed, limit and none: {list(ends.values())}")
+    print(f"{count} systems, {several} with several activators; answers that end with missed, limit and none: {list(ends.values())}")
 
 
 if __name__ == "__main__":

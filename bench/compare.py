@@ -2,7 +2,8 @@
 """Compares the reports of `lokwurmi analyse` with those of the rules written down plainly, over random systems.
 
 The rules stand in docs/DEFINITIONS.md; here they are followed word for word, one analysis of every task in each round, with
-no thought of speed. Systems have all four kinds, chains that come back to a resource, jitter of several periods, and paths.
+no thought of speed. Systems have all four kinds, chains that come back to a resource, jitter of several periods, and paths;
+in every other one tasks have up to three activators.
 Prints the first file whose report or status differs, else how many were alike.
 
     python3 bench/compare.py [NUMBER of systems, 1000 if absent] [NUMBER to begin with, 0 if absent]
@@ -25,20 +26,28 @@ def ceiling(number, divisor):
 
 
 def most_events(model, window):
-    """The most events of a model in a window whose end doesn't count; none means an unbounded input."""
+    """The most events of the streams of a model in a window whose end doesn't count; none means an unbounded input."""
     if window == 0:
         return 0
     if model is None:
         return OVERLOAD
-    period, jitter, distance = model
-    by_period = ceiling(window + jitter, period)
-    return min(by_period, ceiling(window, distance)) if distance else by_period
+    most = 0
+    for period, jitter, distance in model:
+        by_period = ceiling(window + jitter, period)
+        most += min(by_period, ceiling(window, distance)) if distance else by_period
+    return most
 
 
 def least_time(model, events):
     """The least time from the first to the last of so many events."""
-    period, jitter, distance = model
-    return 0 if events < 2 else max((events - 1) * distance, (events - 1) * period - jitter, 0)
+    if events < 2:
+        return 0
+    # the least window that has room for them once it is a tick longer, by halving: most_events rises with the window
+    low, high = 0, max(max((events - 1) * distance, (events - 1) * period - jitter, 0) for period, jitter, distance in model)
+    while low < high:
+        middle = (low + high) // 2
+        low, high = (low, middle) if most_events(model, middle + 1) >= events else (middle + 1, high)
+    return low
 
 
 def least_window(demand, first, limit):
@@ -66,21 +75,28 @@ class System:
                 task["best"] = (least + 8 * task["payload"]) * bit
                 task["worst"] = (greatest + 10 * task["payload"]) * bit
 
-    def source_of(self, name):
-        after = self.tasks[name]["after"]
-        return after if after in self.sources else self.source_of(after)
+    def sources_of(self, name):
+        """The sources of the task's streams."""
+        return [source for after in self.activators_of(name) for source in ([after] if after in self.sources else self.sources_of(after))]
 
-    def input_of(self, name, bounds):
+    def activators_of(self, name):
         after = self.tasks[name]["after"]
+        return [after] if isinstance(after, str) else after
+
+    def sent_by(self, after, bounds):
+        """The streams that a source or a task sends; none where one is unbounded."""
         if after in self.sources:
-            return self.sources[after]
+            return [self.sources[after]]
         model = self.input_of(after, bounds)
         if model is None or bounds[after] == OVERLOAD:
             return None
         least = self.tasks[after]["best"]
         varies = bounds[after] - least
-        period, jitter, distance = model
-        return period, jitter + varies, max(distance - varies, least)
+        return [(period, jitter + varies, max(distance - varies, least)) for period, jitter, distance in model]
+
+    def input_of(self, name, bounds):
+        models = [self.sent_by(after, bounds) for after in self.activators_of(name)]
+        return None if None in models else [stream for model in models for stream in model]
 
     def work(self, names, bounds, window):
         """The work that tasks bring in a window."""
@@ -163,9 +179,10 @@ class System:
         lines, missed = [], 0
         for name, task in self.tasks.items():
             model = self.input_of(name, bounds)
-            period = self.sources[self.source_of(name)][0]
-            jitter, distance = ("overload", "overload") if model is None else model[1:]
-            lines.append(f"task {name} {task['on']} period {period} jitter {jitter} distance {distance} best {task['best']} worst {said(bounds[name])}")
+            first, *more = self.sources_of(name)
+            jitter, distance = ("overload", "overload") if model is None else model[0][1:]
+            received = f"streams {1 + len(more)}" if more else f"period {self.sources[first][0]} jitter {jitter} distance {distance}"
+            lines.append(f"task {name} {task['on']} {received} best {task['best']} worst {said(bounds[name])}")
         for path in self.paths:
             best = sum(self.tasks[n]["best"] for n in path["tasks"])
             worst = sum(bounds[n] for n in path["tasks"])
@@ -187,7 +204,7 @@ def made_system(number):
     pick = random.Random(number)
     kinds = ["preemptive", "round-robin", "tdma", "can"]
     resources, tasks = pick.randint(1, 2 + number % 7), pick.randint(1, 3 + number % 25)
-    lines, on_kind, chains = ["format = 1"], [], []
+    lines, on_kind, chains, streams = [f"format = {1 + number % 2}"], [], [], []
     for r in range(resources):
         kind = pick.choice(kinds)
         on_kind.append(kind)
@@ -198,19 +215,23 @@ def made_system(number):
         lines.append(f'[[source]]\nname = "s{s}"\nperiod = {period}\njitter = {pick.choice([0, 0, period // 3, 3 * period])}\ndistance = {pick.choice([0, 0, period // 4])}')
     for t in range(tasks):
         r = pick.randrange(resources)
-        after = pick.randrange(t) if t and pick.random() < 0.6 else None
-        depth = 1 + (chains[after] if after is not None else 0)
-        if depth > 32:
-            after, depth = None, 1
+        after = [pick.randrange(t) if t and pick.random() < 0.6 else -1 - pick.randrange(3) for _ in range(pick.choice((1, 1, 2, 3)) if number % 2 else 1)]
+        after = list(dict.fromkeys(after))
+        depth = 1 + max(chains[k] if k >= 0 else 0 for k in after)
+        several = sum(streams[k] if k >= 0 else 1 for k in after)
+        if depth > 32 or several > 32:
+            after, depth, several = [-1], 1, 1
         chains.append(depth)
+        streams.append(several)
         worst = pick.randint(1, 30)
         turn = f"slot = {pick.randint(1, 20)}" if on_kind[r] in ("round-robin", "tdma") else f"priority = {pick.randint(0, 9) * 100 + t}"
-        name = f'"s{pick.randrange(3)}"' if after is None else f'"t{after}"'
+        names = [f'"s{-1 - k}"' if k < 0 else f'"t{k}"' for k in after]
+        name = names[0] if len(names) == 1 else "[" + ", ".join(names) + "]"
         lines.append(f'[[task]]\nname = "t{t}"\non = "r{r}"\nafter = {name}\nbest = {pick.randint(1, worst)}\nworst = {worst}\n{turn}')
-    followers = [line.split('after = "t') for line in lines]
-    for parts in followers:
-        if len(parts) == 2 and pick.random() < 0.4:
-            first, second = parts[1].split('"')[0], parts[0].split('name = "t')[1].split('"')[0]
+    for task in tomllib.loads("\n".join(lines))["task"]:
+        earlier = [it for it in ([task["after"]] if isinstance(task["after"], str) else task["after"]) if it.startswith("t")]
+        if earlier and pick.random() < 0.4:
+            first, second = pick.choice(earlier)[1:], task["name"][1:]
             deadline = pick.choice(["", f"\ndeadline = {pick.randint(1, 300)}"])
             lines.append(f'[[path]]\nname = "p{second}"\ntasks = ["t{first}", "t{second}"]{deadline}')
     return "\n".join(lines) + "\n"

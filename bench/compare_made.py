@@ -2,8 +2,8 @@
 """Compares `generate`, `load` and `hammer` with what docs/FILES.md says of made systems and made traces. Outside the gate.
 
 Systems and traces are made here once more, by the generator written down plainly. Of each made system `generate` must write a
-file that says the same, and `load` the sum of the bounds that `analyse` writes of it. Of each example `hammer` must write what
-`simulate` does of each made trace, taken together.
+file that says the same, and `load` the sum of the bounds that `analyse` writes of it. Of each example, and of random systems
+whose tasks have up to three activators, `hammer` must write what `simulate` does of each made trace, taken together.
 
     python3 bench/compare_made.py [NUMBER to begin with, 0 if absent]
 """
@@ -13,6 +13,8 @@ import subprocess
 import sys
 import tempfile
 import tomllib
+
+import compare as plain
 
 TOP = os.path.join(os.path.dirname(os.path.abspath(__file__)), "..")
 PROGRAM = os.path.join(TOP, "crates/cpa_cli/out/cpa_cli")
@@ -75,7 +77,8 @@ def made_trace(system, number, place):
     resources = {it["name"]: it for it in system["resource"]}
 
     def first_events(task):
-        return events[task["after"]] if task["after"] in events else first_events(tasks[task["after"]])
+        several = [task["after"]] if isinstance(task["after"], str) else task["after"]
+        return [time for after in several for time in (events[after] if after in events else first_events(tasks[after]))]
 
     for task in tasks.values() if is_drawn else ():
         best, worst = task.get("best"), task.get("worst")
@@ -104,6 +107,24 @@ def compare(what, wrote, told):
         sys.exit(f"{what} differs:\nby the page:\n{told}\nby the program:\n{wrote}")
 
 
+def hammer(file, number, traces, trace):
+    """Holds a call of `hammer` against those of `simulate` that it takes together, over traces written to a file."""
+    with open(file, "rb") as it:
+        system = tomllib.load(it)
+    bounds = {line[1]: line[-1] for line in lines_of(call("analyse", file)[0], "task")}
+    jobs, worst = dict.fromkeys(bounds, 0), dict.fromkeys(bounds, "none")
+    for place in range(traces):
+        with open(trace, "w", encoding="ascii") as it:
+            it.write(made_trace(system, number, place))
+        for line in lines_of(call("simulate", file, trace)[0], "task"):
+            jobs[line[1]] += int(line[3])
+            if line[7] != "none":
+                worst[line[1]] = int(line[7]) if worst[line[1]] == "none" else max(worst[line[1]], int(line[7]))
+    told = "".join(f"task {it} jobs {jobs[it]} worst {worst[it]} bound {bounds[it]}\n" for it in bounds)
+    told += f"summary traces {traces} jobs {sum(jobs.values())} beyond 0\n"
+    compare(f"hammer {file} {number} {traces}", call("hammer", file, number, traces), (told, 0))
+
+
 def main():
     begin = int(sys.argv[1]) if len(sys.argv) > 1 else 0
     systems = hammered = 0
@@ -121,22 +142,14 @@ def main():
                 compare(f"load {number} {size}", call("load", number, size), (told, status))
                 systems += 1
         for example in sorted(glob.glob(os.path.join(TOP, "examples/*.toml"))):
-            with open(example, "rb") as it:
-                system = tomllib.load(it)
-            bounds = {line[1]: line[-1] for line in lines_of(call("analyse", example)[0], "task")}
-            for number, traces in ((begin, 1), (begin + 1, 4), (begin + 2, 7)):
-                jobs, worst = dict.fromkeys(bounds, 0), dict.fromkeys(bounds, "none")
-                for place in range(traces):
-                    with open(trace, "w", encoding="ascii") as it:
-                        it.write(made_trace(system, number, place))
-                    for line in lines_of(call("simulate", example, trace)[0], "task"):
-                        jobs[line[1]] += int(line[3])
-                        if line[7] != "none":
-                            worst[line[1]] = int(line[7]) if worst[line[1]] == "none" else max(worst[line[1]], int(line[7]))
-                told = "".join(f"task {it} jobs {jobs[it]} worst {worst[it]} bound {bounds[it]}\n" for it in bounds)
-                told += f"summary traces {traces} jobs {sum(jobs.values())} beyond 0\n"
-                compare(f"hammer {example} {number} {traces}", call("hammer", example, number, traces), (told, 0))
+            for traces in (1, 4, 7):
+                hammer(example, begin + traces, traces, trace)
                 hammered += 1
+        for place in range(begin, begin + 40):
+            with open(file, "w", encoding="ascii") as it:
+                it.write(plain.made_system(2 * place + 1))
+            hammer(file, place, 2, trace)
+            hammered += 1
     print(f"{systems} made systems and {hammered} calls of hammer alike")
 
 

@@ -1,7 +1,7 @@
 #!/usr/bin/env bash
 # Hostile use of the program: outputs that can't be written, files that can't be read, words that are no text, inputs as large
-# and as deep as they may be on a small stack, and largest numbers. Prints a line a case, and ends with 1 where one answers
-# otherwise than it should. Outside the gate: bash bench/hostile.sh
+# and as deep as they may be on a small stack, long and damaged lists of activators, and largest numbers. Prints a line a case,
+# and ends with 1 where one answers otherwise than it should. Outside the gate: bash bench/hostile.sh
 top=$(cd "$(dirname "${BASH_SOURCE[0]}")/.." && pwd) || exit 1
 program=$top/crates/cpa_cli/out/cpa_cli
 work=$(mktemp -d) || exit 1
@@ -12,19 +12,29 @@ cp "$top/examples/two_tasks.toml" two.toml
 cp "$top/examples/car_network.toml" car.toml
 wrong=0
 
-# The status that is wanted, how the last line of the text begins, and the words of the call. The stack is 256 KB.
-expect() {
-  local status=$1 last=$2 got line words
+# Makes a call with a stack of 256 KB, and says whether its status is the one that is wanted, and whether the last line of its
+# text begins so. The words of the call come after these two.
+answers() {
+  local status=$1 last=$2
   shift 2
   words=$*
   (ulimit -s 256 && exec "$program" "$@") >text 2>errors
   got=$?
   line=$(tail -n 1 text)
-  if ((got == status)) && [[ $line == "$last"* ]]; then
+  ((got == status)) && [[ $line == "$last"* ]]
+}
+
+tell_wrong() {
+  printf 'WRONG %3d  %-40s %s\n' "$got" "${words:0:200}" "${line:0:200}"
+  wrong=1
+}
+
+# The same, and tells what was answered.
+expect() {
+  if answers "$@"; then
     printf 'ok    %3d  %-40s %s\n' "$got" "${words:0:40}" "${line:0:70}"
   else
-    printf 'WRONG %3d  %-40s %s\n' "$got" "${words:0:200}" "${line:0:200}"
-    wrong=1
+    tell_wrong
   fi
 }
 
@@ -84,6 +94,9 @@ expect 10 'words refused' analyse $'two\xc3.toml'
 
 # ---- as large and as deep as may be
 python3 - <<'P' || exit 1
+import os
+import tomllib
+
 def write(name, text):
     with open(name, "w") as file:
         file.write(text)
@@ -138,6 +151,107 @@ write("chains", "".join(text))
 write("end.toml", 'format = 1\n[[resource]]\nname = "r"\nkind = "preemptive"\n[[source]]\nname = "s"\nperiod = 1000000000\n'
       '[[task]]\nname = "t"\non = "r"\nafter = "s"\nbest = 1000000\nworst = 1000000\npriority = 1\n')
 write("end.csv", "event,s,10000000\nexec,t,1000000\n")
+
+# ---- lists of activators
+head = 'format=2\nresource=[{name="c",kind="preemptive"}]\nsource=[{name="s",period=9}]\ntask=[\n'
+
+def quoted(names):
+    return "[" + ",".join(f'"{name}"' for name in names) + "]"
+
+def fitting(after):
+    """As many tasks as there is room for, each after what is told of its place and of their number."""
+    count = 20_000
+    while True:
+        rows = [f'{{name="t{k}",on="c",after={after(k, count)},best=1,worst=1,priority={k}}},\n' for k in range(count)]
+        size = len(head) + sum(map(len, rows)) + 2
+        if size <= most:
+            return head + "".join(rows) + "]\n"
+        count -= -(-(size - most) * count // size)
+
+def layers(wide, high):
+    """Layers of tasks, each after all of the layer before, begun anew after so many."""
+    def after(k, count):
+        first = k - k % wide
+        return '"s"' if first % (wide * high) == 0 else quoted(f"t{j}" for j in range(first - wide, first))
+    return after
+
+def filled(name, last):
+    """One task, whose list has a name as often as there is room for, and then something else."""
+    start, end = head + '{name="t0",on="c",after=[', last + '],best=1,worst=1,priority=1},\n]\n'
+    return start + name * ((most - len(start) - len(end)) // len(name)) + end
+
+write("chain", fitting(lambda k, count: f'"t{k - 1}"' if k else '"s"'))
+write("chain_back", fitting(lambda k, count: f'"t{k + 1}"' if k + 1 < count else '"s"'))
+write("ring", fitting(lambda k, count: f'"t{(k + 1) % count}"'))
+write("into_ring", fitting(lambda k, count: quoted(["s", f"t{min(k + 1, count - 1)}"])))
+write("layers", fitting(layers(16, 10_000)))
+write("low_layers", fitting(layers(16, 32)))
+write("wide_list", fitting(lambda k, count: '"s"' if k + 1 < count else quoted(f"t{j}" for j in range(count - 1))))
+write("doubles", filled('"s",', '"s"'))
+write("unknown_last", filled('"s",', '"x"'))
+write("no_text_last", filled('"s",', "1"))
+write("blanks", filled(" ", ""))
+write("list_in_one", filled('"s",', '"s"').replace("format=2", "format=1"))
+write("deep_list", filled("[", ""))
+
+# the greatest number of streams on one resource of each kind: 512 tasks, each after 32 sources
+def joined(kind):
+    turn = "slot=3" if kind in ("round-robin", "tdma") else "priority={}"
+    text = f'format=2\nresource=[{{name="r",kind="{kind}",limit=10000000}}]\nsource=[\n'
+    text += "".join(f'{{name="s{k}",period={1_000_000 + k},jitter=1000000}},\n' for k in range(32)) + "]\ntask=[\n"
+    after = quoted(f"s{k}" for k in range(32))
+    return text + "".join(f'{{name="t{k}",on="r",after={after},best=1,worst=3,{turn.format(k)}}},\n' for k in range(512)) + "]\n"
+
+for kind in kinds:
+    write("joined_" + kind, joined(kind))
+# chains of 32 tasks over 64 resources, the first of each after 32 sources of the greatest jitter
+text = ["format=2\n"] + [f'[[resource]]\nname="r{r}"\nkind="preemptive"\nlimit=10000000\n' for r in range(64)]
+text += [f'[[source]]\nname="s{k}"\nperiod=1000000000\njitter=1000000000\ndistance=1000000000\n' for k in range(32)]
+for i in range(512):
+    after = f'"t{i - 1}"' if i % 32 else quoted(f"s{k}" for k in range(32))
+    text.append(f'[[task]]\nname="t{i}"\non="r{i % 64}"\nafter={after}\nbest=1\nworst=30000\npriority={i // 64}\n')
+write("joined_chains", "".join(text))
+# 32 tasks that all end at one time, and one after all of them: 64 jobs for each event
+text = ["format=2\n"] + [f'[[resource]]\nname="r{r}"\nkind="preemptive"\n' for r in range(33)]
+text.append('[[source]]\nname="s"\nperiod=100\n')
+text += [f'[[task]]\nname="t{k}"\non="r{k}"\nafter="s"\nbest=1\nworst=1\npriority=0\n' for k in range(32)]
+text.append('[[task]]\nname="u"\non="r32"\nafter=' + quoted(f"t{k}" for k in range(32)) + '\nbest=1\nworst=1\npriority=0\n')
+text += [f'[[path]]\nname="w{k}"\ntasks=["t31","u"]\n' for k in range(128)]
+write("fan", "".join(text))
+write("fan.rows", "".join(f"event,s,{100 * k}\n" for k in range(31_250)))
+write("fan.more", "".join(f"event,s,{100 * k}\n" for k in range(31_251)))
+
+# a small file whose list is damaged at each byte, and what is to be told of it
+small = ('format = 2\nresource = [{ name = "c", kind = "preemptive" }]\nsource = [{ name = "a", period = 9 }, { name = "b", period = 9 }]\n'
+         'task = [{ name = "m", on = "c", after = ["a", "b"], best = 1, worst = 1, priority = 1 }]\n')
+
+def told(data):
+    """The status of the file, and how its last line begins, by the reasons of docs/FILES.md."""
+    try:
+        after = tomllib.loads(data.decode())["task"][0]["after"]
+    except (UnicodeDecodeError, tomllib.TOMLDecodeError):
+        return 13, "not TOML"
+    names = [after] if isinstance(after, str) else after
+    if not isinstance(names, list) or not all(isinstance(name, str) for name in names):
+        return 14, "system refused reason 1 task 1"
+    if not all(name in ("a", "b", "m") for name in names):
+        return 14, "system refused reason 5 task 1"
+    if "m" in names:
+        return 14, "system refused reason 6 task 1"
+    if not names or len(set(names)) < len(names):
+        return 14, "system refused reason 14 task 1"
+    return 0, "summary tasks 1 overload 0"
+
+os.mkdir("damaged")
+begin, rows = small.index('["a"'), []
+for place in range(begin, small.index("]", begin) + 1):
+    before, after = small[:place].encode(), small[place + 1:].encode()
+    for byte in [b"", b"\xff", b"\x00"] + [bytes([byte]) for byte in b"abm,[]{}\"'#\\ 1=.\n"]:
+        for data in (before + byte + after, before + byte + small[place:].encode()):
+            with open(f"damaged/{len(rows)}", "wb") as file:
+                file.write(data)
+            rows.append("{}\t{}\n".format(*told(data)))
+write("damaged.wanted", "".join(rows))
 P
 for file in brackets nested braces tables; do expect 13 'not TOML' analyse "$file"; done
 expect 14 'system refused reason' analyse sections
@@ -170,6 +284,39 @@ expect 19 'schedule refused row' audit two.toml rows quotes
 expect 19 'schedule refused row 1 malformed' audit two.toml rows commas
 expect 19 'schedule refused row 1 malformed' audit two.toml rows fields
 expect 16 'trace refused too many' audit two.toml many late
+
+# ---- lists of activators
+expect 14 'system refused reason 7 task 33' analyse chain
+expect 14 'system refused reason 7 task 1' analyse chain_back
+expect 14 'system refused reason 6 task 1' analyse ring
+expect 14 'system refused reason 6 task 1' analyse into_ring
+expect 14 'system refused reason 7 task 513' analyse layers
+expect 14 'system refused reason 12 task 513' analyse low_layers
+expect 14 'system refused reason 12 task 513' analyse wide_list
+expect 14 'system refused reason 14 task 1' analyse doubles
+expect 14 'system refused reason 5 task 1' analyse unknown_last
+expect 14 'system refused reason 1 task 1' analyse no_text_last
+expect 14 'system refused reason 14 task 1' analyse blanks
+expect 14 'system refused reason 1 task 1' analyse list_in_one
+expect 13 'not TOML' analyse deep_list
+k=0
+while IFS=$'\t' read -r status last; do
+  answers "$status" "$last" analyse "damaged/$k" || tell_wrong
+  k=$((k + 1))
+done <damaged.wanted
+echo "ok         $k files with a list that is damaged"
+for kind in preemptive round-robin tdma can; do expect 0 'summary tasks 512 overload 0' analyse "joined_$kind"; done
+expect 0 'summary tasks 512 overload 0' analyse joined_preemptive --workers 64
+expect 0 'summary tasks 512 overload 0' analyse joined_chains
+expect 0 'summary tasks 512 overload 0' analyse joined_chains --workers 64
+for kind in preemptive can; do expect 0 'assigned r tasks 512' assign "joined_$kind" r; done
+expect 18 'assign refused 3' assign joined_chains r1
+expect 0 'slack t511 999997 next limit' slack joined_preemptive t511
+expect 0 'summary tasks 512 overload 0' buffers joined_can /dev/null
+expect 0 'summary traces 1 jobs 147968 beyond 0' hammer joined_preemptive 1 1
+expect 0 'summary jobs 2000000 done 2000000 end 3124933' simulate fan fan.rows
+expect 16 'trace refused too many' simulate fan fan.more
+expect 0 'summary tasks 33 overload 0' buffers fan fan.rows
 
 # ---- largest numbers
 for kind in preemptive round-robin tdma can; do expect 0 'summary tasks 512 overload 0' analyse "crowd_$kind"; done

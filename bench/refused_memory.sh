@@ -70,6 +70,9 @@ cd "$top/examples" || exit 1
 printf 'report\nexec b 2 8\nreport\nexec b 2 7\nadd c cpu sb 1 2 3\nremove c\nreport\n' >"$work/script.txt"
 printf 'event,sa,0\nevent,sa,10\nevent,sb,0\nexec,b,5\n' >"$work/trace.csv"
 printf 'a,0,3\nb,3,8\na,10,13\n' >"$work/schedule.csv"
+# Edits of a system with several activators: some are made, and the first and the last of the removals are refused.
+printf 'remove m\nadd o cpu m 1 2 3\nsource sb 25 0 0\nreport\nexec m 1 2\nadd r q o 1 1 9\nremove r\nremove n\n' >"$work/lists.txt"
+printf 'm,0,3\nm,3,6\nn,3,5\nn,6,8\n' >"$work/lists.csv"
 try 100000 1 analyse two_tasks.toml
 try 100000 1 analyse car_network.toml
 try 100000 1 analyse crossing_chains.toml --workers 2
@@ -88,6 +91,15 @@ try 100000 1 buffers two_tasks.toml "$work/trace.csv"
 try 100000 1 buffers car_network.toml car_network.trace.csv --workers 2
 try 100000 1 audit two_tasks.toml "$work/trace.csv" "$work/schedule.csv"
 try 100000 1 audit crossing_chains.toml crossing_chains.trace.csv crossing_chains.schedule.csv
+try 100000 1 analyse two_activators.toml
+try 100000 1 analyse two_activators.toml --workers 2
+try 100000 1 session two_activators.toml "$work/lists.txt"
+try 100000 1 simulate two_activators.toml two_activators.trace.csv
+try 100000 1 hammer two_activators.toml 1 2
+try 100000 1 assign two_activators.toml cpu
+try 100000 1 slack two_activators.toml n --workers 2
+try 100000 1 buffers two_activators.toml two_activators.trace.csv
+try 100000 1 audit two_activators.toml two_activators.trace.csv "$work/lists.csv"
 try 1000 7 slack car_network.toml sense0
 try 1000 7 generate 1 128
 try 1000 7 load 1 128

@@ -43,6 +43,11 @@ def execution(task, resource):
     return (least + 8 * task["payload"]) * bit, (greatest + 10 * task["payload"]) * bit
 
 
+def activators(task):
+    """The names of a task's activators."""
+    return [task["after"]] if isinstance(task["after"], str) else task["after"]
+
+
 def source_label(source):
     label = f"{source['name']}\nperiod {source['period']}"
     for key in ("jitter", "distance"):
@@ -55,8 +60,8 @@ def graph(system, report, chains):
     resources = {it["name"]: it for it in system.get("resource", [])}
     tasks = {it["name"]: it for it in system.get("task", [])}
     found_tasks, found_paths = report or ({}, {})
-    activates = {it["after"] for it in tasks.values()}
-    drawn = {name for name, it in tasks.items() if not chains or name in activates or it["after"] in tasks}
+    activates = {before for it in tasks.values() for before in activators(it)}
+    drawn = {name for name, it in tasks.items() if not chains or name in activates or any(before in tasks for before in activators(it))}
     hue, missed = {}, set()
     for place, path in enumerate(system.get("path", [])):
         for name in path["tasks"]:
@@ -88,13 +93,12 @@ def graph(system, report, chains):
                 look += f', color = "{hue[task["name"]]}", penwidth = 1.6'
             lines.append(f"    {quoted('task ' + task['name'])} [label = {quoted(text)}{look}];".replace("\n", "\\n"))
         lines.append("  }")
-    begins = {tasks[name]["after"] for name in drawn}
+    begins = {before for name in drawn for before in activators(tasks[name])}
     for source in system.get("source", []):
         if source["name"] in begins:
             lines.append(f"  {quoted('task ' + source['name'])} [label = {quoted(source_label(source))}, shape = plaintext, style = \"\"];".replace("\n", "\\n"))
     for name in tasks:
-        if name in drawn:
-            before = tasks[name]["after"]
+        for before in activators(tasks[name]) if name in drawn else ():
             look = f' [color = "{hue[name]}", penwidth = 1.6]' if name in hue and before in hue else ""
             lines.append(f"  {quoted('task ' + before)} -> {quoted('task ' + name)}{look};")
     for place, path in enumerate(system.get("path", [])):

@@ -2,7 +2,7 @@
 import re
 import sys
 
-TASK = re.compile(r"task (\S+) (\S+) period (\d+) jitter (\d+|overload) distance (\d+|overload) best (\d+) worst (\d+|overload)")
+TASK = re.compile(r"task (\S+) (\S+) (?:period \d+ jitter (?:\d+|overload) distance (?:\d+|overload)|streams \d+) best (\d+) worst (\d+|overload)")
 PATH = re.compile(r"path (\S+) best (\d+) worst (\d+|overload) deadline (\d+|-) (met|missed|unknown|none)")
 SUMMARY = re.compile(r"summary tasks \d+ overload \d+ missed \d+")
 
@@ -22,7 +22,7 @@ def read_report(file):
     tasks, paths, found = {}, {}, None
     for place, line in enumerate(lines, 1):
         if it := TASK.fullmatch(line):
-            tasks[it[1]] = {"on": it[2], "best": int(it[6]), "worst": number(it[7])}
+            tasks[it[1]] = {"on": it[2], "best": int(it[3]), "worst": number(it[4])}
         elif it := PATH.fullmatch(line):
             paths[it[1]] = {"best": int(it[2]), "worst": number(it[3]), "deadline": number(it[4]), "verdict": it[5]}
         elif SUMMARY.fullmatch(line):
