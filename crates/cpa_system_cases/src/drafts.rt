@@ -239,7 +239,7 @@ fn numbered(alloc: Global, letter: &str, place: u32) -> Result<Raw, AllocError> 
 fn tasks_from(alloc: Global, first: u32, count: u32) -> Result<RawList, AllocError> {
     let mut names = Vec::new(alloc);
     for place in 0..count {
-        names.push(numbered(alloc, "t", first + place)?)?;
+        names.push(numbered(alloc, "t", first.saturating_add(place))?)?;
     }
     Ok(RawList::new(names))
 }
@@ -280,6 +280,20 @@ fn refuses_long_chains(rt: HostRuntime) -> Result<(), Fail> {
     Ok(())
 }
 
+/// A task of a layer of so many, which comes after the source, or after all of the layer before.
+fn layered(alloc: Global, layer: u32, width: u32, place: u32) -> Result<DraftTask, AllocError> {
+    let number = layer.saturating_mul(width).saturating_add(place);
+    Ok(DraftTask {
+        name: numbered(alloc, "t", number)?,
+        after: match layer.checked_sub(1) {
+            None => raws(alloc, &["s"])?,
+            Some(before) => tasks_from(alloc, before.saturating_mul(width), width)?,
+        },
+        priority: Some(number as i64),
+        ..task(alloc, &A)?
+    })
+}
+
 /// What is told of layers of so many tasks, those of the first after the source, and those of each later one after all
 /// of the layer before.
 fn told_of_layers(
@@ -290,16 +304,7 @@ fn told_of_layers(
     let mut draft = without_tasks(alloc)?;
     for layer in 0..layers {
         for place in 0..width {
-            let after = match layer.checked_sub(1) {
-                None => raws(alloc, &["s"])?,
-                Some(before) => tasks_from(alloc, before * width, width)?,
-            };
-            draft.tasks.push(DraftTask {
-                name: numbered(alloc, "t", layer * width + place)?,
-                after,
-                priority: Some((layer * width + place) as i64),
-                ..task(alloc, &A)?
-            })?;
+            draft.tasks.push(layered(alloc, layer, width, place)?)?;
         }
     }
     Ok(told(alloc, &draft))
