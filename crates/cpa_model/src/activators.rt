@@ -1,6 +1,6 @@
 //! What starts the jobs of a task.
 
-ghost use Rattle.std.specs.Prelude.{◌≡◌, ◌<◌, ◌≤◌, ◌++◌, [], ◌∷◌, length, map, slice_get, Some};
+ghost use Rattle.std.specs.Prelude.{◌≡◌, ◌<◌, ◌≤◌, ◌++◌, [], ◌∷◌, length, map, slice_get, Some, None};
 ghost use Rattle.std.specs.Option.{ForSome};
 ghost use Rattle.std.specs.List.{list_any};
 ghost use Rattle.cpa_model.specs.declared.activators.TheConstants.{MAX_ACTIVATORS};
@@ -80,10 +80,11 @@ impl Activators {
         self.len += 1;
     }
 
-    /// The activator of a task that has one.
+    /// The activator of a task that has one alone, and `None` where there are several.
     #[inline(always)]
     pub fn only(&self) -> Option<Activator>
-        ensures { ForSome result (λ a. self.now ≡ a ∷ []) }
+        ensures alone { ForSome result (λ a. self.now ≡ a ∷ []) }
+        ensures several { result ≡ None → 1 < length self.now }
     {
         if self.len == 1 {
             Some(self.held[0])

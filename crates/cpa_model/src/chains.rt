@@ -2,7 +2,8 @@
 
 ghost use Rattle.std.specs.Option.{ForSome};
 ghost use Rattle.cpa_model.specs.declared.entries.Activator.TheVariants.{Task as ByTask};
-ghost use Rattle.std.specs.Prelude.{◌≡◌, ◌+◌, ◌<◌, ◌≤◌, [], ◌∷◌, suc, length, IfSome, MatchResult, option_map, slice_get, slice_index_or, Some};
+ghost use Rattle.cpa_units.specs.declared.places.TaskId.{TaskId};
+ghost use Rattle.std.specs.Prelude.{◌≡◌, ◌≢◌, ◌+◌, ◌<◌, ◌≤◌, [], ◌∷◌, suc, length, IfSome, MatchResult, option_map, slice_get, slice_index_or, Some, None};
 ghost use Rattle.cpa_events.specs.declared.TheConstants.{MAX_STREAMS};
 ghost use Rattle.cpa_draft.specs.Chains.{longer};
 ghost use Rattle.cpa_model.specs.Chains.{activators, depth_within, streams_within};
@@ -63,9 +64,10 @@ pub(crate) fn chain_depth(tasks: &[Task], most: u32, task: usize) -> Option<u32>
     longest
 }
 
-/// The task that alone activates the task at a place.
+/// The task that alone activates the task at a place, if one does.
 fn only_task(tasks: &[Task], task: usize) -> Option<TaskId>
-    ensures { ForSome result (λ j. slice_index_or (activators tasks.now) task [] ≡ ByTask j ∷ []) }
+    ensures alone { ForSome result (λ j. slice_index_or (activators tasks.now) task [] ≡ ByTask j ∷ []) }
+    ensures none { result ≡ None → (j : TaskId) → slice_index_or (activators tasks.now) task [] ≢ ByTask j ∷ [] }
 {
     match activators_of(tasks, task) {
         [Activator::Task(next)] => Some(*next),
