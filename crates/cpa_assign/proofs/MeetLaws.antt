@@ -15,7 +15,7 @@ use Rattle.cpa_model.specs.Rules.{IsSystem, IsPath}
 use Rattle.cpa_local.specs.Solution.{least_of}
 use Rattle.cpa_local.proofs.ResponseLaws.{bound_of-responses}
 use Rattle.cpa_local.proofs.SolutionLaws.{responses-least_of}
-use Rattle.cpa_report.specs.Report.{path_worst}
+use Rattle.cpa_local.specs.Paths.{path_worst}
 use Rattle.cpa_assign.specs.Orders.{is_member, is_task_on, with_order, Meets, IsOrder, IsOrderable, IsBestOrder}
 use Rattle.cpa_assign.specs.Placing.{placed_bound, without, Fits, IsLowestOf, NoneIsLowest}
 use Rattle.cpa_assign.proofs.OrderLaws.{is_before, AreOnce, once-from, same_place}

@@ -18,7 +18,7 @@ use Rattle.cpa_model.specs.declared.entries.Kind.{Kind}
 use Rattle.cpa_model.specs.declared.entries.Kind.TheVariants.{Preemptive, Can}
 use Rattle.cpa_model.specs.SystemLists.{SystemLists, task_at, path_at, resource_at, task_places, tasks_on, priority_of, is_on, places_of}
 use Rattle.cpa_local.specs.Solution.{least_of}
-use Rattle.cpa_report.specs.Report.{path_worst}
+use Rattle.cpa_local.specs.Paths.{path_worst}
 
 -- whether a task is in a list
 abbrev pub is_member : List ℕ → ℕ → Bool

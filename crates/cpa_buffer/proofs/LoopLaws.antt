@@ -12,8 +12,8 @@ use Rattle.cpa_units.specs.declared.places.TaskId.{TaskId}
 use Rattle.cpa_units.specs.Bounds.{bound_plus, sum_bounds}
 use Rattle.cpa_units.proofs.PlaceLaws.{places, places-more, map-places_more}
 use Rattle.cpa_model.specs.SystemLists.{SystemLists, tasks_on, place_of, places_of}
-use Rattle.cpa_report.specs.Report.{is_overload}
-use Rattle.cpa_report.proofs.PathLaws.{sum_bounds-more}
+use Rattle.cpa_local.specs.Paths.{is_overload}
+use Rattle.cpa_local.proofs.PathLaws.{sum_bounds-more}
 use Rattle.cpa_trace.specs.Trace.{TraceLists}
 use Rattle.cpa_sched.specs.States.{IsOn}
 use Rattle.cpa_sched.proofs.StepLaws.{tasks_on-are}

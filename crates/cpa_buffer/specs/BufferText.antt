@@ -4,7 +4,8 @@ use Rattle.std.specs.List.{flat_map, range_with_len}
 use Rattle.std.specs.Fmt.{decimal}
 use Rattle.cpa_units.specs.declared.bound.Bound.{Bound}
 use Rattle.cpa_model.specs.SystemLists.{SystemLists, task_at, resource_at, task_places}
-use Rattle.cpa_report.specs.Report.{bound_text, is_overload}
+use Rattle.cpa_local.specs.Paths.{is_overload}
+use Rattle.cpa_report.specs.Report.{bound_text}
 use Rattle.cpa_buffer.specs.Buffers.{buffer_of, buffer_on}
 use Rattle.cpa_buffer.specs.Peaks.{PeakLists}
 

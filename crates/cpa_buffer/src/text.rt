@@ -4,7 +4,7 @@ ghost use Rattle.std.specs.Prelude.{◌≡◌, ◌<◌, ◌≤◌, ◌++◌, if�
 ghost use Rattle.std.specs.List.{flat_map, range_with_len};
 ghost use Rattle.cpa_model.specs.SystemLists.{task_places};
 ghost use Rattle.cpa_local.specs.Solution.{IsVector};
-ghost use Rattle.cpa_report.specs.Report.{is_overload};
+ghost use Rattle.cpa_local.specs.Paths.{is_overload};
 ghost use Rattle.cpa_buffer.specs.BufferText.{line, task_line, resource_line, overloads, summary_line, buffer_text};
 
 use crate::buffers::{buffer, buffer_on};

@@ -3,6 +3,7 @@ pub mod CycleLaws
 pub mod SentLaws
 pub mod InputLaws
 pub mod GatherLaws
+pub mod PathLaws
 pub mod ResponseLaws
 pub mod RivalLaws
 pub mod SolutionLaws

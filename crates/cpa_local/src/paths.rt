@@ -1,16 +1,17 @@
 //! The times of paths from end to end, and what they say of deadlines. All times are in ticks.
 
-ghost use Rattle.std.specs.Prelude.{◌≡◌, ◌<◌, length, All};
+ghost use Rattle.std.specs.Prelude.{◌≡◌, ◌<◌, length, count_by, All};
 ghost use Rattle.cpa_units.specs.Bounds.{bound_of, sum_bounds};
 ghost use Rattle.cpa_model.specs.SystemLists.{task_at, path_at};
 ghost use Rattle.cpa_local.specs.Solution.{IsVector};
 ghost use Rattle.std.specs.List.{sum_by};
-ghost use Rattle.cpa_report.specs.Report.{path_best, path_worst, outcome_of, is_missed_by, is_missed};
+ghost use Rattle.cpa_local.specs.Paths.{path_best, path_worst, outcome_of, is_missed_by, is_missed, is_overload};
 
 use cpa_model::{System, TaskList};
-use cpa_units::{Bound, PathId, Vector};
+use cpa_units::{Bound, PathId, TaskId, Vector};
 
-/// The verdict on a path's deadline.
+/// The verdict on a path's deadline: met or missed by the greatest time, or that this has no bound, or that there is no
+/// deadline.
 #[derive(Clone, Copy, Debug, PartialEq, Eq)]
 pub enum Outcome {
     Met,
@@ -60,7 +61,7 @@ pub fn path_worst(system: &System, path: PathId, x: &Vector) -> Bound
 }
 
 /// The verdict on a deadline, by the greatest time.
-pub(crate) fn judge(deadline: Option<u64>, worst: Bound) -> Outcome
+pub fn judge(deadline: Option<u64>, worst: Bound) -> Outcome
     ensures { result ≡ outcome_of deadline worst }
 {
     match deadline {
@@ -83,11 +84,48 @@ fn is_missed_by(outcome: Outcome) -> bool
 }
 
 /// Whether a path's deadline is missed.
-pub(crate) fn is_missed(system: &System, path: PathId, x: &Vector) -> bool
+pub fn is_missed(system: &System, path: PathId, x: &Vector) -> bool
     requires there { path.0 < length system.now.paths }
     requires vector { IsVector system.now x.now }
     ensures { result ≡ is_missed x.now (path_at system.now path.0) }
 {
     let worst = path_worst(system, path, x);
     is_missed_by(judge(system.path(path).deadline, worst))
+}
+
+/// Whether a bound is an overload.
+pub fn is_overload(bound: Bound) -> bool
+    ensures { result ≡ is_overload bound }
+{
+    match bound {
+        Bound::Within(_) => false,
+        Bound::Overload => true,
+    }
+}
+
+/// How many bounds are overloads.
+pub fn count_overloads(x: &Vector) -> u32
+    ensures { result ≡ count_by is_overload x.now }
+{
+    let mut count = 0u32;
+    for k in 0..x.len() {
+        if is_overload(x.get(TaskId(k))) {
+            count += 1;
+        }
+    }
+    count
+}
+
+/// How many paths miss their deadlines.
+pub fn count_missed(system: &System, x: &Vector) -> u32
+    requires { IsVector system.now x.now }
+    ensures { result ≡ count_by (is_missed x.now) system.now.paths }
+{
+    let mut count = 0u32;
+    for k in 0..system.paths() {
+        if is_missed(system, PathId(k), x) {
+            count += 1;
+        }
+    }
+    count
 }

@@ -35,14 +35,18 @@ impl Model for System {
     ghost invariant = { λ s. IsSystem (record { resources = s.resources.items; sources = s.sources.items; tasks = s.tasks.items; paths = s.paths.items }) × AreTasksByResource (length s.resources.items) s.tasks.items (length s.tasks.items) s.task_lists.items };
 }
 
+/// Takes what can be handed to other threads and shared by them, and nothing else.
+fn needs_shared<T: Send + Sync>(_value: &T) {}
+
 impl System {
     ghost use Rattle.cpa_model.specs.SystemLists.{resource_at, source_at, task_at, path_at, places_of, tasks_on, resource_named, source_named, task_named, root_of, stream_at, streams_of, depth_of, cycle_of};
     ghost use Rattle.cpa_model.specs.Rules.{IsSystem, IsResource, IsSource, IsTask, IsPath};
 
-    /// A system keeps its rules. The call does nothing.
+    /// A system keeps its rules, and it can be handed to other threads and shared by them. The call does nothing.
     pub fn has_rules(&self)
         ensures { IsSystem self.now }
     {
+        needs_shared(self);
         let _ = &self.tasks;
     }
 

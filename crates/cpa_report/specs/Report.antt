@@ -1,42 +1,18 @@
 -- The text of a report, and its verdict.
-use Rattle.std.specs.Prelude.{ℕ, ◌++◌, nat_le, ◌==◌, Bool, true, false, Option, Some, None, List, length, sum_by, count_by, codes, if◌then◌else◌, [], ◌∷◌}
+use Rattle.std.specs.Prelude.{ℕ, ◌++◌, ◌==◌, Option, Some, None, List, length, count_by, codes, if◌then◌else◌, [], ◌∷◌}
 use Rattle.std.specs.List.{list_any, flat_map}
 use Rattle.std.specs.Fmt.{decimal}
 use Rattle.cpa_units.specs.declared.bound.Bound.{Bound}
 use Rattle.cpa_units.specs.declared.bound.Bound.TheVariants.{Within, Overload}
-use Rattle.cpa_units.specs.declared.places.TaskId.{TaskId}
-use Rattle.cpa_units.specs.Bounds.{bound_of, sum_bounds}
+use Rattle.cpa_units.specs.Bounds.{bound_of}
 use Rattle.cpa_events.specs.declared.stream.Stream.{Stream}
 use Rattle.cpa_events.specs.Events.{Model}
 use Rattle.cpa_model.specs.declared.entries.Path.{Path}
 use Rattle.cpa_model.specs.SystemLists.{SystemLists, task_at, source_at, resource_of, root_of, streams_of, task_places}
 use Rattle.cpa_local.specs.Inputs.{input}
-use Rattle.cpa_report.specs.declared.paths.Outcome.{Outcome}
-use Rattle.cpa_report.specs.declared.paths.Outcome.TheVariants.{Met, Missed, Unknown, NoDeadline}
-
--- the least time from end to end
-abbrev pub path_best : SystemLists → Path → ℕ
-path_best s p = sum_by (λ (i : TaskId). (task_at s i.0).best) p.tasks
-
--- the greatest, by the bounds of its tasks
-abbrev pub path_worst : List Bound → Path → Bound
-path_worst x p = sum_bounds (λ (i : TaskId). bound_of x i.0) p.tasks
-
-abbrev pub outcome_of : Option ℕ → Bound → Outcome
-outcome_of None worst = NoDeadline
-outcome_of (Some deadline) Overload = Unknown
-outcome_of (Some deadline) (Within worst) = if nat_le worst deadline then Met else Missed
-
-abbrev pub is_missed_by : Outcome → Bool
-is_missed_by Missed = true
-is_missed_by _ = false
-
-abbrev pub is_missed : List Bound → Path → Bool
-is_missed x p = is_missed_by (outcome_of p.deadline (path_worst x p))
-
-abbrev pub is_overload : Bound → Bool
-is_overload (Within ticks) = false
-is_overload Overload = true
+use Rattle.cpa_local.specs.Paths.{path_best, path_worst, outcome_of, is_missed, is_overload}
+use Rattle.cpa_local.specs.declared.paths.Outcome.{Outcome}
+use Rattle.cpa_local.specs.declared.paths.Outcome.TheVariants.{Met, Missed, Unknown, NoDeadline}
 
 -- 2 where a bound is missing; else 1 where a deadline is missed; else 0
 unfoldable pub verdict : SystemLists → List Bound → ℕ

@@ -1,11 +1,9 @@
 //! The report of a system at a vector of bounds: its text, and the verdict.
 #![tactic(auto)]
 
-mod paths;
 mod report;
 #[cfg(test)]
 mod tests;
 
 pub use cpa_text::Text;
-pub use paths::{path_best, path_worst};
 pub use report::{put_bound, put_summary_at, report_text, verdict};

@@ -8,11 +8,11 @@ ghost use Rattle.cpa_events.specs.Events.{IsModelInRange};
 ghost use Rattle.cpa_model.specs.SystemLists.{path_at, task_places};
 ghost use Rattle.cpa_local.specs.Inputs.{input};
 ghost use Rattle.cpa_local.specs.Solution.{IsVector};
-ghost use Rattle.cpa_report.specs.Report.{is_overload, is_missed, bound_text, outcome_text, deadline_text, names_text, stream_text, model_text, unbounded_text, input_text, count_text, streams_text, bounds_text, task_line, path_line, summary_line, report_text, verdict};
+ghost use Rattle.cpa_local.specs.Paths.{is_overload, is_missed};
+ghost use Rattle.cpa_report.specs.Report.{bound_text, outcome_text, deadline_text, names_text, stream_text, model_text, unbounded_text, input_text, count_text, streams_text, bounds_text, task_line, path_line, summary_line, report_text, verdict};
 
-use crate::paths::{Outcome, is_missed, judge, path_best, path_worst};
 use cpa_events::{Model, Stream};
-use cpa_local::input;
+use cpa_local::{Outcome, count_missed, count_overloads, input, is_missed, is_overload, judge, path_best, path_worst};
 use cpa_model::System;
 use cpa_text::Text;
 use cpa_units::{Bound, NoMemory, PathId, TaskId, Vector};
@@ -177,40 +177,6 @@ fn put_summary(text: &mut Text, tasks: u64, overload: u64, missed: u64) -> Resul
     text.put_count(b" missed ", missed)?;
     text.put(b"\n")?;
     Ok(())
-}
-
-fn is_overload(bound: Bound) -> bool
-    ensures { result ≡ is_overload bound }
-{
-    match bound {
-        Bound::Within(_) => false,
-        Bound::Overload => true,
-    }
-}
-
-fn count_overloads(x: &Vector) -> u32
-    ensures { result ≡ count_by is_overload x.now }
-{
-    let mut count = 0u32;
-    for k in 0..x.len() {
-        if is_overload(x.get(TaskId(k))) {
-            count += 1;
-        }
-    }
-    count
-}
-
-fn count_missed(system: &System, x: &Vector) -> u32
-    requires { IsVector system.now x.now }
-    ensures { result ≡ count_by (is_missed x.now) system.now.paths }
-{
-    let mut count = 0u32;
-    for k in 0..system.paths() {
-        if is_missed(system, PathId(k), x) {
-            count += 1;
-        }
-    }
-    count
 }
 
 /// Writes the summary of a report.

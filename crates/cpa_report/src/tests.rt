@@ -1,5 +1,5 @@
-use crate::paths::judge;
 use crate::report::{put_bounds, put_deadline, put_outcome, put_unbounded};
+use cpa_local::judge;
 use cpa_text::Text;
 use cpa_units::Bound;
 use std::test::Fail;

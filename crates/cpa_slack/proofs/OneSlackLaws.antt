@@ -12,7 +12,7 @@ use Rattle.cpa_model.specs.declared.entries.Path.{Path}
 use Rattle.cpa_model.specs.SystemLists.{SystemLists, task_at, path_at, no_task}
 use Rattle.cpa_model.specs.Rules.{IsSystem, IsTask}
 use Rattle.cpa_local.specs.Solution.{least_of}
-use Rattle.cpa_report.specs.Report.{path_worst}
+use Rattle.cpa_local.specs.Paths.{path_worst}
 use Rattle.cpa_slack.specs.declared.slack.Slack.{Slack}
 use Rattle.cpa_slack.specs.declared.slack.Slack.TheVariants.{Missed, Add}
 use Rattle.cpa_slack.specs.Slack.{longer, HoldsPath, Holds, IsMost, IsMostUpTo, IsSlack}

@@ -21,7 +21,7 @@ use Rattle.cpa_local.proofs.TrailLaws.{NewMarks_trans, NewMarks-weaker}
 use Rattle.cpa_local.proofs.SolutionLaws.{least_of-is_least}
 use Rattle.cpa_local.proofs.RaisedLaws.{least_up}
 use Rattle.cpa_local.proofs.RaisingChanges.{raising-exec}
-use Rattle.cpa_report.specs.Report.{path_worst}
+use Rattle.cpa_local.specs.Paths.{path_worst}
 use Rattle.cpa_slack.specs.Slack.{longer, IsLonger, HoldsPath, HoldsAt, Holds, IsMostUpTo, IsMost}
 
 sum-up : (x y : List Bound) (ts : List TaskId) → IsNowhereAbove x y → IsAtMost (sum_bounds (λ (i : TaskId). bound_of x i.0) ts) (sum_bounds (λ (i : TaskId). bound_of y i.0) ts)

@@ -9,7 +9,7 @@ use Rattle.cpa_model.specs.declared.entries.Path.{Path}
 use Rattle.cpa_model.specs.SystemLists.{SystemLists, task_at, path_at}
 use Rattle.cpa_model.specs.Changes.{with_exec}
 use Rattle.cpa_local.specs.Solution.{least_of}
-use Rattle.cpa_report.specs.Report.{path_worst}
+use Rattle.cpa_local.specs.Paths.{path_worst}
 use Rattle.cpa_slack.specs.declared.slack.Slack.{Slack}
 use Rattle.cpa_slack.specs.declared.slack.Slack.TheVariants.{Missed, Add}
 

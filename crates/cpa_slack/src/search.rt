@@ -10,9 +10,8 @@ ghost use Rattle.cpa_slack.specs.Slack.{longer, IsLonger, HoldsPath, HoldsAt, Ho
 
 use crate::slack::Slack;
 use cpa_fix::{Readings, Round, solve};
-use cpa_local::{Trail, floor};
+use cpa_local::{Trail, floor, path_worst};
 use cpa_model::System;
-use cpa_report::path_worst;
 use cpa_units::limits::MAX_EXECUTION;
 use cpa_units::{Bound, NoMemory, PathId, TaskId, Vector};
 use std::alloc::Global;

@@ -4,7 +4,7 @@ use Rattle.cpa_model.specs.SystemLists.{is_on, tasks_on}
 use Rattle.cpa_model.proofs.SystemLaws.{no_id}
 use Rattle.cpa_model.proofs.ResourceTaskLaws.{task_list-few}
 use Rattle.cpa_local.proofs.VectorLaws.{weaker_limit}
-use Rattle.cpa_report.proofs.PathLaws.{plus-limit}
+use Rattle.cpa_local.proofs.PathLaws.{plus-limit}
 use Rattle.cpa_buffer.specs.Buffers.{buffer_of, buffer_on}
 use Rattle.cpa_buffer.proofs.LoopLaws.{sum-next, taken-all}
 use Rattle.cpa_buffer.proofs.buffers.buffer_on.Goals as goal

@@ -1,7 +1,7 @@
 use Rattle.std.proofs.Common.{◌≡◌, ◌≤◌, take}
 use Rattle.std.specs.Prelude.{count_by}
-use Rattle.cpa_report.specs.Report.{is_missed}
-use Rattle.cpa_report.proofs.report.count_missed.Given as goal
+use Rattle.cpa_local.specs.Paths.{is_missed}
+use Rattle.cpa_local.proofs.paths.count_missed.Given as goal
 
 abbrev pub invariant-loop-k : goal.invariant-loop-k
 invariant-loop-k l = record {

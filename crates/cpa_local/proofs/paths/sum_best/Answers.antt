@@ -3,8 +3,8 @@ use Rattle.std.specs.List.{sum_by}
 use Rattle.cpa_units.specs.declared.places.TaskId.{TaskId}
 use Rattle.cpa_model.specs.declared.entries.Task.{Task}
 use Rattle.cpa_model.specs.SystemLists.{task_at}
-use Rattle.cpa_report.proofs.PathLaws.{sum_by-more}
-use Rattle.cpa_report.proofs.paths.sum_best.Goals as goal
+use Rattle.cpa_local.proofs.PathLaws.{sum_by-more}
+use Rattle.cpa_local.proofs.paths.sum_best.Goals as goal
 
 pub loop-k-preserved : goal.loop-k-preserved
 loop-k-preserved c =

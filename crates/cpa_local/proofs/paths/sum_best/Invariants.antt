@@ -3,7 +3,7 @@ use Rattle.std.specs.List.{sum_by}
 use Rattle.cpa_units.specs.declared.limits.TheConstants.{MAX_EXECUTION}
 use Rattle.cpa_units.specs.declared.places.TaskId.{TaskId}
 use Rattle.cpa_model.specs.SystemLists.{task_at}
-use Rattle.cpa_report.proofs.paths.sum_best.Given as goal
+use Rattle.cpa_local.proofs.paths.sum_best.Given as goal
 
 abbrev pub invariant-loop-k : goal.invariant-loop-k
 invariant-loop-k l = record {

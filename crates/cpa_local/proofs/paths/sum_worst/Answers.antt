@@ -3,8 +3,8 @@ use Rattle.cpa_units.specs.declared.limits.TheConstants.{MAX_LIMIT}
 use Rattle.cpa_units.specs.declared.places.TaskId.{TaskId}
 use Rattle.cpa_units.specs.Bounds.{RespectsLimit, bound_of, bound_plus, sum_bounds}
 use Rattle.cpa_local.proofs.VectorLaws.{weaker_limit}
-use Rattle.cpa_report.proofs.PathLaws.{sum_bounds-more, plus-limit, all-get}
-use Rattle.cpa_report.proofs.paths.sum_worst.Goals as goal
+use Rattle.cpa_local.proofs.PathLaws.{sum_bounds-more, plus-limit, all-get}
+use Rattle.cpa_local.proofs.paths.sum_worst.Goals as goal
 
 pub loop-k-preserved : goal.loop-k-preserved
 loop-k-preserved c =

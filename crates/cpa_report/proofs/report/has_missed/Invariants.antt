@@ -1,6 +1,6 @@
 use Rattle.std.proofs.Common.{◌≡◌, take, false}
 use Rattle.std.specs.List.{list_any}
-use Rattle.cpa_report.specs.Report.{is_missed}
+use Rattle.cpa_local.specs.Paths.{is_missed}
 use Rattle.cpa_report.proofs.report.has_missed.Given as goal
 
 abbrev pub invariant-loop-k : goal.invariant-loop-k
