@@ -4,6 +4,7 @@ pub mod SentLaws
 pub mod InputLaws
 pub mod GatherLaws
 pub mod PathLaws
+pub mod OnlyTask
 pub mod ResponseLaws
 pub mod RivalLaws
 pub mod SolutionLaws
@@ -16,3 +17,4 @@ pub mod RaisedLaws
 pub mod StreamLaws
 pub mod PassingPlaces
 pub mod RaisingChanges
+pub mod RisingLaws

@@ -6,3 +6,5 @@ pub mod Paths
 pub mod Solution
 pub mod Trails
 pub mod Raising
+pub mod Worked
+pub mod Rising

@@ -10,11 +10,13 @@ ghost use Rattle.cpa_model.specs.Rules.{IsSystem};
 ghost use Rattle.cpa_local.specs.Local.{bound_by_kind, response};
 ghost use Rattle.cpa_local.specs.Solution.{IsVector};
 ghost use Rattle.cpa_local.specs.Inputs.{AreInputs};
-ghost use Rattle.cpa_local.specs.Trails.{IsKept, NewMarksAre, AreMarked, IsPrepared, HasCycle, HasInputs};
+ghost use Rattle.cpa_local.specs.Trails.{IsKept, NewMarksAre, AreMarked};
+ghost use Rattle.cpa_local.specs.Worked.{IsPrepared, HasCycle, HasInputs};
 
 use crate::known::own_input;
 use crate::neighbours::{blocking, gather_higher, gather_others, slot};
-use crate::trail::{Trail, make_rivals};
+use crate::trail::Trail;
+use crate::work::{Work, make_rivals};
 use cpa_events::Model;
 use cpa_model::{Kind, System};
 use cpa_units::{Bound, TaskId, Vector};
@@ -34,34 +36,30 @@ pub fn respond(system: &System, task: TaskId, x: &Vector, trail: &mut Trail) -> 
     ensures fresh { NewMarksAre trail.old trail.new (λ i. i ≡ task.0) }
     ensures marked { AreMarked trail.new (λ i. i ≡ task.0) }
 {
-    trail.prepare(system, system.task(task).res, x);
-    respond_prepared(system, task, x, trail)
-}
-
-/// The same, where the trail is prepared for the task's resource at the vector. It is still when it is
-/// done.
-#[tactic(auto, unfolding(crate::specs::Local::response))]
-pub fn respond_prepared(system: &System, task: TaskId, x: &Vector, trail: &mut Trail) -> Bound
-    requires there { task.0 < length system.now.tasks }
-    requires vector { IsVector system.now x.now }
-    requires room { length system.now.tasks ≤ trail.old.room }
-    requires prepared { IsPrepared system.now (task_at system.now task.0).res.0 x.now trail.old }
-    ensures value { result ≡ response system.now x.now task.0 }
-    ensures inputs { trail.new.inputs ≡ trail.old.inputs }
-    ensures cycle { trail.new.cycle ≡ trail.old.cycle }
-    ensures kept { IsKept trail.old trail.new }
-    ensures fresh { NewMarksAre trail.old trail.new (λ i. i ≡ task.0) }
-    ensures marked { AreMarked trail.new (λ i. i ≡ task.0) }
-{
     let tasks = system.tasks();
     prove!(tasks <= 512);
     trail.mark(task);
+    trail.work.prepare(system, system.task(task).res, x);
+    respond_prepared(system, task, x, &mut trail.work)
+}
+
+/// The same, where what the analyses on the task's resource share at the vector is worked out. It stays
+/// as it is.
+#[tactic(auto, unfolding(crate::specs::Local::response))]
+pub(crate) fn respond_prepared(system: &System, task: TaskId, x: &Vector, work: &mut Work) -> Bound
+    requires there { task.0 < length system.now.tasks }
+    requires vector { IsVector system.now x.now }
+    requires room { length system.now.tasks ≤ length work.old.inputs }
+    requires prepared { IsPrepared system.now (task_at system.now task.0).res.0 x.now work.old }
+    ensures value { result ≡ response system.now x.now task.0 }
+    ensures same { work.new ≡ work.old }
+{
     make_rivals(
-        &mut trail.rivals,
+        &mut work.rivals,
         system.tasks_on(system.task(task).res).len(),
     );
-    let inputs = trail.inputs.as_slice();
-    let Some(own) = own_input(system, task, x, inputs, &mut trail.found) else {
+    let inputs = work.inputs.as_slice();
+    let Some(own) = own_input(system, task, x, inputs, &mut work.found) else {
         return Bound::Overload;
     };
     bound_by_kind(
@@ -69,9 +67,9 @@ pub fn respond_prepared(system: &System, task: TaskId, x: &Vector, trail: &mut T
         task,
         x,
         own,
-        trail.cycle,
+        work.cycle,
         inputs,
-        trail.rivals.as_mut_slice(),
+        work.rivals.as_mut_slice(),
     )
 }
 

@@ -9,27 +9,25 @@ ghost use Rattle.cpa_events.specs.Events.{IsModelInRange, HasJitterUpTo};
 ghost use Rattle.cpa_model.specs.SystemLists.{task_at, resource_at, resource_of};
 ghost use Rattle.cpa_local.specs.Inputs.{AreInputs, AreKnown, input, output_of, found_if};
 ghost use Rattle.cpa_local.specs.Solution.{IsVector};
-ghost use Rattle.cpa_local.specs.Trails.{IsPrepared, HasCycle, HasInputs};
+ghost use Rattle.cpa_local.specs.Worked.{IsPrepared, HasCycle, HasInputs};
 
 use crate::gathering::find_along;
 use crate::inputs::find_input;
-use crate::trail::Trail;
 use crate::ways::only_task;
+use crate::work::Work;
 use cpa_events::Model;
 use cpa_model::{Kind, System};
 use cpa_units::{Bound, ResId, TaskId, Vector};
 
-impl Trail {
+impl Work {
     /// Works out what the analyses of a resource's tasks at a vector share, in place of what it was
-    /// before: the cycle under TDMA, else the input of each task. The place is below the number of
-    /// resources, and the trail has room for all tasks.
-    pub fn prepare(&mut self, system: &System, res: ResId, x: &Vector)
+    /// before: the cycle under TDMA, else the input of each task.
+    pub(crate) fn prepare(&mut self, system: &System, res: ResId, x: &Vector)
         requires there { res.0 < length system.now.resources }
         requires vector { IsVector system.now x.now }
-        requires room { length system.now.tasks ≤ self.old.room }
+        requires room { length system.now.tasks ≤ length self.old.inputs }
         ensures prepared { IsPrepared system.now res.0 x.now self.new }
-        ensures marks { self.new.marks ≡ self.old.marks }
-        ensures room { self.new.room ≡ self.old.room }
+        ensures room { length self.new.inputs ≡ length self.old.inputs }
     {
         match system.resource(res).kind {
             Kind::Tdma { gap: _ } => {
@@ -39,15 +37,14 @@ impl Trail {
         }
     }
 
-    /// The same where it was prepared for the resource, at any vector of the system.
-    pub fn follow(&mut self, system: &System, res: ResId, x: &Vector)
+    /// The same where it was worked out for the resource, at any vector of the system.
+    pub(crate) fn follow(&mut self, system: &System, res: ResId, x: &Vector)
         requires there { res.0 < length system.now.resources }
         requires vector { IsVector system.now x.now }
-        requires room { length system.now.tasks ≤ self.old.room }
+        requires room { length system.now.tasks ≤ length self.old.inputs }
         requires cycle { HasCycle system.now res.0 self.old.cycle (resource_at system.now res.0).kind }
         ensures prepared { IsPrepared system.now res.0 x.now self.new }
-        ensures marks { self.new.marks ≡ self.old.marks }
-        ensures room { self.new.room ≡ self.old.room }
+        ensures room { length self.new.inputs ≡ length self.old.inputs }
     {
         match system.resource(res).kind {
             Kind::Tdma { gap: _ } => {}

@@ -12,13 +12,16 @@ mod known;
 mod laws;
 mod neighbours;
 mod paths;
+mod rising;
 mod start;
 mod trail;
 mod ways;
+mod work;
 
-pub use analysis::{respond, respond_prepared};
+pub use analysis::respond;
 pub use inputs::input;
 pub use laws::{least_solutions_have_laws, responses_are_monotone};
 pub use paths::{Outcome, count_missed, count_overloads, is_missed, is_overload, judge, path_best, path_worst};
+pub use rising::raise;
 pub use start::floor;
 pub use trail::Trail;

@@ -1,9 +1,9 @@
 //! The ways back from tasks along their chains, as long as one activator alone leads on (Richter's
 //! thesis, 2005; SymTA/S).
 
-ghost use Rattle.std.specs.Prelude.{◌≡◌, ◌<◌, ◌≤◌, ◌+◌, ◌-◌, ◌*◌, ◌∷◌, [], length, max};
-ghost use Rattle.std.specs.Option.{ForSome};
+ghost use Rattle.std.specs.Prelude.{◌≡◌, ◌<◌, ◌≤◌, ◌+◌, ◌-◌, ◌*◌, ◌∷◌, ◌↔◌, [], length, max, Some};
 ghost use Rattle.cpa_units.specs.declared.limits.TheConstants.{MAX_CHAIN, MAX_EXECUTION, MAX_LIMIT};
+ghost use Rattle.cpa_units.specs.declared.places.TaskId.{TaskId};
 ghost use Rattle.cpa_model.specs.declared.entries.Activator.TheVariants.{Task as ByTask};
 ghost use Rattle.cpa_model.specs.Rules.{IsSystem};
 ghost use Rattle.cpa_model.specs.SystemLists.{depth_of};
@@ -56,12 +56,15 @@ pub(crate) enum End {
     Unbounded,
 }
 
-/// The task that alone activates a task.
+/// The task that alone activates a task; none where there are several, or a source does.
 #[inline(always)]
 pub(crate) fn only_task(after: &Activators) -> Option<TaskId>
-    ensures { ForSome result (λ j. after.now ≡ ByTask j ∷ []) }
+    ensures { (j : TaskId) → result ≡ Some j ↔ after.now ≡ ByTask j ∷ [] }
 {
-    match after.only()? {
+    if after.len() != 1 {
+        return None;
+    }
+    match after.get(0) {
         Activator::Source(_) => None,
         Activator::Task(earlier) => Some(earlier),
     }

@@ -13,14 +13,20 @@ use Rattle.cpa_local.proofs.known.find_by_known.Goals as goal
 pub bounds-known-earlier : goal.bounds-known-earlier
 bounds-known-earlier c =
     let s = c.args.system.now in
-    let one = sym (ap (λ (t : Task). t.after) c.task.ensures.value) ∙ c.only_task.ensures c.in-Some.earlier c.in-Some.is in
+    let one = sym (ap (λ (t : Task). t.after) c.task.ensures.value) ∙ (c.only_task.ensures c.in-Some.earlier).0 c.in-Some.is in
     let there = activated-there s c.has_rules.ensures c.args.task.0 c.in-Some.earlier.0 c.requires.there (one-activated s c.args.x.now c.has_rules.ensures c.args.task.0 c.in-Some.earlier one) in
     omega (arith, there, c.has_rules.ensures.few_tasks)
+
+pub find_output-requires-clause-there : goal.find_output-requires-clause-there
+find_output-requires-clause-there c =
+    let s = c.args.system.now in
+    let one = sym (ap (λ (t : Task). t.after) c.task.ensures.value) ∙ (c.only_task.ensures c.in-Some.earlier).0 c.in-Some.is in
+    activated-there s c.has_rules.ensures c.args.task.0 c.in-Some.earlier.0 c.requires.there (one-activated s c.args.x.now c.has_rules.ensures c.args.task.0 c.in-Some.earlier one)
 
 pub find_output-requires-clause-in_range : goal.find_output-requires-clause-in_range
 find_output-requires-clause-in_range c =
     let s = c.args.system.now in
-    let one = sym (ap (λ (t : Task). t.after) c.task.ensures.value) ∙ c.only_task.ensures c.in-Some.earlier c.in-Some.is in
+    let one = sym (ap (λ (t : Task). t.after) c.task.ensures.value) ∙ (c.only_task.ensures c.in-Some.earlier).0 c.in-Some.is in
     let there = activated-there s c.has_rules.ensures c.args.task.0 c.in-Some.earlier.0 c.requires.there (one-activated s c.args.x.now c.has_rules.ensures c.args.task.0 c.in-Some.earlier one) in
     let known = c.requires.known c.in-Some.earlier.0 c.if-known-earlier.true in
     let told = c.index-inputs-earlier.is ∙ get_or_default c.args.inputs.now c.in-Some.earlier.0 _ None known.0 ∙ known.1 in
@@ -29,7 +35,7 @@ find_output-requires-clause-in_range c =
 pub find_output-requires-clause-jitter : goal.find_output-requires-clause-jitter
 find_output-requires-clause-jitter c =
     let s = c.args.system.now in
-    let one = sym (ap (λ (t : Task). t.after) c.task.ensures.value) ∙ c.only_task.ensures c.in-Some.earlier c.in-Some.is in
+    let one = sym (ap (λ (t : Task). t.after) c.task.ensures.value) ∙ (c.only_task.ensures c.in-Some.earlier).0 c.in-Some.is in
     let activated = one-activated s c.args.x.now c.has_rules.ensures c.args.task.0 c.in-Some.earlier one in
     let there = activated-there s c.has_rules.ensures c.args.task.0 c.in-Some.earlier.0 c.requires.there activated in
     let deep = depth_of-activated s c.has_rules.ensures c.args.task.0 c.in-Some.earlier.0 c.requires.there activated in
@@ -41,7 +47,7 @@ find_output-requires-clause-jitter c =
 pub returns-in-Some : goal.returns-in-Some
 returns-in-Some c =
     let s = c.args.system.now in
-    let one = sym (ap (λ (t : Task). t.after) c.task.ensures.value) ∙ c.only_task.ensures c.in-Some.earlier c.in-Some.is in
+    let one = sym (ap (λ (t : Task). t.after) c.task.ensures.value) ∙ (c.only_task.ensures c.in-Some.earlier).0 c.in-Some.is in
     let known = c.requires.known c.in-Some.earlier.0 c.if-known-earlier.true in
     let told = c.index-inputs-earlier.is ∙ get_or_default c.args.inputs.now c.in-Some.earlier.0 _ None known.0 ∙ known.1 in
     c.find_output.ensures

@@ -4,13 +4,10 @@ use Rattle.cpa_local.proofs.TrailLaws.{marked-in_range}
 use Rattle.cpa_local.specs.contracts.trail.Trail.{the_view}
 use Rattle.cpa_local.proofs.trail.Trail.join.Goals as goal
 
-pub invariant_of-self : goal.invariant_of-self
-invariant_of-self c = (c.loop-task.invariant.long, omega (arith, c.loop-task.invariant.inputs, c.self.invariant.1, c.loop-task.invariant.room))
-
 pub returns-clause-kept : goal.returns-clause-kept
 returns-clause-kept c =
     subst (λ (old : Marks). IsKept old (the_view c.loop-task.self-inside)) c.self.view_is
-    record { marks = c.loop-task.invariant.marks.kept; room = let same = c.loop-task.invariant.inputs in omega arith }
+    record { marks = c.loop-task.invariant.marks.kept; room = rw c.loop-task.invariant.work (omega arith) }
 
 pub returns-clause-marked : goal.returns-clause-marked
 returns-clause-marked c =

@@ -1,6 +1,6 @@
 use Rattle.std.proofs.Common.{◌≡◌, length}
 use Rattle.std.specs.Prelude.{vec_capacity}
-use Rattle.cpa_local.proofs.trail.make_rivals.Given as goal
+use Rattle.cpa_local.proofs.work.make_rivals.Given as goal
 
 abbrev pub invariant-loop : goal.invariant-loop
 invariant-loop l = record {
