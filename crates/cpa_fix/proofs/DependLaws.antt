@@ -25,7 +25,8 @@ use Rattle.cpa_local.proofs.SolutionLaws.{least_of-from_closed}
 use Rattle.cpa_depend.proofs.ChainLaws.{LeadsTo-in_range}
 use Rattle.cpa_depend.specs.Cone.{LeadsTo, LeadsBack, directly, through, Reads, itself, earlier}
 use Rattle.cpa_fix.specs.Readings.{AgreeOnReads, IsClean}
-use Rattle.cpa_fix.specs.Rounds.{AgreeOutside, HasNoFeedback}
+use Rattle.cpa_local.specs.Rising.{AgreeOutside}
+use Rattle.cpa_fix.specs.Rounds.{HasNoFeedback}
 
 map-filter-same : {Y : Type 0} (p : ℕ → Bool) (f g : ℕ → Y) (js : List ℕ) → ((j : ℕ) → p j ≡ true → f j ≡ g j) → map f (filter p js) ≡ map g (filter p js)
 map-filter-same p f g [] h = refl

@@ -15,11 +15,12 @@ use Rattle.cpa_fix.proofs.ReadingLaws.{IsSound-mono}
 use Rattle.cpa_local.specs.Trails.{Marks, IsKept, NewMarksAre, AreMarked}
 use Rattle.cpa_local.proofs.TrailLaws.{IsKept_refl, IsKept_trans, NewMarks_trans, NewMarks-weaker}
 use Rattle.cpa_units.specs.Sets.{holds, Members}
-use Rattle.cpa_fix.proofs.RaiseLaws.{IsRisen_trans}
+use Rattle.cpa_local.proofs.RisingLaws.{IsRisen_trans}
 use Rattle.cpa_fix.specs.declared.readings.Reading.{Reading}
 use Rattle.cpa_fix.specs.Readings.{reading_of, AreSound}
-use Rattle.cpa_fix.specs.Rounds.{TasksOn, MayStart, IsRisen, IsRound, AgreeOutside, HasNoFeedback}
-use Rattle.cpa_fix.proofs.DependLaws.{response-outside}
+use Rattle.cpa_local.specs.Rising.{TasksOn, IsRisen, AgreeOutside, HasInputsApart}
+use Rattle.cpa_fix.specs.Rounds.{MayStart, IsRound, HasNoFeedback}
+use Rattle.cpa_fix.proofs.DependLaws.{input-outside, response-outside}
 
 -- readings stay sound while the vector rises
 pub AreSound-mono : (s : SystemLists) (kept : List (Option Reading)) (x y : List Bound) → IsNowhereAbove x y → AreSound s kept x → AreSound s kept y
@@ -117,6 +118,11 @@ no-feedback s r false turns back =
       turns = turns;
       chains = λ leads. absurd (false≢true (back.1 leads));
     }
+
+-- where no task of a resource leads to another
+pub inputs-apart : (s : SystemLists) (r : ℕ) (back : Bool) → IsTrue back ↔ LeadsBack s r → OnFalse back (HasInputsApart s r)
+inputs-apart s r true back = tt
+inputs-apart s r false back = λ x y. input-outside s x y r (λ leads. absurd (false≢true (back.1 leads)))
 
 -- a round over the members of a set, as far as a place
 pub record IsPartRound (s : SystemLists) (dirty : List Bool) (x y : List Bound) (a b : List (Option Reading)) (old new : Marks) (place : ℕ) : Type 0 where

@@ -24,7 +24,8 @@ use Rattle.cpa_local.proofs.TrailLaws.{IsKept_refl, IsKept_trans, NewMarks_trans
 use Rattle.cpa_depend.specs.Cone.{InCone, start, reader, IsClosedUnder}
 use Rattle.cpa_fix.specs.declared.readings.Reading.{Reading}
 use Rattle.cpa_fix.specs.Readings.{reading_of, AreSound, HasCleanReading, AreCleanBeyond, IsDirty, IsSolved}
-use Rattle.cpa_fix.specs.Rounds.{TasksOn, MayStart, IsRisen, IsRound}
+use Rattle.cpa_local.specs.Rising.{TasksOn, IsRisen}
+use Rattle.cpa_fix.specs.Rounds.{MayStart, IsRound}
 use Rattle.cpa_fix.specs.Stale.{IsStale, IsStaleSet, AreStale}
 use Rattle.cpa_fix.proofs.RoundLaws.{MayStart-next}
 

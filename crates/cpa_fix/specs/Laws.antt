@@ -7,7 +7,8 @@ use Rattle.cpa_model.specs.Rules.{IsSystem}
 use Rattle.cpa_local.specs.Local.{response}
 use Rattle.cpa_local.specs.Solution.{IsVector, least_of}
 use Rattle.cpa_fix.specs.Readings.{AgreeOnReads, IsClean}
-use Rattle.cpa_fix.specs.Rounds.{AgreeOutside, HasNoFeedback}
+use Rattle.cpa_local.specs.Rising.{AgreeOutside}
+use Rattle.cpa_fix.specs.Rounds.{HasNoFeedback}
 
 -- the bounds on a resource depend on the bounds of tasks on resources that it reads, and on no others
 abbrev pub BoundsDependOnReads : Type 0

@@ -7,17 +7,17 @@ ghost use Rattle.cpa_units.specs.Bounds.{IsNowhereAbove, bound_of, bound_max};
 ghost use Rattle.cpa_model.specs.SystemLists.{task_at};
 ghost use Rattle.cpa_local.specs.Local.{response};
 ghost use Rattle.cpa_local.specs.Solution.{IsVector};
-ghost use Rattle.cpa_local.specs.Trails.{IsKept, NewMarksAre, AreMarked, IsPrepared};
+ghost use Rattle.cpa_local.specs.Trails.{IsKept, NewMarksAre};
 ghost use Rattle.cpa_depend.specs.Cone.{LeadsBack};
 ghost use Rattle.cpa_fix.specs.Readings.{IsSound};
-ghost use Rattle.cpa_fix.specs.Rounds.{IsRisen, IsRaised, AgreeOutside, HasNoFeedback, TasksOn};
+ghost use Rattle.cpa_local.specs.Rising.{IsRisen, IsRaised, AgreeOutside, TasksOn};
+ghost use Rattle.cpa_fix.specs.Rounds.{HasNoFeedback};
 
 use crate::readings::Reading;
-use crate::solving::is_same;
 use cpa_depend::leads_back;
-use cpa_local::{Trail, respond_prepared};
+use cpa_local::{Trail, raise};
 use cpa_model::{Kind, System};
-use cpa_units::{NoMemory, ResId, TaskId, Vector};
+use cpa_units::{NoMemory, ResId, Vector};
 use std::alloc::Global;
 
 /// Analyses a resource at a vector of the system nowhere above the least solution: raises the bounds
@@ -70,57 +70,6 @@ fn reading_at(alloc: Global, old: Option<Reading>, x: &Vector) -> Result<Reading
             let seen = x.copy(alloc)?;
             Ok(Reading { seen })
         }
-    }
-}
-
-/// Raises the bounds on a resource by its analysis, task after task, each at the vector as it is by then.
-/// `back` tells whether a task of it leads to another.
-fn raise(system: &System, res: ResId, back: bool, x: &mut Vector, trail: &mut Trail)
-    requires in_range { res.0 < length system.now.resources }
-    requires back { IsTrue back ↔ LeadsBack system.now res.0 }
-    requires start { IsRisen system.now x.old x.old }
-    requires room { length system.now.tasks ≤ trail.old.room }
-    ensures { IsRaised system.now res.0 x.old x.new trail.old trail.new }
-{
-    trail.prepare(system, res, x);
-    for task in system.tasks_on(res) {
-        raise_task(system, res, *task, back, x, trail);
-    }
-}
-
-/// Raises the bound of a task on a resource by its analysis. The trail is prepared for the resource at
-/// the vector before and after.
-fn raise_task(
-    system: &System,
-    res: ResId,
-    task: TaskId,
-    back: bool,
-    x: &mut Vector,
-    trail: &mut Trail,
-)
-    requires in_range { res.0 < length system.now.resources }
-    requires there { task.0 < length system.now.tasks }
-    requires on { (task_at system.now task.0).res.0 ≡ res.0 }
-    requires back { IsTrue back ↔ LeadsBack system.now res.0 }
-    requires start { IsRisen system.now x.old x.old }
-    requires room { length system.now.tasks ≤ trail.old.room }
-    requires prepared { IsPrepared system.now res.0 x.old trail.old }
-    ensures raised { x.new ≡ slice_set x.old task.0 (bound_max (response system.now x.old task.0) (bound_of x.old task.0)) }
-    ensures prepared { IsPrepared system.now res.0 x.new trail.new }
-    ensures kept { IsKept trail.old trail.new }
-    ensures fresh { NewMarksAre trail.old trail.new (λ i. i ≡ task.0) }
-    ensures marked { AreMarked trail.new (λ i. i ≡ task.0) }
-{
-    system.has_rules();
-    let bound = respond_prepared(system, task, x, trail);
-    let before = x.get(task);
-    let raised = bound.max(before);
-    if is_same(raised, before) {
-        return;
-    }
-    x.set(task, raised);
-    if back {
-        trail.follow(system, res, x);
     }
 }
 

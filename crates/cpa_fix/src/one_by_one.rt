@@ -3,7 +3,8 @@
 ghost use Rattle.std.specs.Prelude.{ℕ, ◌<◌, ◌≡◌, ◌==◌, length};
 ghost use Rattle.std.specs.Result.{OnOk};
 ghost use Rattle.cpa_local.specs.Trails.{IsKept, NewMarksAre, AreMarked};
-ghost use Rattle.cpa_fix.specs.Rounds.{MayStart, IsRisen, IsRound, TasksOn};
+ghost use Rattle.cpa_local.specs.Rising.{IsRisen, TasksOn};
+ghost use Rattle.cpa_fix.specs.Rounds.{MayStart, IsRound};
 
 use crate::analysing::analyse;
 use crate::readings::Readings;

@@ -5,7 +5,8 @@ ghost use Rattle.std.specs.Result.{OnOk};
 ghost use Rattle.std.specs.Thread.{IsSync};
 ghost use Rattle.cpa_units.specs.Sets.{holds, Members};
 ghost use Rattle.cpa_local.specs.Trails.{IsKept, NewMarksAre, AreMarked};
-ghost use Rattle.cpa_fix.specs.Rounds.{MayStart, IsRisen, IsRound, TasksOn};
+ghost use Rattle.cpa_local.specs.Rising.{IsRisen, TasksOn};
+ghost use Rattle.cpa_fix.specs.Rounds.{MayStart, IsRound};
 
 use crate::readings::Readings;
 use cpa_local::Trail;

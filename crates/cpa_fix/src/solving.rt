@@ -9,7 +9,8 @@ ghost use Rattle.cpa_local.specs.Solution.{IsVector, IsLeast};
 ghost use Rattle.cpa_local.specs.Trails.{IsKept, NewMarksAre, AreMarked};
 ghost use Rattle.cpa_depend.specs.Cone.{Reads, InCone, AreReads, IsClosedUnder};
 ghost use Rattle.cpa_fix.specs.Readings.{AgreeOnReads, AreSound, HasCleanReading, AreCleanBeyond, AreKeptBeyond, IsDirty, IsSolved};
-ghost use Rattle.cpa_fix.specs.Rounds.{MayStart, TasksOn};
+ghost use Rattle.cpa_local.specs.Rising.{TasksOn};
+ghost use Rattle.cpa_fix.specs.Rounds.{MayStart};
 ghost use Rattle.cpa_fix.specs.Stale.{Differs, DiffersOn, AgreeOn, IsStale, AreStale};
 
 use crate::readings::Readings;
