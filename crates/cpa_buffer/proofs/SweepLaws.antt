@@ -73,15 +73,6 @@ pub record IsSwept (arrivals ends : List ℕ) (k done peak : ℕ) : Type 0 where
   pub above : (t : ℕ) → come_by t arrivals ≤ k → inside arrivals ends t ≤ peak
   pub reached : (last : ℕ) → ((m : ℕ) → m < length arrivals → get_or arrivals m 0 ≤ last) → peak ≤ highest (inside arrivals ends) last
 
-pub swept-none : (arrivals ends : List ℕ) → IsSwept arrivals ends 0 0 0
-swept-none arrivals ends =
-    record {
-      within = omega arith;
-      before = λ m j less low high. absurd (omega arith);
-      above = λ t none. omega arith;
-      reached = λ last all. omega arith;
-    }
-
 -- one arrival more
 pub swept-more : (arrivals ends : List ℕ) (k done done' peak peak' : ℕ) → IsNonDecreasing arrivals → IsSwept arrivals ends k done peak → k < length arrivals
     → done' ≡ come_by (get_or arrivals k 0) ends → done' ≤ length ends → ((m : ℕ) → m < done' → get_or ends m 0 ≤ get_or arrivals k 0)

@@ -1,5 +1,6 @@
 -- What the fields of a job in a run say: when it arrived and when it ended.
 use Rattle.std.proofs.Common.{◌≡◌, ℕ, zero, suc, ◌+◌, ◌-◌, ◌<◌, ◌≤◌, ◌++◌, length, List, [], ◌∷◌, true, Option, Some, None, refl, sym, ◌∙◌, inl, inr, ◌⊎◌, arith, subst, ap, get_or}
+use Rattle.std.proofs.lemmas.List.{get_or_append_left, get_or-append-add}
 use Rattle.std.proofs.lemmas.Bool.{cases_lt, cases_Bool, false≢true}
 use Rattle.cpa_model.specs.SystemLists.{SystemLists}
 use Rattle.cpa_sound.specs.Course.{Arrives}
@@ -15,15 +16,6 @@ use Rattle.cpa_sim.proofs.JobCount.{length-served, length-suc}
 use Rattle.cpa_sound.proofs.RunLaws.{served-runs, served-idle, arrived-zero, arrived-one}
 
 -- ---- lists
-
-get-left : (js ks : List Progress) (k : ℕ) → k < length js → get_or (js ++ ks) k no_job ≡ get_or js k no_job
-get-left [] ks k h = absurd (omega arith)
-get-left (j ∷ js) ks zero h = refl
-get-left (j ∷ js) ks (suc k) h = get-left js ks k (omega arith)
-
-get-right : (js ks : List Progress) (k : ℕ) → get_or (js ++ ks) (length js + k) no_job ≡ get_or ks k no_job
-get-right [] ks k = let e : 0 + k ≡ k = omega arith in rw e refl
-get-right (j ∷ js) ks k = let e : suc (length js) + k ≡ suc (length js + k) = omega arith in rw e (get-right js ks k)
 
 get-new : (needs : ℕ → ℕ) (first now : ℕ) (new : List Cause) (k : ℕ) → k < length new → (get_or (new_jobs needs first now new) k no_job).arrival ≡ now
 get-new needs first now [] k h = absurd (omega arith)
@@ -94,14 +86,14 @@ module _ (s : SystemLists) (tr : TraceLists) where
   pub old-job : (t i k : ℕ) → HasJob s tr t i k → job_at s tr (suc t) i k ≡ get_or (served s tr t (run s tr t) i) k no_job
   unfolding new_at
   old-job t i k has =
-      ap (λ js. get_or js k no_job) (jobs-suc s tr t i) ∙ get-left (served s tr t (run s tr t) i) (new_at t i) k (omega (arith, length-served s tr t i))
+      ap (λ js. get_or js k no_job) (jobs-suc s tr t i) ∙ get_or_append_left (served s tr t (run s tr t) i) (new_at t i) no_job k (omega (arith, length-served s tr t i))
 
   pub new-job : (t i k : ℕ) → length ((run s tr t).jobs i) ≤ k → job_at s tr (suc t) i k ≡ get_or (new_at t i) (k - length ((run s tr t).jobs i)) no_job
   unfolding new_at
   new-job t i k past =
       let l : ℕ = length (served s tr t (run s tr t) i) in
       let e : l + (k - length ((run s tr t).jobs i)) ≡ k = omega (arith, length-served s tr t i) in
-      let right = get-right (served s tr t (run s tr t) i) (new_at t i) (k - length ((run s tr t).jobs i)) in
+      let right = get_or-append-add (served s tr t (run s tr t) i) (new_at t i) (k - length ((run s tr t).jobs i)) no_job in
       ap (λ js. get_or js k no_job) (jobs-suc s tr t i) ∙ rw e at right
 
   arrival-zero : (i k : ℕ) → HasJob s tr 0 i k → (job_at s tr 0 i k).arrival ≡ 0
