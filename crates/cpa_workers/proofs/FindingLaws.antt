@@ -13,7 +13,7 @@ use Rattle.cpa_local.specs.Solution.{IsVector, least_of}
 use Rattle.cpa_local.specs.Trails.{Marks, IsMarked, IsKept, NewMarksAre, AreMarked}
 use Rattle.cpa_fix.specs.declared.readings.Reading.{Reading}
 use Rattle.cpa_fix.specs.Readings.{reading_of, IsSound}
-use Rattle.cpa_fix.specs.Rounds.{TasksOn, IsRaised, AgreeOutside}
+use Rattle.cpa_local.specs.Rising.{TasksOn, IsRaised, AgreeOutside}
 use Rattle.cpa_board.specs.Seats.{BoardId, SeatView, IsBetween, has_seen}
 use Rattle.cpa_board.specs.Machine.{greater}
 use Rattle.cpa_workers.specs.Words.{bound_read, bound_at, IsNoLower}

@@ -15,9 +15,10 @@ use Rattle.cpa_local.specs.Trails.{Marks, IsMarked, IsKept, NewMarksAre, AreMark
 use Rattle.cpa_local.proofs.TrailLaws.{IsKept_trans, NewMarks_trans, NewMarks-weaker}
 use Rattle.cpa_fix.specs.declared.readings.Reading.{Reading}
 use Rattle.cpa_fix.specs.Readings.{reading_of, IsSound, AreSound}
-use Rattle.cpa_fix.specs.Rounds.{TasksOn, MayStart, IsRisen, IsRound}
+use Rattle.cpa_local.specs.Rising.{TasksOn, IsRisen}
+use Rattle.cpa_fix.specs.Rounds.{MayStart, IsRound}
 use Rattle.cpa_fix.proofs.ReadingLaws.{IsSound-mono}
-use Rattle.cpa_fix.proofs.RaiseLaws.{IsRisen_trans}
+use Rattle.cpa_local.proofs.RisingLaws.{IsRisen_trans}
 use Rattle.cpa_board.specs.Seats.{BoardId, SeatView, IsBetween}
 use Rattle.cpa_workers.specs.Words.{bound_at}
 use Rattle.cpa_workers.specs.Workers.{IsFinding, IsWork, IsOutcome, IsTaken, IsMissing}

@@ -10,7 +10,7 @@ use Rattle.cpa_local.specs.Solution.{IsVector, least_of}
 use Rattle.cpa_local.specs.Trails.{Marks, IsMarked, AreMarked}
 use Rattle.cpa_fix.specs.declared.readings.Reading.{Reading}
 use Rattle.cpa_fix.specs.Readings.{reading_of}
-use Rattle.cpa_fix.specs.Rounds.{TasksOn}
+use Rattle.cpa_local.specs.Rising.{TasksOn}
 use Rattle.cpa_board.specs.Seats.{BoardId, SeatView}
 use Rattle.cpa_workers.specs.Words.{bound_at, least_words}
 
