@@ -6,14 +6,15 @@
 //! All times are in ticks.
 #![tactic(auto)]
 
-ghost use Rattle.std.specs.Prelude.{◌≡◌, ℕ, ◌+◌, ◌*◌, ◌≤◌, false};
+ghost use Rattle.std.specs.Prelude.{◌≡◌, ℕ, ◌+◌, ◌*◌, ◌≤◌, ◌↔◌, IsTrue, false};
+ghost use Rattle.std.specs.Bool.{OnTrue};
 ghost use Rattle.cpa_units.specs.declared.limits.TheConstants.{MAX_BIT, MAX_EXECUTION};
-ghost use Rattle.cpa_units.specs.Bounds.{greatest_of};
+ghost use Rattle.cpa_units.specs.Bounds.{IsAtMost, greatest_of};
 ghost use Rattle.cpa_units.specs.Numbers.{IsExecution};
 ghost use Rattle.cpa_events.specs.Events.{IsModelInRange};
 ghost use Rattle.cpa_window.specs.Rivals.{AreRivals, some_unbounded};
 ghost use Rattle.cpa_can.specs.Can.{can_bound, can_response};
-ghost use Rattle.cpa_can.specs.CanWork.{busy_work, busy_work-mono, start_work, start_work-mono, start_work-more};
+ghost use Rattle.cpa_can.specs.CanWork.{busy_work, busy_work-mono, start_work, start_work-mono, start_work-more, StartsPast};
 ghost use Rattle.cpa_can.specs.Laws.{CanBoundsGrow, CanBoundsAreInRange, CanBoundsGoByWork};
 
 use cpa_events::Model;
@@ -127,6 +128,55 @@ pub fn respond(
         rivals,
     };
     greatest_response(own, &starts, own.eta_plus(busy), limit)
+}
+
+/// Whether that bound is at most `most`. The first frame alone is looked at where it starts past that, however long the
+/// bus is busy.
+pub fn is_within(
+    own: &Model,
+    worst: u64,
+    blocking: u64,
+    rivals: &[Rival],
+    bit: u64,
+    limit: u64,
+    most: u64,
+) -> bool
+    requires own { IsModelInRange own.now }
+    requires worst { IsExecution worst }
+    requires blocking { blocking ≤ MAX_EXECUTION }
+    requires rivals { AreRivals rivals.now }
+    requires bit { bit ≤ MAX_BIT }
+    requires limit { limit ≤ MAX_LIMIT }
+    ensures { IsTrue result ↔ IsAtMost (can_bound own.now worst blocking rivals.now bit limit) (Bound.Within most) }
+{
+    if starts_past(worst, blocking, rivals, bit, limit.min(most)) {
+        return false;
+    }
+    match respond(own, worst, blocking, rivals, bit, limit) {
+        Bound::Within(bound) => bound <= most,
+        Bound::Overload => false,
+    }
+}
+
+/// Whether rivals are bounded, and yet the first frame of a busy window starts past `latest`.
+fn starts_past(worst: u64, blocking: u64, rivals: &[Rival], bit: u64, latest: u64) -> bool
+    requires worst { IsExecution worst }
+    requires blocking { blocking ≤ MAX_EXECUTION }
+    requires rivals { AreRivals rivals.now }
+    requires bit { bit ≤ MAX_BIT }
+    requires latest { latest ≤ MAX_LIMIT }
+    ensures { OnTrue result (StartsPast worst blocking bit rivals.now latest) }
+{
+    if some_unbounded(rivals) {
+        return false;
+    }
+    let starts = FrameStarts {
+        worst,
+        blocking,
+        bit,
+        rivals,
+    };
+    next_window(&starts, 0, 0, 0, latest).is_none()
 }
 
 /// The greatest response of so many frames from the start of a busy window on.

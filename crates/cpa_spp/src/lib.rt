@@ -6,7 +6,8 @@
 //! Approach", 2005). All times are in ticks.
 #![tactic(auto)]
 
-ghost use Rattle.std.specs.Prelude.{◌≡◌, ℕ, ◌+◌, ◌*◌, ◌≤◌};
+ghost use Rattle.std.specs.Prelude.{◌≡◌, ℕ, ◌+◌, ◌*◌, ◌≤◌, ◌↔◌, IsTrue};
+ghost use Rattle.cpa_units.specs.Bounds.{IsAtMost};
 ghost use Rattle.cpa_units.specs.Numbers.{IsExecution};
 ghost use Rattle.cpa_events.specs.Events.{IsModelInRange};
 ghost use Rattle.cpa_window.specs.Rivals.{AreRivals, bounded_work};
@@ -17,7 +18,10 @@ ghost use Rattle.cpa_spp.specs.Laws.{PreemptiveBoundsGrow, PreemptiveBoundsAreIn
 use cpa_events::Model;
 use cpa_units::Bound;
 use cpa_units::limits::MAX_LIMIT;
-use cpa_window::{BusyWindow, Rival, busy_window_bound, some_unbounded, work_in, work_until};
+use cpa_window::{
+    BusyWindow, Rival, busy_window_bound, is_busy_window_within, some_unbounded, work_in,
+    work_until,
+};
 
 #[cfg(test)]
 mod tests;
@@ -69,6 +73,21 @@ pub fn respond(own: &Model, worst: u64, rivals: &[Rival], limit: u64) -> Bound
     }
     let jobs = PreemptiveJobs { worst, rivals };
     busy_window_bound(&jobs, own, limit)
+}
+
+/// Whether that bound is at most `most`: no further than to the first job that takes longer.
+pub fn is_within(own: &Model, worst: u64, rivals: &[Rival], limit: u64, most: u64) -> bool
+    requires own { IsModelInRange own.now }
+    requires worst { IsExecution worst }
+    requires rivals { AreRivals rivals.now }
+    requires limit { limit ≤ MAX_LIMIT }
+    ensures { IsTrue result ↔ IsAtMost (preemptive_bound own.now worst rivals.now limit) (Bound.Within most) }
+{
+    if some_unbounded(rivals) {
+        return false;
+    }
+    let jobs = PreemptiveJobs { worst, rivals };
+    is_busy_window_within(&jobs, own, limit, most)
 }
 
 /// The bound grows with what it is computed from, lies from the execution to the limit, and depends

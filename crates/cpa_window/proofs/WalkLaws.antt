@@ -1,16 +1,16 @@
 -- What code that walks through the jobs of a busy window knows.
-use Rattle.std.proofs.Common.{◌≡◌, ℕ, zero, suc, ◌+◌, ◌-◌, ◌<◌, ◌≤◌, true, false, max, refl, ◌∙◌, ap, inl, inr, arith}
-use Rattle.std.proofs.lemmas.Bool.{cases_lt, le-leb, lt-leb}
+use Rattle.std.proofs.Common.{◌≡◌, ℕ, zero, suc, ◌+◌, ◌-◌, ◌<◌, ◌≤◌, true, false, max, refl, sym, ◌∙◌, ap, inl, inr, arith}
+use Rattle.std.proofs.lemmas.Bool.{cases_lt, le-leb, lt-leb, false≢true}
 use Rattle.std.proofs.Math.Nat.{le_refl}
 use Rattle.cpa_units.specs.declared.bound.Bound.{Bound}
 use Rattle.cpa_units.specs.declared.bound.Bound.TheVariants.{Within, Overload}
-use Rattle.cpa_units.specs.Bounds.{bound_minus, greatest_of}
+use Rattle.cpa_units.specs.Bounds.{IsAtMost, bound_minus, greatest_of}
 use Rattle.cpa_units.proofs.BoundLaws.{greatest_of-overload, greatest_of-next}
 use Rattle.cpa_window.specs.Windows.{IsWindow}
 use Rattle.cpa_window.specs.BusyWindow.{is_last, busy_window_bound, windows_of}
 use Rattle.cpa_window.specs.Walk.{IsSteady, IsReady}
-use Rattle.cpa_window.proofs.WindowLaws.{window-from}
-use Rattle.cpa_window.proofs.BusyWindowLaws.{busy_window_bound-at, window-past}
+use Rattle.cpa_window.proofs.WindowLaws.{window-from, window-is}
+use Rattle.cpa_window.proofs.BusyWindowLaws.{busy_window_bound-at, busy_window_bound-within, window-past}
 
 -- ---- a search that goes on from an earlier window
 
@@ -35,6 +35,15 @@ window-goes_on demand from limit Overload crowded h =
 pub window-here : (demand : ℕ → ℕ) (from limit : ℕ) → ((v : ℕ) → v < from → v < demand v) → from ≤ limit → demand from ≤ from → IsWindow (λ v. Within (demand v)) 0 limit (Within from)
 window-here demand from limit crowded within room =
     (omega arith, within, room, λ v first below fits. absurd (let full = crowded v below in omega arith))
+
+-- a window within a lower limit is the window
+pub window-longer : (demand : ℕ → ℕ) (latest limit end : ℕ) → latest ≤ limit → IsWindow (λ v. Within (demand v)) 0 latest (Within end) → IsWindow (λ v. Within (demand v)) 0 limit (Within end)
+window-longer demand latest limit end lower h = (h.0, omega (arith, h.1), h.2, h.3)
+
+-- where there is none within a lower limit, it is past that limit
+pub window-later : (demand : ℕ → ℕ) (latest limit reach : ℕ) (w : Bound) → ((v : ℕ) → v ≤ limit → v ≤ reach → v ≤ latest) → IsWindow (λ v. Within (demand v)) 0 latest Overload → IsWindow (λ v. Within (demand v)) 0 limit w → ¬ IsAtMost w (Within reach)
+window-later demand latest limit reach (Within w) cut none h within = none w (omega arith) (cut w h.1 within) h.2
+window-later demand latest limit reach Overload cut none h within = within
 
 -- a window has no room left
 window-full : (demand : ℕ → ℕ) (limit end : ℕ) → ((v w : ℕ) → v ≤ w → demand v ≤ demand w) → IsWindow (λ v. Within (demand v)) 0 limit (Within end) → end ≤ demand end
@@ -79,6 +88,17 @@ module _ (demand : ℕ → ℕ → ℕ) (each : ℕ) where
       omega arith
 
 -- ---- the walk
+
+pub at_most : (b : Bound) (ticks most : ℕ) → b ≡ Within ticks → ticks ≤ most → IsAtMost b (Within most)
+at_most b ticks most is h = rw is h
+
+pub not_at_most : (b : Bound) (most : ℕ) → b ≡ Overload → ¬ IsAtMost b (Within most)
+not_at_most b most is h = rw is at h
+
+-- a window that is over when the next job comes is the last
+is_last-over : (w : Bound) (next : ℕ) → IsAtMost w (Within next) → is_last w next ≡ true
+is_last-over (Within w) next h = le-leb _ _ h
+is_last-over Overload next h = refl
 
 -- a demand in numbers, as a demand in bounds
 abbrev pub numbers : (ℕ → ℕ → ℕ) → ℕ → ℕ → Bound
@@ -156,3 +176,15 @@ module _ (demand : ℕ → ℕ → ℕ) (each : ℕ) (earliest : ℕ → ℕ) (l
     -- after the limit there is no window
     pub all : job ≡ limit + 1 → ((q w : ℕ) → q ≤ demand q w) → busy_window_bound (windows_of (numbers demand) limit) earliest limit ≡ Overload
     all e ticks = past_limit (omega arith) (rw e (window-past (numbers demand) limit ticks))
+
+    -- where the job's window is past that many ticks after the job comes, so is the bound
+    pub late : (latest most : ℕ) → latest ≤ limit → ((v : ℕ) → v ≤ limit → v ≤ most + arrival → v ≤ latest) → ((q w : ℕ) → q ≤ demand q w) → IsWindow (numbers demand job) 0 latest Overload → ¬ IsAtMost (busy_window_bound (windows_of (numbers demand) limit) earliest limit) (Within most)
+    unfolding windows
+    late latest most lower cut ticks none h =
+        let found = busy_window_bound-within windows earliest limit most (window-past (numbers demand) limit ticks) h in
+        elim (cases_lt found.0 job) [
+          | inl before ↦ false≢true (sym (now.none_last found.0 found.1 before) ∙ is_last-over (windows found.0) (earliest (found.0 + 1)) found.2)
+          | inr after ↦
+              window-later (demand job) latest limit (most + arrival) (windows job) cut none (window-is (numbers demand job) 0 limit)
+              (let e : earliest job ≡ arrival = sym now.earliest_arrival in rw e at (found.3 job some (omega arith)))
+        ]

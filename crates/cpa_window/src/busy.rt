@@ -4,8 +4,9 @@
 //! shorter one has room. Where the rivals send nothing new until then, it is that length, and no
 //! rival is looked at.
 
-ghost use Rattle.std.specs.Prelude.{◌≡◌, ℕ, ◌+◌, ◌<◌, ◌≤◌, IfSome, IfNone};
+ghost use Rattle.std.specs.Prelude.{◌≡◌, ℕ, ◌+◌, ◌<◌, ◌≤◌, ◌↔◌, IsTrue, IfSome, IfNone};
 ghost use Rattle.cpa_units.specs.declared.bound.Bound.{Bound};
+ghost use Rattle.cpa_units.specs.Bounds.{IsAtMost};
 ghost use Rattle.cpa_units.specs.declared.limits.TheConstants.{MAX_EXECUTION, MAX_LIMIT};
 ghost use Rattle.cpa_events.specs.Events.{delta_minus, IsModelInRange};
 ghost use Rattle.cpa_window.specs.Windows.{IsWindow};
@@ -143,6 +144,35 @@ pub fn busy_window_bound<B: BusyWindow>(busy: &B, own: &Model, limit: u64) -> Bo
         arrival = next;
     }
     Bound::Overload
+}
+
+/// Whether that greatest response is at most `most`. The walk ends at the first job whose response is more, however long
+/// its window is.
+pub fn is_busy_window_within<B: BusyWindow>(busy: &B, own: &Model, limit: u64, most: u64) -> bool
+    requires own { IsModelInRange own.now }
+    requires limit { limit ≤ MAX_LIMIT }
+    ensures { IsTrue result ↔ IsAtMost (busy_window_bound (windows_of (λ q w. Bound.Within (B.demand busy.now q w)) limit) (delta_minus own.now) limit) (Bound.Within most) }
+{
+    let each = busy.each_job();
+    let mut from = each;
+    let mut steady = 0;
+    let mut arrival: u64 = 0;
+    let mut greatest: u64 = 0;
+    for jobs in 1..limit + 1 {
+        let latest = limit.min(arrival.saturating_add(most));
+        let Some(reached) = next_window(busy, jobs, from, steady, latest) else {
+            return false;
+        };
+        let next = own.delta_minus(jobs + 1);
+        greatest = greatest.max(reached.end - arrival);
+        if reached.end <= next {
+            return true;
+        }
+        from = reached.end + each;
+        steady = look_ahead(busy, jobs, reached);
+        arrival = next;
+    }
+    false
 }
 
 /// A last job exists, the bound grows with the windows, and a walk may go on from where a window
