@@ -22,7 +22,8 @@ use Rattle.cpa_depend.proofs.ChainLaws.{Reads-parts}
 use Rattle.cpa_depend.proofs.ConeLaws.{InCone-least}
 use Rattle.cpa_fix.specs.declared.readings.Reading.{Reading}
 use Rattle.cpa_fix.specs.Readings.{IsSound, IsClean, reading_of, HasCleanReading, IsDirty, IsSolved}
-use Rattle.cpa_fix.specs.Rounds.{TasksOn, MayStart}
+use Rattle.cpa_local.specs.Rising.{TasksOn}
+use Rattle.cpa_fix.specs.Rounds.{MayStart}
 use Rattle.cpa_local.specs.Raising.{IsRaising}
 use Rattle.cpa_session.specs.Spared.{place_before, IsSpared, AgreeApart}
 use Rattle.cpa_session.specs.Carried.{IsReached, carried_bound, carried, IsBeginning, carried_reading, AreCarried}
