@@ -2,6 +2,8 @@
 
 ghost use Rattle.cpa_fix.specs.Laws.{BoundsDependOnReads, BoundsWithoutFeedback, CleanIsLeast};
 
+use crate::readings::Readings;
+
 /// The bounds on a resource depend on what it reads alone; without feedback not even on the bounds of
 /// its own tasks.
 pub fn bounds_depend_on_reads()
@@ -13,3 +15,11 @@ pub fn bounds_depend_on_reads()
 pub fn clean_is_least()
     ensures { CleanIsLeast }
 {}
+
+/// What threads may be handed and may share.
+fn crosses_threads<T: Send + Sync>(_value: &T) {}
+
+/// Readings may be handed to another thread, and shared by threads.
+pub fn readings_cross_threads(readings: &Readings) {
+    crosses_threads(readings);
+}

@@ -12,7 +12,7 @@ mod rounds;
 mod solving;
 
 pub use analysing::analyse;
-pub use laws::{bounds_depend_on_reads, clean_is_least};
+pub use laws::{bounds_depend_on_reads, clean_is_least, readings_cross_threads};
 pub use one_by_one::{OneByOne, round_of_one};
 pub use readings::{Reading, Readings};
 pub use rounds::Round;

@@ -175,7 +175,7 @@ fn differs_on(system: &System, res: ResId, seen: &Vector, x: &Vector) -> bool
 }
 
 /// Whether two bounds are equal.
-pub(crate) fn is_same(a: Bound, b: Bound) -> bool
+fn is_same(a: Bound, b: Bound) -> bool
     ensures { IsTrue result ↔ (a ≡ b) }
 {
     match (a, b) {

@@ -2,6 +2,8 @@
 
 ghost use Rattle.cpa_local.specs.Laws.{InputsFollowStreams, ResponsesAreMonotone, LeastExists, LeastIsUnique, LeastIsFixed, ClosedBelowIsLeast, RaisingLiftsLeast};
 
+use crate::trail::Trail;
+
 /// A bounded input has a stream for each of its task's streams, in their order, with the period of its
 /// source.
 pub fn inputs_follow_streams()
@@ -12,6 +14,14 @@ pub fn inputs_follow_streams()
 pub fn responses_are_monotone()
     ensures { ResponsesAreMonotone }
 {}
+
+/// What threads may be handed and may share.
+fn crosses_threads<T: Send + Sync>(_value: &T) {}
+
+/// A trail may be handed to another thread, and shared by threads.
+pub fn trails_cross_threads(trail: &Trail) {
+    crosses_threads(trail);
+}
 
 /// Each system has exactly one least solution, and the bounds at it are it (Knaster and Tarski; Kleene).
 pub fn least_solutions_have_laws()

@@ -20,8 +20,12 @@ mod work;
 
 pub use analysis::respond;
 pub use inputs::input;
-pub use laws::{least_solutions_have_laws, responses_are_monotone};
-pub use paths::{Outcome, count_missed, count_overloads, is_missed, is_overload, judge, path_best, path_worst};
+pub use laws::{
+    inputs_follow_streams, least_solutions_have_laws, responses_are_monotone, trails_cross_threads,
+};
+pub use paths::{
+    Outcome, count_missed, count_overloads, is_missed, is_overload, judge, path_best, path_worst,
+};
 pub use rising::raise;
 pub use start::floor;
 pub use trail::Trail;

@@ -80,8 +80,9 @@ pub(crate) fn walk(system: &System, task: TaskId, x: &Vector, way: Way) -> End
     ensures { EndsThere system.now x.now task.0 way result }
 {
     let mut at = task;
+    let mut entry = system.task(at);
     let mut back = way;
-    'steps: while let Some(after) = system.task(at).after.only() {
+    'steps: while let Some(after) = entry.after.only() {
         match after {
             Activator::Source(source) => {
                 let stream = system.source(source).stream();
@@ -91,8 +92,9 @@ pub(crate) fn walk(system: &System, task: TaskId, x: &Vector, way: Way) -> End
                 let Bound::Within(bound) = x.get(earlier) else {
                     return End::Unbounded;
                 };
-                back = back.after(system.task(earlier).best, bound);
                 at = earlier;
+                entry = system.task(at);
+                back = back.after(entry.best, bound);
             }
         }
     }

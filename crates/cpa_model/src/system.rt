@@ -35,8 +35,8 @@ impl Model for System {
     ghost invariant = { λ s. IsSystem (record { resources = s.resources.items; sources = s.sources.items; tasks = s.tasks.items; paths = s.paths.items }) × AreTasksByResource (length s.resources.items) s.tasks.items (length s.tasks.items) s.task_lists.items };
 }
 
-/// Takes what can be handed to other threads and shared by them, and nothing else.
-fn needs_shared<T: Send + Sync>(_value: &T) {}
+/// What threads may be handed and may share.
+fn crosses_threads<T: Send + Sync>(_value: &T) {}
 
 impl System {
     ghost use Rattle.cpa_model.specs.SystemLists.{resource_at, source_at, task_at, path_at, places_of, tasks_on, resource_named, source_named, task_named, root_of, stream_at, streams_of, depth_of, cycle_of};
@@ -46,7 +46,7 @@ impl System {
     pub fn has_rules(&self)
         ensures { IsSystem self.now }
     {
-        needs_shared(self);
+        crosses_threads(self);
         let _ = &self.tasks;
     }
 
