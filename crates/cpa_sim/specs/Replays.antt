@@ -9,6 +9,7 @@ use Rattle.cpa_sim.specs.declared.dispatches.Dispatch.{Dispatch}
 use Rattle.cpa_sim.specs.declared.feeds.Feed.{Feed}
 use Rattle.cpa_sim.specs.Arrivals.{AreFollowers, HasSingle}
 use Rattle.cpa_sim.specs.Lines.{LineCounts}
+use Rattle.cpa_sim.specs.Orders.{AreOrders}
 use Rattle.cpa_sim.specs.Outcome.{CanReplay, events_from, is_over}
 use Rattle.cpa_sim.specs.Simulation.{IsAt, IsSoon}
 use Rattle.cpa_sim.specs.Served.{RanWithin}
@@ -18,6 +19,7 @@ pub record ReplayLists : Type 0 where
   pub by_source : List (List TaskId)
   pub by_task : List (List TaskId)
   pub single : Bool
+  pub orders : List (List TaskId)
   pub keeps : Bool
   pub lines : List LineCounts
   pub dispatches : List Dispatch
@@ -31,6 +33,7 @@ pub record IsReplay (s : SystemLists) (tr : TraceLists) (p : ReplayLists) : Type
   pub rules : IsSystem s
   pub can : CanReplay s tr
   pub followers : AreFollowers s (length s.tasks) p.by_source p.by_task
+  pub orders : AreOrders s p.orders
   pub single : p.single ≡ true → HasSingle s
   pub at : IsAt s tr p.time p.keeps p.lines p.dispatches p.feeds
   pub coming : IsSoon s tr p.time p.soon p.feeds

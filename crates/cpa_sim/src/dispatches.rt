@@ -1,6 +1,6 @@
 //! Who runs on each resource. Times are in ticks.
 
-ghost use Rattle.std.specs.Prelude.{◌≡◌, ◌<◌, ◌≤◌, ◌+◌, ◌^◌, ◌==◌, ◌&&◌, ◌||◌, ℕ, length, Some, None, true, false, All, option_map, IfSome};
+ghost use Rattle.std.specs.Prelude.{◌≡◌, ◌<◌, ◌≤◌, ◌+◌, ◌^◌, ◌==◌, ◌&&◌, ◌||◌, ℕ, length, map, Some, None, true, false, All, option_map, IfSome};
 ghost use Rattle.std.specs.List.{list_any};
 ghost use Rattle.cpa_units.specs.declared.limits.TheConstants.{HORIZON};
 ghost use Rattle.cpa_units.specs.Sets.{holds};
@@ -9,14 +9,16 @@ ghost use Rattle.cpa_trace.specs.Trace.{phase_of, need};
 ghost use Rattle.cpa_sched.specs.Steps.{kind_of, completed};
 ghost use Rattle.cpa_sched.specs.Stretches.{IsStretch, state_later};
 ghost use Rattle.cpa_sched.specs.States.{seen, Belongs, FrameWaits, IsWaiting};
+ghost use Rattle.cpa_sched.specs.Urgency.{IsByUrgency};
 ghost use Rattle.cpa_sim.specs.Lines.{served_line};
+ghost use Rattle.cpa_sim.specs.Orders.{AreOrders};
 ghost use Rattle.cpa_sim.specs.Outcome.{CanReplay};
 ghost use Rattle.cpa_sim.specs.Run.{settled};
 ghost use Rattle.cpa_sim.specs.Simulation.{line_at, dispatch_at, runner, runs_at, waiting, state_by, state_now, Foresees, HasEnough, IsServed, AreEnding};
 
 use crate::lines::{Line, work};
 use cpa_model::System;
-use cpa_sched::{Queue, ResState, Stretch, begin, completed, go_on};
+use cpa_sched::{Queue, Ranking, ResState, Stretch, begin_by, completed, go_on};
 use cpa_trace::Trace;
 use cpa_units::limits::{HORIZON, MAX_PHASE};
 use cpa_units::{ResId, ResSet, TaskId};
@@ -76,24 +78,25 @@ fn begin_now(
     system: &System,
     trace: &Trace,
     lines: &[Line],
+    ranking: &Ranking<'_>,
     state: &mut ResState,
-    res: ResId,
     now: u64,
     most: u64,
 ) -> Stretch
-    requires there { res.0 < length system.now.resources }
+    requires there { ranking.now.res.0 < length system.now.resources }
+    requires ranking { IsByUrgency system.now ranking.now.res.0 (places_of ranking.now.tasks.now) }
     requires can { CanReplay system.now trace.now }
-    requires belongs { Belongs system.now res.0 (seen state.old) }
-    requires frame { FrameWaits (kind_of system.now res.0) (seen state.old) (waiting lines.now) }
+    requires belongs { Belongs system.now ranking.now.res.0 (seen state.old) }
+    requires frame { FrameWaits (kind_of system.now ranking.now.res.0) (seen state.old) (waiting lines.now) }
     requires some { 1 ≤ most }
     requires horizon { now + most ≤ HORIZON }
-    ensures stretch { (n : ℕ) → n < result.ticks → IsStretch system.now res.0 (seen state.old) (waiting lines.now) now (phase_of trace.now res.0) (n + 1) (option_map place_of result.task) (state_later (kind_of system.now res.0) (option_map place_of result.task) (seen state.new) n) }
+    ensures stretch { (n : ℕ) → n < result.ticks → IsStretch system.now ranking.now.res.0 (seen state.old) (waiting lines.now) now (phase_of trace.now ranking.now.res.0) (n + 1) (option_map place_of result.task) (state_later (kind_of system.now ranking.now.res.0) (option_map place_of result.task) (seen state.new) n) }
     ensures some { 1 ≤ result.ticks }
-    ensures waits { IfSome result.task (λ t. IsWaiting system.now res.0 (waiting lines.now) t.0) }
+    ensures waits { IfSome result.task (λ t. IsWaiting system.now ranking.now.res.0 (waiting lines.now) t.0) }
 {
     let queue = Waiting { lines };
-    let phase = trace.phase(res).min(MAX_PHASE);
-    begin(system, res, state, &queue, now, phase, most)
+    let phase = trace.phase(ranking.res).min(MAX_PHASE);
+    begin_by(system, ranking, state, &queue, now, phase, most)
 }
 
 /// For how many ticks of a stretch the job that runs isn't complete before the last of them is over.
@@ -140,25 +143,29 @@ fn foresee(
     system: &System,
     trace: &Trace,
     lines: &[Line],
+    ranking: &Ranking<'_>,
     dispatch: &mut Dispatch,
-    res: ResId,
     now: u64,
 )
-    requires there { res.0 < length system.now.resources }
+    requires there { ranking.now.res.0 < length system.now.resources }
+    requires ranking { IsByUrgency system.now ranking.now.res.0 (places_of ranking.now.tasks.now) }
     requires can { CanReplay system.now trace.now }
     requires lines { length lines.now ≡ length system.now.tasks }
-    requires belongs { Belongs system.now res.0 (state_now (kind_of system.now res.0) dispatch.old) }
-    requires frame { FrameWaits (kind_of system.now res.0) (state_now (kind_of system.now res.0) dispatch.old) (waiting lines.now) }
+    requires belongs { Belongs system.now ranking.now.res.0 (state_now (kind_of system.now ranking.now.res.0) dispatch.old) }
+    requires frame { FrameWaits (kind_of system.now ranking.now.res.0) (state_now (kind_of system.now ranking.now.res.0) dispatch.old) (waiting lines.now) }
     requires horizon { now < HORIZON }
-    ensures foresees { Foresees system.now res.0 (state_now (kind_of system.now res.0) dispatch.old) (waiting lines.now) now (phase_of trace.now res.0) dispatch.new }
+    ensures foresees { Foresees system.now ranking.now.res.0 (state_now (kind_of system.now ranking.now.res.0) dispatch.old) (waiting lines.now) now (phase_of trace.now ranking.now.res.0) dispatch.new }
     ensures some { dispatch.new.gone < dispatch.new.ticks }
     ensures enough { HasEnough lines.now dispatch.new }
 {
-    refresh(system, dispatch, res);
+    refresh(system, dispatch, ranking.res);
     let most = HORIZON - now;
     let mut state = dispatch.state;
-    let stretch = begin_now(system, trace, lines, &mut state, res, now, most);
-    if stretch.task.is_none() && stretch.ticks < most && !is_busy(lines, system.tasks_on(res)) {
+    let stretch = begin_now(system, trace, lines, ranking, &mut state, now, most);
+    if stretch.task.is_none()
+        && stretch.ticks < most
+        && !is_busy(lines, system.tasks_on(ranking.res))
+    {
         dispatch.running = None;
         dispatch.ticks = most;
         return;
@@ -173,26 +180,27 @@ fn foresee_more(
     system: &System,
     trace: &Trace,
     lines: &[Line],
+    ranking: &Ranking<'_>,
     dispatch: &mut Dispatch,
-    res: ResId,
     now: u64,
 )
-    requires there { res.0 < length system.now.resources }
+    requires there { ranking.now.res.0 < length system.now.resources }
+    requires ranking { IsByUrgency system.now ranking.now.res.0 (places_of ranking.now.tasks.now) }
     requires can { CanReplay system.now trace.now }
     requires lines { length lines.now ≡ length system.now.tasks }
-    requires belongs { Belongs system.now res.0 (state_now (kind_of system.now res.0) dispatch.old) }
-    requires frame { FrameWaits (kind_of system.now res.0) (state_now (kind_of system.now res.0) dispatch.old) (waiting lines.now) }
+    requires belongs { Belongs system.now ranking.now.res.0 (state_now (kind_of system.now ranking.now.res.0) dispatch.old) }
+    requires frame { FrameWaits (kind_of system.now ranking.now.res.0) (state_now (kind_of system.now ranking.now.res.0) dispatch.old) (waiting lines.now) }
     requires horizon { now < HORIZON }
-    requires foresees { Foresees system.now res.0 (state_now (kind_of system.now res.0) dispatch.old) (waiting lines.now) now (phase_of trace.now res.0) dispatch.old }
+    requires foresees { Foresees system.now ranking.now.res.0 (state_now (kind_of system.now ranking.now.res.0) dispatch.old) (waiting lines.now) now (phase_of trace.now ranking.now.res.0) dispatch.old }
     requires enough { HasEnough lines.now dispatch.old }
-    ensures foresees { Foresees system.now res.0 (state_now (kind_of system.now res.0) dispatch.old) (waiting lines.now) now (phase_of trace.now res.0) dispatch.new }
+    ensures foresees { Foresees system.now ranking.now.res.0 (state_now (kind_of system.now ranking.now.res.0) dispatch.old) (waiting lines.now) now (phase_of trace.now ranking.now.res.0) dispatch.new }
     ensures some { dispatch.new.gone < dispatch.new.ticks }
     ensures enough { HasEnough lines.now dispatch.new }
 {
     if dispatch.gone < dispatch.ticks {
         return;
     }
-    foresee(system, trace, lines, dispatch, res, now);
+    foresee(system, trace, lines, ranking, dispatch, now);
 }
 
 /// Foresees what becomes of all resources. Answers for how many ticks from now on, at most so many, the
@@ -201,10 +209,12 @@ pub(crate) fn foresee_all(
     system: &System,
     trace: &Trace,
     lines: &[Line],
+    orders: &Vec<Vec<TaskId>>,
     dispatches: &mut Vec<Dispatch>,
     now: u64,
     most: u64,
 ) -> u64
+    requires orders { AreOrders system.now (map (λ v. v.items) orders.now.items) }
     requires can { CanReplay system.now trace.now }
     requires lines { length lines.now ≡ length system.now.tasks }
     requires dispatches { length dispatches.old.items ≡ length system.now.resources }
@@ -224,7 +234,11 @@ pub(crate) fn foresee_all(
     let mut ticks = most;
     for k in 0..system.resources() {
         let dispatch = &mut dispatches[k as usize];
-        foresee_more(system, trace, lines, dispatch, ResId(k), now);
+        let ranking = Ranking {
+            res: ResId(k),
+            tasks: orders[k as usize].as_slice(),
+        };
+        foresee_more(system, trace, lines, &ranking, dispatch, now);
         ticks = ticks.min(dispatch.ticks - dispatch.gone);
     }
     ticks

@@ -11,11 +11,12 @@ ghost use Rattle.cpa_sim.specs.Replays.{IsReplay};
 use crate::feeds::quiet_from;
 use crate::followers::{Followers, find_followers};
 use crate::jobs::Served;
+use crate::orders::find_orders;
 use crate::outcome::Outcome;
 use crate::simulation::{Simulation, advance, goes_on, most_ticks, start};
 use cpa_model::System;
 use cpa_trace::Trace;
-use cpa_units::{NoMemory, ResId};
+use cpa_units::{NoMemory, ResId, TaskId};
 use std::alloc::Global;
 use std::marker::Model;
 
@@ -24,6 +25,8 @@ use std::marker::Model;
 #[derive(Debug, Drop)]
 pub struct Replay {
     followers: Followers,
+    /// The tasks of each resource by urgency.
+    orders: Vec<Vec<TaskId>>,
     sim: Simulation,
     /// From this time on no event comes.
     quiet: u64,
@@ -35,7 +38,7 @@ impl Model for Replay {
 
     ghost Value = { ReplayLists };
 
-    ghost view = { λ p. record { by_source = map (λ v. v.items) p.followers.by_source.items; by_task = map (λ v. v.items) p.followers.by_task.items; single = p.followers.single; keeps = p.sim.keeps; lines = p.sim.lines.items; dispatches = p.sim.dispatches.items; feeds = p.sim.feeds.items; time = p.sim.time; soon = p.sim.soon; quiet = p.quiet } };
+    ghost view = { λ p. record { by_source = map (λ v. v.items) p.followers.by_source.items; by_task = map (λ v. v.items) p.followers.by_task.items; single = p.followers.single; orders = map (λ v. v.items) p.orders.items; keeps = p.sim.keeps; lines = p.sim.lines.items; dispatches = p.sim.dispatches.items; feeds = p.sim.feeds.items; time = p.sim.time; soon = p.sim.soon; quiet = p.quiet } };
 }
 
 impl Replay {
@@ -63,9 +66,11 @@ impl Replay {
     {
         let quiet = quiet_from(system, trace);
         let followers = find_followers(alloc, system)?;
+        let orders = find_orders(alloc, system)?;
         let sim = start(alloc, system, trace, &followers, keeps)?;
         Ok(Replay {
             followers,
+            orders,
             sim,
             quiet,
         })
@@ -112,7 +117,14 @@ impl Replay {
         ensures ran { OnOk result ((r u : ℕ) → r < length system.now.resources → self.old.time ≤ u → u < self.new.time → served_at system.now trace.now u r ≡ ran_by self.new.lines self.new.dispatches r) }
     {
         let most = most_ticks(self.sim.time, self.quiet);
-        advance(system, trace, &self.followers, &mut self.sim, most)?;
+        advance(
+            system,
+            trace,
+            &self.followers,
+            &self.orders,
+            &mut self.sim,
+            most,
+        )?;
         Ok(())
     }
 

@@ -13,7 +13,7 @@ use Rattle.cpa_sim.proofs.dispatches.foresee.Goals as goal
 pub returns-then-not-is_busy-clause-foresees : goal.returns-then-not-is_busy-clause-foresees
 returns-then-not-is_busy-clause-foresees c = λ n less.
     let s = c.args.system.now in
-    let r = c.args.res.0 in
+    let r = c.args.ranking.now.res.0 in
     let w = waiting c.args.lines.now in
     let phase = phase_of c.args.trace.now r in
     let st = state_now (kind_of s r) c.args.dispatch.now in
@@ -24,7 +24,7 @@ returns-then-not-is_busy-clause-foresees c = λ n less.
 pub returns-clause-foresees : goal.returns-clause-foresees
 returns-clause-foresees c = λ n less.
     let s = c.args.system.now in
-    let r = c.args.res.0 in
+    let r = c.args.ranking.now.res.0 in
     let w = waiting c.args.lines.now in
     let phase = phase_of c.args.trace.now r in
     let o = option_map place_of c.begin_now-stretch.result.task in

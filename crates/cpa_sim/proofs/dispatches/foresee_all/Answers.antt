@@ -1,5 +1,8 @@
-use Rattle.std.proofs.Common.{◌∙◌, ◌+◌, ◌<◌, ◌≤◌, length, subst, arith}
-use Rattle.std.proofs.lemmas.List.{get_or_read, length-set}
+use Rattle.std.proofs.Common.{◌∙◌, ◌+◌, ◌<◌, ◌≤◌, length, sym, subst, arith}
+use Rattle.std.proofs.lemmas.List.{get_or_read, length-set, length-map}
+use Rattle.cpa_model.specs.SystemLists.{places_of}
+use Rattle.cpa_sched.specs.Urgency.{IsByUrgency}
+use Rattle.cpa_sim.proofs.ArrivalLaws.{listed-read}
 use Rattle.cpa_trace.specs.Trace.{phase_of}
 use Rattle.cpa_sched.specs.Steps.{kind_of}
 use Rattle.cpa_sim.specs.declared.dispatches.Dispatch.{Dispatch}
@@ -26,3 +29,13 @@ loop-k-preserved c =
       fits = below-more (λ r (x : Dispatch). x.gone + c.min-ticks.result ≤ x.ticks) dispatches k dispatch no_dispatch there (λ r less. omega (arith, c.loop-k.invariant.fits r less, c.min-ticks.ensures)) (omega (arith, c.min-ticks.ensures, c.foresee_more.ensures.some));
       same = above-same old dispatches k dispatch no_dispatch c.loop-k.invariant.same;
     }
+
+pub foresee_more-requires-clause-ranking : goal.foresee_more-requires-clause-ranking
+foresee_more-requires-clause-ranking c =
+    let s = c.args.system.now in
+    let k = c.loop-k.k in
+    let lists = c.args.orders.now.items in
+    let less : k < length s.resources = omega (arith, c.resources-k-end.ensures.count) in
+    let there : k < length lists = omega (arith, less, c.requires.orders.count, length-map lists (λ v. v.items)) in
+    let read = listed-read (λ v. v.items) lists k c.index.result.now there c.index.ensures in
+    subst (λ ts. IsByUrgency s k (places_of ts)) (sym (c.as_slice.ensures.value ∙ sym read)) (c.requires.orders.by_urgency k less)

@@ -24,6 +24,7 @@ returns-clause-run c =
       rules = is.rules;
       can = is.can;
       followers = is.followers;
+      orders = is.orders;
       single = is.single;
       at = c.in_ok-advance.ensures.at;
       coming = c.in_ok-advance.ensures.soon;
