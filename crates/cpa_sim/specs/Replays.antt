@@ -1,44 +1,20 @@
 -- A run that is followed from one moment to the next.
-use Rattle.std.specs.Prelude.{ℕ, ◌≡◌, ◌<◌, ◌≤◌, ◌+◌, Bool, true, false, nat_lt, List, length}
-use Rattle.cpa_units.specs.declared.limits.TheConstants.{HORIZON, MAX_TRACE_TIME}
-use Rattle.cpa_units.specs.declared.places.TaskId.{TaskId}
+use Rattle.std.specs.Prelude.{ℕ, ◌≡◌, ◌<◌, ◌≤◌, false, length}
 use Rattle.cpa_model.specs.SystemLists.{SystemLists}
-use Rattle.cpa_model.specs.Rules.{IsSystem}
 use Rattle.cpa_trace.specs.Trace.{TraceLists}
-use Rattle.cpa_sim.specs.declared.dispatches.Dispatch.{Dispatch}
-use Rattle.cpa_sim.specs.declared.feeds.Feed.{Feed}
-use Rattle.cpa_sim.specs.Arrivals.{AreFollowers, HasSingle}
-use Rattle.cpa_sim.specs.Lines.{LineCounts}
-use Rattle.cpa_sim.specs.Orders.{AreOrders}
-use Rattle.cpa_sim.specs.Outcome.{CanReplay, events_from, is_over}
-use Rattle.cpa_sim.specs.Simulation.{IsAt, IsSoon}
-use Rattle.cpa_sim.specs.Served.{RanWithin}
+use Rattle.cpa_sim.specs.Outcome.{end_of}
+use Rattle.cpa_sim.specs.Served.{served_at, ran_by}
+use Rattle.cpa_sim.specs.Courses.{CourseLists, IsCourse}
 
--- what is known of a run as far as it was followed, and whether its jobs are kept
-pub record ReplayLists : Type 0 where
-  pub by_source : List (List TaskId)
-  pub by_task : List (List TaskId)
-  pub single : Bool
-  pub orders : List (List TaskId)
-  pub keeps : Bool
-  pub lines : List LineCounts
-  pub dispatches : List Dispatch
-  pub feeds : List Feed
+-- a run of a system under a trace, up to which time it was followed, and the moment before that
+pub record FollowedRun : Type 0 where
+  pub system : SystemLists
+  pub trace : TraceLists
+  pub since : ℕ
   pub time : ℕ
-  pub soon : ℕ
-  pub quiet : ℕ
 
--- it is the run of a system under a trace, up to its time, before which the run isn't over
-pub record IsReplay (s : SystemLists) (tr : TraceLists) (p : ReplayLists) : Type 0 where
-  pub rules : IsSystem s
-  pub can : CanReplay s tr
-  pub followers : AreFollowers s (length s.tasks) p.by_source p.by_task
-  pub orders : AreOrders s p.orders
-  pub single : p.single ≡ true → HasSingle s
-  pub at : IsAt s tr p.time p.keeps p.lines p.dispatches p.feeds
-  pub coming : IsSoon s tr p.time p.soon p.feeds
-  pub ran : RanWithin p.lines p.dispatches
-  pub events : (u : ℕ) → events_from tr u ≡ nat_lt u p.quiet
-  pub last : p.quiet ≤ MAX_TRACE_TIME + 1
-  pub before : (u : ℕ) → u < p.time → is_over s tr u ≡ false
-  pub within : p.time ≤ HORIZON
+-- what the simulator keeps stands for the run, whose end isn't passed, and tells who got the ticks since the moment before
+pub record IsReplay (s : SystemLists) (tr : TraceLists) (since : ℕ) (p : CourseLists) : Type 0 where
+  pub course : IsCourse s tr p
+  pub keeps : p.keeps ≡ false
+  pub ran : (r u : ℕ) → r < length s.resources → since ≤ u → u < p.time → served_at s tr u r ≡ ran_by p.lines p.dispatches r

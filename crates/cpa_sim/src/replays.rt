@@ -1,78 +1,55 @@
 //! A run that is followed from one moment to the next. Times are in ticks.
 
-ghost use Rattle.std.specs.Prelude.{◌≡◌, ◌<◌, ◌≤◌, ℕ, length, map, nat_lt, true, false, IfOk, OnOk, IsOk};
-ghost use Rattle.cpa_model.specs.SystemLists.{SystemLists};
-ghost use Rattle.cpa_trace.specs.Trace.{TraceLists};
-ghost use Rattle.cpa_sim.specs.Lines.{kept_of};
+ghost use Rattle.std.specs.Prelude.{◌≡◌, ◌<◌, ◌≤◌, ℕ, length, nat_lt, IfOk};
 ghost use Rattle.cpa_sim.specs.Outcome.{CanReplay, end_of};
-ghost use Rattle.cpa_sim.specs.Served.{served_at, ran_by, RanWithin};
-ghost use Rattle.cpa_sim.specs.Replays.{IsReplay};
+ghost use Rattle.cpa_sim.specs.Served.{served_at};
 
-use crate::feeds::quiet_from;
-use crate::followers::{Followers, find_followers};
+use crate::courses::Course;
 use crate::jobs::Served;
-use crate::orders::find_orders;
-use crate::outcome::Outcome;
-use crate::simulation::{Simulation, advance, goes_on, most_ticks, start};
 use cpa_model::System;
 use cpa_trace::Trace;
-use cpa_units::{NoMemory, ResId, TaskId};
+use cpa_units::{NoMemory, ResId};
 use std::alloc::Global;
 use std::marker::Model;
 
-/// A run of a system under a trace, as far as it was followed. What is seen of its jobs is kept where that
-/// is asked for; all else takes room for the system alone, however many jobs there are.
-#[derive(Debug, Drop)]
-pub struct Replay {
-    followers: Followers,
-    /// The tasks of each resource by urgency.
-    orders: Vec<Vec<TaskId>>,
-    sim: Simulation,
-    /// From this time on no event comes.
-    quiet: u64,
+/// A run of a system under a trace, as far as it was followed. Contracts see the system, the trace, the
+/// time up to which it was followed, and the moment before that: since then the same job has got all ticks
+/// of each resource, or nobody has. Its jobs aren't kept, so that it takes room for the system alone,
+/// however many there are.
+#[derive(Drop)]
+pub struct Replay<'a> {
+    system: &'a System,
+    trace: &'a Trace,
+    course: Course,
+    since: u64,
 }
 
-impl Model for Replay {
-    ghost use Rattle.std.specs.Prelude.{map};
-    ghost use Rattle.cpa_sim.specs.Replays.{ReplayLists};
+impl<'a> Model for Replay<'a> {
+    ghost use Rattle.cpa_sim.specs.Replays.{FollowedRun, IsReplay};
 
-    ghost Value = { ReplayLists };
+    ghost Value = { FollowedRun };
 
-    ghost view = { λ p. record { by_source = map (λ v. v.items) p.followers.by_source.items; by_task = map (λ v. v.items) p.followers.by_task.items; single = p.followers.single; orders = map (λ v. v.items) p.orders.items; keeps = p.sim.keeps; lines = p.sim.lines.items; dispatches = p.sim.dispatches.items; feeds = p.sim.feeds.items; time = p.sim.time; soon = p.sim.soon; quiet = p.quiet } };
+    ghost view = { λ p. record { system = p.system.now; trace = p.trace.now; since = p.since; time = p.course.time } };
+
+    ghost invariant = { λ p. IsReplay p.system.now p.trace.now p.since p.course };
 }
 
-impl Replay {
-    /// The run at tick 0, whose jobs aren't kept. The condition on the trace is that of `replay`.
-    pub fn start(alloc: Global, system: &System, trace: &Trace) -> Result<Replay, NoMemory>
-        requires { CanReplay system.now trace.now }
-        ensures run { IfOk result (λ p. IsReplay system.now trace.now p) }
-        ensures time { IfOk result (λ p. p.time ≡ 0) }
-        ensures keeps { IfOk result (λ p. p.keeps ≡ false) }
-    {
-        Replay::start_with(alloc, system, trace, false)
-    }
-
-    /// The run at tick 0, where what is seen of its jobs is kept or not.
-    pub(crate) fn start_with(
+impl<'a> Replay<'a> {
+    /// The run at tick 0. The condition on the trace is that of `replay`.
+    pub fn start(
         alloc: Global,
-        system: &System,
-        trace: &Trace,
-        keeps: bool,
-    ) -> Result<Replay, NoMemory>
+        system: &'a System,
+        trace: &'a Trace,
+    ) -> Result<Replay<'a>, NoMemory>
         requires { CanReplay system.now trace.now }
-        ensures run { IfOk result (λ p. IsReplay system.now trace.now p) }
-        ensures time { IfOk result (λ p. p.time ≡ 0) }
-        ensures keeps { IfOk result (λ p. p.keeps ≡ keeps) }
+        ensures { IfOk result (λ p. p ≡ record { system = system.now; trace = trace.now; since = 0; time = 0 }) }
     {
-        let quiet = quiet_from(system, trace);
-        let followers = find_followers(alloc, system)?;
-        let orders = find_orders(alloc, system)?;
-        let sim = start(alloc, system, trace, &followers, keeps)?;
+        let course = Course::start(alloc, system, trace, false)?;
         Ok(Replay {
-            followers,
-            orders,
-            sim,
-            quiet,
+            system,
+            trace,
+            course,
+            since: 0,
         })
     }
 
@@ -80,76 +57,35 @@ impl Replay {
     pub fn time(&self) -> u64
         ensures { result ≡ self.now.time }
     {
-        self.sim.time
+        self.course.time()
     }
 
     /// Whether the run goes on from here: its end isn't reached.
     pub fn goes_on(&self) -> bool
-        ensures { (s : SystemLists) (tr : TraceLists) → IsReplay s tr self.now → result ≡ nat_lt self.now.time (end_of s tr) }
+        ensures { result ≡ nat_lt self.now.time (end_of self.now.system self.now.trace) }
     {
-        goes_on(self.sim.time, self.quiet, self.sim.lines.as_slice())
+        self.course.goes_on()
     }
 
-    /// Follows the run to the next moment at which something can change. On each resource the same job
-    /// gets all ticks up to it, or nobody does. The jobs aren't kept, so that no memory is wanted.
-    pub fn advance(&mut self, system: &System, trace: &Trace)
-        requires run { IsReplay system.now trace.now self.old }
-        requires more { self.old.time < end_of system.now trace.now }
-        requires keeps { self.old.keeps ≡ false }
-        ensures run { IsReplay system.now trace.now self.new }
-        ensures keeps { self.new.keeps ≡ false }
+    /// Follows the run to the next moment at which something can change.
+    pub fn advance(&mut self)
+        requires { self.old.time < end_of self.old.system self.old.trace }
+        ensures system { self.new.system ≡ self.old.system }
+        ensures trace { self.new.trace ≡ self.old.trace }
+        ensures since { self.new.since ≡ self.old.time }
         ensures later { self.old.time < self.new.time }
-        ensures within { self.new.time ≤ end_of system.now trace.now }
-        ensures ran { (r u : ℕ) → r < length system.now.resources → self.old.time ≤ u → u < self.new.time → served_at system.now trace.now u r ≡ ran_by self.new.lines self.new.dispatches r }
+        ensures within { self.new.time ≤ end_of self.new.system self.new.trace }
     {
-        self.step(system, trace).unwrap();
-    }
-
-    /// The same, where the jobs may be kept; the run is lost where memory is wanting for that.
-    pub(crate) fn step(&mut self, system: &System, trace: &Trace) -> Result<(), NoMemory>
-        requires run { IsReplay system.now trace.now self.old }
-        requires more { self.old.time < end_of system.now trace.now }
-        ensures run { OnOk result (IsReplay system.now trace.now self.new) }
-        ensures keeps { OnOk result (self.new.keeps ≡ self.old.keeps) }
-        ensures memory { self.old.keeps ≡ false → IsOk result }
-        ensures later { OnOk result (self.old.time < self.new.time) }
-        ensures within { OnOk result (self.new.time ≤ end_of system.now trace.now) }
-        ensures ran { OnOk result ((r u : ℕ) → r < length system.now.resources → self.old.time ≤ u → u < self.new.time → served_at system.now trace.now u r ≡ ran_by self.new.lines self.new.dispatches r) }
-    {
-        let most = most_ticks(self.sim.time, self.quiet);
-        advance(
-            system,
-            trace,
-            &self.followers,
-            &self.orders,
-            &mut self.sim,
-            most,
-        )?;
-        Ok(())
+        let since = self.course.time();
+        self.course.step(self.system, self.trace).unwrap();
+        self.since = since;
     }
 
     /// The job that got the ticks of a resource since the moment before; none where nobody did.
     pub fn ran(&self, res: ResId) -> Option<Served>
-        requires there { res.0 < length self.now.dispatches }
-        requires within { RanWithin self.now.lines self.now.dispatches }
-        ensures { result ≡ ran_by self.now.lines self.now.dispatches res.0 }
+        requires { res.0 < length self.now.system.resources }
+        ensures { (u : ℕ) → self.now.since ≤ u → u < self.now.time → served_at self.now.system self.now.trace u res.0 ≡ result }
     {
-        let dispatch = self.sim.dispatches[res.0 as usize];
-        let task = dispatch.running?;
-        let done = self.sim.lines[task.0 as usize].done();
-        let job = done.saturating_sub(u64::from(dispatch.ends));
-        Some(Served { task, job })
-    }
-
-    /// What is seen of a run that ends here, whose jobs were kept.
-    pub(crate) fn seen(self) -> Outcome
-        requires { self.keeps ≡ true }
-        ensures { result ≡ record { jobs = map kept_of self.lines; end = self.time } }
-    {
-        let sim = self.sim;
-        Outcome {
-            lines: sim.lines,
-            end: sim.time,
-        }
+        self.course.ran(res)
     }
 }

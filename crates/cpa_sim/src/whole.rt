@@ -3,8 +3,8 @@
 ghost use Rattle.std.specs.Prelude.{◌≡◌, IfOk};
 ghost use Rattle.cpa_sim.specs.Outcome.{CanReplay, IsOutcome, outcome_of};
 
+use crate::courses::Course;
 use crate::outcome::Outcome;
-use crate::replays::Replay;
 use cpa_model::System;
 use cpa_trace::Trace;
 use cpa_units::NoMemory;
@@ -18,7 +18,7 @@ pub fn replay(alloc: Global, system: &System, trace: &Trace) -> Result<Outcome, 
     ensures run { IfOk result (λ o. o ≡ outcome_of system.now trace.now) }
     ensures seen { IfOk result (λ o. IsOutcome system.now o) }
 {
-    let mut run = Replay::start_with(alloc, system, trace, true)?;
+    let mut run = Course::start(alloc, system, trace, true)?;
     'moments: while run.goes_on() {
         run.step(system, trace)?;
     }

@@ -15,8 +15,8 @@ use Rattle.cpa_sim.proofs.arrivals.take_all_events.Goals as goal
 -- what has arrived so far and arrives now is part of what arrives in all
 pub take_event-requires-clause-few : goal.take_event-requires-clause-few
 take_event-requires-clause-few c = λ i there feeds.
-    let s = c.args.system.now in
-    let tr = c.args.trace.now in
+    let s = c.args.setting.now.system.now in
+    let tr = c.args.setting.now.trace.now in
     let now = c.args.now in
     let k = c.loop-k.k in
     let l0 = c.args.lines.now.items in
@@ -28,7 +28,7 @@ pub loop-k-init : goal.loop-k-init
 loop-k-init c =
     record {
       count = c.requires.feeds;
-      given = given-none c.args.system.now c.args.now c.args.lines.now.items c.args.dispatches.now.items c.requires.lines c.requires.dispatches;
+      given = given-none c.args.setting.now.system.now c.args.now c.args.lines.now.items c.args.dispatches.now.items c.requires.lines c.requires.dispatches;
       later = omega (arith, c.requires.horizon);
       soonest = λ i less. absurd (omega arith);
       ahead = λ i less. absurd (omega arith);
@@ -38,8 +38,8 @@ loop-k-init c =
 
 pub loop-k-preserved : goal.loop-k-preserved
 loop-k-preserved c =
-    let s = c.args.system.now in
-    let tr = c.args.trace.now in
+    let s = c.args.setting.now.system.now in
+    let tr = c.args.setting.now.trace.now in
     let now = c.args.now in
     let k = c.loop-k.k in
     let inv = c.loop-k.invariant in

@@ -9,8 +9,8 @@ use Rattle.cpa_sim.proofs.arrivals.take_events.Goals as goal
 
 pub returns-then-now-soon-clause-given : goal.returns-then-now-soon-clause-given
 returns-then-now-soon-clause-given c =
-    let s = c.args.system.now in
-    let tr = c.args.trace.now in
+    let s = c.args.setting.now.system.now in
+    let tr = c.args.setting.now.trace.now in
     let now = c.args.now in
     let lines = c.args.lines.now.items in
     let dispatches = c.args.dispatches.now.items in

@@ -3,7 +3,7 @@ use Rattle.cpa_sim.specs.Outcome.{IsOutcome}
 use Rattle.cpa_sim.proofs.StartLaws.{can-run}
 use Rattle.cpa_sim.proofs.EndLaws.{outcome-is}
 use Rattle.cpa_sim.proofs.JobCount.{is-outcome}
-use Rattle.cpa_sim.proofs.ReplayLaws.{ended}
+use Rattle.cpa_sim.proofs.CourseLaws.{ended}
 use Rattle.cpa_sim.proofs.whole.replay.Goals as goal
 
 pub returns-clause-run : goal.returns-clause-run

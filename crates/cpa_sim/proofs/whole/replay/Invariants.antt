@@ -1,12 +1,12 @@
 use Rattle.std.proofs.Common.{◌≡◌, ◌≤◌, ◌-◌, true}
 use Rattle.cpa_units.specs.declared.limits.TheConstants.{HORIZON}
 use Rattle.cpa_sim.specs.Outcome.{end_of}
-use Rattle.cpa_sim.specs.Replays.{IsReplay}
+use Rattle.cpa_sim.specs.Courses.{IsCourse}
 use Rattle.cpa_sim.proofs.whole.replay.Given as goal
 
 abbrev pub invariant-moments : goal.invariant-moments
 invariant-moments l = record {
-  run : IsReplay l.system l.trace l.run;
+  run : IsCourse l.system l.trace l.run;
   keeps : l.run.keeps ≡ true;
   within : l.run.time ≤ end_of l.system l.trace;
 }

@@ -1,16 +1,9 @@
-use Rattle.std.proofs.Common.{◌∙◌, ◌&&◌, ◌||◌, nat_lt, sym, ap, subst}
-use Rattle.std.specs.List.{list_any}
-use Rattle.cpa_units.specs.declared.limits.TheConstants.{HORIZON}
-use Rattle.cpa_sim.specs.Lines.{has_pending}
+use Rattle.std.proofs.Common.{◌∙◌, nat_lt, ap}
 use Rattle.cpa_sim.specs.Outcome.{end_of}
-use Rattle.cpa_sim.specs.Replays.{ReplayLists, IsReplay}
-use Rattle.cpa_sim.proofs.ReplayLaws.{on-is}
+use Rattle.cpa_sim.specs.Replays.{FollowedRun}
 use Rattle.cpa_sim.proofs.replays.Replay.goes_on.Goals as goal
 
 pub returns : goal.returns
-returns c = λ s tr is.
-    let is' = subst (IsReplay s tr) (sym c.self.view_is) is in
-    let time = c.self.inside.sim.time in
-    c.goes_on.ensures
-    ∙ (ap (λ v. nat_lt time HORIZON && (nat_lt time c.self.inside.quiet || list_any has_pending v)) c.as_slice.ensures.value
-    ∙ (on-is s tr _ is' ∙ ap (λ (p : ReplayLists). nat_lt p.time (end_of s tr)) c.self.view_is))
+returns c =
+    c.goes_on.ensures c.self.inside.system.now c.self.inside.trace.now c.self.invariant.course
+    ∙ ap (λ (p : FollowedRun). nat_lt p.time (end_of p.system p.trace)) c.self.view_is

@@ -1,18 +1,19 @@
-use Rattle.std.proofs.Common.{◌<◌, option_map, length, ◌∙◌, sym, ap, subst, arith}
-use Rattle.std.proofs.lemmas.List.{get_or_read}
-use Rattle.cpa_model.specs.SystemLists.{place_of}
-use Rattle.cpa_sim.specs.declared.dispatches.Dispatch.{Dispatch}
-use Rattle.cpa_sim.specs.Simulation.{no_dispatch}
-use Rattle.cpa_sim.specs.Served.{RanWithin}
-use Rattle.cpa_sim.specs.Replays.{ReplayLists}
+use Rattle.std.proofs.Common.{◌≡◌, ◌<◌, ◌≤◌, ◌∙◌, ℕ, length, sym, subst, arith}
+use Rattle.cpa_sim.specs.Served.{served_at}
+use Rattle.cpa_sim.specs.Replays.{FollowedRun}
 use Rattle.cpa_sim.proofs.replays.Replay.ran.Goals as goal
 
-pub index-requires : goal.index-requires
-index-requires c =
-    let dispatches = c.self.inside.sim.dispatches.items in
+pub ran-requires-clause-there : goal.ran-requires-clause-there
+ran-requires-clause-there c =
+    let there : c.args.res.0 < length c.self.inside.system.now.resources = subst (λ (p : FollowedRun). c.args.res.0 < length p.system.resources) (sym c.self.view_is) c.requires in
+    omega (arith, there, c.self.invariant.course.at.count_dispatches)
+
+pub ran-requires-clause-within : goal.ran-requires-clause-within
+ran-requires-clause-within c = c.self.invariant.course.ran
+
+pub returns : goal.returns
+returns c =
     let r = c.args.res.0 in
-    let within = subst (λ (p : ReplayLists). RanWithin p.lines p.dispatches) (sym c.self.view_is) c.requires.within in
-    let there : r < length dispatches = subst (λ (p : ReplayLists). r < length p.dispatches) (sym c.self.view_is) c.requires.there in
-    let here = sym (get_or_read dispatches r c.index-dispatch.result.now there c.index-dispatch.ensures no_dispatch) in
-    let h : c.in_ok-task.task.0 < length c.self.inside.sim.lines.items = within r c.in_ok-task.task.0 there (ap (λ (d : Dispatch). option_map place_of d.running) here ∙ ap (option_map place_of) c.in_ok-task.was) in
-    omega (arith, h)
+    let there : r < length c.self.inside.system.now.resources = subst (λ (p : FollowedRun). r < length p.system.resources) (sym c.self.view_is) c.requires in
+    subst (λ (p : FollowedRun). (u : ℕ) → p.since ≤ u → u < p.time → served_at p.system p.trace u r ≡ c.ran.result) c.self.view_is
+    (λ u from before. c.self.invariant.ran r u there from before ∙ sym c.ran.ensures)

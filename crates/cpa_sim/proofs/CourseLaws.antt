@@ -4,18 +4,18 @@ use Rattle.std.specs.List.{list_any}
 use Rattle.std.proofs.lemmas.Bool.{cases_lt, cases_Bool, lt-ltb, le-ltb, false≢true}
 use Rattle.cpa_units.specs.declared.limits.TheConstants.{HORIZON}
 use Rattle.cpa_units.specs.Search.{least_from}
-use Rattle.cpa_units.proofs.SearchLaws.{least_from-passes}
+use Rattle.cpa_units.proofs.SearchLaws.{least_from-passes, least_from-le}
 use Rattle.cpa_model.specs.SystemLists.{SystemLists}
 use Rattle.cpa_trace.specs.Trace.{TraceLists}
 use Rattle.cpa_sim.specs.Run.{run}
 use Rattle.cpa_sim.specs.Lines.{has_pending}
 use Rattle.cpa_sim.specs.Outcome.{someone_waits, is_over, end_of}
-use Rattle.cpa_sim.specs.Replays.{ReplayLists, IsReplay}
+use Rattle.cpa_sim.specs.Courses.{CourseLists, IsCourse}
 use Rattle.cpa_sim.proofs.StartLaws.{can-run}
 use Rattle.cpa_sim.proofs.EndLaws.{goes-on-events, goes-on-waits, over-at, below-horizon, end-is, someone-is, before-more}
 
 -- the test by which the simulator goes on
-abbrev pub on_of : ReplayLists → Bool
+abbrev pub on_of : CourseLists → Bool
 on_of p = nat_lt p.time HORIZON && (nat_lt p.time p.quiet || list_any has_pending p.lines)
 
 second : (a b c : Bool) → (a && (b || c)) ≡ true → b ≡ false → c ≡ true
@@ -23,7 +23,7 @@ second true true c e none = absurd (false≢true (sym none))
 second true false c e none = e
 second false b c e none = absurd (false≢true e)
 
-module _ (s : SystemLists) (tr : TraceLists) (p : ReplayLists) (is : IsReplay s tr p) where
+module _ (s : SystemLists) (tr : TraceLists) (p : CourseLists) (is : IsCourse s tr p) where
   someone : someone_waits s (run s tr p.time) ≡ list_any has_pending p.lines
   someone = someone-is s tr (can-run s tr is.rules is.can) p.time p.keeps p.lines p.dispatches p.feeds is.at
 
@@ -81,6 +81,11 @@ not-past s tr time within before =
       | inr h ↦ h
       | inl early ↦ absurd (false≢true (sym (before (least_from (is_over s tr) 0 HORIZON) early) ∙ least_from-passes (is_over s tr) 0 HORIZON (omega arith)))
     ]
+
+-- each run ends by the horizon
+pub end-within : (s : SystemLists) (tr : TraceLists) → end_of s tr ≤ HORIZON
+unfolding end_of
+end-within s tr = omega (arith, least_from-le (is_over s tr) 0 HORIZON)
 
 -- what doesn't go on has come to the end
 pub ended : (s : SystemLists) (tr : TraceLists) (time : ℕ) → nat_lt time (end_of s tr) ≡ false → time ≤ end_of s tr → time ≡ end_of s tr

@@ -1,23 +1,23 @@
 use Rattle.std.proofs.Common.{◌<◌, sym, subst, arith, inl, inr}
 use Rattle.std.proofs.lemmas.Bool.{cases_lt}
 use Rattle.cpa_sim.specs.Outcome.{end_of}
-use Rattle.cpa_sim.specs.Replays.{ReplayLists, IsReplay}
-use Rattle.cpa_sim.proofs.ReplayLaws.{before-horizon, before-next, not-past}
-use Rattle.cpa_sim.proofs.replays.Replay.step.Goals as goal
+use Rattle.cpa_sim.specs.Courses.{CourseLists, IsCourse}
+use Rattle.cpa_sim.proofs.CourseLaws.{before-horizon, before-next, not-past}
+use Rattle.cpa_sim.proofs.courses.Course.step.Goals as goal
 
 pub most_ticks-most-requires : goal.most_ticks-most-requires
 most_ticks-most-requires c =
     let s = c.args.system.now in
     let tr = c.args.trace.now in
-    let is = subst (IsReplay s tr) (sym c.self.view_is) c.requires.run in
-    before-horizon s tr _ is (subst (λ (p : ReplayLists). p.time < end_of s tr) (sym c.self.view_is) c.requires.more)
+    let is = subst (IsCourse s tr) (sym c.self.view_is) c.requires.run in
+    before-horizon s tr _ is (subst (λ (p : CourseLists). p.time < end_of s tr) (sym c.self.view_is) c.requires.more)
 
 pub returns-clause-run : goal.returns-clause-run
 returns-clause-run c =
     let s = c.args.system.now in
     let tr = c.args.trace.now in
-    let is = subst (IsReplay s tr) (sym c.self.view_is) c.requires.run in
-    let more = subst (λ (p : ReplayLists). p.time < end_of s tr) (sym c.self.view_is) c.requires.more in
+    let is = subst (IsCourse s tr) (sym c.self.view_is) c.requires.run in
+    let more = subst (λ (p : CourseLists). p.time < end_of s tr) (sym c.self.view_is) c.requires.more in
     let time = c.self.inside.sim.time in
     let quiet = c.self.inside.quiet in
     record {

@@ -1,0 +1,44 @@
+-- What the simulator keeps of a run from one moment to the next.
+use Rattle.std.specs.Prelude.{ℕ, ◌≡◌, ◌<◌, ◌≤◌, ◌+◌, Bool, true, false, nat_lt, List, length}
+use Rattle.cpa_units.specs.declared.limits.TheConstants.{HORIZON, MAX_TRACE_TIME}
+use Rattle.cpa_units.specs.declared.places.TaskId.{TaskId}
+use Rattle.cpa_model.specs.SystemLists.{SystemLists}
+use Rattle.cpa_model.specs.Rules.{IsSystem}
+use Rattle.cpa_trace.specs.Trace.{TraceLists}
+use Rattle.cpa_sim.specs.declared.dispatches.Dispatch.{Dispatch}
+use Rattle.cpa_sim.specs.declared.feeds.Feed.{Feed}
+use Rattle.cpa_sim.specs.Arrivals.{AreFollowers, HasSingle}
+use Rattle.cpa_sim.specs.Lines.{LineCounts}
+use Rattle.cpa_sim.specs.Orders.{AreOrders}
+use Rattle.cpa_sim.specs.Outcome.{CanReplay, events_from, is_over}
+use Rattle.cpa_sim.specs.Simulation.{IsAt, IsSoon}
+use Rattle.cpa_sim.specs.Served.{RanWithin}
+
+-- what is known of a run as far as it was followed, and whether its jobs are kept
+pub record CourseLists : Type 0 where
+  pub by_source : List (List TaskId)
+  pub by_task : List (List TaskId)
+  pub single : Bool
+  pub orders : List (List TaskId)
+  pub keeps : Bool
+  pub lines : List LineCounts
+  pub dispatches : List Dispatch
+  pub feeds : List Feed
+  pub time : ℕ
+  pub soon : ℕ
+  pub quiet : ℕ
+
+-- it is the run of a system under a trace, up to its time, before which the run isn't over
+pub record IsCourse (s : SystemLists) (tr : TraceLists) (p : CourseLists) : Type 0 where
+  pub rules : IsSystem s
+  pub can : CanReplay s tr
+  pub followers : AreFollowers s (length s.tasks) p.by_source p.by_task
+  pub orders : AreOrders s p.orders
+  pub single : p.single ≡ true → HasSingle s
+  pub at : IsAt s tr p.time p.keeps p.lines p.dispatches p.feeds
+  pub coming : IsSoon s tr p.time p.soon p.feeds
+  pub ran : RanWithin p.lines p.dispatches
+  pub events : (u : ℕ) → events_from tr u ≡ nat_lt u p.quiet
+  pub last : p.quiet ≤ MAX_TRACE_TIME + 1
+  pub before : (u : ℕ) → u < p.time → is_over s tr u ≡ false
+  pub within : p.time ≤ HORIZON

@@ -1,0 +1,139 @@
+//! What the simulator keeps of a run from one moment to the next. Times are in ticks.
+
+ghost use Rattle.std.specs.Prelude.{◌≡◌, ◌<◌, ◌≤◌, ℕ, length, map, nat_lt, true, false, IfOk, OnOk, IsOk};
+ghost use Rattle.cpa_model.specs.SystemLists.{SystemLists};
+ghost use Rattle.cpa_trace.specs.Trace.{TraceLists};
+ghost use Rattle.cpa_sim.specs.Lines.{kept_of};
+ghost use Rattle.cpa_sim.specs.Outcome.{CanReplay, end_of};
+ghost use Rattle.cpa_sim.specs.Served.{served_at, ran_by, RanWithin};
+ghost use Rattle.cpa_sim.specs.Courses.{IsCourse};
+
+use crate::feeds::quiet_from;
+use crate::followers::{Followers, find_followers};
+use crate::jobs::Served;
+use crate::orders::find_orders;
+use crate::outcome::Outcome;
+use crate::settings::Setting;
+use crate::simulation::{Simulation, advance, goes_on, most_ticks, start};
+use cpa_model::System;
+use cpa_trace::Trace;
+use cpa_units::{NoMemory, ResId, TaskId};
+use std::alloc::Global;
+use std::marker::Model;
+
+/// A run of a system under a trace, as far as it was followed. What is seen of its jobs is kept where that
+/// is asked for; all else takes room for the system alone, however many jobs there are.
+#[derive(Debug, Drop)]
+pub(crate) struct Course {
+    followers: Followers,
+    /// The tasks of each resource by urgency.
+    orders: Vec<Vec<TaskId>>,
+    sim: Simulation,
+    /// From this time on no event comes.
+    quiet: u64,
+}
+
+impl Model for Course {
+    ghost use Rattle.std.specs.Prelude.{map};
+    ghost use Rattle.cpa_sim.specs.Courses.{CourseLists};
+
+    ghost Value = { CourseLists };
+
+    ghost view = { λ p. record { by_source = map (λ v. v.items) p.followers.by_source.items; by_task = map (λ v. v.items) p.followers.by_task.items; single = p.followers.single; orders = map (λ v. v.items) p.orders.items; keeps = p.sim.keeps; lines = p.sim.lines.items; dispatches = p.sim.dispatches.items; feeds = p.sim.feeds.items; time = p.sim.time; soon = p.sim.soon; quiet = p.quiet } };
+}
+
+impl Course {
+    /// The run at tick 0, where what is seen of its jobs is kept or not. The condition on the trace is that
+    /// of `replay`.
+    pub(crate) fn start(
+        alloc: Global,
+        system: &System,
+        trace: &Trace,
+        keeps: bool,
+    ) -> Result<Course, NoMemory>
+        requires { CanReplay system.now trace.now }
+        ensures run { IfOk result (λ p. IsCourse system.now trace.now p) }
+        ensures time { IfOk result (λ p. p.time ≡ 0) }
+        ensures keeps { IfOk result (λ p. p.keeps ≡ keeps) }
+    {
+        let quiet = quiet_from(system, trace);
+        let followers = find_followers(alloc, system)?;
+        let orders = find_orders(alloc, system)?;
+        let setting = Setting {
+            system,
+            trace,
+            followers: &followers,
+            orders: &orders,
+        };
+        let sim = start(alloc, &setting, keeps)?;
+        Ok(Course {
+            followers,
+            orders,
+            sim,
+            quiet,
+        })
+    }
+
+    /// The time up to which the run was followed.
+    pub(crate) fn time(&self) -> u64
+        ensures { result ≡ self.now.time }
+    {
+        self.sim.time
+    }
+
+    /// Whether the run goes on from here: its end isn't reached.
+    pub(crate) fn goes_on(&self) -> bool
+        ensures { (s : SystemLists) (tr : TraceLists) → IsCourse s tr self.now → result ≡ nat_lt self.now.time (end_of s tr) }
+    {
+        goes_on(self.sim.time, self.quiet, self.sim.lines.as_slice())
+    }
+
+    /// Follows the run to the next moment at which something can change. On each resource the same job
+    /// gets all ticks up to it, or nobody does. Where jobs are kept and memory is wanting for that, the run
+    /// is lost.
+    pub(crate) fn step(&mut self, system: &System, trace: &Trace) -> Result<(), NoMemory>
+        requires run { IsCourse system.now trace.now self.old }
+        requires more { self.old.time < end_of system.now trace.now }
+        ensures run { OnOk result (IsCourse system.now trace.now self.new) }
+        ensures keeps { OnOk result (self.new.keeps ≡ self.old.keeps) }
+        ensures memory { self.old.keeps ≡ false → IsOk result }
+        ensures later { OnOk result (self.old.time < self.new.time) }
+        ensures within { OnOk result (self.new.time ≤ end_of system.now trace.now) }
+        ensures ran { OnOk result ((r u : ℕ) → r < length system.now.resources → self.old.time ≤ u → u < self.new.time → served_at system.now trace.now u r ≡ ran_by self.new.lines self.new.dispatches r) }
+    {
+        let most = most_ticks(self.sim.time, self.quiet);
+        let setting = Setting {
+            system,
+            trace,
+            followers: &self.followers,
+            orders: &self.orders,
+        };
+        advance(&setting, &mut self.sim, most)?;
+        Ok(())
+    }
+
+    /// The job that got the ticks of a resource since the moment before; none where nobody did.
+    pub(crate) fn ran(&self, res: ResId) -> Option<Served>
+        requires there { res.0 < length self.now.dispatches }
+        requires within { RanWithin self.now.lines self.now.dispatches }
+        ensures { result ≡ ran_by self.now.lines self.now.dispatches res.0 }
+    {
+        let dispatch = self.sim.dispatches[res.0 as usize];
+        let task = dispatch.running?;
+        let done = self.sim.lines[task.0 as usize].done();
+        let job = done.saturating_sub(u64::from(dispatch.ends));
+        Some(Served { task, job })
+    }
+
+    /// What is seen of a run that ends here, whose jobs were kept.
+    pub(crate) fn seen(self) -> Outcome
+        requires { self.keeps ≡ true }
+        ensures { result ≡ record { jobs = map kept_of self.lines; end = self.time } }
+    {
+        let sim = self.sim;
+        Outcome {
+            lines: sim.lines,
+            end: sim.time,
+        }
+    }
+}

@@ -1,0 +1,16 @@
+//! What a run goes by.
+
+use crate::followers::Followers;
+use cpa_model::System;
+use cpa_trace::Trace;
+use cpa_units::TaskId;
+
+/// What a run goes by, which never changes on its way.
+#[derive(Clone, Copy)]
+pub(crate) struct Setting<'a> {
+    pub(crate) system: &'a System,
+    pub(crate) trace: &'a Trace,
+    pub(crate) followers: &'a Followers,
+    /// The tasks of each resource by urgency.
+    pub(crate) orders: &'a Vec<Vec<TaskId>>,
+}
