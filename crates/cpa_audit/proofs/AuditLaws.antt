@@ -14,7 +14,7 @@ use Rattle.cpa_audit.specs.Segments.{gets, stop_of}
 use Rattle.cpa_audit.specs.Auditing.{has_segment, earlier, compared, put}
 use Rattle.cpa_audit.specs.Compared.{stopped, IsBehind, IsChecked, IsGoing, IsCompared}
 use Rattle.cpa_audit.proofs.SegmentLaws.{stops-at}
-use Rattle.cpa_audit.specs.Firsts.{IsFirst}
+use Rattle.cpa_audit.specs.Firsts.{AgreeBelow, IsFirst}
 
 unput : (open_on : ℕ → Option Open) (k r : ℕ) (o : Open) → put open_on k None r ≡ Some o → open_on r ≡ Some o
 unput open_on k r o e =
@@ -74,13 +74,13 @@ rechecked schedule open_on first k o p x seg is same (inr (inr going)) =
     some-open : (a b : Open) → Some a ≡ Some b → a ≡ b
     some-open a b e = cc
 
-slice_get-before : (xs : List Segment) (y : Segment) (p : ℕ) → p < length xs → slice_get (xs ++ y ∷ []) p ≡ slice_get xs p
-slice_get-before [] y p less = absurd (omega arith)
-slice_get-before (x ∷ xs) y zero less = refl
-slice_get-before (x ∷ xs) y (suc p) less = slice_get-before xs y p (omega arith)
+slice_get-before : (xs ys : List Segment) (p : ℕ) → p < length xs → slice_get (xs ++ ys) p ≡ slice_get xs p
+slice_get-before [] ys p less = absurd (omega arith)
+slice_get-before (x ∷ xs) ys zero less = refl
+slice_get-before (x ∷ xs) ys (suc p) less = slice_get-before xs ys p (omega arith)
 
-slice_get-kept : (xs : List Segment) (y : Segment) (p : ℕ) (x : Segment) → slice_get xs p ≡ Some x → slice_get (xs ++ y ∷ []) p ≡ Some x
-slice_get-kept xs y p x e = slice_get-before xs y p (slice_get_within xs p x e) ∙ e
+slice_get-kept : (xs ys : List Segment) (p : ℕ) (x : Segment) → slice_get xs p ≡ Some x → slice_get (xs ++ ys) p ≡ Some x
+slice_get-kept xs ys p x e = slice_get-before xs ys p (slice_get_within xs p x e) ∙ e
 
 slice_get-last : (xs : List Segment) (y : Segment) → slice_get (xs ++ y ∷ []) (length xs) ≡ Some y
 slice_get-last [] y = refl
@@ -101,6 +101,10 @@ still-checked schedule open_on first k o p x none (inr (inr going)) =
 -- a difference is one
 abbrev pub Differs : List Segment → List Segment → Difference → Type 0
 Differs schedule expected d = (slice_get expected d.place ≡ Some d.expected) × (has_segment (slice_get schedule d.place) d.expected ≡ false)
+
+-- and all before it agree
+abbrev DiffersFirst : List Segment → List Segment → Difference → Type 0
+DiffersFirst schedule expected d = (slice_get expected d.place ≡ Some d.expected) × (has_segment (slice_get schedule d.place) d.expected ≡ false) × AgreeBelow schedule expected d.place
 
 earlier-differs : (schedule expected : List Segment) (f : Option Difference) (n : Difference) → Differs schedule expected n → ((d : Difference) → f ≡ Some d → Differs schedule expected d) → Differs schedule expected (earlier f n)
 earlier-differs schedule expected None n new old = new
@@ -177,17 +181,17 @@ module _ (s : SystemLists) (tr : TraceLists) (schedule : List Segment) where
                   rw same (subst (λ q. IsGoing s tr (expected ++ seg ∷ []) k (time k) q) one (record { place = slice_get-last expected seg; started = from; each = each }))
               | inr other ↦
                   let g = c.going r q (rw other at e) in
-                  record { place = slice_get-kept expected seg q.place _ g.place; started = g.started; each = g.each }
+                  record { place = slice_get-kept expected (seg ∷ []) q.place _ g.place; started = g.started; each = g.each }
             ];
         checked = λ p x e.
             elim (cases_lt p (length expected)) [
-              | inl early ↦ still-checked schedule open_on first k o p x none (c.checked p x (sym (slice_get-before expected seg p early) ∙ e))
+              | inl early ↦ still-checked schedule open_on first k o p x none (c.checked p x (sym (slice_get-before expected (seg ∷ []) p early) ∙ e))
               | inr late ↦
                   let within = slice_get_within (expected ++ seg ∷ []) p x e in
                   let at : length expected ≡ p = omega (arith, within, length-append expected (seg ∷ [])) in
                   inr (inr (record { res = k; going = o; is = cond-true (eqb k k) _ _ (eq-eqb k k refl); at = at }))
             ];
-        differs = λ d e. let h = c.differs d e in (slice_get-kept expected seg d.place _ h.0, h.1);
+        differs = λ d e. let h = c.differs d e in (slice_get-kept expected (seg ∷ []) d.place _ h.0, h.1);
       }
 
   -- once nothing is open
@@ -210,3 +214,26 @@ module _ (s : SystemLists) (tr : TraceLists) (schedule : List Segment) where
       had-all p seg e (inl had) = had
       had-all p seg e (inr (inl b)) = let is : None ≡ Some b.difference = sym e ∙ b.is in cc
       had-all p seg e (inr (inr o)) = let is : None ≡ Some o.going = sym (none o.res) ∙ o.is in cc
+
+  -- once nothing open lies before a difference, whatever starts after these
+  pub compared-settled : (expected rest : List Segment) (time : ℕ → ℕ) (open_on : ℕ → Option Open) (d : Difference) → IsCompared s tr schedule expected time open_on (Some d)
+      → ((r : ℕ) (o : Open) → open_on r ≡ Some o → d.place ≤ o.place) → IsFirst schedule (expected ++ rest) (Some d)
+  compared-settled expected rest time open_on d c none =
+      record {
+        differs = λ x e. let one : d ≡ x = cc in subst (DiffersFirst schedule (expected ++ rest)) one known;
+        agrees = λ e p seg less is. let z : Some d ≡ None = e in cc;
+      }
+    where
+      had-before : (p : ℕ) (seg : Segment) → p < d.place → IsChecked schedule open_on (Some d) p seg → has_segment (slice_get schedule p) seg ≡ true
+      had-before p seg less (inl had) = had
+      had-before p seg less (inr (inl b)) =
+          let is : Some d ≡ Some b.difference = b.is in
+          let one : d ≡ b.difference = cc in
+          absurd (omega (arith, less, b.le, ap (λ (x : Difference). x.place) one))
+      had-before p seg less (inr (inr o)) = absurd (omega (arith, less, o.at, none o.res o.going o.is))
+
+      known : DiffersFirst schedule (expected ++ rest) d
+      known =
+          let h = c.differs d refl in
+          let there = slice_get_within expected d.place d.expected h.0 in
+          (slice_get-kept expected rest d.place d.expected h.0, h.1, λ p seg less is. had-before p seg less (c.checked p seg (sym (slice_get-before expected rest p (omega (arith, less, there))) ∙ is)))

@@ -67,6 +67,11 @@ found-is schedule expected count None all is =
     let at : 1 + length expected ≡ length expected + 1 = omega arith in
     rw all (sym (agreement-is 1 schedule expected (is.agrees refl) ∙ ap (λ n. cond (nat_lt (length expected) (length schedule)) (Wrong n None) Same) at))
 
+-- a first difference is what is found, however many segments there are
+pub found-first : (schedule expected : List Segment) (count : ℕ) (first : Option Difference) → (first ≡ None → ⊥) → IsFirst schedule expected first → found schedule count first ≡ finding_of schedule expected
+found-first schedule expected count (Some d) some is = found-is schedule expected (length expected) (Some d) refl is
+found-first schedule expected count None some is = absurd (some refl)
+
 -- it lies within the schedule, or right behind it
 pub place-within : (schedule expected : List Segment) (d : Difference) → IsFirst schedule expected (Some d) → d.place ≤ length schedule
 place-within schedule expected d is = let h = is.differs d refl in go schedule expected d.place d.expected h.0 h.2

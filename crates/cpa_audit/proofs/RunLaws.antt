@@ -1,10 +1,11 @@
 -- All resources, followed over a jump.
-use Rattle.std.proofs.Common.{◌≡◌, ℕ, zero, suc, ◌+◌, ◌-◌, ◌*◌, ◌<◌, ◌≤◌, ◌++◌, length, List, [], replicate, false, cond, eqb, nat_lt, Option, Some, None, option_map, refl, sym, ◌∙◌, ap, subst, inl, inr, arith, length-append, append_assoc}
+use Rattle.std.proofs.Common.{◌≡◌, ℕ, zero, suc, ◌+◌, ◌-◌, ◌*◌, ◌<◌, ◌≤◌, ◌++◌, length, List, [], replicate, Bool, true, false, not, cond, eqb, nat_lt, Option, Some, None, option_map, refl, sym, ◌∙◌, ap, subst, inl, inr, arith, length-append, append_assoc}
 use mathlib.Core.Path.{fun_ext}
-use Rattle.std.specs.List.{flat_map, range_with_len}
+use Rattle.std.specs.List.{flat_map, range_with_len, list_any}
 use Rattle.std.proofs.lemmas.Bool.{cases_lt, cases_Bool, eqb-true, eq-eqb, lt-ltb, le-ltb, cond-true, cond-false, false≢true}
 use Rattle.std.proofs.lemmas.List.{append-nil, get_or_past, length-replicate}
 use Rattle.std.proofs.lemmas.List.Concat.{flat_map-cons}
+use Rattle.std.proofs.lemmas.List.Folds.{list_any_at}
 use Rattle.cpa_units.proofs.PlaceLaws.{flat_map-places_more}
 use Rattle.cpa_model.specs.SystemLists.{SystemLists}
 use Rattle.cpa_trace.specs.Trace.{TraceLists}
@@ -15,10 +16,10 @@ use Rattle.cpa_audit.specs.declared.schedule.Segment.{Segment}
 use Rattle.cpa_audit.specs.declared.auditing.Open.{Open}
 use Rattle.cpa_audit.specs.declared.auditing.Difference.{Difference}
 use Rattle.cpa_audit.specs.Segments.{is_job, last_served, segment_by, segment_at, starting, started, segments}
-use Rattle.cpa_audit.specs.Auditing.{goes_on, closed, open_at, put, going_after, first_after, count_after}
+use Rattle.cpa_audit.specs.Auditing.{goes_on, closed, open_at, put, going_after, first_after, count_after, lies_before, is_settled}
 use Rattle.cpa_audit.specs.Compared.{IsCompared, partly, IsFollowed, IsClosing}
-use Rattle.cpa_audit.proofs.SegmentLaws.{at-is, starting-is, started-is, started-zero, started-jump}
-use Rattle.cpa_audit.proofs.AuditLaws.{compared-none, compared-later, compared-closed, compared-all}
+use Rattle.cpa_audit.proofs.SegmentLaws.{at-is, starting-is, started-is, started-zero, started-jump, started-later}
+use Rattle.cpa_audit.proofs.AuditLaws.{compared-none, compared-later, compared-closed, compared-all, compared-settled}
 use Rattle.cpa_audit.specs.Firsts.{IsFirst}
 use Rattle.cpa_audit.proofs.FollowLaws.{Followed, followed, put-none}
 
@@ -223,3 +224,36 @@ count-none (Some o) = refl
 pub all-segments : (s : SystemLists) (tr : TraceLists) (t : ℕ) → t ≡ end_of s tr → partly s tr t 0 ≡ segments s tr
 unfolding segments
 all-segments s tr t at = append-nil (started s tr t) ∙ ap (started s tr) at
+
+-- ---- once the first difference of all is known
+
+not-true : (b : Bool) → not b ≡ true → b ≡ false
+not-true true e = absurd (false≢true e)
+not-true false e = refl
+
+none-before : (opens : List (Option Open)) (place : ℕ) → list_any (lies_before place) opens ≡ false → (r : ℕ) (o : Open) → open_at opens r ≡ Some o → place ≤ o.place
+none-before opens place none r o is =
+    elim (cases_lt o.place place) [
+      | inr past ↦ past
+      | inl before ↦ elim (cases_lt r (length opens)) [
+        | inl less ↦
+            let at : lies_before place (open_at opens r) ≡ true = ap (lies_before place) is ∙ lt-ltb o.place place before in
+            absurd (false≢true (sym none ∙ list_any_at (lies_before place) opens r None less at))
+        | inr past ↦ let z : None ≡ Some o = sym (get_or_past opens r None past) ∙ is in cc
+      ]
+    ]
+
+pub settled-first : (s : SystemLists) (tr : TraceLists) (schedule : List Segment) (t : ℕ) (opens : List (Option Open)) (count : ℕ) (first : Option Difference) → t ≤ end_of s tr → IsFollowed s tr schedule 0 t t opens count first
+    → is_settled opens first ≡ true → IsFirst schedule (segments s tr) first
+unfolding segments
+settled-first s tr schedule t opens count None within h settled = absurd (false≢true settled)
+settled-first s tr schedule t opens count (Some d) within h settled =
+    let more = started-later s tr t (end_of s tr - t) in
+    let at : t + (end_of s tr - t) ≡ end_of s tr = omega (arith, within) in
+    let all : partly s tr t 0 ++ more.rest ≡ started s tr (end_of s tr) = ap (λ xs. xs ++ more.rest) (append-nil (started s tr t)) ∙ (sym more.is ∙ ap (started s tr) at) in
+    let none = none-before opens d.place (not-true (list_any (lies_before d.place) opens) settled) in
+    subst (λ es. IsFirst schedule es (Some d)) all (compared-settled s tr schedule (partly s tr t 0) more.rest (λ r. cond (nat_lt r 0) t t) (open_at opens) d h.compared none)
+
+pub settled-some : (opens : List (Option Open)) (first : Option Difference) → is_settled opens first ≡ true → first ≡ None → ⊥
+settled-some opens None settled e = false≢true settled
+settled-some opens (Some d) settled e = let z : Some d ≡ None = e in cc

@@ -1,5 +1,5 @@
 -- The segments that have started by a time.
-use Rattle.std.proofs.Common.{◌≡◌, ℕ, zero, suc, ◌+◌, ◌-◌, ◌<◌, ◌≤◌, ◌++◌, length, List, [], Bool, true, false, not, eqb, ◌&&◌, Option, Some, None, refl, sym, ◌∙◌, ap, inl, inr, arith, add-one}
+use Rattle.std.proofs.Common.{◌≡◌, ℕ, zero, suc, ◌+◌, ◌-◌, ◌<◌, ◌≤◌, ◌++◌, length, List, [], Bool, true, false, not, eqb, ◌&&◌, Option, Some, None, refl, sym, ◌∙◌, ap, inl, inr, arith, add-one, append_assoc}
 use Rattle.std.specs.List.{flat_map, range_with_len}
 use Rattle.std.proofs.lemmas.Bool.{cases_lt, eqb-true, eq-eqb, false≢true}
 use Rattle.std.proofs.lemmas.List.{append-nil}
@@ -89,6 +89,23 @@ module _ (s : SystemLists) (tr : TraceLists) where
       let h = nothing-starts (t + n) r (rw e' (same r (t + suc n) less (omega arith) (omega arith)) ∙ sym (same r (t + n) less (omega arith) (omega arith))) in
       rw e' at h) in
       rw e (started-more (t + suc n) ∙ (ap (λ xs. started s tr (t + suc n) ++ xs) none ∙ (append-nil (started s tr (t + suc n)) ∙ started-jump t n (λ r u less low high. same r u less low (omega arith)))))
+
+  -- what has started by a time is a first part of what has later
+  pub record Later (t later : ℕ) : Type 0 where
+    pub rest : List Segment
+    pub is : started s tr later ≡ started s tr t ++ rest
+
+  pub started-later : (t n : ℕ) → Later t (t + n)
+  started-later t zero =
+      let e : t + 0 ≡ t = omega arith in
+      record { rest = []; is = ap (started s tr) e ∙ sym (append-nil (started s tr t)) }
+  started-later t (suc n) =
+      let before = started-later t n in
+      let e : t + suc n ≡ (t + n) + 1 = omega arith in
+      record {
+        rest = before.rest ++ starting s tr (t + n);
+        is = ap (started s tr) e ∙ (started-more (t + n) ∙ (ap (λ xs. xs ++ starting s tr (t + n)) before.is ∙ append_assoc (started s tr t) before.rest (starting s tr (t + n))));
+      }
 
   -- where a segment stops
   pub stops-at : (r : ℕ) (j : Served) (start e : ℕ) → start ≤ e → e ≤ end_of s tr → ((u : ℕ) → start ≤ u → u < e → gets s tr r j u ≡ true) → (e < end_of s tr → gets s tr r j e ≡ false) → stop_of s tr r j start ≡ e

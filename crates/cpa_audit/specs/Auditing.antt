@@ -1,5 +1,6 @@
 -- What an audit knows while it goes along a run.
-use Rattle.std.specs.Prelude.{ℕ, ◌+◌, nat_lt, Bool, false, if◌then◌else◌, List, length, Option, Some, None, slice_get, slice_index_or, ◌==◌}
+use Rattle.std.specs.Prelude.{ℕ, ◌+◌, nat_lt, Bool, false, not, if◌then◌else◌, List, length, Option, Some, None, slice_get, slice_index_or, ◌==◌}
+use Rattle.std.specs.List.{list_any}
 use Rattle.cpa_sim.specs.declared.jobs.Served.{Served}
 use Rattle.cpa_audit.specs.declared.schedule.Segment.{Segment}
 use Rattle.cpa_audit.specs.declared.finding.Finding.{Finding}
@@ -61,6 +62,16 @@ open_at opens r = slice_index_or opens r None
 -- with another on one
 abbrev pub put : (ℕ → Option Open) → ℕ → Option Open → ℕ → Option Open
 put open_on k o r = if r == k then o else open_on r
+
+-- whether an open segment lies before a place
+abbrev pub lies_before : ℕ → Option Open → Bool
+lies_before place None = false
+lies_before place (Some o) = nat_lt o.place place
+
+-- whether the first difference of all is known: no open segment lies before the first so far
+abbrev pub is_settled : List (Option Open) → Option Difference → Bool
+is_settled opens None = false
+is_settled opens (Some d) = not (list_any (lies_before d.place) opens)
 
 -- what is found after so many segments, of which this was the first that differs
 abbrev pub found : List Segment → ℕ → Option Difference → Finding

@@ -1,16 +1,15 @@
 //! The audit: along a run, with one open segment per resource. Times are in ticks.
 
 ghost use Rattle.std.specs.Prelude.{◌≡◌, ◌<◌, ◌≤◌, ◌+◌, ◌^◌, ℕ, length, replicate, None, if◌then◌else◌, IfOk};
+ghost use Rattle.std.specs.List.{list_any};
 ghost use Rattle.std.specs.Option.{ForSome};
 ghost use Rattle.cpa_sim.specs.Outcome.{CanReplay, end_of};
-ghost use Rattle.cpa_sim.specs.Served.{served_at, ran_by};
-ghost use Rattle.cpa_sim.specs.Replays.{IsReplay};
 ghost use Rattle.cpa_audit.specs.Compared.{IsFollowed};
 ghost use Rattle.cpa_audit.specs.Firsts.{IsFirst};
 ghost use Rattle.cpa_audit.specs.Segments.{same_job, segments};
 ghost use Rattle.cpa_audit.specs.AuditText.{NamesTasks};
 ghost use Rattle.cpa_audit.specs.Findings.{same_segment, finding_of};
-ghost use Rattle.cpa_audit.specs.Auditing.{goes_on, opened, count_of, earlier, compared, closed, found, open_at, put, going_after, first_after, count_after};
+ghost use Rattle.cpa_audit.specs.Auditing.{goes_on, opened, count_of, earlier, compared, closed, found, open_at, put, going_after, first_after, count_after, lies_before, is_settled};
 
 use crate::finding::Finding;
 use crate::schedule::{Schedule, Segment};
@@ -190,13 +189,14 @@ fn follow_all(
     trace: &Trace,
     schedule: &Schedule,
     so_far: &mut SoFar,
-    replay: &Replay,
+    replay: &Replay<'_>,
     time: u64,
 )
-    requires run { IsReplay system.now trace.now replay.now }
+    requires system { replay.now.system ≡ system.now }
+    requires trace { replay.now.trace ≡ trace.now }
+    requires since { replay.now.since ≡ time }
     requires later { time < replay.now.time }
     requires within { replay.now.time ≤ end_of system.now trace.now }
-    requires ran { (r u : ℕ) → r < length system.now.resources → time ≤ u → u < replay.now.time → served_at system.now trace.now u r ≡ ran_by replay.now.lines replay.now.dispatches r }
     requires followed { IsFollowed system.now trace.now schedule.now 0 time time so_far.old.opens.items so_far.old.count so_far.old.first }
     ensures { IsFollowed system.now trace.now schedule.now 0 replay.now.time replay.now.time so_far.new.opens.items so_far.new.count so_far.new.first }
 {
@@ -219,8 +219,41 @@ fn close_all(system: &System, trace: &Trace, schedule: &Schedule, so_far: &mut S
     }
 }
 
+/// Whether a segment that goes on lies before a place.
+fn lies_before(going: Option<Open>, place: u64) -> bool
+    ensures { result ≡ lies_before place going }
+{
+    match going {
+        None => false,
+        Some(open) => open.place < place,
+    }
+}
+
+/// Whether one of the segments that go on lies before a place.
+fn some_before(opens: &[Option<Open>], place: u64) -> bool
+    ensures { result ≡ list_any (lies_before place) opens.now }
+{
+    for &going in opens {
+        if lies_before(going, place) {
+            return true;
+        }
+    }
+    false
+}
+
+/// Whether the first difference of all is known: no segment that goes on lies before the first so far.
+fn is_settled(so_far: &SoFar) -> bool
+    ensures { result ≡ is_settled so_far.now.opens.items so_far.now.first }
+{
+    match so_far.first {
+        None => false,
+        Some(first) => !some_before(so_far.opens.as_slice(), first.place),
+    }
+}
+
 /// What there is to say of a schedule, beside the segments of the run of a trace. The condition on the
-/// trace is that of `replay`. Memory is wanted at its start alone, for the resources and tasks of the
+/// trace is that of `replay`. The run is followed no further than to where the first difference is known.
+/// Memory is wanted at its start alone, for the resources and tasks of the
 /// system, however many jobs the run has.
 pub fn audit(
     alloc: Global,
@@ -232,12 +265,16 @@ pub fn audit(
     ensures finding { IfOk result (λ f. f ≡ finding_of schedule.now (segments system.now trace.now)) }
     ensures names { IfOk result (λ f. NamesTasks system.now f) }
 {
+    system.has_rules();
     let mut replay = Replay::start(alloc, system, trace)?;
     let mut so_far = start(alloc, system)?;
     'moments: while replay.goes_on() {
         let time = replay.time();
-        replay.advance(system, trace);
+        replay.advance();
         follow_all(system, trace, schedule, &mut so_far, &replay, time);
+        if is_settled(&so_far) {
+            return Ok(found(schedule, so_far.count, so_far.first));
+        }
     }
     close_all(system, trace, schedule, &mut so_far, replay.time());
     Ok(found(schedule, so_far.count, so_far.first))

@@ -17,9 +17,8 @@ use Rattle.cpa_sched.specs.States.{IsOn}
 use Rattle.cpa_sim.specs.declared.dispatches.Dispatch.{Dispatch}
 use Rattle.cpa_sim.specs.declared.jobs.Job.{Job}
 use Rattle.cpa_sim.specs.declared.jobs.Cause.{Cause}
-use Rattle.cpa_sim.specs.declared.jobs.Causes.{Causes}
-use Rattle.cpa_sim.specs.Run.{is_chosen, causes_by, events_at, by_task, by_source}
-use Rattle.cpa_sim.specs.Lines.{LineCounts, causes_of, new_seen, with_arrivals}
+use Rattle.cpa_sim.specs.Run.{is_chosen, events_at, by_task, by_source}
+use Rattle.cpa_sim.specs.Lines.{LineCounts, new_seen, with_arrivals}
 use Rattle.cpa_sim.specs.Simulation.{line_at, dispatch_at, runner, runs_at, ends_at, ends_of, IsUnchanged, AreEnding}
 use Rattle.cpa_sim.specs.Arrivals.{is_among, IsListOf, AreGiven, ended_of, first_of, IsNextEnd}
 use Rattle.cpa_sim.proofs.CauseLists.{by-none}

@@ -2,7 +2,6 @@
 use Rattle.std.specs.Prelude.{ℕ, ◌≡◌, ◌<◌, ◌≤◌, false, length}
 use Rattle.cpa_model.specs.SystemLists.{SystemLists}
 use Rattle.cpa_trace.specs.Trace.{TraceLists}
-use Rattle.cpa_sim.specs.Outcome.{end_of}
 use Rattle.cpa_sim.specs.Served.{served_at, ran_by}
 use Rattle.cpa_sim.specs.Courses.{CourseLists, IsCourse}
 
