@@ -1,5 +1,5 @@
 -- What the search for a place knows.
-use Rattle.std.proofs.Common.{slice_index_or, ◌≡◌, ◌≢◌, ℕ, zero, suc, ◌+◌, ◌<◌, ◌≤◌, ◌==◌, ◌&&◌, not, nat_lt, Bool, IsTrue, true, false, List, [], ◌∷◌, ◌++◌, Some, map, set, take, length, slice_get, refl, ap, sym, ◌∙◌, subst, inl, inr, arith}
+use Rattle.std.proofs.Common.{slice_index_or, ◌≡◌, ◌≢◌, ℕ, zero, suc, ◌+◌, ◌<◌, ◌≤◌, ◌==◌, ◌&&◌, not, ◌↔◌, nat_lt, Bool, true, false, Option, None, min, List, [], ◌∷◌, ◌++◌, Some, map, set, take, length, slice_get, refl, ap, sym, ◌∙◌, subst, inl, inr, arith}
 use Rattle.std.specs.Prelude.{filter}
 use Rattle.std.proofs.lemmas.Bool.{and_parts, not-true, cases_Bool, cases_lt, false≢true, eq-eqb, eqb-true, ltb-true, lt-ltb, le-ltb}
 use Rattle.std.proofs.Math.Dec.{eqb-suc-zero, eqb-zero-suc}
@@ -8,18 +8,17 @@ use Rattle.std.proofs.lemmas.List.FromFn.{get_or-map-range_with_len, length-map-
 use Rattle.std.proofs.lemmas.Option.{same_Some}
 use Rattle.std.proofs.lemmas.List.Sums.{length-filter, count_by-le-length}
 use Rattle.cpa_units.specs.declared.bound.Bound.{Bound}
-use Rattle.cpa_units.specs.declared.bound.Bound.TheVariants.{Within}
+use Rattle.cpa_units.specs.declared.bound.Bound.TheVariants.{Within, Overload}
 use Rattle.cpa_units.specs.declared.places.SourceId.{SourceId}
 use Rattle.cpa_units.specs.declared.places.TaskId.{TaskId}
 use Rattle.cpa_events.specs.Events.{Model}
 use Rattle.cpa_model.specs.Streams.{source_stream}
-use Rattle.cpa_units.specs.Bounds.{IsAtMost, fits}
+use Rattle.cpa_units.specs.Bounds.{IsAtMost}
 use Rattle.cpa_units.specs.Sets.{holds}
-use Rattle.cpa_units.proofs.BoundLaws.{fits-true, fits-from}
 use Rattle.cpa_model.specs.declared.entries.Task.{Task}
 use Rattle.cpa_model.specs.declared.entries.Path.{Path}
-use Rattle.cpa_model.specs.SystemLists.{SystemLists, task_places, is_on, tasks_on, place_of, places_of, stream_at, streams_of}
-use Rattle.cpa_assign.specs.Orders.{is_member, is_task_on, IsPathInTime, IsOrder, ordered_task, with_order}
+use Rattle.cpa_model.specs.SystemLists.{SystemLists, path_at, task_places, is_on, tasks_on, place_of, places_of, stream_at, streams_of}
+use Rattle.cpa_assign.specs.Orders.{is_member, is_task_on, IsWithinDeadline, IsPathInTime, IsInTime, IsOrder, ordered_task, with_order}
 use Rattle.cpa_assign.proofs.OrderLaws.{once-from, and-true}
 use Rattle.cpa_assign.proofs.CountLaws.{once-long}
 use Rattle.cpa_assign.specs.Placing.{without}
@@ -34,13 +33,77 @@ only-one [] i t long first same = absurd (omega (arith, long))
 only-one (u ∷ []) i t long first same = ap (λ (n : ℕ). let id : TaskId = record { 0 = n } in id ∷ []) (ap (λ (v : TaskId). v.0) (same_Some u t first) ∙ same)
 only-one (u ∷ v ∷ ts) i t long first same = absurd (omega (arith, long))
 
--- a path of this task alone is in time just where the bound is at most its deadline
-pub path-judged : (p : Path) (i d : ℕ) (b : Bound) (verdict : Bool) → p.tasks ≡ record { 0 = i } ∷ [] → p.deadline ≡ Some d → verdict ≡ fits b d
-    → (IsTrue verdict → IsPathInTime p i b) × (IsPathInTime p i b → IsTrue verdict)
-path-judged p i d b verdict only is told = (
-  λ passes alone x also. subst (λ (n : ℕ). IsAtMost b (Within n)) (same_Some d x (sym is ∙ also)) (fits-true b d (sym told ∙ passes)),
-  λ h. told ∙ fits-from b d (h only d is),
+-- a deadline that there is
+pub within-some : (d : ℕ) (b : Bound) → IsWithinDeadline (Some d) b ↔ IsAtMost b (Within d)
+within-some d b = (λ h. h d refl, λ h e is. subst (λ (n : ℕ). IsAtMost b (Within n)) (same_Some d e is) h)
+
+-- and none
+pub within-none : (b : Bound) → IsWithinDeadline None b
+within-none b = λ d is. cc is
+
+-- a path of this task alone is in time just where the bound is within its deadline
+pub alone-in_time : (p : Path) (i : ℕ) → p.tasks ≡ record { 0 = i } ∷ [] → (b : Bound) → IsPathInTime p i b ↔ IsWithinDeadline p.deadline b
+alone-in_time p i alone b = (λ h. h alone, λ h only. h)
+
+-- any other path says nothing of the task
+other-in_time : (p : Path) (i : ℕ) → ¬ (p.tasks ≡ record { 0 = i } ∷ []) → (b : Bound) → IsPathInTime p i b ↔ IsWithinDeadline None b
+other-in_time p i other b = (λ h. within-none b, λ h only. absurd (other only))
+
+pub longer-in_time : (p : Path) (i : ℕ) → length p.tasks ≢ 1 → (b : Bound) → IsPathInTime p i b ↔ IsWithinDeadline None b
+longer-in_time p i long = other-in_time p i (λ only. long (ap length only))
+
+pub another-in_time : (p : Path) (i : ℕ) (t : TaskId) → slice_get p.tasks 0 ≡ Some t → t.0 ≢ i → (b : Bound) → IsPathInTime p i b ↔ IsWithinDeadline None b
+another-in_time p i t first differs =
+    other-in_time p i (λ only. let is : Some t ≡ Some (record { 0 = i }) = sym first ∙ ap (λ (ts : List TaskId). slice_get ts 0) only in differs (ap (λ (id : TaskId). id.0) (same_Some t (record { 0 = i }) is)))
+
+-- of two deadlines the shorter counts
+at_most-min : (x y : ℕ) (b : Bound) → IsAtMost b (Within x) → IsAtMost b (Within y) → IsAtMost b (Within (min x y))
+at_most-min x y (Within t) h k = omega (arith, h, k)
+at_most-min x y Overload h k = h
+
+at_most-later : (x y : ℕ) (b : Bound) → x ≤ y → IsAtMost b (Within x) → IsAtMost b (Within y)
+at_most-later x y (Within t) le h = omega (arith, h)
+at_most-later x y Overload le h = h
+
+pub within-shorter : (x y : ℕ) (b : Bound) → (IsWithinDeadline (Some x) b × IsWithinDeadline (Some y) b) ↔ IsWithinDeadline (Some (min x y)) b
+within-shorter x y b = (
+  λ h. (within-some (min x y) b).1 (at_most-min x y b ((within-some x b).0 h.0) ((within-some y b).0 h.1)),
+  λ h. (
+    (within-some x b).1 (at_most-later (min x y) x b (omega arith) ((within-some (min x y) b).0 h)),
+    (within-some y b).1 (at_most-later (min x y) y b (omega arith) ((within-some (min x y) b).0 h)),
+  ),
 )
+
+pub within-first : (o : Option ℕ) (b : Bound) → (IsWithinDeadline o b × IsWithinDeadline None b) ↔ IsWithinDeadline o b
+within-first o b = (λ h. h.0, λ h. (h, within-none b))
+
+pub within-second : (o : Option ℕ) (b : Bound) → (IsWithinDeadline None b × IsWithinDeadline o b) ↔ IsWithinDeadline o b
+within-second o b = (λ h. h.1, λ h. (within-none b, h))
+
+-- the paths before one are in time
+abbrev pub AreInTimeTo : SystemLists → ℕ → ℕ → Bound → Type 0
+AreInTimeTo s i k b = (j : ℕ) → j < k → IsPathInTime (path_at s j) i b
+
+-- one path more
+pub in_time-more : (s : SystemLists) (i k : ℕ) (least own shorter : Option ℕ)
+    → ((b : Bound) → AreInTimeTo s i k b ↔ IsWithinDeadline least b)
+    → ((b : Bound) → IsPathInTime (path_at s k) i b ↔ IsWithinDeadline own b)
+    → ((b : Bound) → (IsWithinDeadline least b × IsWithinDeadline own b) ↔ IsWithinDeadline shorter b)
+    → (b : Bound) → AreInTimeTo s i (k + 1) b ↔ IsWithinDeadline shorter b
+in_time-more s i k least own shorter before here both b = (
+  λ h. (both b).0 ((before b).0 (λ j less. h j (omega arith)), (here b).0 (h k (omega arith))),
+  λ h j less.
+      let two = (both b).1 h in
+      elim (cases_lt j k) [
+        | inl early ↦ (before b).1 two.0 j early
+        | inr now ↦ let same : j ≡ k = omega arith in rw same ((here b).1 two.1)
+      ],
+)
+
+-- and all of them
+pub in_time-all : (s : SystemLists) (i k : ℕ) (least : Option ℕ) → k ≡ length s.paths → ((b : Bound) → AreInTimeTo s i k b ↔ IsWithinDeadline least b) → (b : Bound) → IsInTime s i b ↔ IsWithinDeadline least b
+in_time-all s i k least whole so_far b =
+    (λ h. (so_far b).0 (λ j less. h j (omega (arith, whole))), λ h j less. (so_far b).1 h j (omega (arith, whole)))
 
 -- the tasks of a resource are told one by one
 pub task_list-long : (s : SystemLists) (r : ℕ) (ids : List TaskId) → places_of ids ≡ tasks_on s r → length ids ≡ length (tasks_on s r)

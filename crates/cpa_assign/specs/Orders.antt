@@ -58,9 +58,13 @@ ordered_task s r o i =
 unfoldable pub with_order : SystemLists → ℕ → List ℕ → SystemLists
 with_order s r o = record s { tasks = map (ordered_task s r o) (task_places s) }
 
+-- the bound is at most the deadline, if there is one
+abbrev pub IsWithinDeadline : Option ℕ → Bound → Type 0
+IsWithinDeadline deadline bound = ForSome deadline (λ d. IsAtMost bound (Within d))
+
 -- where the path is of this task alone, the bound is at most its deadline
 abbrev pub IsPathInTime : Path → ℕ → Bound → Type 0
-IsPathInTime p i bound = p.tasks ≡ record { 0 = i } ∷ [] → ForSome p.deadline (λ d. IsAtMost bound (Within d))
+IsPathInTime p i bound = p.tasks ≡ record { 0 = i } ∷ [] → IsWithinDeadline p.deadline bound
 
 -- the bound is at most the deadline of each path whose only task is this one
 abbrev pub IsInTime : SystemLists → ℕ → Bound → Type 0

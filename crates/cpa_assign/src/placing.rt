@@ -8,8 +8,9 @@ ghost use Rattle.cpa_window.specs.Rivals.{IsRival, AreRivals};
 ghost use Rattle.cpa_events.specs.Streams.{IsStreamInRange};
 ghost use Rattle.cpa_model.specs.SystemLists.{path_at, stream_at, streams_of};
 ghost use Rattle.cpa_model.specs.Streams.{source_stream};
-ghost use Rattle.cpa_assign.specs.Orders.{IsInTime, IsPathInTime};
-ghost use Rattle.cpa_assign.specs.Placing.{sources_model, rival_at, rivals_at, greatest_worst, is_below, placed_bound, without, IsLowestOf, NoneIsLowest};
+ghost use Rattle.cpa_units.specs.Bounds.{IsAtMost};
+ghost use Rattle.cpa_assign.specs.Orders.{IsInTime, IsPathInTime, IsWithinDeadline};
+ghost use Rattle.cpa_assign.specs.Placing.{sources_model, rival_at, rivals_at, greatest_worst, is_below, placed_bound, without, Fits, IsLowestOf, NoneIsLowest};
 
 use cpa_events::{Model, Stream};
 use cpa_model::{Kind, System};
@@ -103,64 +104,92 @@ fn blocking(system: &System, res: ResId, task: TaskId, free: &[bool]) -> u64
     most
 }
 
-/// The bound of a task at the lowest free place, below all others that are free.
+/// Whether the bound of a task at the lowest free place, below all others that are free, is at most so many ticks. Walks
+/// end where it is more.
 #[tactic(auto, unfolding(crate::specs::Placing::placed_bound))]
-fn lowest_bound(
+fn is_lowest_within(
     system: &System,
     res: ResId,
     task: TaskId,
     free: &[bool],
     rivals: &mut Vec<Rival>,
-) -> Bound
+    most: u64,
+) -> bool
     requires there { task.0 < length system.now.tasks }
     requires res { res.0 < length system.now.resources }
     requires marks { length free.now ≡ length system.now.tasks }
     requires room { length system.now.tasks ≤ vec_capacity rivals.old }
-    ensures value { result ≡ placed_bound system.now res.0 (without (holds free.now) task.0) task.0 }
+    ensures value { IsTrue result ↔ IsAtMost (placed_bound system.now res.0 (without (holds free.now) task.0) task.0) (Bound.Within most) }
     ensures room { vec_capacity rivals.new ≡ vec_capacity rivals.old }
 {
     gather_above(system, task, free, rivals);
     let own = sources_model(system, task);
     let worst = system.task(task).worst;
+    let above = rivals.as_slice();
     let entry = system.resource(res);
     match entry.kind {
-        Kind::Preemptive => cpa_spp::respond(&own, worst, rivals.as_slice(), entry.limit),
+        Kind::Preemptive => cpa_spp::is_within(&own, worst, above, entry.limit, most),
         Kind::Can { bit } => {
             let longest = blocking(system, res, task, free);
-            cpa_can::respond(&own, worst, longest, rivals.as_slice(), bit, entry.limit)
+            cpa_can::is_within(&own, worst, longest, above, bit, entry.limit, most)
         }
-        Kind::RoundRobin | Kind::Tdma { gap: _ } => Bound::Overload,
+        Kind::RoundRobin | Kind::Tdma { gap: _ } => false,
     }
 }
 
-/// Whether a bound of a task is within the deadline of a path, if the path is of that task alone.
-fn is_path_in_time(system: &System, path: PathId, task: TaskId, bound: Bound) -> bool
+/// The deadline of a path, if the path is of this task alone.
+fn own_deadline(system: &System, path: PathId, task: TaskId) -> Option<u64>
     requires { path.0 < length system.now.paths }
-    ensures { IsTrue result ↔ IsPathInTime (path_at system.now path.0) task.0 bound }
+    ensures { (b : Bound) → IsPathInTime (path_at system.now path.0) task.0 b ↔ IsWithinDeadline result b }
 {
     let entry = system.path(path);
     if entry.tasks.len() != 1 || entry.tasks.get(0).0 != task.0 {
-        return true;
+        return None;
     }
-    match entry.deadline {
-        None => true,
-        Some(deadline) => match bound {
-            Bound::Within(ticks) => ticks <= deadline,
-            Bound::Overload => false,
-        },
+    entry.deadline
+}
+
+/// The deadline that is met just where two are.
+fn shorter(one: Option<u64>, other: Option<u64>) -> Option<u64>
+    ensures { (b : Bound) → (IsWithinDeadline one b × IsWithinDeadline other b) ↔ IsWithinDeadline result b }
+{
+    match (one, other) {
+        (Some(a), Some(b)) => Some(a.min(b)),
+        (Some(a), None) => Some(a),
+        (None, _) => other,
     }
 }
 
-/// Whether a bound of a task is within the deadlines of all paths that are of that task alone.
-fn is_in_time(system: &System, task: TaskId, bound: Bound) -> bool
-    ensures { IsTrue result ↔ IsInTime system.now task.0 bound }
+/// The least deadline of the paths that are of a task alone, if one of them has any.
+fn least_deadline(system: &System, task: TaskId) -> Option<u64>
+    ensures { (b : Bound) → IsInTime system.now task.0 b ↔ IsWithinDeadline result b }
 {
+    let mut least = None;
     for k in 0..system.paths() {
-        if !is_path_in_time(system, PathId(k), task, bound) {
-            return false;
-        }
+        least = shorter(least, own_deadline(system, PathId(k), task));
     }
-    true
+    least
+}
+
+/// Whether a task at the lowest free place, below all others that are free, is in time.
+fn is_lowest_in_time(
+    system: &System,
+    res: ResId,
+    task: TaskId,
+    free: &[bool],
+    rivals: &mut Vec<Rival>,
+) -> bool
+    requires there { task.0 < length system.now.tasks }
+    requires res { res.0 < length system.now.resources }
+    requires marks { length free.now ≡ length system.now.tasks }
+    requires room { length system.now.tasks ≤ vec_capacity rivals.old }
+    ensures value { IsTrue result ↔ Fits system.now res.0 (without (holds free.now) task.0) task.0 }
+    ensures room { vec_capacity rivals.new ≡ vec_capacity rivals.old }
+{
+    match least_deadline(system, task) {
+        None => true,
+        Some(deadline) => is_lowest_within(system, res, task, free, rivals, deadline),
+    }
 }
 
 /// The first of the free tasks that is in time at the lowest free place, below all others of them.
@@ -180,9 +209,7 @@ pub(crate) fn lowest(
 {
     for k in 0..system.tasks() {
         let task = TaskId(k);
-        if free[k as usize]
-            && is_in_time(system, task, lowest_bound(system, res, task, free, rivals))
-        {
+        if free[k as usize] && is_lowest_in_time(system, res, task, free, rivals) {
             return Some(task);
         }
     }
