@@ -251,10 +251,10 @@ fn is_settled(so_far: &SoFar) -> bool
     }
 }
 
-/// What there is to say of a schedule, beside the segments of the run of a trace. The condition on the
-/// trace is that of `replay`. The run is followed no further than to where the first difference is known.
-/// Memory is wanted at its start alone, for the resources and tasks of the
-/// system, however many jobs the run has.
+/// What there is to say of a schedule, beside the segments of the run of a trace, which is followed no
+/// further than to where the first difference is known. The condition on the trace is that of `replay`.
+/// Memory is wanted at its start alone, for the resources and tasks of the system, however many jobs the
+/// run has.
 pub fn audit(
     alloc: Global,
     system: &System,
