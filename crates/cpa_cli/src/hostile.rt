@@ -7,7 +7,6 @@ use crate::command::run;
 use crate::tests::{Faults, NO_FAULTS, call_over};
 use cpa_io::{Files, LoadFault, Sink, SinkFault};
 use std::alloc::Global;
-use std::process::Abort;
 use std::test::Fail;
 use std::thread::Threads;
 
@@ -15,125 +14,203 @@ const SCRIPT: &str = "add c cpu sb 1 2 3\nreport\nremove zz\nremove a\n";
 
 const TRACE: &str = "event,sa,0\nevent,sa,12\nevent,sb,20\nexec,b,2\n";
 
-/// The words of each command.
-const COMMANDS: [&[&str]; 8] = [
-    &["analyse", "sys"],
-    &["session", "sys", "scr"],
-    &["simulate", "sys", "tr"],
-    &["generate", "42", "1"],
-    &["load", "42", "1"],
-    &["hammer", "sys", "1", "2"],
-    &["assign", "sys", "cpu"],
-    &["slack", "sys", "b"],
+const SCHEDULE: &str = "a,0,3\na,12,15\nb,20,22\n";
+
+/// The words of each command, the files that it loads, one after the other, and its status; and words that are refused, by which
+/// no file is loaded.
+const COMMANDS: &[(&[&str], &[&str], u8)] = &[
+    (&["analyse", "sys"], &["sys"], 0),
+    (&["session", "sys", "scr"], &["sys", "scr"], 0),
+    (&["simulate", "sys", "tr"], &["sys", "tr"], 0),
+    (&["generate", "42", "1"], &[], 0),
+    (&["load", "42", "1"], &[], 0),
+    (&["hammer", "sys", "1", "2"], &["sys"], 0),
+    (&["assign", "sys", "cpu"], &["sys"], 0),
+    (&["slack", "sys", "b"], &["sys"], 0),
+    (&["buffers", "sys", "tr"], &["sys", "tr"], 0),
+    (&["audit", "sys", "tr", "sch"], &["sys", "tr", "sch"], 0),
+    (&["generate", "1", "200"], &[], 10),
 ];
 
-/// A call over the two tasks, the script and the trace.
+/// A call over the two tasks, the script, the trace and the schedule.
 fn call_under<R: AllocGlobal + Threads + Sync>(
     rt: &R,
     words: &[&str],
     faults: &Faults,
 ) -> Result<(u8, Vec<u8>), Fail> {
-    let named: [(&str, &[u8]); 3] = [
+    let named: [(&str, &[u8]); 4] = [
         ("sys", TWO_TASKS.as_bytes()),
         ("scr", SCRIPT.as_bytes()),
         ("tr", TRACE.as_bytes()),
+        ("sch", SCHEDULE.as_bytes()),
     ];
     call_over(rt, words, &named, faults)
 }
 
-/// How a call ends whose sink takes 7 bytes at once and fails at its call `k`: false where it doesn't fail any more.
-fn stops_at<R: Abort + AllocGlobal + Threads + Sync>(
+/// A call whose loads of these numbers fail.
+fn call_without<R: AllocGlobal + Threads + Sync>(
     rt: &R,
     words: &[&str],
+    loads: &[u64],
+) -> Result<(u8, Vec<u8>), Fail> {
+    let faults = Faults {
+        loads,
+        piece: 4096,
+        puts: &[],
+    };
+    call_under(rt, words, &faults)
+}
+
+/// Whether a call tells the name of each file in turn where its load fails, and loads no other file.
+fn names_each_file<R: AllocGlobal + Threads + Sync>(
+    rt: &R,
+    words: &[&str],
+    names: &[&str],
+    status: u8,
+) -> Result<bool, Fail> {
+    let mut told = true;
+    let mut load: u64 = 0;
+    for name in names {
+        let answer = call_without(rt, words, &[load])?;
+        let line = format!(in rt.alloc(); "cannot read {name}\n")?;
+        told = told && answer.0 == 11 && answer.1.as_slice() == line.as_bytes();
+        load = load.saturating_add(1);
+    }
+    let whole = call_under(rt, words, &NO_FAULTS)?;
+    let after = call_without(rt, words, &[load])?;
+    let is_whole = after.0 == status && after.1.as_slice() == whole.1.as_slice();
+    Ok(told && is_whole)
+}
+
+/// The first of the commands for which a load that fails isn't told by the name of its file.
+fn wrongly_read<R: AllocGlobal + Threads + Sync>(
+    rt: &R,
+) -> Result<Option<&'static [&'static str]>, Fail> {
+    for (words, names, status) in COMMANDS {
+        if !names_each_file(rt, words, names, *status)? {
+            return Ok(Some(*words));
+        }
+    }
+    Ok(None)
+}
+
+/// Each command over files that fail at each of its loads.
+#[test]
+fn reads_failing_files(rt: HostRuntime) -> Result<(), Fail> {
+    let wrong = wrongly_read(&rt)?;
+    assert!(rt; wrong.is_none(), "{wrong:?}");
+    Ok(())
+}
+
+/// How a call ends whose sink takes 7 bytes at once and fails at its call `k`: with its whole text, or with a prefix of it and 20,
+/// and else wrongly.
+#[derive(Clone, Copy)]
+enum Sent {
+    Whole,
+    Prefix,
+    Wrongly,
+}
+
+fn sent_until<R: AllocGlobal + Threads + Sync>(
+    rt: &R,
+    words: &[&str],
+    loads: &[u64],
     whole: &(u8, Vec<u8>),
     k: u64,
-) -> Result<bool, Fail> {
+) -> Result<Sent, Fail> {
     let puts = [k];
     let faults = Faults {
-        loads: &[],
+        loads,
         piece: 7,
         puts: &puts,
     };
     let answer = call_under(rt, words, &faults)?;
     let sent = answer.1.len();
-    let prefix = whole.1.as_slice().get(..sent) == Some(answer.1.as_slice());
-    let ended = answer.0 == whole.0 && sent == whole.1.len();
-    assert!(rt; prefix && (ended || answer.0 == 20), "{words:?} {k}");
-    Ok(!ended)
+    if whole.1.as_slice().get(..sent) != Some(answer.1.as_slice()) {
+        return Ok(Sent::Wrongly);
+    }
+    if answer.0 == whole.0 && sent == whole.1.len() {
+        return Ok(Sent::Whole);
+    }
+    Ok(if answer.0 == 20 {
+        Sent::Prefix
+    } else {
+        Sent::Wrongly
+    })
 }
 
-/// Each command sends its text in pieces of one byte and of seven, and a prefix of it where a call of the sink fails.
-#[test]
-fn sends_pieces(rt: HostRuntime) -> Result<(), Fail> {
-    for words in &COMMANDS {
-        let whole = call_under(&rt, words, &NO_FAULTS)?;
-        let bytes = Faults {
-            loads: &[],
-            piece: 1,
-            puts: &[],
-        };
-        let single = call_under(&rt, words, &bytes)?;
-        assert!(rt;
-            single.0 == whole.0 && single.1.as_slice() == whole.1.as_slice(),
-            "{words:?}"
-        );
-        for k in 0..200 {
-            if !stops_at(&rt, words, &whole, k)? {
-                break;
-            }
+/// Whether a call sends a prefix of its text wherever the sink fails, and at last the whole text.
+fn sends_prefixes<R: AllocGlobal + Threads + Sync>(
+    rt: &R,
+    words: &[&str],
+    loads: &[u64],
+) -> Result<bool, Fail> {
+    let whole = call_without(rt, words, loads)?;
+    for k in 0..200 {
+        match sent_until(rt, words, loads, &whole, k)? {
+            Sent::Whole => return Ok(true),
+            Sent::Prefix => {}
+            Sent::Wrongly => return Ok(false),
         }
     }
-    Ok(())
+    Ok(false)
 }
 
-/// Words, the loads that fail, and what is answered.
-const LOADS: [(&[&str], &[u64], u8, &str); 8] = [
-    (&["analyse", "sys"], &[0, 1], 11, "cannot read sys\n"),
-    (&["session", "sys", "scr"], &[0], 11, "cannot read sys\n"),
-    (&["session", "sys", "scr"], &[1], 11, "cannot read scr\n"),
-    (&["simulate", "sys", "tr"], &[0, 1], 11, "cannot read sys\n"),
-    (&["simulate", "sys", "tr"], &[1], 11, "cannot read tr\n"),
-    (
-        &["hammer", "sys", "1", "1"],
-        &[0, 1],
-        11,
-        "cannot read sys\n",
-    ),
-    (
-        &["load", "7", "0"],
-        &[0, 1],
-        0,
-        "load number 7 size 0 bounds 0\nsummary tasks 0 overload 0 missed 0\n",
-    ),
-    (&["generate", "1", "200"], &[0, 1], 10, "words refused\n"),
-];
+/// Whether a call sends the same in pieces of one byte.
+fn sends_bytes<R: AllocGlobal + Threads + Sync>(rt: &R, words: &[&str]) -> Result<bool, Fail> {
+    let bytes = Faults {
+        loads: &[],
+        piece: 1,
+        puts: &[],
+    };
+    let single = call_under(rt, words, &bytes)?;
+    let whole = call_under(rt, words, &NO_FAULTS)?;
+    Ok(single.0 == whole.0 && single.1.as_slice() == whole.1.as_slice())
+}
 
-#[test]
-fn reads_failing_files(rt: HostRuntime) -> Result<(), Fail> {
-    for (words, loads, status, text) in &LOADS {
-        let faults = Faults {
-            loads,
-            piece: 4096,
-            puts: &[],
-        };
-        let answer = call_under(&rt, words, &faults)?;
-        assert!(rt;
-            answer.0 == *status && answer.1.as_slice() == text.as_bytes(),
-            "{words:?}"
-        );
+/// Whether a call sends prefixes of its text, and of the line of each file in turn that can't be read.
+fn sends_prefixes_of_all<R: AllocGlobal + Threads + Sync>(
+    rt: &R,
+    words: &[&str],
+    files: usize,
+) -> Result<bool, Fail> {
+    let mut right = sends_prefixes(rt, words, &[])?;
+    for load in 0..files {
+        right = right && sends_prefixes(rt, words, &[load as u64])?;
     }
+    Ok(right)
+}
+
+/// The first of the commands whose text isn't sent so.
+fn wrongly_sent<R: AllocGlobal + Threads + Sync>(
+    rt: &R,
+) -> Result<Option<&'static [&'static str]>, Fail> {
+    for (words, names, _) in COMMANDS {
+        if !sends_bytes(rt, words)? || !sends_prefixes_of_all(rt, words, names.len())? {
+            return Ok(Some(*words));
+        }
+    }
+    Ok(None)
+}
+
+/// Each command sends its text in pieces of one byte and of seven, and a prefix of it where a call of the sink fails, whichever
+/// of the files can be read.
+#[test]
+fn sends_pieces(rt: HostRuntime) -> Result<(), Fail> {
+    let wrong = wrongly_sent(&rt)?;
+    assert!(rt; wrong.is_none(), "{wrong:?}");
     Ok(())
 }
 
 /// Files that all hold the two tasks, or whose loads all fail. They tell nothing but their faults.
 #[derive(Drop)]
-struct WornFiles {
+struct FailingFiles {
     faults: u64,
     last: String,
     fail: bool,
 }
 
-impl Files for WornFiles {
+impl Files for FailingFiles {
     ghost told = { λ _. false };
 
     ghost held = { λ _ _. None };
@@ -165,12 +242,12 @@ impl Files for WornFiles {
 
 /// A sink that takes all, or whose calls all fail. It tells nothing but its faults.
 #[derive(Drop)]
-struct WornSink {
+struct FailingSink {
     faults: u64,
     fail: bool,
 }
 
-impl Sink for WornSink {
+impl Sink for FailingSink {
     ghost sent = { λ _. None };
 
     ghost faults = { λ s. s.faults };
@@ -184,43 +261,55 @@ impl Sink for WornSink {
     }
 }
 
-/// Whether loads fail, whether puts fail, and the status: where both fail, the sink is the last to.
-const WORN: [(bool, bool, u8); 4] = [
-    (false, false, 0),
-    (true, false, 11),
-    (false, true, 20),
-    (true, true, 20),
+/// The count of both faults before a call, whether loads fail and whether puts do; the status and both counts after it. Where
+/// both fail, the sink is the last to.
+const LAST_COUNTS: &[(u64, bool, bool, (u8, u64, u64))] = &[
+    (BEFORE_LAST, false, false, (0, BEFORE_LAST, BEFORE_LAST)),
+    (BEFORE_LAST, true, false, (11, u64::MAX, BEFORE_LAST)),
+    (BEFORE_LAST, false, true, (20, BEFORE_LAST, u64::MAX)),
+    (BEFORE_LAST, true, true, (20, u64::MAX, u64::MAX)),
+    (u64::MAX, false, false, (0, u64::MAX, u64::MAX)),
+    (u64::MAX, true, false, (11, u64::MAX, u64::MAX)),
+    (u64::MAX, false, true, (20, u64::MAX, u64::MAX)),
+    (u64::MAX, true, true, (20, u64::MAX, u64::MAX)),
 ];
 
-/// Faults are told by the status where both counts of faults stand at their last value, as they are one below it.
-#[test]
-fn tells_faults_at_last_count(rt: HostRuntime) -> Result<(), Fail> {
+const BEFORE_LAST: u64 = u64::MAX - 1;
+
+/// The status of an analysis of the two tasks, and the counts of faults after it.
+fn counts_after<R: AllocGlobal + Threads + Sync>(
+    rt: &R,
+    count: u64,
+    load: bool,
+    put: bool,
+) -> Result<(u8, u64, u64), Fail> {
     let alloc = rt.alloc();
     let mut words = Vec::new(alloc);
     for word in ["analyse", "sys"] {
         words.push(String::from_str(alloc, word)?)?;
     }
-    for count in [u64::MAX - 1, u64::MAX] {
-        for (load, put, status) in &WORN {
-            let mut files = WornFiles {
-                faults: count,
-                last: String::new(alloc),
-                fail: *load,
-            };
-            let mut sink = WornSink {
-                faults: count,
-                fail: *put,
-            };
-            let told = run(&rt, alloc, words.as_slice(), &mut files, &mut sink);
-            assert!(rt; told == *status, "{count} {load} {put}");
-            let loads = if *load { u64::MAX } else { count };
-            let puts = if *put { u64::MAX } else { count };
-            assert!(rt;
-                (files.faults, sink.faults) == (loads, puts),
-                "{count} {load} {put}"
-            );
-        }
+    let mut files = FailingFiles {
+        faults: count,
+        last: String::new(alloc),
+        fail: load,
+    };
+    let mut sink = FailingSink {
+        faults: count,
+        fail: put,
+    };
+    let status = run(rt, alloc, words.as_slice(), &mut files, &mut sink);
+    Ok((status, files.faults, sink.faults))
+}
+
+/// Faults are told by the status where both counts of faults stand at their last value, as they are one below it.
+#[test]
+fn tells_faults_at_last_count(rt: HostRuntime) -> Result<(), Fail> {
+    let mut right = true;
+    for (count, load, put, wanted) in LAST_COUNTS {
+        let seen = counts_after(&rt, *count, *load, *put)?;
+        right = right && seen == *wanted;
     }
+    assert!(rt; right);
     Ok(())
 }
 
