@@ -1,8 +1,8 @@
 //! Recorded schedules.
 
 use crate::cases::{ROUND_ROBIN, TWO_ACTIVATORS};
-use crate::tests::{NO_FAULTS, call_over};
-use std::process::Abort;
+use crate::tests::answers_over;
+use std::alloc::{AllocError, Global};
 use std::test::Fail;
 use std::thread::Threads;
 
@@ -62,7 +62,7 @@ const LATE_RUN: &str =
 const RING_TRACE: &str = "event,sa,0\nevent,sb,0\n";
 
 /// A schedule that is held as `ran`, the status and the text, for the tasks that take turns.
-const RINGS: [(&[u8], u8, &str); 13] = [
+const RINGS: &[(&[u8], u8, &str)] = &[
     (b"a,0,2\nb,2,3\na,3,4\n", 0, "audit same segments 3\n"),
     (
         b"a,0,2\nb,2,4\na,3,4\n",
@@ -99,7 +99,7 @@ const RINGS: [(&[u8], u8, &str); 13] = [
 ];
 
 /// A system, a trace and a schedule, the status and the text.
-const RUNS: [(&str, &str, &str, u8, &str); 5] = [
+const RUNS: &[(&str, &str, &str, u8, &str)] = &[
     (
         FOUR_KINDS,
         FOUR_KINDS_TRACE,
@@ -132,7 +132,7 @@ const RUNS: [(&str, &str, &str, u8, &str); 5] = [
 ];
 
 /// Words over the tasks that take turns and files beside them, the status and the text.
-const THIRDS: [(&[&str], u8, &str); 5] = [
+const THIRDS: &[(&[&str], u8, &str)] = &[
     (
         &["audit", "sys", "short", "zz"],
         16,
@@ -148,63 +148,97 @@ const THIRDS: [(&[&str], u8, &str); 5] = [
     ),
 ];
 
-/// Audits a schedule, and compares status and text.
-fn check<R: Abort + AllocGlobal + Threads + Sync>(
+/// Whether an audit of a schedule gives this status and this text.
+fn is_audited<R: AllocGlobal + Threads + Sync>(
     rt: &R,
     held: (&str, &str, &[u8]),
     status: u8,
     text: &str,
-) -> Result<(), Fail> {
+) -> Result<bool, Fail> {
     let named: [(&str, &[u8]); 3] = [
         ("sys", held.0.as_bytes()),
         ("tr", held.1.as_bytes()),
         ("ran", held.2),
     ];
-    let answer = call_over(rt, &["audit", "sys", "tr", "ran"], &named, &NO_FAULTS)?;
-    assert!(rt;
-        answer.0 == status && answer.1.as_slice() == text.as_bytes(),
-        "{text}"
-    );
-    Ok(())
+    let words = ["audit", "sys", "tr", "ran"];
+    answers_over(rt, &words, &named, status, text.as_bytes())
+}
+
+/// The text of the first schedule of the tasks that take turns that has another answer.
+fn wrong_ring<R: AllocGlobal + Threads + Sync>(rt: &R) -> Result<Option<&'static str>, Fail> {
+    for (schedule, status, text) in RINGS {
+        if !is_audited(rt, (ROUND_ROBIN, RING_TRACE, *schedule), *status, text)? {
+            return Ok(Some(*text));
+        }
+    }
+    Ok(None)
+}
+
+/// The text of the first run whose schedule has another answer.
+fn wrong_run<R: AllocGlobal + Threads + Sync>(rt: &R) -> Result<Option<&'static str>, Fail> {
+    for (system, trace, schedule, status, text) in RUNS {
+        if !is_audited(rt, (*system, *trace, schedule.as_bytes()), *status, text)? {
+            return Ok(Some(*text));
+        }
+    }
+    Ok(None)
 }
 
 /// Each schedule of the tables.
 #[test]
 fn audits(rt: HostRuntime) -> Result<(), Fail> {
-    for (schedule, status, text) in &RINGS {
-        check(&rt, (ROUND_ROBIN, RING_TRACE, schedule), *status, text)?;
-    }
-    for (system, trace, schedule, status, text) in &RUNS {
-        check(&rt, (system, trace, schedule.as_bytes()), *status, text)?;
-    }
+    let ring = wrong_ring(&rt)?;
+    let run = wrong_run(&rt)?;
+    assert!(rt; ring.is_none() && run.is_none(), "{ring:?} {run:?}");
     Ok(())
+}
+
+/// A row, how many of it a schedule has, the status and the text.
+const MANY_ROWS: &[(&str, u32, u8, &str)] = &[
+    (
+        "a,0,2\n",
+        200_000,
+        4,
+        "audit wrong segment 2 expected b 2 3\n",
+    ),
+    ("a,0,1\n", 200_001, 19, "schedule refused too many\n"),
+];
+
+/// So many of a row.
+fn rows(alloc: Global, row: &str, count: u32) -> Result<Vec<u8>, AllocError> {
+    let mut rows = Vec::new(alloc);
+    for _ in 0..count {
+        rows.extend_from_slice(row.as_bytes())?;
+    }
+    Ok(rows)
+}
+
+/// The text of the first of these schedules that has another answer.
+fn wrong_rows<R: AllocGlobal + Threads + Sync>(rt: &R) -> Result<Option<&'static str>, Fail> {
+    for (row, count, status, text) in MANY_ROWS {
+        let rows = rows(rt.alloc(), row, *count)?;
+        if !is_audited(
+            rt,
+            (ROUND_ROBIN, RING_TRACE, rows.as_slice()),
+            *status,
+            text,
+        )? {
+            return Ok(Some(*text));
+        }
+    }
+    Ok(None)
 }
 
 /// As many rows as there may be, and one more.
 #[test]
 fn reads_many_rows(rt: HostRuntime) -> Result<(), Fail> {
-    let mut rows = Vec::new(rt.alloc());
-    for _ in 0..200_000 {
-        rows.extend_from_slice(b"a,0,2\n")?;
-    }
-    check(
-        &rt,
-        (ROUND_ROBIN, RING_TRACE, rows.as_slice()),
-        4,
-        "audit wrong segment 2 expected b 2 3\n",
-    )?;
-    rows.extend_from_slice(b"a,0,1\n")?;
-    check(
-        &rt,
-        (ROUND_ROBIN, RING_TRACE, rows.as_slice()),
-        19,
-        "schedule refused too many\n",
-    )
+    let wrong = wrong_rows(&rt)?;
+    assert!(rt; wrong.is_none(), "{wrong:?}");
+    Ok(())
 }
 
-/// The third file is loaded once the trace obeys.
-#[test]
-fn loads_the_schedule_third(rt: HostRuntime) -> Result<(), Fail> {
+/// The text of the first words that have another answer.
+fn wrong_third<R: AllocGlobal + Threads + Sync>(rt: &R) -> Result<Option<&'static str>, Fail> {
     let long = vec![in rt.alloc(); b'x'; 16_777_217]?;
     let named: [(&str, &[u8]); 5] = [
         ("sys", ROUND_ROBIN.as_bytes()),
@@ -213,12 +247,18 @@ fn loads_the_schedule_third(rt: HostRuntime) -> Result<(), Fail> {
         ("close", b"event,sa,0\nevent,sa,1\n"),
         ("long", long.as_slice()),
     ];
-    for (words, status, text) in &THIRDS {
-        let answer = call_over(&rt, words, &named, &NO_FAULTS)?;
-        assert!(rt;
-            answer.0 == *status && answer.1.as_slice() == text.as_bytes(),
-            "{text}"
-        );
+    for (words, status, text) in THIRDS {
+        if !answers_over(rt, words, &named, *status, text.as_bytes())? {
+            return Ok(Some(*text));
+        }
     }
+    Ok(None)
+}
+
+/// The third file is loaded once the trace obeys.
+#[test]
+fn loads_the_schedule_third(rt: HostRuntime) -> Result<(), Fail> {
+    let wrong = wrong_third(&rt)?;
+    assert!(rt; wrong.is_none(), "{wrong:?}");
     Ok(())
 }

@@ -2,77 +2,117 @@
 
 use crate::car::CAR_NETWORK;
 use crate::cases::{LIMIT_BELOW, LONG_WINDOW, TWO_ACTIVATORS};
-use crate::tests::{NO_FAULTS, call};
-use std::process::Abort;
+use crate::tests::{NO_FAULTS, answers, call};
 use std::test::Fail;
 use std::thread::Threads;
 
-/// Words, a system that is held as `sys`, and what the call answers.
-struct Call {
-    words: &'static [&'static str],
-    system: &'static str,
-    status: u8,
-    text: &'static str,
-}
-
-const CALLS: [Call; 8] = [
-    Call {
-        words: &["load", "42", "1"],
-        system: "",
-        status: 0,
-        text: "load number 42 size 1 bounds 1153\nsummary tasks 3 overload 0 missed 0\n",
-    },
-    Call {
-        words: &["load", "7", "0"],
-        system: "",
-        status: 0,
-        text: "load number 7 size 0 bounds 0\nsummary tasks 0 overload 0 missed 0\n",
-    },
-    Call {
-        words: &["hammer", "sys", "1", "1"],
-        system: LONG_WINDOW,
-        status: 0,
-        text: "task a jobs 100 worst 26 bound 26\ntask b jobs 100 worst 118 bound 118\nsummary traces 1 jobs 200 beyond 0\n",
-    },
-    Call {
-        words: &["hammer", "sys", "1", "1"],
-        system: LIMIT_BELOW,
-        status: 0,
-        text: "task a jobs 100 worst 3 bound 3\ntask b jobs 100 worst 10 bound overload\nsummary traces 1 jobs 200 beyond 0\n",
-    },
-    Call {
-        words: &["hammer", "sys", "1", "2"],
-        system: TWO_ACTIVATORS,
-        status: 0,
-        text: "task m jobs 400 worst 6 bound 6\ntask n jobs 400 worst 3 bound 4\nsummary traces 2 jobs 800 beyond 0\n",
-    },
-    Call {
-        words: &["hammer", "sys", "4294967295", "10000"],
-        system: "format = 1",
-        status: 0,
-        text: "summary traces 10000 jobs 0 beyond 0\n",
-    },
-    Call {
-        words: &["hammer", "sys", "1", "1"],
-        system: "format = 3",
-        status: 14,
-        text: "system refused reason 13 file 0\n",
-    },
-    Call {
-        words: &["hammer", "zz", "1", "1"],
-        system: "",
-        status: 11,
-        text: "cannot read zz\n",
-    },
+/// A number and a size, the status and the text of `load`.
+const LOADS: &[(&str, &str, u8, &str)] = &[
+    (
+        "42",
+        "1",
+        0,
+        "load number 42 size 1 bounds 1153\nsummary tasks 3 overload 0 missed 0\n",
+    ),
+    (
+        "7",
+        "0",
+        0,
+        "load number 7 size 0 bounds 0\nsummary tasks 0 overload 0 missed 0\n",
+    ),
+    ("1", "128", 0, LARGE_SUMMARY),
 ];
 
-#[test]
-fn answers_calls(rt: HostRuntime) -> Result<(), Fail> {
-    for it in &CALLS {
-        let answer = call(&rt, it.words, it.system.as_bytes(), &NO_FAULTS)?;
-        assert_eq!(rt; answer.0, it.status, "{}", it.text);
-        assert!(rt; answer.1.as_slice() == it.text.as_bytes(), "{}", it.text);
+const LARGE_SUMMARY: &str =
+    "load number 1 size 128 bounds 494143\nsummary tasks 384 overload 0 missed 0\n";
+
+/// Whether `load` gives this, by several numbers of workers.
+fn is_loaded<R: AllocGlobal + Threads + Sync>(
+    rt: &R,
+    made: (&str, &str),
+    status: u8,
+    text: &str,
+) -> Result<bool, Fail> {
+    let mut right = true;
+    for workers in ["1", "2", "8"] {
+        let words = ["load", made.0, made.1, "--workers", workers];
+        right = right && answers(rt, &words, &[], status, text)?;
     }
+    Ok(right)
+}
+
+/// The text of the first `load` that has another answer.
+fn wrong_load<R: AllocGlobal + Threads + Sync>(rt: &R) -> Result<Option<&'static str>, Fail> {
+    for (number, size, status, text) in LOADS {
+        if !is_loaded(rt, (*number, *size), *status, text)? {
+            return Ok(Some(*text));
+        }
+    }
+    Ok(None)
+}
+
+/// Each summary of the table, by several numbers of workers: the bytes are the same.
+#[test]
+fn loads(rt: HostRuntime) -> Result<(), Fail> {
+    let wrong = wrong_load(&rt)?;
+    assert!(rt; wrong.is_none(), "{wrong:?}");
+    Ok(())
+}
+
+/// The number and how many traces, a system that is held as `sys`, the status and the text of `hammer`.
+const HAMMERED: &[(&str, &str, &str, u8, &str)] = &[
+    (
+        "1",
+        "1",
+        LONG_WINDOW,
+        0,
+        "task a jobs 100 worst 26 bound 26\ntask b jobs 100 worst 118 bound 118\nsummary traces 1 jobs 200 beyond 0\n",
+    ),
+    (
+        "1",
+        "1",
+        LIMIT_BELOW,
+        0,
+        "task a jobs 100 worst 3 bound 3\ntask b jobs 100 worst 10 bound overload\nsummary traces 1 jobs 200 beyond 0\n",
+    ),
+    (
+        "1",
+        "2",
+        TWO_ACTIVATORS,
+        0,
+        "task m jobs 400 worst 6 bound 6\ntask n jobs 400 worst 3 bound 4\nsummary traces 2 jobs 800 beyond 0\n",
+    ),
+    (
+        "4294967295",
+        "10000",
+        "format = 1",
+        0,
+        "summary traces 10000 jobs 0 beyond 0\n",
+    ),
+    (
+        "1",
+        "1",
+        "format = 3",
+        14,
+        "system refused reason 13 file 0\n",
+    ),
+];
+
+/// The text of the first `hammer` that has another answer.
+fn wrong_hammer<R: AllocGlobal + Threads + Sync>(rt: &R) -> Result<Option<&'static str>, Fail> {
+    for (number, traces, system, status, text) in HAMMERED {
+        let words = ["hammer", "sys", *number, *traces];
+        if !answers(rt, &words, system.as_bytes(), *status, text)? {
+            return Ok(Some(*text));
+        }
+    }
+    Ok(None)
+}
+
+#[test]
+fn hammers(rt: HostRuntime) -> Result<(), Fail> {
+    let wrong = wrong_hammer(&rt)?;
+    assert!(rt; wrong.is_none(), "{wrong:?}");
     Ok(())
 }
 
@@ -84,16 +124,6 @@ path c0 best 495 worst 1153 deadline 100000 met
 summary tasks 3 overload 0 missed 0
 ";
 
-/// What is generated is read back: its report is that of the made system, and its summary that of `load`.
-#[test]
-fn reads_generated_files(rt: HostRuntime) -> Result<(), Fail> {
-    let made = call(&rt, &["generate", "42", "1"], &[], &NO_FAULTS)?;
-    let report = call(&rt, &["analyse", "sys"], made.1.as_slice(), &NO_FAULTS)?;
-    assert_eq!(rt; (made.0, report.0), (0, 0));
-    assert!(rt; report.1.as_slice() == MADE_REPORT.as_bytes());
-    Ok(())
-}
-
 /// Whether a text ends so.
 fn ends_with(text: &[u8], end: &str) -> bool {
     match text.len().checked_sub(end.len()) {
@@ -102,65 +132,46 @@ fn ends_with(text: &[u8], end: &str) -> bool {
     }
 }
 
-/// The report of a large made system and its summary by `load` end alike, whatever the number of workers.
+/// Writes a made system's file and analyses it: both statuses, and the report.
+fn report_of_made<R: AllocGlobal + Threads + Sync>(
+    rt: &R,
+    number: &str,
+    size: &str,
+) -> Result<(u8, u8, Vec<u8>), Fail> {
+    let made = call(rt, &["generate", number, size], &[], &NO_FAULTS)?;
+    let report = call(rt, &["analyse", "sys"], made.1.as_slice(), &NO_FAULTS)?;
+    Ok((made.0, report.0, report.1))
+}
+
+/// What is generated is read back: its report is that of the made system, and ends as the summary by `load` does.
 #[test]
-fn loads_what_it_generates(rt: HostRuntime) -> Result<(), Fail> {
-    let made = call(&rt, &["generate", "1", "128"], &[], &NO_FAULTS)?;
-    let load = call(&rt, &["load", "1", "128"], &[], &NO_FAULTS)?;
-    let two = call(
-        &rt,
-        &["load", "1", "128", "--workers", "2"],
-        &[],
-        &NO_FAULTS,
-    )?;
-    let eight = call(&rt, &["load", "--workers=8", "1", "128"], &[], &NO_FAULTS)?;
-    let report = call(&rt, &["analyse", "sys"], made.1.as_slice(), &NO_FAULTS)?;
-    let text = std::str::from_utf8(load.1.as_slice());
-    let summary = match text {
-        Ok(text) => text.split_once('\n'),
-        Err(_) => None,
-    };
-    let same = match summary {
-        Some((_, last)) => ends_with(report.1.as_slice(), last),
-        None => false,
-    };
-    let equal = load.1.as_slice() == two.1.as_slice() && load.1.as_slice() == eight.1.as_slice();
-    assert_eq!(rt;
+fn reads_generated_files(rt: HostRuntime) -> Result<(), Fail> {
+    let small = report_of_made(&rt, "42", "1")?;
+    let large = report_of_made(&rt, "1", "128")?;
+    let last = "\nsummary tasks 384 overload 0 missed 0\n";
+    let seen = (
         (
-            made.0,
-            same,
-            equal,
-            load.0 == report.0,
-            two.0 == load.0,
-            eight.0 == load.0
+            small.0,
+            small.1,
+            small.2.as_slice() == MADE_REPORT.as_bytes(),
         ),
-        (0, true, true, true, true, true),
-        "{text:?}"
+        (large.0, large.1, ends_with(large.2.as_slice(), last)),
     );
+    assert_eq!(rt; seen, ((0, 0, true), (0, 0, true)));
     Ok(())
 }
 
-/// Hammers the network of a car, and compares the status and the last words of the text.
-fn check_car<R: Abort + AllocGlobal + Threads + Sync>(rt: &R, traces: &str) -> Result<(), Fail> {
-    let answer = call(
-        rt,
-        &["hammer", "sys", "7", traces],
-        CAR_NETWORK.as_bytes(),
-        &NO_FAULTS,
-    )?;
-    assert_eq!(rt;
-        (answer.0, ends_with(answer.1.as_slice(), " beyond 0\n")),
-        (0, true)
-    );
-    Ok(())
+/// Hammers the network of a car by so many traces; whether no job was beyond its bound.
+fn holds_in_the_car<R: AllocGlobal + Threads + Sync>(rt: &R, traces: &str) -> Result<bool, Fail> {
+    let words = ["hammer", "sys", "7", traces];
+    let answer = call(rt, &words, CAR_NETWORK.as_bytes(), &NO_FAULTS)?;
+    Ok(answer.0 == 0 && ends_with(answer.1.as_slice(), " beyond 0\n"))
 }
 
 #[test]
 fn hammers_the_car_network(rt: HostRuntime) -> Result<(), Fail> {
-    check_car(&rt, "1")
-}
-
-#[test]
-fn hammers_it_fifty_times(rt: HostRuntime) -> Result<(), Fail> {
-    check_car(&rt, "50")
+    let once = holds_in_the_car(&rt, "1")?;
+    let often = holds_in_the_car(&rt, "50")?;
+    assert_eq!(rt; (once, often), (true, true));
+    Ok(())
 }

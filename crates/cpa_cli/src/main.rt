@@ -1,8 +1,6 @@
 //! Analyses a system of tasks and prints a bound for each, or replays a trace of it and prints what is observed.
 #![tactic(auto)]
 
-#[cfg(test)]
-mod accepted;
 mod analysis;
 #[cfg(test)]
 mod anew;
@@ -19,8 +17,6 @@ mod gates;
 #[cfg(test)]
 mod hostile;
 mod lines;
-#[cfg(test)]
-mod lists;
 mod loading;
 #[cfg(test)]
 mod made;

@@ -4,8 +4,7 @@ use crate::cases::{
     CROSSING_CHAINS, CUT_NAME, DAVIS_BUS, ENDLESS_JITTER, JOINED_KINDS, TDMA_GAP, TWO_ACTIVATORS,
     TWO_TASKS,
 };
-use crate::tests::{NO_FAULTS, call};
-use std::process::Abort;
+use crate::tests::answers;
 use std::test::Fail;
 use std::thread::Threads;
 
@@ -75,88 +74,33 @@ path = [
 ]
 "#;
 
-const REFUSED: &str = "words refused\n";
-
-const MOST: &str = "slack b 999993 next limit\n";
-
-/// Words, the system that is held as `sys`, the status and the text.
-const ANSWERS: [(&[&str], &str, u8, &str); 25] = [
+/// A resource, the system that is held as `sys`, the status and the text of its order.
+const ORDERS: &[(&str, &str, u8, &str)] = &[
     (
-        &["assign", "sys", "bus"],
+        "bus",
         DAVIS_BUS,
         0,
         "priority m3 1\npriority m2 2\npriority m1 3\nassigned bus tasks 3\n",
     ),
-    (&["assign", "sys", "bus"], LATE_BUS, 3, "none bus\n"),
+    ("bus", LATE_BUS, 3, "none bus\n"),
+    ("zz", DAVIS_BUS, 18, "assign refused 1\n"),
+    ("ring", TDMA_GAP, 18, "assign refused 2\n"),
+    ("p", CROSSING_CHAINS, 18, "assign refused 3\n"),
     (
-        &["assign", "sys", "zz"],
-        DAVIS_BUS,
-        18,
-        "assign refused 1\n",
-    ),
-    (
-        &["assign", "sys", "ring"],
-        TDMA_GAP,
-        18,
-        "assign refused 2\n",
-    ),
-    (
-        &["assign", "sys", "p"],
-        CROSSING_CHAINS,
-        18,
-        "assign refused 3\n",
-    ),
-    (
-        &["assign", "sys", "r"],
+        "r",
         SOURCES_ALONE,
         0,
         "priority t3 4\npriority t1 6\npriority t2 9\nassigned r tasks 3\n",
     ),
-    (
-        &["assign", "sys", "q"],
-        SOURCES_ALONE,
-        18,
-        "assign refused 3\n",
-    ),
-    (&["assign", "sys", "p"], IDLE, 0, "assigned p tasks 0\n"),
-    (&["assign", "zz", "bus"], DAVIS_BUS, 11, "cannot read zz\n"),
-    (&["assign", "sys", "zz"], CUT_NAME, 13, "not TOML sys\n"),
-    (
-        &["assign", "sys", "bus", "--workers", "2"],
-        DAVIS_BUS,
-        10,
-        REFUSED,
-    ),
-    (&["assign", "sys", "-x"], DAVIS_BUS, 10, REFUSED),
-    (&["assign", "sys"], DAVIS_BUS, 10, REFUSED),
-    (&["assign", "sys", ""], DAVIS_BUS, 10, REFUSED),
-    (&["assign", "sys", "bus", "bus"], DAVIS_BUS, 10, REFUSED),
-    (&["slack", "sys", "b"], TWO_TASKS, 0, MOST),
-    (&["slack", "--workers=007", "sys", "b"], TWO_TASKS, 0, MOST),
-    (&["slack", "zz", "b"], TWO_TASKS, 11, "cannot read zz\n"),
-    (&["slack", "sys", "zz"], CUT_NAME, 13, "not TOML sys\n"),
-    (
-        &["slack", "sys", "b", "--workers", "0"],
-        TWO_TASKS,
-        10,
-        REFUSED,
-    ),
-    (&["slack", "sys", "b", "--workers"], TWO_TASKS, 10, REFUSED),
-    (&["slack", "sys", "-x"], TWO_TASKS, 10, REFUSED),
-    (&["slack", "sys"], TWO_TASKS, 10, REFUSED),
-    (&["slack", "sys", ""], TWO_TASKS, 10, REFUSED),
-    (
-        &["audit", "sys", "trace", "schedule", "--workers", "1"],
-        TWO_TASKS,
-        10,
-        REFUSED,
-    ),
+    ("q", SOURCES_ALONE, 18, "assign refused 3\n"),
+    ("p", IDLE, 0, "assigned p tasks 0\n"),
+    ("zz", CUT_NAME, 13, "not TOML sys\n"),
 ];
 
 /// A task, the system that is held as `sys`, the status and the text of its slack.
-const GROWTHS: [(&str, &str, u8, &str); 8] = [
+const GROWTHS: &[(&str, &str, u8, &str)] = &[
     ("b", TWO_IN_TIME, 0, "slack b 1 next missed\n"),
-    ("b", TWO_TASKS, 0, MOST),
+    ("b", TWO_TASKS, 0, "slack b 999993 next limit\n"),
     ("m1", DAVIS_BUS, 3, "slack m1 none\n"),
     ("zz", DAVIS_BUS, 18, "slack refused 1\n"),
     (
@@ -168,46 +112,57 @@ const GROWTHS: [(&str, &str, u8, &str); 8] = [
     ("c", ENDLESS_JITTER, 3, "slack c none\n"),
     ("n", TWO_ACTIVATORS, 0, "slack n 0 next missed\n"),
     ("b2", JOINED_KINDS, 0, "slack b2 16 next missed\n"),
+    ("zz", CUT_NAME, 13, "not TOML sys\n"),
 ];
 
-/// Runs the words over the system, and compares status and text.
-fn check<R: Abort + AllocGlobal + Threads + Sync>(
-    rt: &R,
-    words: &[&str],
-    system: &str,
-    status: u8,
-    text: &str,
-) -> Result<(), Fail> {
-    let answer = call(rt, words, system.as_bytes(), &NO_FAULTS)?;
-    assert!(rt;
-        answer.0 == status && answer.1.as_slice() == text.as_bytes(),
-        "{words:?} {text}"
-    );
+/// The text of the first order that has another answer.
+fn wrong_order<R: AllocGlobal + Threads + Sync>(rt: &R) -> Result<Option<&'static str>, Fail> {
+    for (res, system, status, text) in ORDERS {
+        let words = ["assign", "sys", *res];
+        if !answers(rt, &words, system.as_bytes(), *status, text)? {
+            return Ok(Some(*text));
+        }
+    }
+    Ok(None)
+}
+
+#[test]
+fn assigns_and_refuses(rt: HostRuntime) -> Result<(), Fail> {
+    let wrong = wrong_order(&rt)?;
+    assert!(rt; wrong.is_none(), "{wrong:?}");
     Ok(())
 }
 
-/// Each row of the table.
-#[test]
-fn assigns_and_refuses(rt: HostRuntime) -> Result<(), Fail> {
-    for (words, system, status, text) in &ANSWERS {
-        check(&rt, words, system, *status, text)?;
+/// Whether a task has this slack, by several numbers of workers.
+fn has_slack<R: AllocGlobal + Threads + Sync>(
+    rt: &R,
+    task: &str,
+    system: &str,
+    status: u8,
+    text: &str,
+) -> Result<bool, Fail> {
+    let mut right = true;
+    for workers in ["1", "2", "8"] {
+        let words = ["slack", "sys", task, "--workers", workers];
+        right = right && answers(rt, &words, system.as_bytes(), status, text)?;
     }
-    Ok(())
+    Ok(right)
+}
+
+/// The text of the first slack that has another answer.
+fn wrong_slack<R: AllocGlobal + Threads + Sync>(rt: &R) -> Result<Option<&'static str>, Fail> {
+    for (task, system, status, text) in GROWTHS {
+        if !has_slack(rt, task, system, *status, text)? {
+            return Ok(Some(*text));
+        }
+    }
+    Ok(None)
 }
 
 /// Each slack of the table, by several numbers of workers: the bytes are the same.
 #[test]
 fn tells_slack(rt: HostRuntime) -> Result<(), Fail> {
-    for (task, system, status, text) in &GROWTHS {
-        for workers in &["1", "2", "8"] {
-            check(
-                &rt,
-                &["slack", "sys", task, "--workers", workers],
-                system,
-                *status,
-                text,
-            )?;
-        }
-    }
+    let wrong = wrong_slack(&rt)?;
+    assert!(rt; wrong.is_none(), "{wrong:?}");
     Ok(())
 }

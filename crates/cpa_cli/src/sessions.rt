@@ -10,10 +10,13 @@ pub struct Edits {
     pub texts: &'static [&'static str],
 }
 
+/// An execution grows by a tick, and falls again.
+pub const SESSION_REPORTS: &str = "report\nexec b 2 8\nreport\nexec b 2 7\n";
+
 pub const EDITS: [Edits; 19] = [
     Edits {
         system: TWO_TASKS,
-        script: "report\nexec b 2 8\nreport\nexec b 2 7\n",
+        script: SESSION_REPORTS,
         status: 0,
         texts: &[
             TWO_TASKS_REPORT,

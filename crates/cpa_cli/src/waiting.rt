@@ -5,8 +5,9 @@ use crate::cases::{
 };
 use crate::orders::IDLE;
 use crate::runs::{JOINED_KINDS_TRACE, LONG_WINDOW_TRACE};
-use crate::tests::{NO_FAULTS, call_over};
+use crate::tests::answers_over;
 use std::test::Fail;
+use std::thread::Threads;
 
 /// A task that takes longer than its events are apart: of 30 jobs the run has time for 20, up to the horizon.
 const BACKLOG: &str = r#"format = 1
@@ -19,7 +20,7 @@ const BACKLOG_TRACE: &str =
     "event,s,0\nevent,s,1\nevent,s,2\nevent,s,3\nevent,s,4\nevent,s,5\nevent,s,6\nevent,s,7\nevent,s,8\nevent,s,9\nevent,s,10\nevent,s,11\nevent,s,12\nevent,s,13\nevent,s,14\nevent,s,15\nevent,s,16\nevent,s,17\nevent,s,18\nevent,s,19\nevent,s,20\nevent,s,21\nevent,s,22\nevent,s,23\nevent,s,24\nevent,s,25\nevent,s,26\nevent,s,27\nevent,s,28\nevent,s,29\n";
 
 /// A system that is held as `sys`, a trace that is held as `tr`, the status and the text.
-const ANSWERS: [(&str, &str, u8, &str); 11] = [
+const ANSWERS: &[(&str, &str, u8, &str)] = &[
     (
         LONG_WINDOW,
         LONG_WINDOW_TRACE,
@@ -84,22 +85,37 @@ const ANSWERS: [(&str, &str, u8, &str); 11] = [
     ),
 ];
 
+/// Whether the jobs that wait are told so, by several numbers of workers.
+fn is_told<R: AllocGlobal + Threads + Sync>(
+    rt: &R,
+    system: &str,
+    trace: &str,
+    status: u8,
+    text: &str,
+) -> Result<bool, Fail> {
+    let named: [(&str, &[u8]); 2] = [("sys", system.as_bytes()), ("tr", trace.as_bytes())];
+    let mut right = true;
+    for workers in ["1", "2", "8"] {
+        let words = ["buffers", "sys", "tr", "--workers", workers];
+        right = right && answers_over(rt, &words, &named, status, text.as_bytes())?;
+    }
+    Ok(right)
+}
+
+/// The text of the first row that has another answer.
+fn wrongly_told<R: AllocGlobal + Threads + Sync>(rt: &R) -> Result<Option<&'static str>, Fail> {
+    for (system, trace, status, text) in ANSWERS {
+        if !is_told(rt, system, trace, *status, text)? {
+            return Ok(Some(*text));
+        }
+    }
+    Ok(None)
+}
+
 /// Each row of the table, by several numbers of workers: the bytes are the same.
 #[test]
 fn tells_buffers(rt: HostRuntime) -> Result<(), Fail> {
-    for (system, trace, status, text) in &ANSWERS {
-        for workers in &["1", "2", "8"] {
-            let answer = call_over(
-                &rt,
-                &["buffers", "sys", "tr", "--workers", workers],
-                &[("sys", system.as_bytes()), ("tr", trace.as_bytes())],
-                &NO_FAULTS,
-            )?;
-            assert!(rt;
-                answer.0 == *status && answer.1.as_slice() == text.as_bytes(),
-                "{text}"
-            );
-        }
-    }
+    let wrong = wrongly_told(&rt)?;
+    assert!(rt; wrong.is_none(), "{wrong:?}");
     Ok(())
 }

@@ -1,4 +1,5 @@
-//! Tests of crates by their public calls: drafts, systems, cones, edits, system files, traces, step rules, runs, and audits of schedules.
+//! Tests of crates by their public calls: drafts, systems, cones, edits, system files, traces, step rules, runs, audits of
+//! schedules, and the words of the program.
 //!
 //! They stand here, above those crates, so that what they try isn't proved once more with them.
 #![tactic(auto)]
@@ -23,3 +24,5 @@ mod runs;
 mod steps;
 #[cfg(test)]
 mod traces;
+#[cfg(test)]
+mod words;
