@@ -57,10 +57,10 @@ const CROSSING_CHAINS: &Made = &Made {
     resources: PROCESSORS,
     sources: &[("sa", 100, None, None), ("sb", 100, None, None)],
     tasks: &[
-        (["a1", "p", "sa"], (10, 10), (Some(2), None)),
-        (["a2", "q", "a1"], (10, 10), (Some(1), None)),
-        (["b1", "q", "sb"], (20, 20), (Some(2), None)),
-        (["b2", "p", "b1"], (20, 20), (Some(1), None)),
+        (["a1", "p", "sa"], (5, 10), (Some(2), None)),
+        (["a2", "q", "a1"], (5, 10), (Some(1), None)),
+        (["b1", "q", "sb"], (10, 20), (Some(2), None)),
+        (["b2", "p", "b1"], (10, 20), (Some(1), None)),
     ],
 };
 
