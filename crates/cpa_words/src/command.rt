@@ -4,6 +4,7 @@ ghost use Rattle.std.specs.Prelude.{◌≡◌, ◌≤◌, true, IfOk, IfSome, Li
 ghost use Rattle.cpa_words.specs.Words.{AcceptedAreWithin, AreWorkers, IsSize, IsWithin, Sorted, accepted, asked_by, asked_for, is_regular, operands_of, words_of, workers_of};
 ghost use Rattle.cpa_words.specs.Numbers.{number_within};
 ghost use Rattle.cpa_words.specs.Commands.{AreFound, IsFoundIf, asked};
+ghost use Rattle.cpa_words.specs.declared.verb.Verb.TheVariants as verbs;
 
 use crate::guard::is_regular;
 use crate::numbers::number_within;
@@ -93,6 +94,41 @@ fn size_of(word: &str) -> Option<u32>
     Some(number_within(word, 0, MAX_SIZE)? as u32)
 }
 
+/// What `generate` asks for with these operands; None where a number is none, or out of its range.
+fn generate_of<'a>(found: Operands<'a>) -> Option<Command<'a>>
+    ensures value { (s : Sorted) → AreFound s.operands s.workers found.entry → is_regular (operands_of verbs.Generate) s ≡ true → option_map asked result ≡ asked_for verbs.Generate s }
+    ensures within { IfSome result (λ c. IsWithin (asked c)) }
+{
+    Some(Command::Generate {
+        number: number_within(found.first?, 0, MAX_NUMBER)?,
+        size: size_of(found.second?)?,
+    })
+}
+
+/// The same of `load`.
+fn load_of<'a>(found: Operands<'a>) -> Option<Command<'a>>
+    ensures value { (s : Sorted) → AreFound s.operands s.workers found.entry → is_regular (operands_of verbs.Load) s ≡ true → option_map asked result ≡ asked_for verbs.Load s }
+    ensures within { IfSome result (λ c. IsWithin (asked c)) }
+{
+    Some(Command::Load {
+        number: number_within(found.first?, 0, MAX_NUMBER)?,
+        size: size_of(found.second?)?,
+        workers: workers_of(found.workers)?,
+    })
+}
+
+/// The same of `hammer`.
+fn hammer_of<'a>(found: Operands<'a>) -> Option<Command<'a>>
+    ensures value { (s : Sorted) → AreFound s.operands s.workers found.entry → is_regular (operands_of verbs.Hammer) s ≡ true → option_map asked result ≡ asked_for verbs.Hammer s }
+    ensures within { IfSome result (λ c. IsWithin (asked c)) }
+{
+    Some(Command::Hammer {
+        file: found.first?,
+        number: number_within(found.second?, 0, MAX_NUMBER)?,
+        traces: number_within(found.third?, 1, MAX_TRACES)?,
+    })
+}
+
 /// What a command asks for with these operands; None where a number is none, or out of its range.
 fn command_of<'a>(verb: Verb, found: Operands<'a>) -> Option<Command<'a>>
     ensures value { (s : Sorted) → AreFound s.operands s.workers found.entry → is_regular (operands_of verb) s ≡ true → option_map asked result ≡ asked_for verb s }
@@ -112,20 +148,9 @@ fn command_of<'a>(verb: Verb, found: Operands<'a>) -> Option<Command<'a>>
             file: found.first?,
             trace: found.second?,
         }),
-        Verb::Generate => Some(Command::Generate {
-            number: number_within(found.first?, 0, MAX_NUMBER)?,
-            size: size_of(found.second?)?,
-        }),
-        Verb::Load => Some(Command::Load {
-            number: number_within(found.first?, 0, MAX_NUMBER)?,
-            size: size_of(found.second?)?,
-            workers: workers_of(found.workers)?,
-        }),
-        Verb::Hammer => Some(Command::Hammer {
-            file: found.first?,
-            number: number_within(found.second?, 0, MAX_NUMBER)?,
-            traces: number_within(found.third?, 1, MAX_TRACES)?,
-        }),
+        Verb::Generate => generate_of(found),
+        Verb::Load => load_of(found),
+        Verb::Hammer => hammer_of(found),
         Verb::Assign => Some(Command::Assign {
             file: found.first?,
             resource: found.second?,
