@@ -127,3 +127,12 @@ IsWithinLimits (Assign s r) = IsOrderable s r.0
 IsWithinLimits (SlackOf s i workers) = (i.0 < length s.tasks) × AreWorkers workers
 IsWithinLimits (Buffers s tr workers) = CanReplay s tr × AreWorkers workers
 IsWithinLimits (Audit s tr schedule) = CanReplay s tr
+
+-- by how many workers it is done: by one where it doesn't say
+abbrev pub workers_of : Work → ℕ
+workers_of (Analyse s workers) = workers
+workers_of (Session s steps workers) = workers
+workers_of (Load number size workers) = workers
+workers_of (SlackOf s i workers) = workers
+workers_of (Buffers s tr workers) = workers
+workers_of _ = 1

@@ -2,7 +2,7 @@
 
 ghost use Rattle.std.specs.Prelude.{◌≡◌, ◌<◌, ◌≤◌, ◌⊎◌, length, Err, IfOk, OnErr};
 ghost use Rattle.cpa_io.specs.Causes.{Rose};
-ghost use Rattle.cpa_words.specs.Words.{AreTraces, IsSize};
+ghost use Rattle.cpa_words.specs.Words.{AreTraces, AreWorkers, IsSize};
 ghost use Rattle.cpa_assign.specs.Orders.{IsOrderable};
 ghost use Rattle.cpa_gen.specs.MadeSystems.{made_system};
 ghost use Rattle.cpa_sim.specs.Outcome.{CanReplay, outcome_of};
@@ -10,7 +10,7 @@ ghost use Rattle.cpa_sim.specs.SimText.{sim_text};
 ghost use Rattle.cpa_cli.specs.declared.ended.Stopped.TheVariants as stopped;
 ghost use Rattle.cpa_cli.specs.Answers.{reply, IsReport};
 ghost use Rattle.cpa_cli.specs.Plan.{Do};
-ghost use Rattle.cpa_cli.specs.Work.{IsAssigned, IsBuffered, IsDone, IsFileOf, IsGrowth, IsHammered, IsSummary, IsWithinLimits, audited, finding_status, order_status, slack_status};
+ghost use Rattle.cpa_cli.specs.Work.{IsAssigned, IsBuffered, IsDone, IsFileOf, IsGrowth, IsHammered, IsSummary, IsWithinLimits, audited, finding_status, order_status, slack_status, workers_of};
 ghost use Rattle.cpa_cli.specs.Output.{IsOfOutput, Sends, SendsPart, SendsSome};
 
 use crate::analysis::least_bounds;
@@ -249,6 +249,61 @@ fn audit<K: Sink>(
     send(sink, finding_status(&finding), text.as_slice())
 }
 
+/// By how many workers the work is done, 1 where it doesn't say.
+fn workers_of(work: &Work) -> u32
+    requires { IsWithinLimits work.now }
+    ensures value { result ≡ workers_of work.now }
+    ensures within { AreWorkers result }
+{
+    match work {
+        Work::Analyse { workers, .. } => *workers,
+        Work::Session { workers, .. } => *workers,
+        Work::Load { workers, .. } => *workers,
+        Work::Slack { workers, .. } => *workers,
+        Work::Buffers { workers, .. } => *workers,
+        _ => 1,
+    }
+}
+
+/// Does the work by rounds of this kind, and sends what comes of it.
+fn perform_by<H: Threads + Sync, R: Round, K: Sink>(
+    rt: &H,
+    alloc: Global,
+    work: Work,
+    round: &mut R,
+    sink: &mut K,
+) -> Result<u8, Stopped>
+    requires { IsWithinLimits work }
+    ensures sends { IfOk result (λ status. Sends (IsDone work) status (K.sent sink.old) (K.sent sink.new)) }
+    ensures status { IfOk result IsOfOutput }
+    ensures part { OnErr result (SendsSome (Do work) (K.sent sink.old) (K.sent sink.new)) }
+    ensures rises { K.faults sink.old ≤ K.faults sink.new }
+    ensures failed { result ≡ Err stopped.Sink → Rose (K.faults sink.old) (K.faults sink.new) }
+{
+    match work {
+        Work::Analyse { system, .. } => analyse(rt, alloc, &system, round, sink),
+        Work::Session { system, script, .. } => {
+            run_session(rt, alloc, system, &script, round, sink)
+        }
+        Work::Simulate { system, trace } => simulate(alloc, &system, &trace, sink),
+        Work::Generate { number, size } => generate(alloc, number, size, sink),
+        Work::Load { number, size, .. } => load(rt, alloc, number, size, round, sink),
+        Work::Hammer {
+            system,
+            number,
+            traces,
+        } => hammer(rt, alloc, &system, number, traces, sink),
+        Work::Assign { system, res } => assign(alloc, &system, res, sink),
+        Work::Slack { system, task, .. } => slack(rt, alloc, &system, task, round, sink),
+        Work::Buffers { system, trace, .. } => buffers(rt, alloc, &system, &trace, round, sink),
+        Work::Audit {
+            system,
+            trace,
+            schedule,
+        } => audit(alloc, &system, &trace, &schedule, sink),
+    }
+}
+
 /// Does the work, and sends what comes of it. Workers pass the gate before each analysis.
 pub fn perform<H: Threads + Sync, K: Sink, G: Gate>(
     rt: &H,
@@ -266,55 +321,6 @@ where
     ensures rises { K.faults sink.old ≤ K.faults sink.new }
     ensures failed { result ≡ Err stopped.Sink → Rose (K.faults sink.old) (K.faults sink.new) }
 {
-    match work {
-        Work::Analyse { system, workers } => {
-            let mut round = Shared::new(workers, gate);
-            analyse(rt, alloc, &system, &mut round, sink)
-        }
-        Work::Session {
-            system,
-            script,
-            workers,
-        } => {
-            let mut round = Shared::new(workers, gate);
-            run_session(rt, alloc, system, &script, &mut round, sink)
-        }
-        Work::Simulate { system, trace } => simulate(alloc, &system, &trace, sink),
-        Work::Generate { number, size } => generate(alloc, number, size, sink),
-        Work::Load {
-            number,
-            size,
-            workers,
-        } => {
-            let mut round = Shared::new(workers, gate);
-            load(rt, alloc, number, size, &mut round, sink)
-        }
-        Work::Hammer {
-            system,
-            number,
-            traces,
-        } => hammer(rt, alloc, &system, number, traces, sink),
-        Work::Assign { system, res } => assign(alloc, &system, res, sink),
-        Work::Slack {
-            system,
-            task,
-            workers,
-        } => {
-            let mut round = Shared::new(workers, gate);
-            slack(rt, alloc, &system, task, &mut round, sink)
-        }
-        Work::Buffers {
-            system,
-            trace,
-            workers,
-        } => {
-            let mut round = Shared::new(workers, gate);
-            buffers(rt, alloc, &system, &trace, &mut round, sink)
-        }
-        Work::Audit {
-            system,
-            trace,
-            schedule,
-        } => audit(alloc, &system, &trace, &schedule, sink),
-    }
+    let mut round = Shared::new(workers_of(&work), gate);
+    perform_by(rt, alloc, work, &mut round, sink)
 }
