@@ -12,7 +12,10 @@ ghost use Rattle.cpa_local.specs.Paths.{is_overload, is_missed};
 ghost use Rattle.cpa_report.specs.Report.{bound_text, outcome_text, deadline_text, names_text, stream_text, model_text, unbounded_text, input_text, count_text, streams_text, bounds_text, task_line, path_line, summary_line, report_text, verdict};
 
 use cpa_events::{Model, Stream};
-use cpa_local::{Outcome, count_missed, count_overloads, input, is_missed, is_overload, judge, path_best, path_worst};
+use cpa_local::{
+    Outcome, count_missed, count_overloads, input, is_missed, is_overload, judge, path_best,
+    path_worst,
+};
 use cpa_model::System;
 use cpa_text::Text;
 use cpa_units::{Bound, NoMemory, PathId, TaskId, Vector};
