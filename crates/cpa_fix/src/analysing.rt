@@ -1,12 +1,9 @@
 //! The analysis of one resource.
 
-ghost use Rattle.std.specs.Prelude.{◌<◌, ◌≤◌, ◌≡◌, ◌↔◌, IsTrue, length, slice_set, IfOk};
+ghost use Rattle.std.specs.Prelude.{◌<◌, ◌≤◌, ◌≡◌, ◌↔◌, IsTrue, length, IfOk};
 ghost use Rattle.std.specs.Bool.{OnFalse};
 ghost use Rattle.std.specs.Result.{OnOk};
-ghost use Rattle.cpa_units.specs.Bounds.{IsNowhereAbove, bound_of, bound_max};
-ghost use Rattle.cpa_model.specs.SystemLists.{task_at};
-ghost use Rattle.cpa_local.specs.Local.{response};
-ghost use Rattle.cpa_local.specs.Solution.{IsVector};
+ghost use Rattle.cpa_units.specs.Bounds.{IsNowhereAbove};
 ghost use Rattle.cpa_local.specs.Trails.{IsKept, NewMarksAre};
 ghost use Rattle.cpa_depend.specs.Cone.{LeadsBack};
 ghost use Rattle.cpa_fix.specs.Readings.{IsSound};
