@@ -58,7 +58,7 @@ def draw_paths(axes, paths):
     for place, it in enumerate(entries):
         if it["deadline"] is not None:
             axes.plot([it["deadline"]] * 2, [place - 0.42, place + 0.42], color="black", linewidth=1.6)
-    axes.set_title("Paths from end to end, and deadlines", fontsize=9, loc="left")
+    axes.set_title("Paths from end to end", fontsize=9, loc="left")
     legend = [Patch(color=GREATEST), Patch(color=MISSED), Patch(facecolor="white", edgecolor=NONE, hatch="////"), Line2D([], [], color="black", marker="|", linestyle="none", markersize=9)]
     axes.legend(legend, ["in time, or no deadline", "deadline missed", "no bound", "deadline"], fontsize=7, ncols=4, loc="lower right", bbox_to_anchor=(1.01, 0.99), borderaxespad=0.2, columnspacing=1, frameon=False)
 

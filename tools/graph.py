@@ -3,9 +3,11 @@
 
     python3 tools/graph.py [--chains] [--to PICTURE] FILE [REPORT]
 
-FILE is a system file that `lokwurmi analyse` accepts, REPORT what it wrote of it. With a report each task shows its bound,
-each path its greatest time and its verdict; a task without a bound, and the tasks of a path that misses its deadline, are
-marked. Without --to the graph is written in Graphviz's language dot; with it Graphviz draws the picture, whose name ends
+FILE is a system file that `lokwurmi analyse` accepts, REPORT what it wrote of it. A task that any one of several activators
+starts has a line to it from each, and so has a double edge; where several streams come to a task, it tells how many. The
+links of a path have its colour: that of the first path that has them. With a report each task shows its bound, each path its
+greatest time and its verdict; a task without a bound, and the tasks of a path that misses its deadline, are marked. Without
+--to the graph is written in Graphviz's language dot; with it Graphviz draws the picture, whose name ends
 with .svg, .png or .pdf. With --chains tasks are left out that neither activate another nor are activated by one, and a
 resource tells how many these are.
 """
@@ -48,6 +50,20 @@ def activators(task):
     return [task["after"]] if isinstance(task["after"], str) else task["after"]
 
 
+def streams_of(tasks):
+    """How many streams come to each task: one for each source in its list, and for each task in it all of that task's."""
+    found = {}
+
+    def look(name):
+        if name not in found:
+            found[name] = sum(look(before) if before in tasks else 1 for before in activators(tasks[name]))
+        return found[name]
+
+    for name in tasks:
+        look(name)
+    return found
+
+
 def source_label(source):
     label = f"{source['name']}\nperiod {source['period']}"
     for key in ("jitter", "distance"):
@@ -62,10 +78,12 @@ def graph(system, report, chains):
     found_tasks, found_paths = report or ({}, {})
     activates = {before for it in tasks.values() for before in activators(it)}
     drawn = {name for name, it in tasks.items() if not chains or name in activates or any(before in tasks for before in activators(it))}
-    hue, missed = {}, set()
+    streams = streams_of(tasks)
+    hue, links, missed = {}, {}, set()
     for place, path in enumerate(system.get("path", [])):
-        for name in path["tasks"]:
+        for before, name in zip([None, *path["tasks"]], path["tasks"]):
             hue.setdefault(name, HUES[place % len(HUES)])
+            links.setdefault((before, name), HUES[place % len(HUES)])
             if found_paths.get(path["name"], {}).get("verdict") == "missed":
                 missed.add(name)
     lines = ["digraph system {", '  rankdir = "LR"; newrank = true; ranksep = 1.6; nodesep = 0.12; outputorder = "edgesfirst"; labeljust = "l";', '  node [fontname = "Helvetica", fontsize = 10, shape = box, style = "rounded,filled", fillcolor = "white"];']
@@ -83,12 +101,16 @@ def graph(system, report, chains):
             best, worst = execution(task, resource)
             turn = f"priority {task['priority']}" if "priority" in task else f"slot {task['slot']}"
             text, look = f"{task['name']}\n{best} to {worst}, {turn}", ""
+            if streams[task["name"]] > 1:
+                text += f"\nstreams {streams[task['name']]}"
+            if len(activators(task)) > 1:
+                look = ", peripheries = 2"
             if found := found_tasks.get(task["name"]):
                 text += f"\nbound {'overload' if found['worst'] is None else found['worst']}"
                 if found["worst"] is None:
-                    look = f', fillcolor = "{OVERLOADED}"'
+                    look += f', fillcolor = "{OVERLOADED}"'
                 elif task["name"] in missed:
-                    look = f', fillcolor = "{MISSED}"'
+                    look += f', fillcolor = "{MISSED}"'
             if task["name"] in hue:
                 look += f', color = "{hue[task["name"]]}", penwidth = 1.6'
             lines.append(f"    {quoted('task ' + task['name'])} [label = {quoted(text)}{look}];".replace("\n", "\\n"))
@@ -99,7 +121,7 @@ def graph(system, report, chains):
             lines.append(f"  {quoted('task ' + source['name'])} [label = {quoted(source_label(source))}, shape = plaintext, style = \"\"];".replace("\n", "\\n"))
     for name in tasks:
         for before in activators(tasks[name]) if name in drawn else ():
-            look = f' [color = "{hue[name]}", penwidth = 1.6]' if name in hue and before in hue else ""
+            look = f' [color = "{links[before, name]}", penwidth = 1.6]' if (before, name) in links else ""
             lines.append(f"  {quoted('task ' + before)} -> {quoted('task ' + name)}{look};")
     for place, path in enumerate(system.get("path", [])):
         text = path["name"]

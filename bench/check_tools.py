@@ -1,0 +1,139 @@
+#!/usr/bin/env python3
+"""Tries tools/ over the systems of examples/, of both formats. Outside the gate.
+
+Each system is drawn as a graph, with its report and without it, with --chains and without it. Each activator of each task
+that is drawn must have its line, and no other line may be there; tasks with several activators have a double edge, and tell
+their streams as the report does; bounds, deadlines and marks are those of the report. Each report and each session is drawn
+as a chart, which must have the name of each path, and of each task where tasks are asked for. Where Graphviz is there, it
+must take each graph. What isn't a report or a picture's name is refused.
+
+    python3 bench/check_tools.py
+"""
+import glob
+import os
+import re
+import shutil
+import subprocess
+import sys
+import tempfile
+import tomllib
+
+TOP = os.path.join(os.path.dirname(os.path.abspath(__file__)), "..")
+os.chdir(TOP)
+tried = 0
+faults = []
+
+
+def hold(is_so, what):
+    global tried
+    tried += 1
+    if not is_so:
+        faults.append(what)
+
+
+def run(tool, *words):
+    return subprocess.run([sys.executable, os.path.join("tools", tool), *words], capture_output=True, text=True, check=False)
+
+
+def lines_of(file):
+    with open(file, encoding="ascii") as it:
+        return it.read().splitlines()
+
+
+def several(task):
+    return [task["after"]] if isinstance(task["after"], str) else task["after"]
+
+
+def check_graph(file, report, chains):
+    """The graph of a system, by its text; the name of a node is that of a task or a source after `task `."""
+    with open(file, "rb") as it:
+        system = tomllib.load(it)
+    what = f"graph.py {file} {report or ''}{' --chains' if chains else ''}"
+    done = run("graph.py", *(["--chains"] if chains else []), file, *([report] if report else []))
+    hold(done.returncode == 0 and done.stderr == "", f"{what}: {done.stderr}")
+    tasks = {it["name"]: it for it in system.get("task", [])}
+    linked = {name for it in tasks.values() for name in several(it)} | {name for name, it in tasks.items() if any(before in tasks for before in several(it))}
+    drawn = {name for name in tasks if not chains or name in linked}
+    wanted = {(before, name) for name in drawn for before in several(tasks[name])}
+    found = re.findall(r'^  "task (\S+)" -> "task (\S+)"', done.stdout, re.M)
+    hold(sorted(found) == sorted(wanted), f"{what}: its lines are {sorted(found)}")
+    nodes = dict(re.findall(r'^    "task (\S+)" (\[label = .*\]);$', done.stdout, re.M))
+    hold(set(nodes) == drawn, f"{what}: its tasks are {sorted(nodes)}")
+    links = {link for path in system.get("path", []) for link in zip(path["tasks"], path["tasks"][1:])}
+    coloured = set(re.findall(r'^  "task (\S+)" -> "task (\S+)" \[color', done.stdout, re.M))
+    hold(coloured == {link for link in links if link in wanted}, f"{what}: its coloured lines are {sorted(coloured)}")
+    told = {line.split()[1]: line for line in lines_of(report) if line.startswith("task ")} if report else {}
+    late = {line.split()[1] for line in lines_of(report) if line.startswith("path ") and line.endswith(" missed")} if report else set()
+    late = {name for path in system.get("path", []) if path["name"] in late for name in path["tasks"]}
+    for name in drawn & set(nodes):
+        node = nodes[name]
+        hold(("peripheries = 2" in node) == (len(several(tasks[name])) > 1), f"{what}: the edge of {name}")
+        streams = re.search(r"\\nstreams (\d+)", node)
+        if report:
+            hold((re.search(r" streams (\d+) ", told[name]) or [None, None])[1] == (streams and streams[1]), f"{what}: the streams of {name}")
+            bound = told[name].split()[-1]
+            hold(f"\\nbound {bound}\"" in node, f"{what}: the bound of {name}")
+            hold(("#f5b7b1" in node) == (bound == "overload"), f"{what}: {name} is marked as without a bound")
+            hold(("#fbe3b5" in node) == (bound != "overload" and name in late), f"{what}: {name} is marked as late")
+    return done.stdout
+
+
+def check_charts(report, room):
+    tasks = {line.split()[1] for line in lines_of(report) if line.startswith("task ")}
+    paths = {line.split()[1] for line in lines_of(report) if line.startswith("path ")}
+    for words in ([], ["--paths"]):
+        picture = os.path.join(room, "chart.svg")
+        done = run("chart.py", "--to", picture, *words, report)
+        if words and not paths:
+            hold(done.returncode == 1 and "nothing to draw" in done.stderr, f"chart.py --paths {report}: {done.stderr}")
+            continue
+        hold(done.returncode == 0, f"chart.py {report}: {done.stderr}")
+        with open(picture, encoding="utf-8") as it:
+            text = it.read()
+        hold(all(f">{name}<" in text for name in paths), f"chart.py {report}: a path isn't there")
+        hold(words or all(f"  {name}<" in text for name in tasks), f"chart.py {report}: a task isn't there")
+
+
+with tempfile.TemporaryDirectory() as room:
+    files = sorted(glob.glob("examples/*.toml"))
+    formats = set()
+    for file in files:
+        report = file[:-5] + ".report.txt"
+        with open(file, "rb") as it:
+            formats.add(tomllib.load(it)["format"])
+        for chains in (False, True):
+            check_graph(file, None, chains)
+            graph = check_graph(file, report, chains)
+            if shutil.which("dot"):
+                done = subprocess.run(["dot", "-Tplain"], input=graph, capture_output=True, text=True, check=False)
+                hold(done.returncode == 0 and not done.stderr, f"dot, of {file}: {done.stderr}")
+        check_charts(report, room)
+    hold(formats == {1, 2}, "examples/ has systems of both formats")
+    for session in sorted(glob.glob("examples/*.session.txt")):
+        # the last report is drawn, whose tasks may be others than before
+        lines = lines_of(session)
+        begins = max([place + 1 for place, line in enumerate(lines[:-1]) if line.startswith("summary ")], default=0)
+        last = os.path.join(room, "last.txt")
+        with open(last, "w", encoding="ascii") as it:
+            it.write("\n".join(lines[begins:]) + "\n")
+        charts = []
+        for text in (session, last):
+            picture = os.path.join(room, "chart.svg")
+            hold(run("chart.py", "--to", picture, text).returncode == 0, f"chart.py {text}")
+            with open(picture, encoding="utf-8") as it:
+                charts.append(it.read())
+        hold(charts[0] == charts[1], f"chart.py {session}: its last report is drawn")
+    cut = os.path.join(room, "cut.txt")
+    with open(cut, "w", encoding="ascii") as it:
+        it.write("task m cpu streams 2 best 1 worst 6\n")
+    hold("there is no whole report" in run("chart.py", cut).stderr, "chart.py: a report without a summary")
+    with open(cut, "w", encoding="ascii") as it:
+        it.write("task m cpu streams two best 1 worst 6\nsummary tasks 1 overload 0 missed 0\n")
+    hold("line 1 is no line of a report" in run("chart.py", cut).stderr, "chart.py: a line that isn't one")
+    for tool, words in (("chart.py", ["examples/gateway.report.txt"]), ("graph.py", ["examples/gateway.toml"])):
+        hold("a picture's name ends with" in run(tool, "--to", os.path.join(room, "picture.gif"), *words).stderr, f"{tool}: the name of a picture")
+
+for fault in faults:
+    print(fault)
+print(f"{tried} tried, {len(faults)} faults{'' if shutil.which('dot') else ', without Graphviz'}")
+sys.exit(1 if faults else 0)
