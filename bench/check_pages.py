@@ -1,6 +1,13 @@
 #!/usr/bin/env python3
 """Tries what the pages show: each call of ./lokwurmi with its output, each system that docs/FILES.md shows as refused, and
-each edit that it shows as refused. Outside the gate.
+each edit that it shows as refused. docs/TUTORIAL.md is followed from its first line to its last: the files that it has a
+reader write are written, added to and changed, and each call is made with the files as they are by then; at its end they are
+those of examples/. Outside the gate.
+
+Of docs/TUTORIAL.md, and of the sections that tell of examples with several activators, the figures in the text are held too:
+each number above 10 stands in a block or a table of the page, in the files of those examples, or in what docs/FILES.md says
+of keys; and each sum that ends with `=` and a number is right. The one stream of examples/gateway_one_stream.toml, and what
+docs/ANALYSIS.md tells of it, are worked out anew.
 
     python3 bench/check_pages.py
 """
@@ -11,6 +18,7 @@ import shlex
 import subprocess
 import sys
 import tempfile
+import tomllib
 
 TOP = os.path.join(os.path.dirname(os.path.abspath(__file__)), "..")
 os.chdir(TOP)
@@ -36,19 +44,112 @@ def written(text):
     return file
 
 
+def read(path):
+    with open(path, encoding="utf-8") as it:
+        return it.read()
+
+
+BLOCK = re.compile(r"^(?:(Write into|Add to|Change in) `([\w.]+)`:\n\n)?```\w*\n(.*?)^```$", re.M | re.S)
+
+
+def numbers(text):
+    return {it.replace(",", "") for it in re.findall(r"\d+(?:,\d{3})*", text)}
+
+
+def check_figures(page, text, known):
+    """Holds the numbers of a text outside its blocks, and the sums in it."""
+    prose = re.sub(r"\]\([^)]*\)|<img[^>]*>", "]", BLOCK.sub("", text))
+    for left, right in re.findall(r"([\d(][\d+\-·/() ,]*[\d)]) = (\d+(?:,\d{3})*)", prose):
+        value = eval(left.replace("·", "*").replace(",", ""))
+        hold(f"{page}: {left} = {right}", value, int(right.replace(",", "")))
+        known = known | {right.replace(",", "")}
+    for number in sorted(numbers(re.sub(r"[\w.]*[A-Za-z_.]\d+", "", prose)) - known, key=int):
+        if int(number) > 10:
+            hold(f"{page}: {number}", "in no block and in no file", number)
+
+
+def follow(page, text, room):
+    """Follows a page: each file that it writes, adds to or changes, and each call."""
+    os.symlink(os.path.abspath("lokwurmi"), os.path.join(room, "lokwurmi"))
+    files = {}
+    for how, name, block in BLOCK.findall(text):
+        if how == "Write into":
+            files[name] = block
+        elif how == "Add to":
+            files[name] += "\n" + block
+        elif how == "Change in":
+            old, new = ("".join(line[1:] for line in block.splitlines(True) if line[0] in kept) for kept in (" -", " +"))
+            hold(f"{page}: how often what changes is there", files[name].count(old), 1)
+            files[name] = files[name].replace(old, new)
+        elif block.startswith("$ "):
+            command, told = block[2:].split("\n", 1)
+            wrote = subprocess.run(["bash", "-c", command], cwd=room, stdout=subprocess.PIPE, text=True).stdout
+            hold(f"{page}: {command}", wrote, told)
+        if how:
+            with open(os.path.join(room, name), "w", encoding="utf-8") as it:
+                it.write(files[name])
+    return files
+
+
+def events(streams, window):
+    """The most events that streams of a period, a jitter and a distance have together in a window."""
+    return sum(min(-(-(window + jitter) // period), -(-window // distance) if distance else window + jitter) for period, jitter, distance in streams)
+
+
+def least_jitter(period, streams):
+    """The least jitter with which one stream of a period, without a distance, has as many events in each window as some have."""
+    # what comes after the longest jitter repeats itself with the periods, all of which divide 100000
+    longest = max(jitter for _, jitter, _ in streams) + 200000
+    return max((events(streams, window) - 1) * period + 1 - window for window in range(1, longest))
+
+
+def bounds(report):
+    return {line.split()[1]: line.split()[-1] for line in report.splitlines() if line.startswith("task ")}
+
+
+def check_streams(page, section, room):
+    """The figures of docs/ANALYSIS.md about two streams and the one that stands for them."""
+    files = ["examples/gateway.toml", "examples/gateway_one_stream.toml"]
+    source = {it["name"]: it for it in tomllib.loads(read(files[1]))["source"]}
+
+    def inputs(report):
+        # what comes out of a frame: jitter by what its response varies, and as far apart as its least execution or what is left of the distance
+        for line in map(str.split, report.splitlines()):
+            if line[1] in ("wheel_frame", "button_frame"):
+                period, jitter, distance, best, worst = map(int, line[4::2])
+                yield period, jitter + worst - best, max(distance - (worst - best), best)
+
+    both, streams = source["both"], list(inputs(call("analyse", files[0])))
+    hold(f"{page}: the jitter of the one", both["jitter"], least_jitter(both["period"], streams))
+    one = [(both["period"], both["jitter"], 0)]
+    for window, *told in re.findall(r"^\| (\d+) \| (\d+) \| (\d+) \|$", section, re.M):
+        hold(f"{page}: a window of {window}", [str(events(it, int(window))) for it in (streams, one)], told)
+    found = [bounds(call("analyse", file)) for file in files]
+    for name, *told in re.findall(r"^\| `(\w+)` \| (\d+) \| (\d+) \|", section, re.M):
+        hold(f"{page}: {name}", [it[name] for it in found], told)
+    edits = re.findall(r"`(source \w+ \d+ \d+ \d+)`", section)
+    reports = []
+    for file, edit in zip(files, edits):
+        with open(os.path.join(room, "script"), "w", encoding="utf-8") as it:
+            it.write(edit)
+        reports.append(call("session", file, os.path.join(room, "script")))
+    jitter = least_jitter(both["period"], list(inputs(reports[0])))
+    hold(f"{page}: the second jitter", edits[1:], [f"source both {both['period']} {jitter} 0"])
+    relayed, forward, watch = ([bounds(report)[name] for report in reports] for name in ("relayed", "forward", "watch"))
+    text = f"`relayed` has the bound {relayed[0]} by two streams and {relayed[1]} by one; `forward` has {forward[0]} by both, and `watch` {watch[0]} and {watch[1]}."
+    hold(f"{page}: with the edits", forward[0] == forward[1] and text in section, True)
+
+
 with tempfile.TemporaryDirectory() as room:
     for page in ["README.md", *sorted(glob.glob("docs/*.md")), *sorted(glob.glob("examples/*.md"))]:
-        with open(page, encoding="utf-8") as it:
-            text = it.read()
+        text = read(page) if page != "docs/TUTORIAL.md" else ""
         for words, told in re.findall(r"^```\n\$ \./lokwurmi (.*)\n((?:(?!```).*\n)*)```", text, re.M):
             hold(f"{page}: {words}", call(*shlex.split(words)), told)
-    with open("docs/FILES.md", encoding="utf-8") as it:
-        page = it.read()
+    page = read("docs/FILES.md")
     for system, told in re.findall(r"```toml\n((?:(?!```).*\n)*)```\n\n`(system refused .*?)`", page):
         hold(f"docs/FILES.md: {told}", call("analyse", written(system)), told + "\n")
     # the table's edits are of the system of two tasks, with a round robin resource beside
-    with open("examples/two_tasks.toml", encoding="utf-8") as it:
-        system = it.read().replace('kind = "preemptive" }]', 'kind = "preemptive" }, { name = "ring", kind = "round-robin" }]')
+    system = read("examples/two_tasks.toml").replace('kind = "preemptive" }]', 'kind = "preemptive" }, { name = "ring", kind = "round-robin" }]')
     for number, examples in re.findall(r"^\| (\d) \| [^|]* \| (`.*`) \| [^|]* \|$", page.split("### Edits that are refused")[1], re.M):
         # the last of `one` after `other` comes first
         for example in [re.findall(r"`(.*?)`", examples)[::-1]] if "after" in examples else [[it] for it in re.findall(r"`(.*?)`", examples)]:
@@ -56,6 +157,25 @@ with tempfile.TemporaryDirectory() as room:
                 it.write("\n".join(example))
             line = call("session", written(system), os.path.join(room, "script")).split("\n")[0]
             hold(f"docs/FILES.md: {example}", line, f"line {len(example)} refused {number}")
+
+with tempfile.TemporaryDirectory() as room:
+    page = read("docs/TUTORIAL.md")
+    files = follow("docs/TUTORIAL.md", page, room)
+    for name, kept in (("run.csv", "pedal.trace.csv"), ("schedule.csv", "pedal.schedule.csv")):
+        hold(f"docs/TUTORIAL.md: {name}", files[name], read(f"examples/{kept}"))
+    hold("docs/TUTORIAL.md: pedal.toml", tomllib.loads(files["pedal.toml"]), tomllib.loads(read("examples/pedal.toml")))
+    keys = read("docs/FILES.md").split("## The system")[1].split("### Several activators")[0]
+    known = [keys, *(block for _, _, block in BLOCK.findall(page)), *re.findall(r"^\| .*", page, re.M)]
+    check_figures("docs/TUTORIAL.md", page, set().union(*map(numbers, known)))
+section = {}
+for page, title in (("examples/README.md", "## Several activators"), ("docs/ANALYSIS.md", "## Several streams")):
+    section[page] = read(page).split(title + "\n")[1].split("\n## ")[0]
+    known = [read(file) for name in ("gateway", "gateway_one_stream", "sensor_fusion") for file in glob.glob(f"examples/{name}.*")]
+    known += [read("bench/RESULTS.md").split("### Several activators\n")[1].split("\n## ")[0], *re.findall(r"^\| .*", section[page], re.M)]
+    # what comes of two edits is held below
+    check_figures(page, re.sub(r"With `source [^\n]*?\. ", "", section[page]), set().union(*map(numbers, known)))
+with tempfile.TemporaryDirectory() as room:
+    check_streams("docs/ANALYSIS.md", section["docs/ANALYSIS.md"], room)
 
 for fault in faults:
     print(fault)
