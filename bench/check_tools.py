@@ -5,7 +5,8 @@ Each system is drawn as a graph, with its report and without it, with --chains a
 that is drawn must have its line, and no other line may be there; tasks with several activators have a double edge, and tell
 their streams as the report does; bounds, deadlines and marks are those of the report. Each report and each session is drawn
 as a chart, which must have the name of each path, and of each task where tasks are asked for. Where Graphviz is there, it
-must take each graph. What isn't a report or a picture's name is refused.
+must take each graph. The streams of each task, from which the curve of its events is drawn, are those that its report tells,
+and the steps of a curve are where it rises. What isn't a report or a picture's name is refused.
 
     python3 bench/check_tools.py
 """
@@ -18,8 +19,17 @@ import sys
 import tempfile
 import tomllib
 
+try:
+    import matplotlib
+except ImportError:
+    sys.exit("check_tools.py: the package matplotlib isn't here: pip install matplotlib, or apt-get install python3-matplotlib")
+
 TOP = os.path.join(os.path.dirname(os.path.abspath(__file__)), "..")
 os.chdir(TOP)
+sys.path.append("tools")
+from report import read_report
+from system import first_windows, input_of, most_events, read_system
+
 tried = 0
 faults = []
 
@@ -94,6 +104,44 @@ def check_charts(report, room):
         hold(words or all(f"  {name}<" in text for name in tasks), f"chart.py {report}: a task isn't there")
 
 
+def check_streams(file, report):
+    """The streams of each task beside the line of its report."""
+    system, (tasks, _) = read_system(file), read_report(report)
+    bounds = {name: it["worst"] for name, it in tasks.items()}
+    for line in map(str.split, lines_of(report)):
+        if line[0] != "task":
+            continue
+        streams = input_of(system, bounds, line[1])
+        if line[3] == "streams":
+            hold(streams is None or len(streams) == int(line[4]), f"{report}: how many streams {line[1]} has")
+        else:
+            told = [line[4], line[6], line[8]]
+            hold(told == ([line[4], "overload", "overload"] if streams is None else list(map(str, streams[0]))), f"{report}: the stream of {line[1]}")
+        for stream in streams or ():
+            windows = first_windows(stream, 300)
+            hold(all(most_events(stream, it) == sum(1 for first in windows if first <= it) for it in range(301)), f"{file}: where {stream} rises")
+
+
+def check_curves(room):
+    """Curves of a task with two streams, and what is refused."""
+    words = ["examples/gateway.toml", "examples/gateway.report.txt"]
+    picture = os.path.join(room, "curve.svg")
+    done = run("curve.py", "--beside", "4000", "16818", "0", "--to", picture, *words, "forward")
+    hold(done.returncode == 0 and not done.stderr, f"curve.py: {done.stderr}")
+    with open(picture, encoding="utf-8") as it:
+        text = it.read()
+    hold(all(f">{label}<" in text for label in ("wheel → wheel_frame", "button → button_frame", "period 4000, jitter 16818, distance 0")), "curve.py: its labels")
+    hold(run("curve.py", "--to", picture, *words, "relayed").returncode == 0, "curve.py: a task behind another")
+    for refusal, given in (
+        ("no task of", [*words, "wheel"]),
+        ("a window and a period are at least 1", ["--window", "0", *words, "forward"]),
+        ("a picture's name ends with", ["--to", "picture.gif", *words, "forward"]),
+        ("what starts it has no bound", ["examples/overload.toml", "examples/overload.report.txt", "a2"]),
+    ):
+        done = run("curve.py", *given)
+        hold(done.returncode == 1 and refusal in done.stderr, f"curve.py {given}: {done.stderr}")
+
+
 with tempfile.TemporaryDirectory() as room:
     files = sorted(glob.glob("examples/*.toml"))
     formats = set()
@@ -108,6 +156,8 @@ with tempfile.TemporaryDirectory() as room:
                 done = subprocess.run(["dot", "-Tplain"], input=graph, capture_output=True, text=True, check=False)
                 hold(done.returncode == 0 and not done.stderr, f"dot, of {file}: {done.stderr}")
         check_charts(report, room)
+        check_streams(file, report)
+    check_curves(room)
     hold(formats == {1, 2}, "examples/ has systems of both formats")
     for session in sorted(glob.glob("examples/*.session.txt")):
         # the last report is drawn, whose tasks may be others than before

@@ -16,9 +16,9 @@ import os
 import shutil
 import subprocess
 import sys
-import tomllib
 
 from report import read_report
+from system import activators, execution, read_system
 
 HUES = ["#1b6ca8", "#b5541c", "#2e7d4f", "#7b4fa3", "#a3862a", "#a83254", "#2a8c8c", "#5b6770", "#8c5a2a", "#4f63c9", "#6f8c1f", "#c04f9b"]
 OVERLOADED, MISSED = "#f5b7b1", "#fbe3b5"
@@ -28,34 +28,14 @@ def quoted(text):
     return '"' + text.replace("\\", "\\\\").replace('"', '\\"') + '"'
 
 
-def read_system(file):
-    try:
-        with open(file, "rb") as it:
-            return tomllib.load(it)
-    except (OSError, tomllib.TOMLDecodeError) as fault:
-        sys.exit(f"{file}: can't be read: {fault}")
-
-
-def execution(task, resource):
-    """What a task's execution is, in ticks; that of a frame by its payload."""
-    if "payload" not in task:
-        return task["best"], task["worst"]
-    least, greatest = (67, 80) if task.get("extended") else (47, 55)
-    bit = resource.get("bit", 1)
-    return (least + 8 * task["payload"]) * bit, (greatest + 10 * task["payload"]) * bit
-
-
-def activators(task):
-    """The names of a task's activators."""
-    return [task["after"]] if isinstance(task["after"], str) else task["after"]
-
-
 def streams_of(tasks):
     """How many streams come to each task: one for each source in its list, and for each task in it all of that task's."""
     found = {}
 
     def look(name):
         if name not in found:
+            # a ring of tasks, which no system has, ends here
+            found[name] = 0
             found[name] = sum(look(before) if before in tasks else 1 for before in activators(tasks[name]))
         return found[name]
 

@@ -1,0 +1,65 @@
+"""Reads a system file, for the tools beside it."""
+import sys
+import tomllib
+
+
+def read_system(file):
+    try:
+        with open(file, "rb") as it:
+            return tomllib.load(it)
+    except (OSError, tomllib.TOMLDecodeError) as fault:
+        sys.exit(f"{file}: can't be read: {fault}")
+
+
+def execution(task, resource):
+    """What a task's execution is, in ticks; that of a frame by its payload."""
+    if "payload" not in task:
+        return task["best"], task["worst"]
+    least, greatest = (67, 80) if task.get("extended") else (47, 55)
+    bit = resource.get("bit", 1)
+    return (least + 8 * task["payload"]) * bit, (greatest + 10 * task["payload"]) * bit
+
+
+def activators(task):
+    """The names of a task's activators."""
+    return [task["after"]] if isinstance(task["after"], str) else task["after"]
+
+
+def input_of(system, bounds, name):
+    """The streams that start a task, each a period, a jitter and a distance, where `bounds` has what each task's response is at most.
+
+    What comes out of a task has more jitter by what its response varies, and is as far apart as its least execution, or as what
+    that leaves of the distance. None stands for an input without a bound.
+    """
+    sources = {it["name"]: it for it in system.get("source", [])}
+    tasks = {it["name"]: it for it in system.get("task", [])}
+    resources = {it["name"]: it for it in system.get("resource", [])}
+    streams = []
+    for before in activators(tasks[name]):
+        if before in sources:
+            it = sources[before]
+            streams.append((it["period"], it.get("jitter", 0), it.get("distance", 0)))
+            continue
+        come, bound = input_of(system, bounds, before), bounds[before]
+        if come is None or bound is None:
+            return None
+        best = execution(tasks[before], resources[tasks[before]["on"]])[0]
+        streams += [(period, jitter + bound - best, max(distance - (bound - best), best)) for period, jitter, distance in come]
+    return streams
+
+
+def most_events(stream, window):
+    """The most events of a stream in a window."""
+    period, jitter, distance = stream
+    most = -(-(window + jitter) // period) if window else 0
+    return min(most, -(-window // distance)) if distance else most
+
+
+def first_windows(stream, longest):
+    """The shortest window that has room for one event of a stream, for two, and so on, up to a longest one."""
+    period, jitter, distance = stream
+    found, count = [], 0
+    while (least := max(0, count * distance, count * period - jitter)) < longest:
+        found.append(least + 1)
+        count += 1
+    return found
