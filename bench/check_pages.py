@@ -5,8 +5,9 @@ reader write are written, added to and changed, and each call is made with the f
 those of examples/. Outside the gate.
 
 Of docs/TUTORIAL.md, and of the sections that tell of examples with several activators, the figures in the text are held too:
-each number above 10 stands in a block or a table of the page, in the files of those examples, or in what docs/FILES.md says
-of keys; and each sum that ends with `=` and a number is right. The one stream of examples/gateway_one_stream.toml, and what
+each number above 10 stands in a block or a table of its section of the page, in the files of those examples, or in what
+docs/FILES.md says of keys, or is told by a sum before it; what is summed up, or told in milliseconds, stands somewhere on the
+page; and each sum that ends with `=` and a number is right. The one stream of examples/gateway_one_stream.toml, and what
 docs/ANALYSIS.md tells of it, are worked out anew.
 
     python3 bench/check_pages.py
@@ -53,19 +54,32 @@ BLOCK = re.compile(r"^(?:(Write into|Add to|Change in) `([\w.]+)`:\n\n)?```\w*\n
 
 
 def numbers(text):
+    """The numbers in words, which may have commas between their thousands."""
     return {it.replace(",", "") for it in re.findall(r"\d+(?:,\d{3})*", text)}
 
 
-def check_figures(page, text, known):
-    """Holds the numbers of a text outside its blocks, and the sums in it."""
+def shown(text):
+    """The numbers in the blocks and the tables of a text."""
+    rows = re.findall(r"^\| .*", text, re.M)
+    return {it for _, _, block in BLOCK.findall(text) for it in re.findall(r"\d+", block)}.union(*map(numbers, rows))
+
+
+def check_figures(page, text, known, wide):
+    """Holds the numbers of a text outside its blocks, and the sums in it; answers what these come to."""
     prose = re.sub(r"\]\([^)]*\)|<img[^>]*>", "]", BLOCK.sub("", text))
-    for left, right in re.findall(r"([\d(][\d+\-·/() ,]*[\d)]) = (\d+(?:,\d{3})*)", prose):
+    sums = re.findall(r"([\d(][\d+\-·/() ,]*[\d)]) = (\d+(?:,\d{3})*)", prose)
+    for left, right in sums:
         value = eval(left.replace("·", "*").replace(",", ""))
         hold(f"{page}: {left} = {right}", value, int(right.replace(",", "")))
-        known = known | {right.replace(",", "")}
-    for number in sorted(numbers(re.sub(r"[\w.]*[A-Za-z_.]\d+", "", prose)) - known, key=int):
+        prose = prose.replace(f"{left} = {right}", "")
+    results = {right.replace(",", "") for _, right in sums}
+    # a tick of the pages is a microsecond
+    summed = {it + "000" for it in re.findall(r"(\d+) ms", prose)}.union(*(numbers(left) for left, _ in sums))
+    free = numbers(re.sub(r"[\w.]*[A-Za-z_.]\d+|\d+ ms", "", prose))
+    for number in sorted((free - known - results) | (summed - wide - results), key=int):
         if int(number) > 10:
-            hold(f"{page}: {number}", "in no block and in no file", number)
+            hold(f"{page}: {text[:30]!r}: {number}", "in no block and in no file", number)
+    return results
 
 
 def follow(page, text, room):
@@ -165,15 +179,17 @@ with tempfile.TemporaryDirectory() as room:
         hold(f"docs/TUTORIAL.md: {name}", files[name], read(f"examples/{kept}"))
     hold("docs/TUTORIAL.md: pedal.toml", tomllib.loads(files["pedal.toml"]), tomllib.loads(read("examples/pedal.toml")))
     keys = read("docs/FILES.md").split("## The system")[1].split("### Several activators")[0]
-    known = [keys, *(block for _, _, block in BLOCK.findall(page)), *re.findall(r"^\| .*", page, re.M)]
-    check_figures("docs/TUTORIAL.md", page, set().union(*map(numbers, known)))
+    told, wide = numbers(keys), numbers(keys) | shown(page)
+    for part in re.split(r"^##+ ", page, flags=re.M):
+        told |= check_figures("docs/TUTORIAL.md", part, told | shown(part), wide | told)
 section = {}
 for page, title in (("examples/README.md", "## Several activators"), ("docs/ANALYSIS.md", "## Several streams")):
     section[page] = read(page).split(title + "\n")[1].split("\n## ")[0]
     known = [read(file) for name in ("gateway", "gateway_one_stream", "sensor_fusion") for file in glob.glob(f"examples/{name}.*")]
-    known += [read("bench/RESULTS.md").split("### Several activators\n")[1].split("\n## ")[0], *re.findall(r"^\| .*", section[page], re.M)]
+    known += [read("bench/RESULTS.md").split("### Several activators\n")[1].split("\n## ")[0]]
+    known = shown(section[page]).union(*map(numbers, known), *(re.findall(r"\d+", text) for text in known))
     # what comes of two edits is held below
-    check_figures(page, re.sub(r"With `source [^\n]*?\. ", "", section[page]), set().union(*map(numbers, known)))
+    check_figures(page, re.sub(r"With `source [^\n]*?\. ", "", section[page]), known, known)
 with tempfile.TemporaryDirectory() as room:
     check_streams("docs/ANALYSIS.md", section["docs/ANALYSIS.md"], room)
 
