@@ -1,0 +1,393 @@
+#!/usr/bin/env bash
+# Tries the launcher `lokwurmi` with a stand-in for the toolchain's command rt, which sleeps and prints, so that it takes two
+# minutes: help and version, words that are refused, progress, an interrupt, going on where it was, failures, hints, links,
+# blanks in paths. Prints a line a case, and ends with 1 where one answers otherwise than it should. Where the program of this
+# repository is built, the words are tried on it too. Outside the gate: bash bench/try_launcher.sh
+top=$(cd "$(dirname "${BASH_SOURCE[0]}")/.." && pwd) || exit 1
+room=$(mktemp -d) || exit 1
+trap 'rm -rf "$room"' EXIT
+work="$room/with blanks"
+real=$top/crates/cpa_cli/out/cpa_cli
+wrong=0
+export RT_ROOM=$room TERM=xterm
+
+# hold WHAT TEST..: the test succeeds
+hold() {
+  local what=$1
+  shift
+  if "$@"; then
+    printf 'ok     %s\n' "$what"
+  else
+    printf 'WRONG  %s: %s\n' "$what" "$*"
+    [ ! -s "$room/said" ] || sed 's/^/       | /' "$room/said"
+    wrong=1
+  fi
+}
+# said FORM [FILE]: a line of what was said has the form
+# shellcheck disable=SC2317 # these three are called by hold
+said() { grep -Eq -- "$1" "${2:-$room/said}"; }
+# shellcheck disable=SC2317
+unsaid() { ! said "$@"; }
+# shellcheck disable=SC2317
+is() { [ "$1" = "$2" ]; }
+# call WORD..: text and said have what is written on the two streams; no terminal
+call() {
+  "$work/lokwurmi" "$@" >"$room/text" 2>"$room/said" </dev/null
+  status=$?
+}
+# in_terminal COMMAND: said has what the terminal got
+in_terminal() {
+  script -qec "$1" /dev/null >"$room/said" 2>&1 </dev/null
+  status=$?
+}
+
+# ---- a small repository of its own, and a stand-in for rt
+afresh() {
+  local it
+  rm -rf "$work"
+  mkdir -p "$work/docs" "$work/tools"
+  cp "$top/lokwurmi" "$work/" && cp -r "$top/tools/launcher" "$work/tools/" || exit 1
+  cat >"$work/crates.txt" <<'END'
+# the crates, and what they use
+cpa_units:
+cpa_io: cpa_units
+cpa_model: cpa_units indexmap
+cpa_fix: cpa_units cpa_model
+cpa_cli may_wait=1: cpa_io cpa_fix
+cpa_bench: cpa_units
+cpa_cases: cpa_units cpa_model
+END
+  for it in cpa_units cpa_io cpa_model cpa_fix cpa_cli cpa_bench cpa_cases; do
+    mkdir -p "$work/crates/$it"/{src,specs,proofs}
+    touch -d '1 hour ago' "$work/crates/$it"/src/lib.rt "$work/crates/$it"/{src,specs,proofs}
+  done
+  touch -d '1 hour ago' "$work/crates.txt"
+  mkdir -p "$work/crates/cpa_cli/data"
+  # shellcheck disable=SC2016 # the grave accents are the page's
+  printf '## Times\n\n| `cpa_model` | 238 | none | 335 (6) |\n| `cpa_units` | not told | 2 | 3 |\n' >"$work/docs/MAP.md"
+  rm -f "$room"/{calls,proved,children,slow,fail,kill,"went on",said,text}
+  touch "$room/two.toml"
+}
+mkdir -p "$room/bin" "$room/none"
+cat >"$room/bin/rt" <<'END'
+#!/usr/bin/env bash
+# Stands in for rt: proves a crate in half a second, and keeps that.
+[ "$1" != version ] || exec echo "${RT_IDENTITY:-rattle-kit-13f} logic 0"
+echo "$*" >>"$RT_ROOM/calls"
+[ "${PWD##*/}" = cpa_cli ] || exit 2
+
+prove() {
+  if [ -e "$RT_ROOM/slow" ] && [ "$1" = cpa_model ]; then
+    setsid sleep 300 &
+    echo $! >>"$RT_ROOM/children"
+    (trap '' TERM; sleep 301; true) &
+    echo $! >>"$RT_ROOM/children"
+    wait
+  fi
+  sleep 0.6
+  echo "$1" >>"$RT_ROOM/proved"
+  if [ "$(cat "$RT_ROOM/fail" 2>/dev/null)" = "$1" ]; then
+    printf 'fn %s::first: proved\nsrc/lib.rt:7: not proved: the sum may wrap\nlogic=not-proved\n' "$1"
+    return 1
+  fi
+  echo "fn $1::first: proved"
+}
+
+case $1 in
+all)
+  for it in cpa_units cpa_io cpa_model cpa_fix cpa_cli; do
+    if [ ! -e "../$it/out/rlib/stamp" ]; then
+      if [ -e "$RT_ROOM/kill" ] && [ "$it" = cpa_model ]; then
+        printf '== %s\nfn %s::first: proved\n== summary\ncpa_units: ok\n%s: failed (-9)\n1 of 5 crates ok\n' "$it" "$it" "$it"
+        exit 1
+      fi
+      told=$(prove "$it")
+      if [ $? = 1 ]; then
+        printf '== %s\n%s\n' "$it" "$told"
+        # it goes on with what doesn't stand on that
+        sleep 20
+        touch "$RT_ROOM/went on"
+        exit 1
+      fi
+      mkdir -p "../$it/out/rlib" && touch "../$it/out/rlib/stamp"
+    fi
+    printf '== %s\nproved: all of it\n' "$it"
+  done
+  printf '== summary\n5 of 5 crates ok\n'
+  ;;
+run)
+  for it in cpa_units cpa_io cpa_model cpa_fix cpa_cli; do
+    [ ! -e "../$it/out/rlib/stamp" ] || continue
+    echo "rt: chose --jobs 2 for $it"
+    prove "$it" || exit 1
+    [ "$it" = cpa_cli ] || { mkdir -p "../$it/out/rlib" && touch "../$it/out/rlib/stamp"; }
+  done
+  printf '#!/bin/sh\necho "called $*"\ncase $2 in status.*) exit ${2#status.} ;; esac\ncase $1 in anal*) exit 0 ;; esac\nexit 10\n' >out/cpa_cli
+  chmod +x out/cpa_cli
+  ;;
+esac
+END
+chmod +x "$room/bin/rt"
+for it in bash sh env readlink dirname find sed awk cat nproc flock mkdir touch mv rm sleep grep head git; do
+  ln -s "$(command -v "$it")" "$room/none/$it"
+done
+PATH=$room/bin:$PATH
+cd "$room" || exit 1
+
+# ---- words that need no build
+afresh
+commands="analyse session simulate generate load hammer assign slack buffers audit"
+for words in --help -h help; do
+  call "$words"
+  hold "$words: status 0" is "$status" 0
+  hold "$words: a line for each command" is "$(grep -oE '^  [a-z]+ [A-Z]' "$room/text" | tr -d ' A-Z\n')" "${commands// /}"
+  hold "$words: 80 columns" is "$(grep -v docs/ "$room/text" | awk 'length > 80' | wc -l)" 0
+  call "$words" slack
+  hold "$words slack: its words" said '^lokwurmi slack FILE TASK \[--workers N\]$' "$room/text"
+  hold "$words slack: an example" said '^  \./lokwurmi slack examples/' "$room/text"
+done
+call slack --help
+hold "slack --help" said '^lokwurmi slack FILE TASK' "$room/text"
+call analyse two.toml -h
+hold "analyse two.toml -h" said '^lokwurmi analyse FILE' "$room/text"
+for command in $commands; do
+  call --help "$command"
+  hold "--help $command: each word is told" is "$(grep -cE '^  [A-Z]+ +[a-z0-9]' "$room/text")" "$(head -n 1 "$room/text" | sed 's/\[.*//' | grep -oE '\b[A-Z]+\b' | wc -l)"
+  example=$(sed -n 's,^  \./lokwurmi ,,p' "$room/text")
+  for file in $(tr ' ' '\n' <<<"$example" | grep /); do
+    hold "the example of $command: ${file##*/}" [ -f "$top/$file" ]
+  done
+  if [ -x "$real" ]; then
+    # shellcheck disable=SC2086 # an example's words
+    (cd "$top" && "$real" $example) >"$room/text" 2>&1
+    hold "the example of $command is accepted" [ $? -lt 10 ]
+  fi
+done
+call --version
+hold "--version: the version" said '^lokwurmi [0-9]' "$room/text"
+hold "--version: the toolchain of README.md" said "^toolchain $(grep -o 'rattle-kit-[0-9a-z]*' "$top/README.md" | head -n 1)\$" "$room/text"
+hold "--version: no commit where there is none" unsaid '^commit' "$room/text"
+git -C "$room" init -q && git -C "$room" -c user.name=a -c user.email=a@b commit -q --allow-empty -m a
+call --version
+hold "--version: not the commit of a folder above" unsaid '^commit' "$room/text"
+rm -rf "$room/.git"
+git -C "$work" init -q && git -C "$work" -c user.name=a -c user.email=a@b commit -q --allow-empty -m a
+GIT_DIR=$top/.git call --version
+hold "--version: the commit" said "^commit $(git -C "$work" rev-parse --short=12 HEAD), and changes since\$" "$room/text"
+"$work/lokwurmi" --help >/dev/full 2>"$room/said"
+hold "help to a full disk: status 20" is $? 20
+in_terminal "'$work/lokwurmi'"
+hold "no word in a terminal: help" said '^  analyse FILE'
+hold "no word in a terminal: status 0" is "$status" 0
+
+# ---- words that are refused, without a build
+for near in analyze:analyse anaylse:analyse sim:simulate Bufers:buffers simulation:simulate --slack:slack loda:load ASSIGN:assign; do
+  call "${near%:*}" two.toml
+  hold "${near%:*}: status 10, as the program says it" is "$status $(cat "$room/text")" "10 words refused"
+  hold "${near%:*}: the nearest is ${near#*:}" said "the nearest is ${near#*:} "
+done
+call --help bufers
+hold "help of an unknown command" said 'the nearest is buffers '
+hold "help of an unknown command: status 10" is "$status" 10
+for word in xyzzy '' s '[' '*' report; do
+  call "$word"
+  hold "'$word' is near to nothing" unsaid 'nearest'
+done
+call
+hold "no word, and no terminal" is "$status $(cat "$room/text")" "10 words refused"
+# with no rt, words that are worth a build end with 70
+for words in "analyse f" "analyse f --workers 2" "analyse --workers=2 f" "session --workers 2 f s" "load 1 2 --workers=" \
+  "simulate f t" "simulate f --workers" "audit f t s" "analyse f g" "analyse" "analyse f --workers" "analyse --workers f" \
+  "analyse -f" "analyse f --workers 2 --workers 2" "analyse f --workers -2" "analyse ./-f" "simulate f t --workers 2" \
+  "generate 1 2 3" "slack f t --workers=8" "assign f" "hammer f 1 2" "buffers f t --workers 3" "buffers f" "analyse --workers --workers=2 f"; do
+  case $words in
+  "analyse f" | "analyse f --workers 2" | "analyse --workers=2 f" | "session --workers 2 f s" | "simulate f t" | "audit f t s" | "analyse ./-f" | \
+    "slack f t --workers=8" | "hammer f 1 2" | "buffers f t --workers 3") wanted=70 ;;
+  *) wanted=10 ;;
+  esac
+  # shellcheck disable=SC2086 # the words
+  PATH=$room/none call $words
+  hold "$words: status $wanted" is "$status" "$wanted"
+  if [ -x "$real" ]; then
+    # shellcheck disable=SC2086
+    (cd "$room" && "$real" $words) >"$room/text"
+    hold "$words: the program agrees" is "$([ $? = 10 ] && echo 10 || echo 70)" "$wanted"
+  fi
+done
+PATH=$room/none call analyse ''
+hold "an empty word: status 10" is "$status" 10
+hold "none of these called rt" [ ! -e "$room/calls" ]
+PATH=$room/none call analyse two.toml
+hold "no rt in PATH: says so" said 'command rt of the toolchain .* has to be in the search path'
+
+# ---- a first build, written to a log
+LOKWURMI_JOBS=3 call analyse two.toml
+hold "a first call: status of the program" is "$status" 0
+hold "a first call: its text" is "$(cat "$room/text")" "called analyse two.toml"
+hold "what will be done" said "^lokwurmi: the program isn't built yet: it is proved and built first, 5 crates, of which 0 are proved already, 3 at a time; some [0-9]+ minutes to go\$"
+hold "a line a crate" is "$(grep -Ec '^lokwurmi: [1-5] of 5: cpa_[a-z]+ is proved; 0:[0-9]{2} so far, ' "$room/said")" 5
+hold "lowest first" is "$(sed -nE 's/^lokwurmi: [1-5] of 5: (cpa_[a-z]+) .*/\1/p' "$room/said" | tr '\n' ' ')" "cpa_units cpa_io cpa_model cpa_fix cpa_cli "
+hold "the libraries side by side, then the program" is "$(tr '\n' ';' <"$room/calls")" "all check --jobs 3;run -- analyse data/two_tasks.toml;"
+hold "the program is proved once" is "$(grep -c cpa_cli "$room/proved")" 1
+hold "no line that is written over" unsaid $'\r'
+hold "it is built" said '^lokwurmi: it is built, in 0:[0-9]{2}$'
+hold "no note of a file that is there" unsaid 'note:'
+call analyse two.toml
+hold "the second call builds nothing" is "$(wc -l <"$room/calls")" 2
+hold "the second call says nothing more" [ ! -s "$room/said" ]
+in_terminal "'$work/lokwurmi' loda 1 2"
+hold "built: the nearest command" said 'the nearest is load '
+in_terminal "'$work/lokwurmi' load 1"
+hold "built: the words of a command" said '  lokwurmi load NUMBER SIZE \[--workers N\]'
+for it in cpa_bench cpa_cases; do
+  touch "$work/crates/$it/src/lib.rt"
+  call analyse two.toml
+  hold "$it, on which the program doesn't stand, is newer: nothing is built" [ ! -s "$room/said" ]
+done
+touch "$work/crates/cpa_fix/src/lib.rt"
+RT_IDENTITY=rattle-kit-14a call analyse missing.toml
+hold "a source is newer: it is built again" said 'crates/cpa_fix/src/lib.rt is newer than the program'
+hold "a source is newer: what is kept" said '5 crates, of which 3 are proved already'
+hold "another toolchain is told" said 'note: rt is of rattle-kit-14a, and the proofs are for rattle-kit-13f'
+hold "a file that isn't there is told" said "note: 'missing.toml' can't be read"
+rm "$work/crates/cpa_fix/src/lib.rt"
+call analyse two.toml
+hold "a source was taken away" said 'crates/cpa_fix/src is newer than the program'
+
+# ---- one after the other
+afresh
+LOKWURMI_JOBS=1 call analyse two.toml
+hold "one at a time: rt run alone" is "$(tr '\n' ';' <"$room/calls")" "run -- analyse data/two_tasks.toml;"
+hold "one at a time: says so" said ', one at a time; some '
+hold "one at a time: a line a crate" is "$(grep -Ec '^lokwurmi: [1-5] of 5: cpa_[a-z]+ is proved; 0:[0-9]{2} so far, ' "$room/said")" 5
+afresh
+touch "$room/kill"
+LOKWURMI_JOBS=4 call analyse two.toml
+hold "killed for memory: goes on one at a time" said 'cpa_model broke off, most likely for want of memory: they go on one at a time$'
+hold "killed for memory: it is built" is "$status $(tr '\n' ';' <"$room/calls")" "0 all check --jobs 4;run -- analyse data/two_tasks.toml;"
+
+# ---- in a terminal
+afresh
+in_terminal "LOKWURMI_JOBS=2 '$work/lokwurmi' analyse two.toml"
+hold "in a terminal: a line that is written over" said $'\r\033\\[K''lokwurmi: [0-4] of 5: cpa_[a-z]+(, cpa_[a-z]+)? under way; 0:0[0-9] so far, '
+hold "in a terminal: no line a crate" unsaid 'is proved; '
+hold "in a terminal: the program's text" said 'called analyse two.toml'
+hold "in a terminal: the crates that wait for none" said '1 of 5: cpa_io, cpa_model under way'
+afresh
+in_terminal "stty cols 60; LOKWURMI_JOBS=2 '$work/lokwurmi' analyse two.toml"
+hold "in a narrow terminal: no line is too long" is "$(tr '\r' '\n' <"$room/said" | sed 's/\x1b\[K//g' | grep ' of 5: ' | awk 'length > 59' | wc -l)" 0
+afresh
+in_terminal "TERM=dumb LOKWURMI_JOBS=1 '$work/lokwurmi' analyse two.toml"
+hold "in a terminal that can't write over: a line a crate" said '^lokwurmi: 5 of 5: cpa_cli is proved; '
+afresh
+in_terminal "bash -c 'set -m; LOKWURMI_JOBS=1 \"$work/lokwurmi\" analyse two.toml & wait'"
+hold "in the background of a terminal: a line a crate" said '^lokwurmi: 5 of 5: cpa_cli is proved; '
+hold "in the background of a terminal: nothing is written over" unsaid $'\033'
+
+# ---- an interrupt, and going on
+# How many of the children of the stand-in go on.
+left() {
+  local it
+  while read -r it; do
+    case $(ps -o stat= -p "$it") in
+    '' | Z*) ;;
+    *) echo "$it" ;;
+    esac
+  done <"$room/children" | wc -l
+}
+for signal in INT TERM HUP; do
+  for jobs in 1 2; do
+    afresh
+    touch "$room/slow"
+    # a shell that runs it in the background would have it ignore interrupts
+    LOKWURMI_JOBS=$jobs python3 -c 'import signal, subprocess, sys, time
+it = subprocess.Popen(sys.argv[2:], preexec_fn=lambda: signal.signal(signal.SIGINT, signal.SIG_DFL))
+time.sleep(4)
+it.send_signal(getattr(signal, "SIG" + sys.argv[1]))
+sys.exit(it.wait() == -getattr(signal, "SIG" + sys.argv[1]))' "$signal" "$work/lokwurmi" analyse two.toml >"$room/text" 2>"$room/said" </dev/null
+    hold "$signal, $jobs at a time: ends by it" is $? 1
+    hold "$signal, $jobs at a time: says so" said '^lokwurmi: interrupted after [0-9]+:[0-9]{2}, with 2 of 5 proved; all that it started has ended'
+    hold "$signal, $jobs at a time: there were children" is "$(wc -l <"$room/children")" 2
+    hold "$signal, $jobs at a time: all of them have ended" is "$(left)" 0
+    rm "$room/slow"
+    LOKWURMI_JOBS=$jobs call analyse two.toml
+    hold "$signal, $jobs at a time: the next call goes on" is "$(tr '\n' ' ' <"$room/proved")" "cpa_units cpa_io cpa_model cpa_fix cpa_cli "
+    hold "$signal, $jobs at a time: and says what is proved already" said '5 crates, of which 2 are proved already'
+  done
+done
+
+afresh
+touch "$room/slow"
+(sleep 4 && printf '\003' && sleep 8) | script -qec "'$work/lokwurmi' analyse two.toml" /dev/null >"$room/said" 2>&1
+hold "the terminal's interrupt: says so" said 'lokwurmi: interrupted after '
+hold "the terminal's interrupt: there were children" is "$(wc -l <"$room/children")" 2
+hold "the terminal's interrupt: all of them have ended" is "$(left)" 0
+afresh
+touch "$room/slow"
+LOKWURMI_JOBS=2 "$work/lokwurmi" analyse two.toml 2>&1 </dev/null | (read -r _ && sleep 1)
+sleep 8
+touch "$room/children"
+hold "nobody reads what is said: all of it has ended" is "$(left) $(pgrep -fc "$room/(with|bin)")" "0 0"
+
+# ---- two calls at a time
+afresh
+"$work/lokwurmi" analyse one.toml >"$room/text.1" 2>"$room/said.1" </dev/null &
+sleep 1
+call analyse two.toml
+wait $!
+hold "a second call meanwhile waits" said 'another call builds it'
+hold "both have their text" is "$(cat "$room/text.1" "$room/text" | tr '\n' ' ')" "called analyse one.toml called analyse two.toml "
+hold "and it is built once" is "$(grep -c run "$room/calls")" 1
+
+# ---- failures
+for jobs in 1 2; do
+  afresh
+  echo cpa_model >"$room/fail"
+  LOKWURMI_JOBS=$jobs call analyse two.toml
+  hold "a failure, $jobs at a time: status 70" is "$status" 70
+  hold "a failure, $jobs at a time: the toolchain's message" said '^src/lib.rt:7: not proved: the sum may wrap$'
+  hold "a failure, $jobs at a time: nothing of what passed" unsaid ': proved$|proved: all of it|chose --jobs 2 for cpa_units'
+  hold "a failure, $jobs at a time: which crate" said '^== cpa_model$|for cpa_model$'
+  hold "a failure, $jobs at a time: the program isn't built" said 'the program was not built; all that the toolchain said: .*lokwurmi.log$'
+  hold "a failure, $jobs at a time: it isn't called proved" unsaid 'cpa_model is proved'
+  hold "a failure, $jobs at a time: nothing goes on" [ ! -e "$room/went on" ]
+  rm "$room/fail"
+  LOKWURMI_JOBS=$jobs call analyse two.toml
+  hold "mended, $jobs at a time: it is built" is "$status" 0
+done
+
+# ---- hints, whose sections the page has
+for it in 3 4 10 11 12 13 14 15 16 17 18 19 20 30; do
+  in_terminal "'$work/lokwurmi' analyse status.$it"
+  hold "status $it is handed on" is "$status" "$it"
+  hold "status $it has a hint" said '^lokwurmi: '
+  section=$(sed -nE 's/.*FILES\.md, "([^"]*)".*/\1/p' "$room/said")
+  [ "$it" = 10 ] || hold "status $it: the section $section" said "^##+ $section" "$top/docs/FILES.md"
+done
+for it in 0 1 2; do
+  in_terminal "'$work/lokwurmi' analyse status.$it"
+  hold "status $it has none" unsaid '^lokwurmi: '
+done
+call analyse status.14
+hold "no terminal, no hint" [ ! -s "$room/said" ]
+
+# ---- where it is called from
+ln -s "$work/lokwurmi" "$room/a link"
+ln -s "a link" "$room/link to a link"
+ln -s "$work" "$room/linked folder"
+cd / || exit 1
+for by in "$work/lokwurmi" "$room/a link" "$room/link to a link" "$room/linked folder/lokwurmi"; do
+  "$by" analyse "a b" >"$room/text" 2>"$room/said"
+  hold "by ${by#"$room"/}, from another folder" is "$(cat "$room/text")" "called analyse a b"
+done
+sh -c "'$room/a link' analyse x" >"$room/text" 2>"$room/said"
+hold "under sh -c" is "$(cat "$room/text")" "called analyse x"
+(cd "$work" && ./lokwurmi analyse x) >"$room/text" 2>"$room/said"
+hold "from its own folder" is "$(cat "$room/text")" "called analyse x"
+(cd "$work/docs" && CDPATH=/ PATH=..:$PATH lokwurmi analyse x) >"$room/text" 2>"$room/said"
+hold "by the search path" is "$(cat "$room/text")" "called analyse x"
+if command -v shellcheck >/dev/null; then
+  (cd "$top" && shellcheck -x lokwurmi tools/launcher/*.bash tools/completion.bash bench/try_launcher.sh bench/check_completion.sh) >"$room/said" 2>&1
+  hold "shellcheck finds nothing" is $? 0
+fi
+exit "$wrong"

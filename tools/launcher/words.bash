@@ -1,0 +1,259 @@
+# shellcheck shell=bash disable=SC2154
+# The words of `lokwurmi`, help, and the version. `here` is the folder of the repository.
+version=1.0
+kit=rattle-kit-13f
+commands=(analyse session simulate generate load hammer assign slack buffers audit)
+
+# Sets of a command: its words, whether it takes --workers N too, what it writes, what its status tells beside 0, and the words
+# of an example.
+describe() {
+  workers='' statuses=''
+  case $1 in
+  analyse)
+    words="FILE" workers=yes writes="the bounds of the system in FILE" example="examples/two_tasks.toml"
+    statuses="1: a deadline is missed; 2: a bound is overload"
+    ;;
+  session)
+    words="FILE SCRIPT" workers=yes writes="the bounds that a script of edits asks for"
+    example="examples/crossing_chains.toml examples/crossing_chains.script.txt"
+    statuses="1: a deadline is missed at the end; 2: a bound is overload there"
+    ;;
+  simulate)
+    words="FILE TRACE" writes="what is observed when a trace is replayed"
+    example="examples/crossing_chains.toml examples/crossing_chains.trace.csv"
+    ;;
+  generate)
+    words="NUMBER SIZE" writes="a made system of SIZE chains, as a file" example="42 1"
+    ;;
+  load)
+    words="NUMBER SIZE" workers=yes writes="a summary of that made system's analysis" example="42 1"
+    statuses="1: a deadline is missed; 2: a bound is overload"
+    ;;
+  hammer)
+    words="FILE NUMBER TRACES" writes="the worst seen in made traces, and bounds"
+    example="examples/long_window.toml 1 1"
+    ;;
+  assign)
+    words="FILE RESOURCE" writes="priorities by which deadlines are met"
+    example="examples/deadline_order.toml cpu" statuses="3: no order meets them"
+    ;;
+  slack)
+    words="FILE TASK" workers=yes writes="by how much the worst of TASK may grow"
+    example="examples/sae_can.toml m16" statuses="3: a deadline is missed already"
+    ;;
+  buffers)
+    words="FILE TRACE" workers=yes writes="how many jobs can wait, and how many do"
+    example="examples/long_window.toml examples/long_window.trace.csv"
+    ;;
+  audit)
+    words="FILE TRACE SCHEDULE" writes="whether a recorded schedule is the run's"
+    example="examples/round_robin.toml examples/round_robin.trace.csv examples/round_robin.schedule.csv"
+    statuses="4: they differ"
+    ;;
+  *) return 1 ;;
+  esac
+}
+
+# What one word of a command stands for.
+explain() {
+  case $1 in
+  FILE) echo "a system file (\"The system\")" ;;
+  SCRIPT) echo "edits of the system, a line each (\"The script\")" ;;
+  TRACE) echo "recorded events, executions and phases (\"The trace\")" ;;
+  SCHEDULE) echo "what ran from when to when (\"Recorded schedules\")" ;;
+  RESOURCE) echo "the name of a preemptive or CAN resource in FILE" ;;
+  TASK) echo "the name of a task in FILE" ;;
+  NUMBER) echo "0 to 4294967295: another number makes others" ;;
+  SIZE) echo "how many chains, 0 to 128" ;;
+  TRACES) echo "how many of them, 1 to 10000" ;;
+  esac
+}
+
+# The words of the command that was described last.
+with_workers() {
+  echo "$words${workers:+ [--workers N]}"
+}
+
+list_commands() {
+  local command words workers writes statuses example
+  for command in "${commands[@]}"; do
+    describe "$command"
+    printf '  %-34s  %s\n' "$command $(with_workers)" "$writes"
+  done
+}
+
+help() {
+  echo "lokwurmi: the timing of distributed real-time systems; its answers are proved."
+  echo
+  list_commands
+  printf '  %-34s  %s\n' "--help [COMMAND]" "this, or a command's words and an example" \
+    "--version" "the version, the toolchain, the commit"
+  echo
+  echo "NUMBER is 0 to 4294967295, SIZE 0 to 128, TRACES 1 to 10000, N 1 to 64; write"
+  echo "./-name for a file -name. All words and each status are told in"
+  echo "$here/docs/FILES.md"
+}
+
+help_of() {
+  local words workers writes statuses example word
+  describe "$1"
+  echo "lokwurmi $1 $(with_workers)"
+  echo "  writes $writes"
+  echo
+  for word in $words; do
+    printf '  %-11s  %s\n' "$word" "$(explain "$word")"
+  done
+  [ -z "$workers" ] || printf '  %-11s  %s\n' "--workers N" "so many threads, 1 to 64; what is written is the same"
+  printf '  %-11s  %s\n' status "0${statuses:+; $statuses}; 10 and above: a refusal or a fault"
+  echo
+  echo "An example, in the folder $here:"
+  echo "  ./lokwurmi $1 $example"
+  echo "More: $here/docs/FILES.md"
+}
+
+tell_version() {
+  local commit git=(env -u GIT_DIR -u GIT_WORK_TREE -u GIT_INDEX_FILE git -C "$here")
+  echo "lokwurmi $version"
+  echo "toolchain $kit"
+  # a repository further up isn't this one
+  if [ "$("${git[@]}" rev-parse --show-prefix 2>&1)" = "" ] && commit=$("${git[@]}" rev-parse --short=12 HEAD 2>/dev/null); then
+    [ -z "$("${git[@]}" --no-optional-locks status --porcelain 2>/dev/null | head -n 1)" ] || commit+=", and changes since"
+    echo "commit $commit"
+  fi
+}
+
+is_command() {
+  local words workers writes statuses example
+  describe "${1-}"
+}
+
+# The least number of letters to put in, take out or exchange, by which one word becomes another.
+distance() {
+  local from=$1 to=$2 i j least before
+  local -a row
+  for ((j = 0; j <= ${#to}; j++)); do row[j]=$j; done
+  for ((i = 1; i <= ${#from}; i++)); do
+    before=${row[0]}
+    row[0]=$i
+    for ((j = 1; j <= ${#to}; j++)); do
+      least=$((before + 1))
+      [ "${from:i-1:1}" != "${to:j-1:1}" ] || least=$before
+      before=${row[j]}
+      ((row[j] + 1 >= least)) || least=$((row[j] + 1))
+      ((row[j - 1] + 1 >= least)) || least=$((row[j - 1] + 1))
+      row[j]=$least
+    done
+  done
+  echo "${row[${#to}]}"
+}
+
+# The command that a word is nearest to: the only one that begins so, or the nearest within half of its letters.
+nearest() {
+  local word=${1:0:24} command found='' least=99 now begins=()
+  word=${word,,}
+  word=${word#--}
+  for command in "${commands[@]}"; do
+    [[ -z $word || $command != "$word"* ]] || begins+=("$command")
+    now=$(distance "$word" "$command")
+    if ((now < least && 2 * now <= ${#command})); then
+      least=$now
+      found=$command
+    fi
+  done
+  ((${#begins[@]} != 1)) || found=${begins[0]}
+  echo "$found"
+}
+
+# What to say of words that aren't accepted: a command's own words, or for an unknown command the nearest and all.
+tell_words() {
+  local words workers writes statuses example near
+  if describe "${1-}"; then
+    echo "lokwurmi: $1 is called so:"
+    echo "  lokwurmi $1 $(with_workers)"
+    echo "lokwurmi --help $1 tells what these are."
+    return
+  fi
+  if (($# == 0)); then
+    echo "lokwurmi: there is no command:"
+  else
+    near=$(nearest "$1")
+    echo "lokwurmi: ${1@Q} is no command${near:+; the nearest is $near (lokwurmi --help $near)}:"
+  fi
+  list_commands
+  echo "More: lokwurmi --help, and $here/docs/FILES.md"
+}
+
+# Answers words that ask for help or for the version, and ends; with 20 where it can't be written, as the program does.
+answer() {
+  local text word command=''
+  for word; do
+    case $word in
+    --help | -h | help) ;;
+    *) command=${command:-$word} ;;
+    esac
+  done
+  if [ "$command" = --version ]; then
+    text=$(tell_version)
+  elif [ -z "$command" ]; then
+    text=$(help)
+  elif is_command "$command"; then
+    text=$(help_of "$command")
+  else
+    tell_words "$command" >&2
+    exit 10
+  fi
+  printf '%s\n' "$text" 2>/dev/null || exit 20
+  exit 0
+}
+
+# Refuses words as the program does, and ends.
+refuse() {
+  echo "words refused" 2>/dev/null || exit 20
+  tell_words "$@" >&2
+  exit 10
+}
+
+# Takes the words after a command apart: operands has all but --workers with its number, where the command takes it, and
+# wanted what they are. Fails where the program refuses them, whatever the numbers and files are.
+is_regular() {
+  local words workers writes statuses example
+  describe "${1-}" || return
+  local it
+  read -ra wanted <<<"$words"
+  operands=()
+  shift
+  while (($# > 0)); do
+    if [[ -n $workers && $1 == --workers && $# -gt 1 ]]; then
+      it=$2
+      shift
+    elif [[ -n $workers && $1 == --workers=* ]]; then
+      it=${1#*=}
+    else
+      operands+=("$1")
+      shift
+      continue
+    fi
+    # once, and its number is a word like others
+    [[ -n $it && $it != -* ]] || return
+    workers=
+    shift
+  done
+  ((${#operands[@]} == ${#wanted[@]})) || return
+  for it in "${operands[@]}"; do
+    [[ -n $it && $it != -* ]] || return
+  done
+}
+
+# Says which files can't be read, before a build that is long.
+tell_missing() {
+  local at
+  for ((at = 0; at < ${#wanted[@]}; at++)); do
+    case ${wanted[at]} in
+    FILE | SCRIPT | TRACE | SCHEDULE)
+      if [ ! -r "${operands[at]}" ] || [ -d "${operands[at]}" ]; then
+        echo "lokwurmi: note: ${operands[at]@Q} can't be read, and has to be there once the program is built" >&2
+      fi
+      ;;
+    esac
+  done
+}
