@@ -240,7 +240,7 @@ def made_system(number):
 def main():
     count = int(sys.argv[1]) if len(sys.argv) > 1 else 1000
     begin = int(sys.argv[2]) if len(sys.argv) > 2 else 0
-    subprocess.run([os.path.join(TOP, "lokwurmi")], capture_output=True, check=False)
+    subprocess.run([os.path.join(TOP, "lokwurmi"), "analyse", os.path.join(TOP, "examples", "two_tasks.toml")], capture_output=True, check=False)
     statuses = [0, 0, 0]
     with tempfile.TemporaryDirectory() as folder:
         path = os.path.join(folder, "system.toml")

@@ -109,7 +109,7 @@ def call(path):
 def main():
     made = systems()
     names = sys.argv[1:] or list(made)
-    subprocess.run([os.path.join(TOP, "lokwurmi")], capture_output=True, check=False)
+    subprocess.run([os.path.join(TOP, "lokwurmi"), "analyse", os.path.join(TOP, "examples", "two_tasks.toml")], capture_output=True, check=False)
     print(f"processors: {os.cpu_count()}")
     with tempfile.TemporaryDirectory() as folder:
         for name in names:
