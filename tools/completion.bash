@@ -41,60 +41,37 @@ _lokwurmi_files() {
   compopt -o filenames 2>/dev/null
 }
 
-_lokwurmi() {
-  local word=${COMP_WORDS[COMP_CWORD]} before=${COMP_WORDS[COMP_CWORD - 1]} command='' it file
-  local commands="analyse session simulate generate load hammer assign slack buffers audit"
-  local -a given=() found=()
-  local has_workers='' at
-  COMPREPLY=()
-  # the words before this one, without --workers and its number; bash takes = as a word of its own
+# Sets given, the words before the one to complete without --workers and its number, and has_workers. Bash takes = as a word.
+_lokwurmi_read() {
+  local at
   for ((at = 1; at < COMP_CWORD; at++)); do
-    it=${COMP_WORDS[at]}
-    case $it in
+    case ${COMP_WORDS[at]} in
     --workers)
       has_workers=yes
       [ "${COMP_WORDS[at + 1]}" != "=" ] || ((at++))
       ((at++))
       ;;
     --workers=*) has_workers=yes ;;
-    *) given+=("$it") ;;
+    *) given+=("${COMP_WORDS[at]}") ;;
     esac
   done
-  command=${given[0]-}
-  if [ "$before" = --workers ] || { [ "$before" = "=" ] && [ "${COMP_WORDS[COMP_CWORD - 2]}" = --workers ]; }; then
-    word=${word#=}
-    # a number that stands there stays
-    if [ -z "$word" ]; then
-      COMPREPLY=(1 2 4 8 16 32 64)
-    elif [[ $word =~ ^[0-9]+$ ]]; then
-      COMPREPLY=("$word")
-    fi
-    return
-  fi
-  if ((${#given[@]} == 0)); then
-    mapfile -t COMPREPLY < <(compgen -W "$commands help --help --version" -- "$word")
-    return
-  fi
-  case $command in
-  help | --help | -h)
-    ((${#given[@]} > 1)) || mapfile -t COMPREPLY < <(compgen -W "$commands" -- "$word")
-    return
-    ;;
-  esac
-  if [[ $word == -* ]]; then
-    case $command in
-    analyse | session | load | slack | buffers) found=(--workers) ;;
-    esac
-    [ -z "$has_workers" ] || found=()
-    ((${#given[@]} > 1)) || found+=(--help)
-    mapfile -t COMPREPLY < <(compgen -W "${found[*]}" -- "$word")
-    return
-  fi
-  # a file as the line has it: with quotes, backslashes or a tilde
-  file=${given[1]-}
+}
+
+# Whether the word to complete is the number after --workers; number has what stands of it.
+_lokwurmi_is_number() {
+  local before=${COMP_WORDS[COMP_CWORD - 1]}
+  number=${COMP_WORDS[COMP_CWORD]#=}
+  [ "$before" != "=" ] || before=${COMP_WORDS[COMP_CWORD - 2]}
+  [ "$before" = --workers ]
+}
+
+# A file, or the name of a resource or a task, by the command and how many words are given with it.
+_lokwurmi_operand() {
+  local word=$1 file=${given[1]-}
+  # as the line has it: with quotes, backslashes or a tilde
   file=${file//[\\\"\']/}
   [[ ${file:0:2} != \~/ ]] || file=$HOME/${file:2}
-  case $command.${#given[@]} in
+  case ${given[0]}.${#given[@]} in
   generate.* | load.* | hammer.[23]) ;;
   analyse.1 | session.1 | simulate.1 | hammer.1 | assign.1 | slack.1 | buffers.1 | audit.1) _lokwurmi_files "$word" .toml ;;
   session.2) _lokwurmi_files "$word" .txt ;;
@@ -102,6 +79,37 @@ _lokwurmi() {
   assign.2) mapfile -t COMPREPLY < <(compgen -W "$(_lokwurmi_names resource "$file")" -- "$word") ;;
   slack.2) mapfile -t COMPREPLY < <(compgen -W "$(_lokwurmi_names task "$file")" -- "$word") ;;
   esac
+}
+
+_lokwurmi() {
+  local word=${COMP_WORDS[COMP_CWORD]} number has_workers='' commands="analyse session simulate generate load hammer assign slack buffers audit"
+  local -a given=() found=()
+  COMPREPLY=()
+  _lokwurmi_read
+  if _lokwurmi_is_number; then
+    # a number that stands there stays
+    if [ -z "$number" ]; then
+      COMPREPLY=(1 2 4 8 16 32 64)
+    elif [[ $number =~ ^[0-9]+$ ]]; then
+      COMPREPLY=("$number")
+    fi
+    return
+  fi
+  case ${given[0]-} in
+  '') found=("$commands" help --help --version) ;;
+  help | --help | -h) ((${#given[@]} > 1)) || found=("$commands") ;;
+  *)
+    if [[ $word != -* ]]; then
+      _lokwurmi_operand "$word"
+      return
+    fi
+    case ${given[0]} in
+    analyse | session | load | slack | buffers) [ -n "$has_workers" ] || found=(--workers) ;;
+    esac
+    ((${#given[@]} > 1)) || found+=(--help)
+    ;;
+  esac
+  mapfile -t COMPREPLY < <(compgen -W "${found[*]}" -- "$word")
 }
 
 complete -F _lokwurmi lokwurmi ./lokwurmi

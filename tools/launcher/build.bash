@@ -43,20 +43,28 @@ is_kept() {
   [ -z "$(find "$here/crates/$1"/{src,specs,proofs} -newer "$stamp" -print -quit 2>/dev/null)" ]
 }
 
-# Seconds that are left by these weights: those of all crates that are left over how many are proved at a time, and no less than
-# those of the longest chain of them.
+# Seconds that are left by these weights, as `rt all` hands crates out: whatever gets free takes the next in the queue, and waits
+# for those that it uses.
 left_by_weights() {
-  local it below sum=0 longest=0
-  local -A chain=()
-  for it in "${order[@]}"; do
-    chain[$it]=0
-    for below in ${uses[$it]}; do
-      ((chain[$below] <= chain[$it])) || chain[$it]=${chain[$below]}
+  local it below at first start longest=0
+  local -a free
+  local -A end=()
+  for ((at = 0; at < jobs; at++)); do free[at]=0; done
+  for it in "${queue[@]}"; do
+    end[$it]=0
+    [[ ! -v is_done[$it] ]] || continue
+    first=0
+    for at in "${!free[@]}"; do
+      ((free[at] >= free[first])) || first=$at
     done
-    [[ -v is_done[$it] ]] || ((sum += weight[$it], chain[$it] += weight[$it]))
-    ((chain[$it] <= longest)) || longest=${chain[$it]}
+    start=${free[first]}
+    for below in ${uses[$it]}; do
+      ((end[$below] <= start)) || start=${end[$below]}
+    done
+    end[$it]=$((start + weight[$it]))
+    free[first]=${end[$it]}
+    ((end[$it] <= longest)) || longest=${end[$it]}
   done
-  ((sum / jobs <= longest)) || longest=$((sum / jobs))
   echo "$longest"
 }
 
