@@ -295,7 +295,7 @@ left() {
     esac
   done <"$room/children" | wc -l
 }
-for signal in INT TERM HUP; do
+for signal in INT TERM HUP QUIT; do
   for jobs in 1 2; do
     afresh
     touch "$room/slow"
@@ -304,7 +304,8 @@ for signal in INT TERM HUP; do
 it = subprocess.Popen(sys.argv[2:], preexec_fn=lambda: signal.signal(signal.SIGINT, signal.SIG_DFL))
 time.sleep(4)
 it.send_signal(getattr(signal, "SIG" + sys.argv[1]))
-sys.exit(it.wait() == -getattr(signal, "SIG" + sys.argv[1]))' "$signal" "$work/lokwurmi" analyse two.toml >"$room/text" 2>"$room/said" </dev/null
+number = getattr(signal, "SIG" + sys.argv[1])
+sys.exit(it.wait() == (128 + number if sys.argv[1] == "QUIT" else -number))' "$signal" "$work/lokwurmi" analyse two.toml >"$room/text" 2>"$room/said" </dev/null
     hold "$signal, $jobs at a time: ends by it" is $? 1
     hold "$signal, $jobs at a time: says so" said '^lokwurmi: interrupted after [0-9]+:[0-9]{2}, with 2 of 5 proved; all that it started has ended'
     hold "$signal, $jobs at a time: there were children" is "$(wc -l <"$room/children")" 2

@@ -22,22 +22,14 @@ _lokwurmi_names() {
     }' "$2" 2>/dev/null
 }
 
-# _lokwurmi_files WORD ENDING..: folders, and files with one of the endings; any file where none has one
+# _lokwurmi_files WORD ENDING: folders, and files with the ending; any file where none has it
 _lokwurmi_files() {
-  local word=$1 ending it
-  local -a found=()
-  shift
-  for ending in "$@"; do
-    mapfile -t -O "${#found[@]}" found < <(compgen -f -X "!*$ending" -- "$word")
-  done
-  if ((${#found[@]} == 0)); then
-    mapfile -t found < <(compgen -f -- "$word")
+  mapfile -t COMPREPLY < <(compgen -f -X "!*$2" -- "$1")
+  if ((${#COMPREPLY[@]} == 0)); then
+    mapfile -t COMPREPLY < <(compgen -f -- "$1")
   else
-    mapfile -t -O "${#found[@]}" found < <(compgen -d -- "$word")
+    mapfile -t -O "${#COMPREPLY[@]}" COMPREPLY < <(compgen -d -- "$1")
   fi
-  for it in "${found[@]}"; do
-    COMPREPLY+=("$it")
-  done
   compopt -o filenames 2>/dev/null
 }
 

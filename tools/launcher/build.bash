@@ -1,6 +1,6 @@
 # shellcheck shell=bash disable=SC2154
-# Proves and builds the program for `lokwurmi`, and shows how far it is. `lokwurmi` sets here, top, program, built, and the graph
-# of the crates: order, each after those that it uses, and what each uses; words.bash sets kit.
+# Proves and builds the program for `lokwurmi`, and shows how far it is. `lokwurmi` sets here, top, first, program, built, and
+# the graph of the crates: order, each after those that it uses, and what each uses; words.bash sets kit.
 
 # ---- what is done, and what is left
 
@@ -222,9 +222,10 @@ interrupted() {
   wipe
   rm -f "$built.new"
   echo "lokwurmi: interrupted after $(clock $((SECONDS - begun))), with ${#is_done[@]} of ${#order[@]} proved; all that it started has ended, and the next call goes on from there" >&2
-  # as the signal does by itself, so that whoever called sees it
+  # as the signal does by itself, so that whoever called sees it; bash takes no SIGQUIT
   trap - "$1"
   kill "-$1" $$
+  exit $((128 + $(kill -l "$1")))
 }
 
 # Runs rt with some words in the program's crate, and shows how far it is; its status. It has a group of its own, so that an
@@ -273,7 +274,7 @@ run_rt() {
       guess
     fi
   fi
-  watch all run -- analyse data/two_tasks.toml && [ -x "$program" ]
+  watch all run -- "${first[@]}" && [ -x "$program" ]
 }
 
 # What rt said of the crate that failed; where they went one after the other, of the last that it began with.
