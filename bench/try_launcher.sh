@@ -1,5 +1,5 @@
 #!/usr/bin/env bash
-# Tries the launcher `lokwurmi` with a stand-in for the toolchain's command rt, which sleeps and prints, so that it takes two
+# Tries the launcher `lokwurmi` with a stand-in for the toolchain's command rt, which sleeps and prints, so that it takes three
 # minutes: help and version, words that are refused, progress, an interrupt, going on where it was, failures, hints, links,
 # blanks in paths. Prints a line a case, and ends with 1 where one answers otherwise than it should. Where the program of this
 # repository is built, the words are tried on it too. Outside the gate: bash bench/try_launcher.sh
@@ -253,6 +253,18 @@ hold "a file that isn't there is told" said "note: 'missing.toml' can't be read"
 rm "$work/crates/cpa_fix/src/lib.rt"
 call analyse two.toml
 hold "a source was taken away" said 'crates/cpa_fix/src is newer than the program'
+
+
+# ---- a source that changes while it is built
+afresh
+(sleep 2 && touch "$work/crates/cpa_units/src/lib.rt") &
+call analyse two.toml
+wait $!
+hold "changed meanwhile: it is built" is "$status" 0
+call analyse two.toml
+hold "changed meanwhile: and then again" said 'crates/cpa_units/src/lib.rt is newer than the program'
+call analyse two.toml
+hold "changed meanwhile: and then no more" [ ! -s "$room/said" ]
 
 # ---- one after the other
 afresh

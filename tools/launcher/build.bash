@@ -1,6 +1,6 @@
 # shellcheck shell=bash disable=SC2154
-# Proves and builds the program for `lokwurmi`, and shows how far it is. `lokwurmi` sets here, top, first, program, built, and
-# the graph of the crates: order, each after those that it uses, and what each uses; words.bash sets kit.
+# Proves and builds the program for `lokwurmi`, and shows how far it is. `lokwurmi` sets here, top, first, program, and the
+# graph of the crates: order, each after those that it uses, and what each uses; words.bash sets kit.
 
 # ---- what is done, and what is left
 
@@ -220,7 +220,7 @@ interrupted() {
   trap '' INT TERM HUP QUIT PIPE
   end_build
   wipe
-  rm -f "$built.new"
+  rm -f "$start"
   echo "lokwurmi: interrupted after $(clock $((SECONDS - begun))), with ${#is_done[@]} of ${#order[@]} proved; all that it started has ended, and the next call goes on from there" >&2
   # as the signal does by itself, so that whoever called sees it; bash takes no SIGQUIT
   trap - "$1"
@@ -336,13 +336,14 @@ wait_for_others() {
 
 # Builds the program for a reason, or ends.
 build() {
-  local it jobs many begun=$SECONDS guessed=0 guessed_at=0 planned mark=$$.$RANDOM$RANDOM log=$here/crates/$top/out/lokwurmi.log from lock
+  local it jobs many begun=$SECONDS guessed=0 guessed_at=0 planned mark=$$.$RANDOM$RANDOM from lock
+  local log=$here/crates/$top/out/lokwurmi.log start=$here/crates/$top/out/lokwurmi.start
   need_rt "$1"
   if wait_for_others "$1"; then
     exec {lock}>&-
     return
   fi
-  : >"$log" && touch "$built.new" && exec {from}<"$log" || exit 70
+  : >"$log" && touch "$start" && exec {from}<"$log" || exit 70
   read_weights
   read_queue
   jobs=$(at_a_time)
@@ -361,14 +362,14 @@ build() {
   if ! run_rt; then
     wipe
     tell_failure
-    rm -f "$built.new"
+    rm -f "$start"
     exit 70
   fi
   note_below "$top"
   note_done "$top"
   trap - INT TERM HUP QUIT PIPE
   wipe
-  mv "$built.new" "$built" && rm -f "$log"
+  touch -r "$start" "$program" && rm -f "$start" "$log"
   exec {from}<&- {lock}>&-
   echo "lokwurmi: it is built, in $(clock $((SECONDS - begun)))" >&2
 }
