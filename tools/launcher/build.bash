@@ -264,12 +264,12 @@ are_libraries_done() {
 # Proves the libraries several at a time, and then the program with all processors, or all one after the other. rt lets only one
 # of its runs work in a crate and those below it, so that several at a time are its own affair.
 run_rt() {
+  local why
   if ((jobs > 1)) && ! are_libraries_done; then
     if ! watch libraries all check --jobs "$jobs"; then
-      # a check that was killed has no last line
-      { [ -n "$failed" ] && ! said_of_failed | grep -q '^logic=\|error'; } || return
+      why=$(tell_no_failure) || return
       wipe
-      echo "lokwurmi: $failed broke off, most likely for want of memory: they go on one at a time" >&2
+      echo "lokwurmi: $why: they go on one at a time" >&2
       failed='' jobs=1
       guess
     fi
@@ -283,6 +283,20 @@ said_of_failed() {
     awk -v head="== $failed" '/^== / { is_it = $0 == head } is_it' "$log"
   else
     awk 'NR == FNR { if (/^rt: chose --jobs/) last = FNR; next } FNR >= last' "$log" "$log"
+  fi
+}
+
+# Why a crate has no library though nothing was found wrong, if that is so: a check that was killed has no last line.
+tell_no_failure() {
+  local said
+  [ -n "$failed" ] || return
+  said=$(said_of_failed)
+  if grep -q '^logic=not-proved\|error' <<<"$said"; then
+    return 1
+  elif grep -q '^logic=proved' <<<"$said"; then
+    echo "$failed changed while it was proved"
+  else
+    echo "$failed broke off, most likely for want of memory"
   fi
 }
 
