@@ -29,7 +29,7 @@ const LARGE_SUMMARY: &str =
 /// Whether `load` gives this, by several numbers of workers.
 fn is_loaded<R: AllocGlobal + Threads + Sync>(
     rt: &R,
-    made: (&str, &str),
+    made: (&'static str, &'static str),
     status: u8,
     text: &str,
 ) -> Result<bool, Fail> {
