@@ -192,7 +192,10 @@ def failures(folder):
     done = campaign(slow, *words, "--resume", keep)
     hold(done.returncode == 2 and "line 35" in done.stderr and "Traceback" not in done.stderr, "a folder with a line of something else is refused")
 
-    # calls that fail
+    calls_that_fail(folder)
+
+
+def calls_that_fail(folder):
     for name, end in (("memory", "exit 30"), ("disk", "exit 20"), ("gone", "exit 11"), ("killed", "kill -9 $$"), ("library", "echo no library >&2; exit 1"), ("mute", "exit 0")):
         once = stand_in(folder, name, f'if [ "$3" = 2 ] && mkdir "$room/{name}.failed" 2>/dev/null; then {end}; fi; exec "$program" "$@"')
         done = campaign(once, "hammer", CROSSING, "--traces", 20, "--call", 5, "--workers", 2)
@@ -200,7 +203,10 @@ def failures(folder):
     never = stand_in(folder, "never", 'echo "$3" >>"$log"; [ "$3" != 2 ] || { echo "no room" >&2; exit 30; }; exec "$program" "$@"')
     keep = os.path.join(folder, "kept2")
     done = campaign(never, "hammer", CROSSING, "--traces", 20, "--call", 5, "--workers", 2, "--tries", 4, "--resume", keep)
-    hold(done.returncode == 3 and calls_in(never).count("2") == 4 and "hammer 2 5: failed 4 times" in done.stderr and "no room" in done.stderr and f"--resume {keep}" in done.stderr, "a call that always fails is told after the tries that were asked for")
+    hold(done.returncode == 3 and calls_in(never).count("2") == 4 and "hammer 2 5: 4 of 4 tries failed" in done.stderr and "no room" in done.stderr and f"--resume {keep}" in done.stderr, "a call that always fails is told after the tries that were asked for")
+    deadly = stand_in(folder, "deadly", 'if [ "$3" = 2 ]; then echo "$3" >>"$log"; kill -9 $PPID; sleep 5; fi; exec "$program" "$@"')
+    done = campaign(deadly, "hammer", CROSSING, "--traces", 20, "--call", 5, "--workers", 2, "--tries", 1)
+    hold(done.returncode == 3 and calls_in(deadly) == ["2"] * 4 and "hammer 2 5: 1 of 1 tries failed" in done.stderr and "the worker died" in done.stderr and "Traceback" not in done.stderr, f"a call under which each worker dies is told after four {calls_in(deadly)} {done.stderr[-300:]}")
     gone = stand_in(folder, "rm", 'if [ "$3" = 2 ] && mkdir "$room/rm.failed" 2>/dev/null; then rm "$0" "$2"; fi; exec "$program" "$@"')
     done = campaign(gone, "hammer", CROSSING, "--traces", 40, "--call", 5, "--workers", 1)
     hold(done.returncode == 0 and done.stdout == added(CROSSING, [(it, 5) for it in range(1, 9)]), "files that are gone on a worker are written anew")
@@ -210,13 +216,17 @@ def ends(folder):
     """A job beyond its bound, and what ends at the end."""
     beyond = stand_in(folder, "beyond", 'if [ "$3" -gt 4 ]; then sleep 30; fi; echo "$3" >>"$log"; text=$("$program" "$@"); if [ "$3" = 3 ] && [ "$4" -gt 6 ]; then text=${text/beyond 0/beyond 2}; fi; echo "$text"')
     keep = os.path.join(folder, "kept3")
-    start = time.monotonic()
+
+    def at_work():
+        lines = subprocess.run(["ps", "-eo", "pid=,args="], capture_output=True, text=True, check=False).stdout.splitlines()
+        return {it.split()[0] for it in lines if re.search(r"lokwurmi-\S+/program hammer", it)}
+
+    before, start = at_work(), time.monotonic()
     done = campaign(beyond, "hammer", CROSSING, "--traces", 100, "--call", 10, "--workers", 4, "--resume", keep)
     took = time.monotonic() - start
     hold((done.returncode, done.stdout) == (1, "beyond number 3 trace 6\n") and "hammer" in done.stderr, "a job beyond its bound is told with its number and trace")
     hold(took < 20, f"at once, with calls of 30 seconds under way ({took:.0f} s)")
-    left = subprocess.run(["ps", "-eo", "args="], capture_output=True, text=True, check=False).stdout
-    hold(not re.search(r"lokwurmi-\S+/program hammer", left) or not os.path.exists(keep), "and nothing of it runs on")
+    hold(at_work() <= before, "and nothing of it runs on")
     done = campaign(beyond, "hammer", CROSSING, "--traces", 100, "--call", 10, "--workers", 4, "--resume", keep)
     hold((done.returncode, done.stdout) == (1, "beyond number 3 trace 6\n"), "once more from what is kept")
 
@@ -287,9 +297,10 @@ def schedulers(folder):
     finally:
         engine.end()
     done = campaign(PROGRAM, "hammer", CROSSING, "--traces", 20, "--scheduler", "tcp://127.0.0.1:1")
-    hold(done.returncode == 3 and "no scheduler at tcp://127.0.0.1:1" in done.stderr and "Traceback" not in done.stderr, "an address without a scheduler is told")
-    done = campaign(PROGRAM, "hammer", CROSSING, "--traces", 20, "--scheduler", "nowhere://x")
-    hold(done.returncode == 3 and "no scheduler at nowhere://x" in done.stderr and "Traceback" not in done.stderr, "an address of no form is told")
+    hold(done.returncode == 3 and "no scheduler answers at tcp://127.0.0.1:1" in done.stderr and "Traceback" not in done.stderr, "an address without a scheduler is told")
+    for address in ("nowhere://x", "tls://127.0.0.1:1"):
+        done = campaign(PROGRAM, "hammer", CROSSING, "--traces", 20, "--scheduler", address)
+        hold(done.returncode == 3 and f"no scheduler answers at {address}" in done.stderr and "Traceback" not in done.stderr and "--resume" not in done.stderr, f"an address that can't be taken is told: {address}")
 
 
 def hosts(folder):
@@ -325,11 +336,13 @@ def hosts(folder):
         wait_for(lambda: len(calls_in(log)) >= 16)
         text_was = open(log + ".log").read() if os.path.exists(log + ".log") else ""
         # the cable of the second is pulled, with its calls under way
+        start = time.monotonic()
         ip("-n", names[1], "link", "set", f"vt1{os.getpid()}"[:15], "down")
         engine.run[-1].kill()
         text, told = running.communicate()
+        took = time.monotonic() - start
         hold({net + "2", net + "3"} <= set(text_was.split()), "both hosts had calls")
-        hold(running.returncode == 0 and text == added(CROSSING, [(it, 5) for it in range(1, 41)]), f"a host that goes with its cable loses nothing (status {running.returncode}) {told[-200:] if running.returncode else ''}")
+        hold(running.returncode == 0 and text == added(CROSSING, [(it, 5) for it in range(1, 41)]), f"a host whose cable is pulled loses nothing (status {running.returncode}, {took:.0f} s later) {told[-200:] if running.returncode else ''}")
     finally:
         if engine:
             engine.end()

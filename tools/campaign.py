@@ -220,6 +220,10 @@ class Kept:
         return json.loads(zlib.decompress(self.answers[key]))
 
     def tell(self):
+        """Says how to go on, where something is kept."""
+        if not self.answers:
+            self.close()
+            return
         print(f"campaign.py: {len(self.answers)} calls are done and kept: the same words with --resume {self.folder} do the rest", file=sys.stderr)
 
     def close(self):
@@ -268,18 +272,30 @@ class Progress:
 # ---- the engine
 
 
+def close(client):
+    """Doesn't wait long for a scheduler that is gone."""
+    with contextlib.suppress(OSError):
+        client.close(timeout=2)
+
+
 def cluster(words, at_end):
     """A client of the scheduler that is named, or of a cluster of this machine's processors."""
-    logging.getLogger("distributed").setLevel(logging.CRITICAL)
+    logging.disable(logging.CRITICAL)
     if not words.scheduler:
-        count = words.workers or CPU_COUNT
-        local = distributed.LocalCluster(n_workers=count, threads_per_worker=1, processes=True, dashboard_address=None, memory_limit=0, silence_logs=logging.CRITICAL)
+        # the workers, which are processes of their own, read this
+        os.environ |= {"DASK_LOGGING__DISTRIBUTED": "critical", "DASK_LOGGING__ASYNCIO": "critical"}
+        nowhere = {"dashboard_address": "127.0.0.1:0"}
+        local = distributed.LocalCluster(n_workers=words.workers or CPU_COUNT, threads_per_worker=1, processes=True, dashboard_address=None, scheduler_kwargs=nowhere, worker_dashboard_address="127.0.0.1:0", memory_limit=0, silence_logs=logging.CRITICAL)
         at_end.callback(local.close)
-        return at_end.enter_context(contextlib.closing(distributed.Client(local)))
+        client = distributed.Client(local)
+        at_end.callback(client.close)
+        return client
     try:
-        client = at_end.enter_context(contextlib.closing(distributed.Client(words.scheduler, timeout="30s")))
-    except (OSError, ValueError) as fault:
-        raise Failed(f"there is no scheduler at {words.scheduler}, as tcp://host:8786: {fault}") from None
+        client = distributed.Client(words.scheduler, timeout="30s")
+    # of tls:// without certificates it is a TypeError
+    except (OSError, ValueError, TypeError) as fault:
+        raise Failed(f"no scheduler answers at {words.scheduler}; an address is as tcp://host:8786: {fault}") from None
+    at_end.callback(close, client)
     try:
         client.wait_for_workers(1, timeout="60s")
     except OSError:
@@ -299,9 +315,11 @@ class Engine:
         client.register_worker_plugin(self.sent, name=self.sent.name)
 
     def end(self):
-        with contextlib.suppress(Exception):
-            self.client.cancel(list(self.running))
-            self.client.unregister_worker_plugin(self.sent.name)
+        """Ends what is under way, and takes from the workers what was sent."""
+        if self.client.status == "running":
+            with contextlib.suppress(Exception):
+                self.client.cancel(list(self.running))
+                self.client.unregister_worker_plugin(self.sent.name)
 
     def start(self, units, spared=None):
         others = [it for it in self.client.nthreads() if it != spared] if spared else []
@@ -335,7 +353,9 @@ class Engine:
             where, answers, fault = future.result()
         elif future.status == "error":
             # the scheduler handed it on to other workers before
-            fault = f"workers died under it, one after the other: {future.exception()}"
+            fault = future.exception()
+            if isinstance(fault, distributed.scheduler.KilledWorker):
+                where, fault = fault.last_worker.address, "the worker died, and those before it under the same call"
         else:
             raise Failed(f"the scheduler{f' at {self.words.scheduler}' if self.words.scheduler else ''} is gone: start it anew")
         future.release()
@@ -347,7 +367,7 @@ class Engine:
                 self.tries[unit[0]] = self.tries.get(unit[0], 0) + 1
                 if self.tries[unit[0]] >= self.words.tries:
                     of = f" of the script\n{unit[2][2]}" if unit[2][2] else ""
-                    raise Failed(f"{unit[0]}{of}: failed {self.words.tries} times, the last time{f' on {where}' if where else ''}: {fault}")
+                    raise Failed(f"{unit[0]}{of}: {self.words.tries} of {self.words.tries} tries failed, the last one{f' on {where}' if where else ''}: {fault}")
                 self.again += 1
             self.start([unit], where)
         return zip(units, answers)
