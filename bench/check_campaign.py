@@ -116,6 +116,10 @@ def hammers(folder):
         hold(done.returncode == 0 and done.stdout == added(file, [(7 + it, 10) for it in range(whole)] + [(7 + whole, last)]), f"{name}: the joined text is that of the calls over the same numbers")
         done = campaign(PROGRAM, "hammer", file, "--traces", 12, "--seed", 3, "--workers", 1)
         hold(done.stdout == program_of("hammer", file, 3, 12), f"{name}: a campaign of one call writes what the program does")
+    alone = stand_in(folder, "alone", 'echo "$3 $(taskset -cp $$ | sed "s/.*: //")" >>"$log"; exec "$program" "$@"')
+    done = campaign(alone, "hammer", CROSSING, "--traces", 40, "--call", 5, "--workers", 2)
+    with open(alone + ".log") as it:
+        hold(done.returncode == 0 and all(line.split()[1].isdigit() for line in it), "each call has a processor of its own")
     refused = os.path.join(folder, "refused.toml")
     with open(refused, "w") as it:
         it.write("format = 9\n")
@@ -372,6 +376,7 @@ REFUSED = (
     ('[[vary]]\ntask = ["a1"]\nworst = [1]\n', "no task of the system"),
     ('[[vary]]\ntask = "a1"\nperiod = [1]\n', "or a source with one of period"),
     ('[[vary]]\ntask = "a1"\nworst = [9]\ncosts = [1, 2]\n', "one for each value"),
+    ('[[vary]]\ntask = "a1"\nworst = [9]\ncosts = [nan]\n', "one for each value"),
     ('[[vary]]\ntask = "a1"\nworst = [9]\nlabel = "cost"\n', "give the entry a label"),
     ('[[vary]]\ntask = "a1"\nworst = [9]\nlabel = 3\n', "label is a text"),
     ('[[vary]]\ntask = "a1"\nworst = [9]\n[[vary]]\ntask = "a1"\nlabel = "x"\nexecution = [[1, 2]]\n', "varies the same"),

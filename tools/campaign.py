@@ -30,6 +30,7 @@ import queue
 import re
 import shutil
 import signal
+import socket
 import subprocess
 import sys
 import tempfile
@@ -74,7 +75,26 @@ class Failed(Exception):
     """Something that may go well another time."""
 
 
+def say(text):
+    """A line on standard error; in a terminal, in the place of how far it is."""
+    start = "\r\033[K" if sys.stderr.isatty() else ""
+    print(f"{start}campaign.py: {text}", file=sys.stderr, flush=True)
+
+
 # ---- on a worker
+
+
+def take_processor():
+    """A processor that no call of this machine was given yet, and what holds it until it is closed; None where each is given."""
+    for it in sorted(os.sched_getaffinity(0)):
+        holder = socket.socket(socket.AF_UNIX)
+        try:
+            # a name without a file, which goes with the process that has it
+            holder.bind(f"\0lokwurmi-processor-{it}")
+            return it, holder
+        except OSError:
+            holder.close()
+    return None, contextlib.nullcontext()
 
 
 class Sent(distributed.WorkerPlugin):
@@ -115,9 +135,21 @@ class Sent(distributed.WorkerPlugin):
             self.folder = folder
             return folder
 
+    def begin(self, words, processor):
+        """Starts a call, on one processor if that is told: `hammer` has threads for all that it may use."""
+        allowed = os.sched_getaffinity(0)
+        try:
+            if processor is not None:
+                # of this thread, and so of what it starts
+                os.sched_setaffinity(0, {processor})
+            return subprocess.Popen(words, stdout=subprocess.PIPE, stderr=subprocess.PIPE)
+        finally:
+            os.sched_setaffinity(0, allowed)
+
     def call(self, words):
         """The status of a call and what it writes on both streams."""
-        with subprocess.Popen(words, stdout=subprocess.PIPE, stderr=subprocess.PIPE) as process:
+        processor, holder = take_processor() if words[1] == "hammer" else (None, contextlib.nullcontext())
+        with holder, self.begin(words, processor) as process:
             self.running.add(process)
             try:
                 text, errors = process.communicate()
@@ -224,7 +256,7 @@ class Kept:
         if not self.answers:
             self.close()
             return
-        print(f"campaign.py: {len(self.answers)} calls are done and kept: the same words with --resume {self.folder} do the rest", file=sys.stderr)
+        say(f"{len(self.answers)} calls are done and kept: the same words with --resume {self.folder} do the rest")
 
     def close(self):
         """Nothing is left to do: a folder that wasn't asked for goes."""
@@ -347,7 +379,7 @@ class Engine:
             return None
 
     def take(self, future):
-        """The units of a future that ended with their answers; those that it lacks are tried again, each for itself."""
+        """Gives the units of a future that ended, with their answers; those that it lacks are tried again, each for itself."""
         units, where, answers, fault = self.running.pop(future), None, [], None
         if future.status == "finished":
             where, answers, fault = future.result()
@@ -359,6 +391,7 @@ class Engine:
         else:
             raise Failed(f"the scheduler{f' at {self.words.scheduler}' if self.words.scheduler else ''} is gone: start it anew")
         future.release()
+        yield from (it for it in zip(units, answers) if it[1][0] < 10)
         if answers and answers[-1][0] >= 10:
             raise Refused(*answers[-1], units[len(answers) - 1][2][2])
         # what comes after a call that failed wasn't tried
@@ -370,7 +403,6 @@ class Engine:
                     raise Failed(f"{unit[0]}{of}: {self.words.tries} of {self.words.tries} tries failed, the last one{f' on {where}' if where else ''}: {fault}")
                 self.again += 1
             self.start([unit], where)
-        return zip(units, answers)
 
 
 def run(words, what, units, kept, look=lambda key, answer: False, together=1):
@@ -446,14 +478,14 @@ def first_beyond(words, number, traces):
 def tell_beyond(words, number, traces):
     """Writes the number and the trace that show a job beyond its bound."""
     file = words.file
-    print(f"campaign.py: `lokwurmi hammer {file} {number} {traces}` has a job beyond its bound, which is proved not to be: looking for the first trace that shows it", file=sys.stderr)
+    say(f"`lokwurmi hammer {file} {number} {traces}` has a job beyond its bound, which is proved not to be: looking for the first trace that shows it")
     try:
         trace = first_beyond(words, number, traces)
     except Failed as fault:
         trace = traces - 1
-        print(f"campaign.py: it wasn't found on this machine, so that the last trace is told: {fault}", file=sys.stderr)
+        say(f"it wasn't found on this machine, so that the last trace is told: {fault}")
     print(f"beyond number {number} trace {trace}")
-    print(f"campaign.py: keep {file}, the program {words.program}, and what `lokwurmi hammer {file} {number} {trace + 1}` writes", file=sys.stderr)
+    say(f"keep {file}, the program {words.program}, and what `lokwurmi hammer {file} {number} {trace + 1}` writes")
     return 1
 
 
@@ -504,6 +536,7 @@ class Variants:
         for number, (chosen, key, script) in enumerate(zip(self.chosen, self.keys, self.scripts), 1):
             verdict, refused, found = row_of(*self.kept[key], script)
             cost = sum(entry.costs[place] for entry, place in zip(self.grid, chosen))
+            cost = f"{cost:.12g}" if isinstance(cost, float) else cost
             own = {entry.label: entry.shown(place) for entry, place in zip(self.grid, chosen)}
             # the bounds of what an edit was kept from aren't those of the variant
             yield {"variant": number, **own, "verdict": verdict, "refused": refused, "cost": cost, **(found if verdict != "refused" else dict.fromkeys(found, ""))}
@@ -532,7 +565,7 @@ def variants(words, kept):
 # ---- the words
 
 
-def whole(least, most):
+def within(least, most):
     def read(word):
         if not re.fullmatch(r"[0-9]{1,10}", word) or not least <= int(word) <= most:
             raise argparse.ArgumentTypeError(f"{word}: wants a number from {least} to {most}")
@@ -570,15 +603,15 @@ def read_words():
     common = argparse.ArgumentParser(add_help=False)
     where = common.add_mutually_exclusive_group()
     where.add_argument("--scheduler", metavar="ADDRESS", help="a Dask scheduler, as tcp://host:8786; without it, this machine's processors")
-    where.add_argument("--workers", metavar="N", type=whole(1, 1024), help="without a scheduler: so many workers, one for each processor if absent")
+    where.add_argument("--workers", metavar="N", type=within(1, 1024), help="without a scheduler: so many calls at a time, one for each processor if absent")
     common.add_argument("--resume", metavar="FOLDER", help="keep in FOLDER what is done, and don't do again what it has")
-    common.add_argument("--tries", metavar="T", type=whole(1, 100), default=3, help="how often a call is tried that fails; 3 if absent")
+    common.add_argument("--tries", metavar="T", type=within(1, 100), default=3, help="how often a call is tried that fails; 3 if absent")
     common.add_argument("--program", metavar="PROGRAM", default=os.path.join(TOP, "crates", "cpa_cli", "out", "cpa_cli"), help="the program, that of this repository if absent; it is sent to the workers")
     it = commands.add_parser("hammer", parents=[common], formatter_class=raw, help="made traces, joined to one summary", description="Replays made traces, and writes the greatest responses seen beside the bounds.", epilog=HAMMERS)
     it.add_argument("file", metavar="FILE", help="a system file")
-    it.add_argument("--traces", metavar="N", type=whole(1, 10**9), required=True, help="how many traces in all")
-    it.add_argument("--seed", metavar="S", type=whole(0, MOST_NUMBER), default=1, help="the number of the first call; 1 if absent")
-    it.add_argument("--call", metavar="K", type=whole(1, MOST_TRACES), default=1000, help="how many traces a call has; 1000 if absent")
+    it.add_argument("--traces", metavar="N", type=within(1, 10**9), required=True, help="how many traces in all")
+    it.add_argument("--seed", metavar="S", type=within(0, MOST_NUMBER), default=1, help="the number of the first call; 1 if absent")
+    it.add_argument("--call", metavar="K", type=within(1, MOST_TRACES), default=1000, help="how many traces a call has; 1000 if absent")
     it = commands.add_parser("variants", parents=[common], formatter_class=raw, help="what a grid varies, as a table", description="Analyses each variant of a grid, and writes a table of verdicts, bounds and latencies.", epilog=GRIDS)
     it.add_argument("file", metavar="FILE", help="a system file")
     it.add_argument("grid", metavar="GRID", help="a TOML file that says what is varied")
@@ -602,17 +635,17 @@ def perform(words, kept):
         status, text, script = it.args
         sys.stdout.write(text)
         if script is not None:
-            print(f"campaign.py: this is the script that was refused:\n{script[:2000]}", file=sys.stderr)
+            say(f"this is the script that was refused:\n{script[:2000]}")
         return status
     except Wrong as it:
-        print(f"campaign.py: {it}", file=sys.stderr)
+        say(f"{it}")
         return 2
     except (Failed, OSError) as it:
-        print(f"campaign.py: {it}", file=sys.stderr)
+        say(f"{it}")
         kept.tell()
         return 3
     except KeyboardInterrupt:
-        print("campaign.py: interrupted", file=sys.stderr)
+        say("interrupted")
         kept.tell()
         return 130
 
@@ -631,7 +664,7 @@ def main():
         file, program = (hashlib.sha256(read_bytes(it)).hexdigest() for it in (words.file, words.program))
         kept = Kept(words.resume, {"command": words.command, "system file": file, "program": program})
     except (Wrong, OSError) as fault:
-        print(f"campaign.py: {fault}", file=sys.stderr)
+        say(f"{fault}")
         sys.exit(2)
     status = perform(words, kept)
     if status not in (3, 130):

@@ -32,6 +32,10 @@ def is_number(it):
     return isinstance(it, int) and not isinstance(it, bool) and 0 <= it < 10**10
 
 
+def is_cost(it):
+    return isinstance(it, (int, float)) and not isinstance(it, bool) and abs(it) <= 10**15
+
+
 def is_pair(it):
     return isinstance(it, list) and len(it) == 2 and all(map(is_number, it))
 
@@ -62,7 +66,7 @@ class Entry:
             self.hold(isinstance(self.values, list) and all(map(fits, self.values)), f"{self.key} is a list of {what}")
         self.hold(self.values, "has no value")
         self.costs = [0] * len(self.values) if costs is None else costs
-        self.hold(isinstance(self.costs, list) and len(self.costs) == len(self.values) and all(isinstance(it, (int, float)) and math.isfinite(it) for it in self.costs), f"costs is a list of {len(self.values)} numbers, one for each value")
+        self.hold(isinstance(self.costs, list) and len(self.costs) == len(self.values) and all(map(is_cost, self.costs)), f"costs is a list of {len(self.values)} numbers, one for each value")
         self.label = label if label is not None else f"{self.who[1]}.{self.key}" if self.who else f"script{place}"
         self.hold(isinstance(self.label, str) and self.label, "label is a text")
         self.hold(self.label not in OWN and not self.label.startswith(("task.", "path.")), f"{self.label} is the name of another column: give the entry a label")
