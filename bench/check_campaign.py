@@ -51,7 +51,8 @@ def campaign(program, *words):
 
 
 def begin(program, *words):
-    return subprocess.Popen(words_of(program, *words), stdout=subprocess.PIPE, stderr=subprocess.PIPE, text=True)
+    """A campaign that runs on, with its workers in a group of processes of its own."""
+    return subprocess.Popen(words_of(program, *words), stdout=subprocess.PIPE, stderr=subprocess.PIPE, text=True, start_new_session=True)
 
 
 def program_of(*words):
@@ -168,7 +169,8 @@ def failures(folder):
         keep = os.path.join(folder, "kept" + name)
         running = begin(slow, *words, "--resume", keep)
         wait_for(lambda: len(calls_in(slow)) >= 8)
-        running.send_signal(getattr(signal, name))
+        # an interrupt in a terminal comes to all processes of the group
+        (os.killpg if name == "SIGINT" else os.kill)(running.pid, getattr(signal, name))
         text, told = running.communicate()
         hold(running.returncode == 130 and text == "" and f"--resume {keep}" in told and "Traceback" not in told, f"{name} says how to go on")
         with open(os.path.join(keep, "done.jsonl")) as it:

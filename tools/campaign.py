@@ -314,8 +314,9 @@ def cluster(words, at_end):
     """A client of the scheduler that is named, or of a cluster of this machine's processors."""
     logging.disable(logging.CRITICAL)
     if not words.scheduler:
-        # the workers, which are processes of their own, read this
-        os.environ |= {"DASK_LOGGING__DISTRIBUTED": "critical", "DASK_LOGGING__ASYNCIO": "critical"}
+        # what the workers say of their own end doesn't belong into the terminal: their standard error leads nowhere
+        sys.stderr = os.fdopen(os.dup(2), "w", buffering=1)
+        os.dup2(os.open(os.devnull, os.O_WRONLY), 2)
         nowhere = {"dashboard_address": "127.0.0.1:0"}
         local = distributed.LocalCluster(n_workers=words.workers or CPU_COUNT, threads_per_worker=1, processes=True, dashboard_address=None, scheduler_kwargs=nowhere, worker_dashboard_address="127.0.0.1:0", memory_limit=0, silence_logs=logging.CRITICAL)
         at_end.callback(local.close)
