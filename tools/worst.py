@@ -1,0 +1,366 @@
+#!/usr/bin/env python3
+"""Looks for a trace under which a task answers as late, or a path takes as long, as can be found, and shows how near that comes
+to the bound.
+
+    python3 tools/worst.py examples/long_window.toml b --to worst.trace.csv
+    python3 tools/worst.py examples/crossing_chains.toml --path pa
+    python3 tools/worst.py examples/sae_can.toml --all
+
+What is printed as seen is exact: `lokwurmi simulate` replays the trace, whose events and executions obey the system, and by what
+it proves no run is later than the bound. Where the two are equal, the bound can't be lower. Where they aren't, either the bound
+isn't reached by any run, or the search hasn't found the run.
+
+The search begins with what is known of worst cases on the four kinds of resource, and then changes phases, jitter, executions
+and the phases of TDMA cycles, and keeps what is later. It makes so many tries (--tries), so that the same call gives the same
+answer for the same --seed; --seconds ends it before, and then it says so.
+"""
+import argparse
+import concurrent.futures
+import os
+import random
+import re
+import statistics
+import subprocess
+import sys
+import tempfile
+import time
+
+from report import read_report
+from system import activators, execution, read_system
+
+TOP = os.path.dirname(os.path.dirname(os.path.abspath(__file__)))
+LAUNCHER = os.path.join(TOP, "lokwurmi")
+PROGRAM = os.path.join(TOP, "crates/cpa_cli/out/cpa_cli")
+LATEST = 10_000_000
+MOST_ROWS = 20_000
+
+
+def stop(text):
+    sys.exit(f"worst.py: {text}")
+
+
+class System:
+    """A system file, as far as traces need it: the program has accepted it."""
+
+    def __init__(self, path):
+        read = read_system(path)
+        self.path = path
+        self.resources = {r["name"]: r for r in read.get("resource", [])}
+        self.sources = {s["name"]: s for s in read.get("source", [])}
+        self.tasks = {t["name"]: dict(t) for t in read.get("task", [])}
+        self.paths = {p["name"]: p for p in read.get("path", [])}
+        for task in self.tasks.values():
+            task["best"], task["worst"] = execution(task, self.resources[task["on"]])
+            task["after"] = activators(task)
+
+    def streams(self, name):
+        """The ways to a task: a source each, and the tasks on the way to it, the task itself left out."""
+        found = []
+        for after in self.tasks[name]["after"]:
+            if after in self.sources:
+                found.append((after, []))
+            else:
+                found += [(source, way + [after]) for source, way in self.streams(after)]
+        return found
+
+    def on(self, resource):
+        return [name for name, task in self.tasks.items() if task["on"] == resource]
+
+    def cycle(self, resource):
+        return sum(self.tasks[name]["slot"] for name in self.on(resource)) + self.resources[resource].get("gap", 0)
+
+    def rivals(self, name):
+        """The tasks that may delay this one, and of them those of lower priority on a bus."""
+        task = self.tasks[name]
+        others = [other for other in self.on(task["on"]) if other != name]
+        kind = self.resources[task["on"]]["kind"]
+        if kind in ("preemptive", "can"):
+            order = list(self.tasks)
+            rank = lambda one: (self.tasks[one]["priority"], order.index(one))
+            lower = [other for other in others if rank(other) > rank(name)]
+            return [other for other in others if other not in lower], lower if kind == "can" else []
+        return (others if kind == "round-robin" else []), []
+
+
+class Plan:
+    """What a trace is made of. `start` has the first event of each source that has any, `used` how much of its jitter the first
+    one uses up, `long` how many jobs of a task take the greatest execution before the others take the least (None: all do),
+    `turned` single jobs that take the other one, `phase` where TDMA cycles stand."""
+
+    def __init__(self, start, used=None, long=None, turned=None, phase=None):
+        self.start, self.used, self.long = dict(start), dict(used or {}), dict(long or {})
+        self.turned, self.phase = dict(turned or {}), dict(phase or {})
+
+    def copy(self):
+        return Plan(self.start, self.used, self.long, {task: set(jobs) for task, jobs in self.turned.items()}, self.phase)
+
+
+def events_of(system, plan, span):
+    """The times of each source: as dense as it may be from its start on, for as long as that may matter."""
+    first = min(plan.start.values(), default=0)
+    rows = MOST_ROWS // max(1, len(plan.start))
+    found = {}
+    for name, start in plan.start.items():
+        source = system.sources[name]
+        period, distance = source["period"], source.get("distance", 0)
+        used = min(plan.used.get(name, source.get("jitter", 0)), source.get("jitter", 0))
+        times = []
+        while len(times) < rows:
+            k = len(times)
+            at = start - first + max(0, k * period - used, k * distance)
+            if k and at > span or at > LATEST:
+                break
+            times.append(at)
+        found[name] = times
+    return found
+
+
+def rows_of(system, plan, span):
+    """The rows of the trace."""
+    events = events_of(system, plan, span)
+    rows = [f"event,{name},{at}" for name, times in events.items() for at in times]
+    for name, task in system.tasks.items():
+        if task["best"] == task["worst"] or (name not in plan.long and name not in plan.turned):
+            continue
+        count = min(sum(len(events.get(source, ())) for source, _ in system.streams(name)), MOST_ROWS)
+        long, turned = plan.long.get(name), plan.turned.get(name, ())
+        for k in range(count):
+            greatest = (long is None or k < long) != (k in turned)
+            rows.append(f"exec,{name},{task['worst'] if greatest else task['best']}")
+    rows += [f"phase,{name},{at}" for name, at in plan.phase.items()]
+    return rows
+
+
+class Judge:
+    """Replays plans by `simulate`, several side by side."""
+
+    def __init__(self, system, folder, jobs):
+        self.system, self.folder, self.pool, self.count = system, folder, concurrent.futures.ThreadPoolExecutor(jobs), 0
+        self.program = [PROGRAM] if os.access(PROGRAM, os.X_OK) else [LAUNCHER]
+
+    def seen(self, number, plan, span):
+        """The greatest response of each task and time of each path that was seen."""
+        trace = os.path.join(self.folder, f"{number}.csv")
+        with open(trace, "w", encoding="ascii") as file:
+            file.write("".join(row + "\n" for row in rows_of(self.system, plan, span)))
+        run = subprocess.run([*self.program, "simulate", self.system.path, trace], capture_output=True, text=True, check=False)
+        os.remove(trace)
+        if run.returncode == 16:
+            return {}
+        if run.returncode:
+            stop(f"a trace was refused, which shouldn't be: status {run.returncode}, {run.stdout.strip() or run.stderr.strip()}")
+        found = re.findall(r"^(task|path) (\S+) .*worst (\d+)$", run.stdout, re.M)
+        return {(kind, name): int(worst) for kind, name, worst in found}
+
+    def all(self, plans, span):
+        self.count += len(plans)
+        return list(self.pool.map(lambda it: self.seen(it[0], it[1], span), enumerate(plans)))
+
+
+def known_plans(system, target, bounds):
+    """Plans that are known to be bad for a task: its rivals come with it, jitter is used up first, all take their greatest; a
+    frame of lower priority has just begun; the slot has just ended. Where tasks come along chains, these are started before, so
+    that they arrive then, with first jobs that take long and later ones that don't, or with all that take as long."""
+    task = system.tasks[target]
+    resource = system.resources[task["on"]]
+    higher, lower = system.rivals(target)
+    travel = lambda way, which: sum(bounds.get(one) or system.tasks[one]["worst"] if which == "bound" else system.tasks[one][which] for one in way)
+    plans = []
+    for which in ("worst", "best", "bound"):
+        for shift in (0, 1, -1):
+            start = {}
+            for name in (*higher, target):
+                for source, way in system.streams(name):
+                    at = -travel(way, which) - (shift if name != target else 0)
+                    start[source] = min(start.get(source, at), at)
+            ways = {one for name in (*higher, target) for _, way in system.streams(name) for one in way}
+            for long in ({}, {one: 1 for one in ways}, {one: 0 for one in ways} if which == "best" else {}):
+                plans.append(Plan(start, long=long))
+    if lower:
+        longest = sorted(lower, key=lambda one: -system.tasks[one]["worst"])[:3]
+        bit = resource.get("bit", 1)
+        for plan in list(plans):
+            for blocker in longest:
+                for ahead in {1, bit}:
+                    more = plan.copy()
+                    for source, way in system.streams(blocker):
+                        if source not in more.start:
+                            more.start[source] = -ahead - travel(way, "worst")
+                    plans.append(more)
+    if resource["kind"] == "tdma":
+        cycle, before = system.cycle(task["on"]), 0
+        for name in system.on(task["on"]):
+            before += system.tasks[name]["slot"]
+            if name == target:
+                break
+        for plan in list(plans):
+            for late in range(-2, 3):
+                more = plan.copy()
+                at = -min(more.start.values())
+                more.phase[task["on"]] = (before + late - at) % cycle
+                plans.append(more)
+    together = Plan({name: 0 for name in system.sources})
+    return plans + [together, Plan(together.start, long={name: 1 for name in system.tasks})]
+
+
+def change(system, plan, rng, sources, tasks):
+    """A plan that differs from another in one or two things."""
+    new = plan.copy()
+    for _ in range(rng.choice((1, 1, 2))):
+        what = rng.random()
+        if what < 0.45 and sources:
+            name = rng.choice(sources)
+            if name in new.start and len(new.start) > 1 and rng.random() < 0.08:
+                del new.start[name]
+            elif rng.random() < 0.4 and new.start:
+                new.start[name] = new.start[rng.choice(sorted(new.start))] + rng.choice((-1, 0, 0, 1))
+            else:
+                size = rng.choice((1, 2, 5, 20, 100, system.sources[name]["period"]))
+                new.start[name] = new.start.get(name, 0) + rng.randint(-size, size)
+        elif what < 0.6 and sources:
+            name = rng.choice(sources)
+            new.used[name] = rng.choice((0, system.sources[name].get("jitter", 0), rng.randint(0, system.sources[name].get("jitter", 0))))
+        elif what < 0.8 and tasks:
+            name = rng.choice(tasks)
+            new.long[name] = rng.choice((None, 0, 1, 1, 2, 3, rng.randint(0, 20)))
+        elif what < 0.93 and tasks:
+            turned = new.turned.setdefault(rng.choice(tasks), set())
+            turned ^= {rng.randint(0, rng.choice((2, 8, 30)))}
+        else:
+            rings = [name for name, one in system.resources.items() if one["kind"] == "tdma" and system.on(name)]
+            if rings:
+                name = rng.choice(rings)
+                new.phase[name] = (new.phase.get(name, 0) + rng.choice((-1, 1, rng.randrange(system.cycle(name))))) % system.cycle(name)
+    return new
+
+
+class Best:
+    """The latest that was seen of each task and path, and by which plan."""
+
+    def __init__(self):
+        self.found = {}
+
+    def take(self, plans, answers, span):
+        for plan, answer in zip(plans, answers):
+            for what, worst in answer.items():
+                if worst > self.found.get(what, (-1, None, 0))[0]:
+                    self.found[what] = (worst, plan, span)
+
+
+def search(system, judge, best, target, bounds, options, rng, ends):
+    """Looks for a plan that is late for a task or a path. Whether it was ended by the clock."""
+    kind, name = target
+    last = name if kind == "task" else system.paths[name]["tasks"][-1]
+    links = [name] if kind == "task" else system.paths[name]["tasks"]
+    reach = {one for task in links for _, way in system.streams(task) for one in way} | set(links)
+    bound = bounds.get(target)
+    near = {other for task in reach for other in sum(system.rivals(task), [])} | reach
+    near |= {one for task in near for _, way in system.streams(task) for one in way}
+    sources = sorted({source for task in near for source, _ in system.streams(task)})
+    tasks = sorted(task for task in near if system.tasks[task]["best"] < system.tasks[task]["worst"])
+    of_tasks = {one: bounds.get(("task", one)) for one in system.tasks}
+    longest = sum(of_tasks.get(one) or 10 * system.tasks[one]["worst"] for one in reach)
+    span = min(15 * longest + 100, LATEST)
+    plans = [plan for task in dict.fromkeys([last, *links]) for plan in known_plans(system, task, of_tasks)]
+    made, pool = 0, []
+    while True:
+        answers = judge.all(plans, span)
+        made += len(plans)
+        best.take(plans, answers, span)
+        pool += [(answer.get(target, -1), plan) for plan, answer in zip(plans, answers)]
+        pool.sort(key=lambda it: -it[0])
+        pool = pool[:6]
+        progress(f"{kind} {name}: seen {best.found.get(target, (0,))[0]} of {'overload' if bound is None else bound}, {made} of {options.tries} tries")
+        if bound is not None and best.found.get(target, (0,))[0] >= bound or made >= options.tries:
+            return False
+        if time.monotonic() > ends:
+            return True
+        plans = [change(system, pool[min(int(rng.expovariate(0.7)), len(pool) - 1)][1], rng, sources, tasks) for _ in range(32)]
+
+
+def progress(text):
+    if sys.stderr.isatty():
+        sys.stderr.write("\r\033[K" + text)
+        sys.stderr.flush()
+
+
+def ratio_of(seen, bound):
+    """In four digits, rounded down: 1.0000 only where the bound is reached."""
+    return f"{seen * 10_000 // bound / 10_000:.4f}"
+
+
+def line(what, seen, bound):
+    kind, name = what
+    if bound is None:
+        return f"{kind} {name} seen {seen} bound overload"
+    return f"{kind} {name} seen {seen} bound {bound} ratio {ratio_of(seen, bound)}"
+
+
+def asked_for():
+    parser = argparse.ArgumentParser(description=__doc__, formatter_class=argparse.RawDescriptionHelpFormatter)
+    parser.add_argument("file", help="a system file")
+    parser.add_argument("task", nargs="?", help="the task whose response is to be late")
+    parser.add_argument("--path", help="a path that is to take long, in place of a task")
+    parser.add_argument("--all", action="store_true", help="all tasks and paths that have a bound, in a table")
+    parser.add_argument("--to", metavar="TRACE", help="writes the trace to this file")
+    parser.add_argument("--tries", type=int, default=2000, help="how many traces are tried for a task or a path (2000)")
+    parser.add_argument("--seconds", type=float, default=60, help="ends the search after this time (60)")
+    parser.add_argument("--seed", type=int, default=1, help="another number looks in other places (1)")
+    parser.add_argument("--jobs", type=int, default=os.cpu_count(), help="how many traces are replayed side by side")
+    options = parser.parse_args()
+    if (options.task is not None) + (options.path is not None) + options.all != 1:
+        parser.error("name a task, or --path NAME, or --all")
+    if options.all and options.to:
+        parser.error("--to wants one task or path")
+    if options.jobs < 1 or options.tries < 1 or options.seconds <= 0:
+        parser.error("--jobs, --tries and --seconds are at least 1")
+    return options
+
+
+def report_of(path, folder):
+    """The bounds, as `analyse` prints them."""
+    run = subprocess.run([LAUNCHER, "analyse", path], stdout=subprocess.PIPE, text=True, check=False)
+    if run.returncode > 2:
+        stop(f"{path}: {run.stdout.strip()}")
+    report = os.path.join(folder, "report")
+    with open(report, "w", encoding="ascii") as file:
+        file.write(run.stdout)
+    tasks, paths = read_report(report)
+    return {("task", name): it["worst"] for name, it in tasks.items()} | {("path", name): it["worst"] for name, it in paths.items()}
+
+
+def main():
+    options = asked_for()
+    with tempfile.TemporaryDirectory() as folder:
+        bounds = report_of(options.file, folder)
+        system = System(options.file)
+        if options.all:
+            targets = [what for what, bound in bounds.items() if bound is not None]
+        else:
+            targets = [("task", options.task) if options.path is None else ("path", options.path)]
+            if targets[0] not in bounds:
+                kind, name = targets[0]
+                stop(f"{options.file} has no {kind} {name}; it has {', '.join(sorted(one for what, one in bounds if what == kind)) or 'none'}")
+        judge, best, rng = Judge(system, folder, options.jobs), Best(), random.Random(options.seed)
+        began, cut = time.monotonic(), 0
+        for place, target in enumerate(targets):
+            ends = began + options.seconds * (place + 1) / len(targets)
+            cut += search(system, judge, best, target, bounds, options, rng, ends)
+        progress("")
+        ratios = []
+        for target in targets:
+            seen, plan, span = best.found.get(target, (0, None, 0))
+            print(line(target, seen, bounds[target]))
+            if bounds[target] is not None:
+                ratios.append(seen / bounds[target])
+        if options.all and ratios:
+            print(f"middle ratio {statistics.median(ratios):.4f}, least {min(ratios):.4f}, {sum(ratio == 1 for ratio in ratios)} of {len(ratios)} bounds reached")
+        if options.to and plan is not None:
+            with open(options.to, "w", encoding="ascii") as file:
+                file.write("".join(row + "\n" for row in rows_of(system, plan, span)))
+        if cut:
+            print(f"the clock ended the search of {cut} of {len(targets)}: another call may see more (--seconds)", file=sys.stderr)
+
+
+if __name__ == "__main__":
+    main()
