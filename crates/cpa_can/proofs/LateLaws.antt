@@ -1,19 +1,20 @@
 -- Where the first frame starts late, the bound is greater.
-use Rattle.std.proofs.Common.{◌≡◌, ℕ, ◌+◌, ◌≤◌, List, inl, inr, arith}
+use Rattle.std.proofs.Common.{◌≡◌, ℕ, ◌+◌, ◌≤◌, false, List, inl, inr, arith}
 use Rattle.std.proofs.lemmas.Bool.{cases_lt}
 use Rattle.cpa_units.specs.declared.bound.Bound.{Bound}
 use Rattle.cpa_units.specs.declared.bound.Bound.TheVariants.{Within, Overload}
 use Rattle.cpa_units.specs.Bounds.{IsAtMost, bound_plus, bound_minus, capped, greatest_of}
 use Rattle.cpa_units.proofs.BoundLaws.{IsAtMost_trans, le-greatest_of, capped-within, capped-past}
 use Rattle.cpa_events.specs.Events.{Model}
-use Rattle.cpa_events.specs.Events.{delta_minus, eta_plus, IsModel}
+use Rattle.cpa_events.specs.Events.{eta_plus, IsModel}
 use Rattle.cpa_events.proofs.EventLaws.{delta_minus-one, eta_plus-one}
 use Rattle.cpa_window.specs.declared.rivals.Rival.{Rival}
+use Rattle.cpa_window.specs.Rivals.{some_unbounded}
 use Rattle.cpa_window.specs.Windows.{window, IsWindow}
 use Rattle.cpa_window.proofs.WindowLaws.{window-is}
 use Rattle.cpa_window.proofs.WalkLaws.{window-later}
 use Rattle.cpa_can.specs.Can.{can_busy_demand, can_start, can_response, greatest_in_busy_window, can_bound}
-use Rattle.cpa_can.specs.CanWork.{start_work, StartsPast}
+use Rattle.cpa_can.specs.CanWork.{start_work}
 use Rattle.cpa_can.proofs.FrameLaws.{frame_start}
 
 -- a frame that is done within some time has started within it
@@ -25,7 +26,7 @@ started limit worst most (Within begin) h =
       | inr within ↦ let ends = rw (capped-within limit (begin + worst) within) at h in omega (arith, ends)
     ]
 
-module _ (own : Model) (worst blocking : ℕ) (rivals : List Rival) (bit limit most latest : ℕ) (is_model : IsModel own) (cut : (v : ℕ) → v ≤ limit → v ≤ most → v ≤ latest) (past : StartsPast worst blocking bit rivals latest) where
+module _ (own : Model) (worst blocking : ℕ) (rivals : List Rival) (bit limit most latest : ℕ) (is_model : IsModel own) (cut : (v : ℕ) → v ≤ limit → v ≤ most → v ≤ latest) (bounded : some_unbounded rivals ≡ false) (past : IsWindow (λ v. Within (start_work worst blocking bit rivals 0 v)) 0 latest Overload) where
   response : ℕ → Bound
   response = can_response own worst blocking rivals bit limit
 
@@ -33,8 +34,8 @@ module _ (own : Model) (worst blocking : ℕ) (rivals : List Rival) (bit limit m
   late_start h =
       let demand : ℕ → Bound = λ v. Within (start_work worst blocking bit rivals 0 v) in
       let is : IsWindow demand 0 limit (window demand 0 limit) = window-is demand 0 limit in
-      let same : can_start worst blocking rivals bit limit 1 ≡ window demand 0 limit = frame_start own worst blocking rivals bit limit past.bounded 0 (window demand 0 limit) is in
-      window-later (start_work worst blocking bit rivals 0) latest limit most (window demand 0 limit) cut past.none is (rw same at h)
+      let same : can_start worst blocking rivals bit limit 1 ≡ window demand 0 limit = frame_start own worst blocking rivals bit limit bounded 0 (window demand 0 limit) is in
+      window-later (start_work worst blocking bit rivals 0) latest limit most (window demand 0 limit) cut past is (rw same at h)
 
   late_at : (busy : Bound) → IsWindow (can_busy_demand own worst blocking rivals) 1 limit busy → ¬ IsAtMost (greatest_in_busy_window response (eta_plus own) busy) (Within most)
   unfolding response

@@ -7,14 +7,13 @@
 #![tactic(auto)]
 
 ghost use Rattle.std.specs.Prelude.{◌≡◌, ℕ, ◌+◌, ◌*◌, ◌≤◌, ◌↔◌, IsTrue, false};
-ghost use Rattle.std.specs.Bool.{OnTrue};
 ghost use Rattle.cpa_units.specs.declared.limits.TheConstants.{MAX_BIT, MAX_EXECUTION};
 ghost use Rattle.cpa_units.specs.Bounds.{IsAtMost, greatest_of};
 ghost use Rattle.cpa_units.specs.Numbers.{IsExecution};
 ghost use Rattle.cpa_events.specs.Events.{IsModelInRange};
 ghost use Rattle.cpa_window.specs.Rivals.{AreRivals, some_unbounded};
 ghost use Rattle.cpa_can.specs.Can.{can_bound, can_response};
-ghost use Rattle.cpa_can.specs.CanWork.{busy_work, busy_work-mono, start_work, start_work-mono, start_work-more, StartsPast};
+ghost use Rattle.cpa_can.specs.CanWork.{busy_work, busy_work-mono, start_work, start_work-mono, start_work-more, IsCrowdedBelow};
 ghost use Rattle.cpa_can.specs.Laws.{CanBoundsGrow, CanBoundsAreInRange, CanBoundsGoByWork};
 
 use cpa_events::Model;
@@ -112,25 +111,36 @@ pub fn respond(
     if some_unbounded(rivals) {
         return Bound::Overload;
     }
-    let bus = BusyBus {
-        own,
-        worst,
-        blocking,
-        rivals,
-    };
-    let Some(busy) = least_window(&bus, 1, limit) else {
-        return Bound::Overload;
-    };
     let starts = FrameStarts {
         worst,
         blocking,
         bit,
         rivals,
     };
-    greatest_response(own, &starts, own.eta_plus(busy), limit)
+    bounded_response(own, &starts, 0, limit)
 }
 
-/// Whether that bound is at most `most`. The first frame alone is looked at where it starts past that, however long the
+/// The bound where all rivals are bounded. No window below `first` has room for what comes before the first frame.
+fn bounded_response(own: &Model, starts: &FrameStarts, first: u64, limit: u64) -> Bound
+    requires own { IsModelInRange own.now }
+    requires bounded { some_unbounded starts.now.rivals.now ≡ false }
+    requires first { IsCrowdedBelow (start_work starts.now.worst starts.now.blocking starts.now.bit starts.now.rivals.now 0) first }
+    requires limit { limit ≤ MAX_LIMIT }
+    ensures { result ≡ can_bound own.now starts.now.worst starts.now.blocking starts.now.rivals.now starts.now.bit limit }
+{
+    let bus = BusyBus {
+        own,
+        worst: starts.worst,
+        blocking: starts.blocking,
+        rivals: starts.rivals,
+    };
+    match least_window(&bus, 1, limit) {
+        Some(busy) => greatest_response(own, starts, first, own.eta_plus(busy), limit),
+        None => Bound::Overload,
+    }
+}
+
+/// Whether that bound is at most `most`. Where the first frame starts past that, it alone is looked at, however long the
 /// bus is busy.
 pub fn is_within(
     own: &Model,
@@ -149,24 +159,6 @@ pub fn is_within(
     requires limit { limit ≤ MAX_LIMIT }
     ensures { IsTrue result ↔ IsAtMost (can_bound own.now worst blocking rivals.now bit limit) (Bound.Within most) }
 {
-    if starts_past(worst, blocking, rivals, bit, limit.min(most)) {
-        return false;
-    }
-    match respond(own, worst, blocking, rivals, bit, limit) {
-        Bound::Within(bound) => bound <= most,
-        Bound::Overload => false,
-    }
-}
-
-/// Whether rivals are bounded, and yet the first frame of a busy window starts past `latest`.
-fn starts_past(worst: u64, blocking: u64, rivals: &[Rival], bit: u64, latest: u64) -> bool
-    requires worst { IsExecution worst }
-    requires blocking { blocking ≤ MAX_EXECUTION }
-    requires rivals { AreRivals rivals.now }
-    requires bit { bit ≤ MAX_BIT }
-    requires latest { latest ≤ MAX_LIMIT }
-    ensures { OnTrue result (StartsPast worst blocking bit rivals.now latest) }
-{
     if some_unbounded(rivals) {
         return false;
     }
@@ -176,18 +168,32 @@ fn starts_past(worst: u64, blocking: u64, rivals: &[Rival], bit: u64, latest: u6
         bit,
         rivals,
     };
-    next_window(&starts, 0, 0, 0, latest).is_none()
+    let Some(first) = next_window(&starts, 0, 0, 0, limit.min(most)) else {
+        return false;
+    };
+    match bounded_response(own, &starts, first.end, limit) {
+        Bound::Within(bound) => bound <= most,
+        Bound::Overload => false,
+    }
 }
 
-/// The greatest response of so many frames from the start of a busy window on.
-fn greatest_response(own: &Model, starts: &FrameStarts, frames: u64, limit: u64) -> Bound
+/// The greatest response of so many frames from the start of a busy window on. No window below `first` has room for what
+/// comes before the first of them.
+fn greatest_response(
+    own: &Model,
+    starts: &FrameStarts,
+    first: u64,
+    frames: u64,
+    limit: u64,
+) -> Bound
     requires own { IsModelInRange own.now }
     requires bounded { some_unbounded starts.now.rivals.now ≡ false }
+    requires first { IsCrowdedBelow (start_work starts.now.worst starts.now.blocking starts.now.bit starts.now.rivals.now 0) first }
     requires frames { frames ≤ MAX_LIMIT }
     requires limit { limit ≤ MAX_LIMIT }
     ensures { result ≡ greatest_of (can_response own.now starts.now.worst starts.now.blocking starts.now.rivals.now starts.now.bit limit) frames }
 {
-    let mut from = 0;
+    let mut from = first;
     let mut steady = 0;
     let mut greatest: u64 = 0;
     for earlier in 0..frames {

@@ -82,6 +82,7 @@ pub struct Reached {
 /// The window of some jobs from 0 to `limit`. No length below `from` has room for them, and `from`
 /// has where it is below `steady`. Where that isn't so, no rival is asked how far it looks ahead:
 /// `look_ahead` does that for who goes on.
+#[inline(always)]
 pub fn next_window<B: BusyWindow>(
     busy: &B,
     jobs: u64,
@@ -106,6 +107,7 @@ pub fn next_window<B: BusyWindow>(
 }
 
 /// Up to which length the windows of further jobs are known after that of these jobs.
+#[inline(always)]
 pub fn look_ahead<B: BusyWindow>(busy: &B, jobs: u64, reached: Reached) -> u64
     requires jobs { jobs ≤ MAX_LIMIT }
     requires end { reached.end ≤ MAX_LIMIT }

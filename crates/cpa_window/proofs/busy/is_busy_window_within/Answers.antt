@@ -1,6 +1,5 @@
 use Rattle.std.proofs.Common.{refl, arith}
 use Rattle.std.proofs.lemmas.Bool.{false≢true}
-use Rattle.cpa_units.specs.declared.bound.Bound.TheVariants.{Within}
 use Rattle.cpa_events.specs.Events.{delta_minus}
 use Rattle.cpa_events.proofs.EventLaws.{delta_minus-one}
 use Rattle.cpa_window.proofs.WalkLaws.{IsReady-next, demand-ge_jobs, window-longer, at_most, not_at_most, start, late, last, next, all}
