@@ -1,7 +1,7 @@
 -- The first place by recursion, and what it says of the entries.
-use Rattle.std.proofs.Common.{◌≡◌, ℕ, zero, suc, ◌+◌, ◌<◌, Bool, true, false, cond, List, [], ◌∷◌, map, length, take, drop, get_or, Option, Some, None, refl, sym, ap, ◌∙◌, arith, add-zero, zero-add, ◌++◌, append_assoc}
+use Rattle.std.proofs.Common.{◌≡◌, ℕ, zero, suc, ◌+◌, ◌<◌, ◌≤◌, Bool, true, false, cond, List, [], ◌∷◌, map, length, take, drop, get_or, Option, Some, None, refl, sym, ap, ◌∙◌, arith, add-zero, zero-add, ◌++◌, append_assoc}
 use Rattle.std.specs.List.{position_from, enumerate_from}
-use Rattle.std.proofs.lemmas.List.{drop_more, take_more, length-map, get_or-map}
+use Rattle.std.proofs.lemmas.List.{drop_all, drop_more, take_more, length-map, get_or-map}
 use Rattle.std.proofs.lemmas.Option.{none-some}
 use Rattle.std.proofs.lemmas.Iterator.Adapters.{position_from-zero}
 use Rattle.cpa_draft.specs.First.{first_place}
@@ -33,10 +33,20 @@ none_from marks n (x ∷ xs) (suc k) d e h =
 pub none_marked : {X : Type 0} (marks : ℕ → X → Bool) (xs : List X) (k : ℕ) (d : X) → first_place marks xs ≡ None → k < length xs → marks k (get_or xs k d) ≡ false
 none_marked marks xs k d e h = let f = none_from marks 0 xs k d (sym (first_place-from marks xs) ∙ e) h in rw zero-add at f
 
--- one entry further
-pub step_from : {X : Type 0} (marks : ℕ → X → Bool) (xs : List X) (k : ℕ) (x : X) → k < length xs → x ≡ get_or xs k x
-    → first_from marks k (drop k xs) ≡ cond (marks k x) (Some k) (first_from marks (k + 1) (drop (k + 1) xs))
-step_from marks xs k x h at = rw (drop_more xs k x h, ← at)
+-- a walk that has passed so many entries, none of which is marked: it stops at one that is, goes on past one that isn't, and
+-- finds none at the end
+module _ {X : Type 0} (marks : ℕ → X → Bool) (xs : List X) (k : ℕ) (passed : first_from marks 0 xs ≡ first_from marks k (drop k xs)) where
+  step_from : (x : X) → k < length xs → x ≡ get_or xs k x → first_from marks 0 xs ≡ cond (marks k x) (Some k) (first_from marks (k + 1) (drop (k + 1) xs))
+  step_from x h at = passed ∙ rw (drop_more xs k x h, ← at)
+
+  pub stops_at : (x : X) → k < length xs → x ≡ get_or xs k x → marks k x ≡ true → Some k ≡ first_place marks xs
+  stops_at x h at marked = sym (first_place-from marks xs ∙ (rw marked at (step_from x h at)))
+
+  pub goes_past : (x : X) → k < length xs → x ≡ get_or xs k x → marks k x ≡ false → first_from marks 0 xs ≡ first_from marks (k + 1) (drop (k + 1) xs)
+  goes_past x h at unmarked = rw unmarked at (step_from x h at)
+
+  pub finds_none : length xs ≤ k → None ≡ first_place marks xs
+  finds_none past = sym (first_place-from marks xs ∙ passed ∙ rw (drop_all k xs past))
 
 -- one more name at the end
 pub names_more : {X : Type 0} (name : X → List ℕ) (old : List (List ℕ)) (xs : List X) (k : ℕ) (x : X) → k < length xs → x ≡ get_or xs k x
