@@ -9,7 +9,7 @@ if [ $# -eq 0 ]; then
 fi
 for case in "$@"; do
     begin=$(date +%s%N)
-    line=$(./out/cpa_bench "$case")
+    line=$(./out/cpa_bench bounds "$case")
     end=$(date +%s%N)
     echo "$line $(((end - begin) / 1000000)) ms"
 done

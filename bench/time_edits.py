@@ -3,7 +3,7 @@
 
 Makes a system of 512 tasks after 128 sources with 128 paths, all with names of 64 bytes that differ at their ends alone,
 and scripts over it: of 1,048,576 bytes with 10,000 edits, of 1,048,576 bytes in one line of short words, and of many
-edits of one sort. `cpa_edit_bench` loads each alone, reads it, and applies its edits. Prints a line a script and way:
+edits of one sort. `cpa_bench edits` loads each alone, reads it, and applies its edits. Prints a line a script and way:
 the least time of five calls, and the peak memory of a call.
 
     python3 bench/time_edits.py [FOLDER for the files]
@@ -71,7 +71,7 @@ def edits(sort):
 
 def main():
     folder = sys.argv[1] if len(sys.argv) > 1 else tempfile.mkdtemp()
-    bench = built("cpa_edit_bench")
+    bench = built("cpa_bench")
     large = os.path.join(folder, "large.toml")
     with open(large, "w") as file:
         file.write(system())
@@ -85,7 +85,7 @@ def main():
         with open(path, "w") as file:
             file.write(text)
         for way in ("load", "read", "apply"):
-            show(f"{which} {len(text)} bytes, {way}", [bench, way, described, path])
+            show(f"{which} {len(text)} bytes, {way}", [bench, "edits", way, described, path])
 
 
 if __name__ == "__main__":

@@ -2,7 +2,7 @@
 """Measures how long large system files take to read, and how much memory that takes.
 
 Makes a file of nearly 1,048,576 bytes with 512 tasks and long comments, the largest allowed system with names of 64
-bytes, and a file with as many tasks as fit. `cpa_read_bench` loads each file alone, reads it as TOML alone, and reads it
+bytes, and a file with as many tasks as fit. `cpa_bench reading` loads each file alone, reads it as TOML alone, and reads it
 as a system, and `lokwurmi analyse` does all of its work. Prints a line a file and way: the least
 time of five calls, and the peak memory of a call.
 
@@ -70,14 +70,14 @@ def many():
 
 def main():
     folder = sys.argv[1] if len(sys.argv) > 1 else tempfile.mkdtemp()
-    reader, program = built("cpa_read_bench"), built("cpa_cli")
+    reader, program = built("cpa_bench"), built("cpa_cli")
     print(f"processors: {os.cpu_count()}")
     for make in (comments, largest, many):
         text = make()
         path = os.path.join(folder, make.__name__ + ".toml")
         with open(path, "w") as file:
             file.write(text)
-        ways = [(way, [reader, way, path]) for way in ("load", "toml", "system")]
+        ways = [(way, [reader, "reading", way, path]) for way in ("load", "toml", "system")]
         ways.append(("analyse", [program, "analyse", path]))
         for way, command in ways:
             show(f"{make.__name__} {len(text)} bytes, {way}", command)

@@ -3,7 +3,7 @@
 
 Makes a system of 512 tasks after 128 sources, all with names of 64 bytes, and traces over it: one of 16,777,216 bytes
 with 200,000 rows, which names all sources and tasks, one of 16,777,216 bytes in one row, and traces with up to 200,000
-events of one source, of which one breaks the rule at the last two events alone. `cpa_trace_bench` loads each alone,
+events of one source, of which one breaks the rule at the last two events alone. `cpa_bench traces` loads each alone,
 reads it, and judges it once or a hundred times. Prints a line a file and way: the least time of five calls, and the peak memory of a call.
 
     python3 bench/time_traces.py [FOLDER for the files]
@@ -62,7 +62,7 @@ def events(count, last):
 
 def main():
     folder = sys.argv[1] if len(sys.argv) > 1 else tempfile.mkdtemp()
-    reader = built("cpa_trace_bench")
+    reader = built("cpa_bench")
     described = os.path.join(folder, "system.toml")
     with open(described, "w") as file:
         file.write(system())
@@ -75,7 +75,7 @@ def main():
         with open(path, "w") as file:
             file.write(text)
         for way in ("load", "read", "judge", "judge-100-times"):
-            show(f"{which} {len(text)} bytes, {way}", [reader, way, described, path])
+            show(f"{which} {len(text)} bytes, {way}", [reader, "traces", way, described, path])
 
 
 if __name__ == "__main__":

@@ -2,7 +2,7 @@
 """Measures how long the search for the least solution takes by so many workers, and how long a shared board takes.
 
 Takes the systems of time_analyse.py that settle soon, and more of 64 processors with 512 tasks in cycles, which leave so many
-of 1000 ticks to spare: with one to spare the least urgent tasks have busy windows of thousands of jobs. `cpa_workers_bench`
+of 1000 ticks to spare: with one to spare the least urgent tasks have busy windows of thousands of jobs. `cpa_bench searches`
 reads each once, and searches by one thread without
 a board, and by 1, 2 and 4 workers. Prints a line a system: the least microseconds of a search of many, taken in turns, and
 how many times as fast two workers are as one. The last line is the least time in which a board of 512 words opens, has
@@ -22,7 +22,7 @@ import tempfile
 
 from time_analyse import TOP, place_in_cycles, systems
 
-PROGRAM = os.path.join(TOP, "crates/cpa_workers_bench/out/cpa_workers_bench")
+PROGRAM = os.path.join(TOP, "crates/cpa_bench/out/cpa_bench")
 WORKERS = (0, 1, 2, 4)
 SPARE = (200, 100, 50, 20, 10, 5, 1)
 
@@ -51,7 +51,7 @@ def made():
 
 def least(workers, times, path):
     """The least nanoseconds of a search."""
-    done = subprocess.run([PROGRAM, str(times), str(workers), *path], capture_output=True, text=True, check=True)
+    done = subprocess.run([PROGRAM, "searches", str(times), str(workers), *path], capture_output=True, text=True, check=True)
     words = done.stdout.split()
     assert words[1] == "true", done.stdout
     return int(words[3])
@@ -74,7 +74,7 @@ def counts(workers, times, path, folder):
         if name.startswith("out"):
             os.remove(os.path.join(folder, name))
     command = ["valgrind", "--tool=callgrind", "--separate-threads=yes", f"--callgrind-out-file={out}"]
-    subprocess.run([*command, PROGRAM, str(times), str(workers), path], capture_output=True, check=True)
+    subprocess.run([*command, PROGRAM, "searches", str(times), str(workers), path], capture_output=True, check=True)
     totals = []
     for name in sorted(os.listdir(folder)):
         if name.startswith("out-"):
@@ -98,7 +98,7 @@ def main():
     names = sys.argv[1:]
     counting = bool(names) and names[0] == "count"
     names = names[1:] if counting else names
-    subprocess.run(["rt", "run"], cwd=os.path.join(TOP, "crates/cpa_workers_bench"), capture_output=True, check=False)
+    subprocess.run(["rt", "run"], cwd=os.path.join(TOP, "crates/cpa_bench"), capture_output=True, check=False)
     print(f"processors: {os.cpu_count()}")
     with tempfile.TemporaryDirectory() as folder:
         path = os.path.join(folder, "sys")

@@ -1,91 +1,81 @@
-//! Computes the longest walks through the jobs of a busy window, for bench/time_bounds.sh to time.
+//! Does what the scripts of bench/ time alone: walks through busy windows, the reading of files, edits, traces, and
+//! searches by several workers.
 #![tactic(auto)]
 
-ghost use Rattle.std.specs.Prelude.{◌≡◌, ◌+◌, ◌*◌, ◌<◌, ◌≤◌, IfOk};
-ghost use Rattle.cpa_units.specs.declared.limits.TheConstants.{MAX_PERIOD};
-ghost use Rattle.cpa_events.specs.Events.{IsModelInRange};
-ghost use Rattle.cpa_window.specs.Rivals.{IsRival, AreRivals};
+mod bounds;
+mod crowd;
+mod edits;
+mod reading;
+mod searches;
+mod traces;
 
-use cpa_events::{Model, Stream};
+use bounds::Rivals;
+use cpa_io::RealFiles;
+use cpa_model::System;
 use cpa_units::Bound;
-use cpa_units::limits::{MAX_JITTER, MAX_LIMIT, MAX_PERIOD};
-use cpa_window::Rival;
-use std::alloc::{AllocError, Global};
+use searches::run_once;
+use std::alloc::Global;
+use std::rt::Clock;
+use std::thread::Threads;
+use std::time::Instant;
 use std::{env, io};
 
-/// How many rivals the task has.
-const RIVALS: u64 = 511;
-
-/// A task whose events come in each period, or late by the greatest jitter.
-fn late(period: u64) -> Model
-    requires some { 1 ≤ period }
-    requires small { period ≤ MAX_PERIOD }
-    ensures { IsModelInRange result }
-{
-    Model::one(Stream {
-        period,
-        jitter: MAX_JITTER,
-        distance: 0,
-    })
-}
-
-/// A rival that takes one tick in each period.
-fn rival(period: u64) -> Rival
-    requires some { 1 ≤ period }
-    requires small { period ≤ MAX_PERIOD }
-    ensures { IsRival result }
-{
-    Rival {
-        model: Some(Model::one(Stream {
-            period,
-            jitter: 0,
-            distance: 0,
-        })),
-        worst: 1,
-        slot: 1,
-        bound: Bound::Within(1000),
-    }
-}
-
-/// Rivals with periods from `step` ticks on, each a tick longer than the last.
-fn rivals(alloc: Global, step: u64) -> Result<Vec<Rival>, AllocError>
-    requires some { 1 ≤ step }
-    requires small { step ≤ 1_000_000 }
-    ensures { IfOk result (λ list. AreRivals list.items) }
-{
-    let mut list = Vec::new(alloc);
-    for place in 0..RIVALS {
-        list.push(rival(step + place))?;
-    }
-    Ok(list)
-}
-
-/// The bound of a case: a task with many jobs at once, and rivals that send something seldom or often.
-fn bound(case: &str, quiet: &[Rival], busy: &[Rival]) -> Option<Bound>
-    requires quiet { AreRivals quiet.now }
-    requires busy { AreRivals busy.now }
-{
-    match case {
-        "preemptive-quiet" => Some(cpa_spp::respond(&late(1), 1, quiet, MAX_LIMIT)),
-        "preemptive-busy" => Some(cpa_spp::respond(&late(1), 1, busy, MAX_LIMIT)),
-        "round-robin-quiet" => Some(cpa_rr::respond(&late(1), 1, 1, quiet, MAX_LIMIT)),
-        "round-robin-busy" => Some(cpa_rr::respond(&late(1), 1, 1, busy, MAX_LIMIT)),
-        "can-quiet" => Some(cpa_can::respond(&late(102), 1, 1000, quiet, 1, MAX_LIMIT)),
-        "can-busy" => Some(cpa_can::respond(&late(202), 1, 1000, busy, 1, MAX_LIMIT)),
-        "tdma" => Some(cpa_tdma::respond(&late(1), 1, 1, 1, MAX_LIMIT)),
-        _ => None,
-    }
-}
-
-fn main(rt: HostRuntime) -> io::Result<()> {
-    let quiet = rivals(rt.alloc(), 1_000_000)?;
-    let busy = rivals(rt.alloc(), 1_000)?;
-    for case in env::args(&rt)?.skip(1) {
-        match bound(&case, &quiet, &busy) {
+/// Prints the bound of each case.
+fn print_bounds<R: AllocGlobal + Print>(rt: &R, alloc: Global, cases: &[String]) -> io::Result<()> {
+    let rivals = Rivals::make(alloc)?;
+    for case in cases {
+        match rivals.bound(case) {
             Some(Bound::Within(ticks)) => println!(rt; "{case} {ticks}")?,
             Some(Bound::Overload) => println!(rt; "{case} overload")?,
             None => println!(rt; "{case} is no case")?,
         }
     }
+    Ok(())
+}
+
+/// Prints the least nanoseconds of so many searches, and whether none of them wanted memory.
+fn time_searches<R: Clock + Print + Threads + Sync>(
+    rt: &R,
+    alloc: Global,
+    times: &str,
+    workers: &str,
+    system: &Option<System>,
+) -> io::Result<()> {
+    let workers: u32 = workers.parse().unwrap_or(0);
+    let times: u64 = times.parse().unwrap_or(1);
+    let mut least = u128::MAX;
+    let mut done = true;
+    for _ in 0..times {
+        let begun = Instant::now(rt)?;
+        done = run_once(rt, alloc, system, workers).is_ok() && done;
+        least = least.min(begun.elapsed(rt)?.as_nanos());
+    }
+    println!(rt; "done {done} nanoseconds {least}")?;
+    Ok(())
+}
+
+fn main(rt: HostRuntime) -> io::Result<()> {
+    let alloc = rt.alloc();
+    let mut words = Vec::new(alloc);
+    for word in env::args(&rt)?.skip(1) {
+        words.push(word)?;
+    }
+    let mut files = RealFiles::new(&rt, alloc);
+    let Some((what, words)) = words.as_slice().split_first() else {
+        return Ok(());
+    };
+    let answer = match (what.as_str(), words) {
+        ("bounds", cases) => return print_bounds(&rt, alloc, cases),
+        ("searches", [times, workers]) => return time_searches(&rt, alloc, times, workers, &None),
+        ("searches", [times, workers, file]) => {
+            let system = reading::system_in(alloc, &mut files, file);
+            return time_searches(&rt, alloc, times, workers, &system);
+        }
+        ("reading", [way, file]) => reading::answer(alloc, &mut files, way, file),
+        ("edits", [way, file, script]) => edits::answer(alloc, &mut files, way, file, script),
+        ("traces", [way, file, trace]) => traces::answer(alloc, &mut files, way, file, trace),
+        _ => "words refused",
+    };
+    println!(rt; "{what} {answer}")?;
     Ok(())
 }

@@ -1,7 +1,7 @@
 use Rattle.std.proofs.Common.{◌≡◌, length}
 use Rattle.std.specs.Prelude.{All}
 use Rattle.cpa_window.specs.Rivals.{IsRival}
-use Rattle.cpa_bench.proofs.rivals.Given as goal
+use Rattle.cpa_bench.proofs.bounds.rivals_from.Given as goal
 
 abbrev pub invariant-loop-place : goal.invariant-loop-place
 invariant-loop-place l =

@@ -1,24 +1,16 @@
-//! Times searches for the least solution by so many workers, and a board's opening and closing, for
-//! bench/time_workers.py to read.
-#![tactic(auto)]
+//! Searches for the least solution by so many workers, and a board's opening and closing, which
+//! bench/time_workers.py times.
 
 ghost use Rattle.std.specs.Prelude.{◌≤◌};
 
-mod crowd;
-
-use cpa_file::read_system;
+use crate::crowd::crowd;
 use cpa_fix::{OneByOne, Readings, Round, solve};
-use cpa_io::{Files, RealFiles};
 use cpa_local::{Trail, floor};
 use cpa_model::System;
 use cpa_units::NoMemory;
-use cpa_units::limits::MAX_SYSTEM_FILE;
 use cpa_workers::{Gate, NoGate, Shared};
-use crowd::crowd;
 use std::alloc::Global;
 use std::thread::Threads;
-use std::time::Instant;
-use std::{env, io};
 
 fn search<H: Threads + Sync, R: Round>(
     rt: &H,
@@ -49,7 +41,7 @@ where
 }
 
 /// Without a system a board is opened and closed; with 0 workers the search is on this thread alone.
-fn run_once<H: Threads + Sync>(
+pub fn run_once<H: Threads + Sync>(
     rt: &H,
     alloc: Global,
     system: &Option<System>,
@@ -63,32 +55,4 @@ fn run_once<H: Threads + Sync>(
     } else {
         search_with(rt, alloc, system, workers.min(64), NoGate)
     }
-}
-
-fn main(rt: HostRuntime) -> io::Result<()> {
-    let alloc = rt.alloc();
-    let mut words = env::args(&rt)?.skip(1);
-    let (Some(times), Some(workers)) = (words.next(), words.next()) else {
-        return Ok(());
-    };
-    let workers: u32 = workers.parse().unwrap_or(0);
-    let times: u64 = times.parse().unwrap_or(1);
-    let mut system = None;
-    if let Some(name) = words.next() {
-        let mut files = RealFiles::new(&rt, alloc);
-        let Ok(bytes) = files.load(alloc, &name, MAX_SYSTEM_FILE) else {
-            println!(rt; "cannot read {name}")?;
-            return Ok(());
-        };
-        system = read_system(alloc, bytes.as_slice()).ok();
-    }
-    let mut least = u128::MAX;
-    let mut done = true;
-    for _ in 0..times {
-        let begun = Instant::now(&rt)?;
-        done = run_once(&rt, alloc, &system, workers).is_ok() && done;
-        least = least.min(begun.elapsed(&rt)?.as_nanos());
-    }
-    println!(rt; "done {done} nanoseconds {least}")?;
-    Ok(())
 }

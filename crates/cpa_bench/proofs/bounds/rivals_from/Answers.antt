@@ -1,7 +1,7 @@
 use Rattle.std.proofs.Common.{◌≡◌, length, arith}
 use Rattle.std.proofs.lemmas.List.Elements.{All-push}
 use Rattle.cpa_window.specs.Rivals.{IsRival}
-use Rattle.cpa_bench.proofs.rivals.Goals as goal
+use Rattle.cpa_bench.proofs.bounds.rivals_from.Goals as goal
 
 pub loop-place-preserved : goal.loop-place-preserved
 loop-place-preserved c =
