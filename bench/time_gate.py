@@ -1,0 +1,109 @@
+#!/usr/bin/env python3
+"""Takes the time of each part of the gate: the proofs of a crate, those of its tests, and its edits that must fail.
+
+Runs `rt ci` in the repository's top folder, on as many processors as are asked for, looks every second at the provers that
+run, and prints a row a crate as docs/MAP.md has them: seconds of one processor for the proofs, the tests and all edits. What an
+earlier run on this machine has proved takes no time and has no row: `--anew` has everything proved.
+The last line has the time by the clock and that of all processors.
+
+    python3 bench/time_gate.py --processors 2 --anew
+    python3 bench/time_gate.py --log gate.log cpa_units cpa_io
+"""
+import argparse
+import collections
+import os
+import subprocess
+import sys
+import time
+
+TOP = os.path.join(os.path.dirname(os.path.abspath(__file__)), "..")
+TICKS = os.sysconf("SC_CLK_TCK")
+KINDS = ("proofs", "tests", "edits")
+
+
+def processes():
+    """Each process: its parent, its words, its own ticks, and those of the children that it has waited for."""
+    found = {}
+    for entry in os.listdir("/proc"):
+        if not entry.isdigit():
+            continue
+        try:
+            with open(f"/proc/{entry}/stat", encoding="utf-8", errors="replace") as file:
+                fields = file.read().rsplit(")", 1)[1].split()
+            with open(f"/proc/{entry}/cmdline", "rb") as file:
+                words = file.read().decode(errors="replace").split("\0")
+        except OSError:
+            continue
+        own, waited = int(fields[11]) + int(fields[12]), int(fields[13]) + int(fields[14])
+        found[int(entry)] = (int(fields[1]), words, own, waited, fields[19])
+    return found
+
+
+def is_prover(words):
+    return os.path.basename(words[0]) == "rattle" and "--crate-name" in words
+
+
+def kind_of(pid, words):
+    """What part of the gate a prover works at."""
+    try:
+        folder = os.readlink(f"/proc/{pid}/cwd")
+    except OSError:
+        folder = ""
+    if os.path.basename(folder).startswith("rt-edit-"):
+        return "edits"
+    return "tests" if "--test" in words else "proofs"
+
+
+def look(root, parts):
+    """Notes the time that each prover below a process has taken so far."""
+    found = processes()
+    children = collections.defaultdict(list)
+    for pid, (parent, *_) in found.items():
+        children[parent].append(pid)
+
+    def below(pid):
+        for child in children[pid]:
+            yield child
+            yield from below(child)
+
+    for pid in below(root):
+        parent, words, own, waited, begun = found[pid]
+        if not is_prover(words) or is_prover(found.get(parent, (0, [""]))[1]):
+            continue
+        spent = own + waited + sum(found[child][2] + found[child][3] for child in below(pid))
+        name = words[words.index("--crate-name") + 1]
+        key = (pid, begun)
+        kind = parts[key][1] if key in parts else kind_of(pid, words)
+        parts[key] = (name, kind, max(spent, parts[key][2] if key in parts else 0))
+
+
+def main():
+    parser = argparse.ArgumentParser(description=__doc__, formatter_class=argparse.RawDescriptionHelpFormatter)
+    parser.add_argument("crates", nargs="*", help="the crates to prove, with those below them; all without")
+    parser.add_argument("--processors", type=int, default=os.cpu_count(), help="on how many processors")
+    parser.add_argument("--anew", action="store_true", help="prove all, also what an earlier run on this machine has proved")
+    parser.add_argument("--log", default="gate.log", help="where the words of `rt ci` go (gate.log)")
+    chosen = parser.parse_args()
+    words = ["taskset", "-c", f"0-{chosen.processors - 1}", "rt", "ci", *(["--anew"] if chosen.anew else []), *chosen.crates]
+    parts, begun, shown = {}, time.monotonic(), 0
+    with open(chosen.log, "w", encoding="utf-8") as log, subprocess.Popen(words, cwd=TOP, stdout=log, stderr=log) as gate:
+        while gate.poll() is None:
+            look(gate.pid, parts)
+            if time.monotonic() - shown > 60:
+                shown = time.monotonic()
+                print(f"{(shown - begun) / 60:.0f} minutes so far", file=sys.stderr, flush=True)
+            time.sleep(1)
+    clock = time.monotonic() - begun
+    spent, counts = collections.Counter(), collections.Counter()
+    for name, kind, ticks in parts.values():
+        spent[name, kind] += ticks / TICKS
+        counts[name, kind] += 1
+    for name in sorted({name for name, _ in spent}):
+        cells = [f"{spent[name, kind]:.0f}" if counts[name, kind] else "none" for kind in KINDS]
+        print(f"| `{name}` | " + " | ".join(cells) + " |")
+    print(f"{clock / 60:.1f} minutes by the clock on {chosen.processors} processors, {sum(spent.values()) / 60:.1f} of one processor, status {gate.returncode}")
+    return gate.returncode
+
+
+if __name__ == "__main__":
+    sys.exit(main())
