@@ -21,7 +21,7 @@ use Rattle.cpa_workers.specs.Workers.{IsSeated}
 use Rattle.cpa_workers.proofs.WordLaws.{bound_read-mono, bound_read-word, bound_read-below, bound_read-above, bound_read-max, word_of-mono, words_of-at, IsNoLower_trans}
 
 -- the first seat of a round
-pub seated-first : (s : SystemLists) (board : BoardId) (x : List Bound) (seat : SeatView) → IsVector s x → IsNowhereAbove x (least_of s) → seat.board ≡ board → seat.caps ≡ least_words s → seat.seen ≡ words_of x → IsSeated s board x seat
+seated-first : (s : SystemLists) (board : BoardId) (x : List Bound) (seat : SeatView) → IsVector s x → IsNowhereAbove x (least_of s) → seat.board ≡ board → seat.caps ≡ least_words s → seat.seen ≡ words_of x → IsSeated s board x seat
 seated-first s board x seat vector below at caps seen =
     let here : (i : ℕ) → bound_at seat.seen i ≡ bound_of x i = λ i. ap (λ (v : List ℕ). bound_at v i) seen ∙ ap bound_read (words_of-at x i) ∙ bound_read-word (bound_of x i) (limit i) in
     record {
@@ -37,6 +37,10 @@ seated-first s board x seat vector below at caps seen =
       | inl less ↦ vector.high i less
       | inr past ↦ let e : bound_of x i ≡ Within 0 = get_or_past x i (Within 0) (rw vector.long past) in rw e (omega arith)
     ]
+
+pub seated-opened : (s : SystemLists) (board : BoardId) (x : List Bound) (words : List ℕ) (seat : SeatView) → IsVector s x → IsNowhereAbove x (least_of s) → words ≡ words_of x → seat ≡ record { board = board; starts = words; caps = least_words s; seen = words } → IsSeated s board x seat
+seated-opened s board x words seat vector below first opened =
+    seated-first s board x seat vector below (ap (λ (v : SeatView). v.board) opened) (ap (λ (v : SeatView). v.caps) opened) (ap (λ (v : SeatView). v.seen) opened ∙ first)
 
 -- a seat has seen a value between what it had seen of a word and the cap
 pub seated-seen : (s : SystemLists) (board : BoardId) (x : List Bound) (seat : SeatView) (i n : ℕ) → IsVector s (least_of s) → i < length s.tasks → IsBetween seat i n → IsSeated s board x seat → IsSeated s board x (has_seen seat i n) × IsNoLower seat.seen (set seat.seen i n)
