@@ -1,0 +1,155 @@
+//! The system and the trace in files that a call names.
+
+ghost use Rattle.std.specs.Prelude.{◌≡◌, ◌≤◌, true, length, Some, Ok, IfOk, IfErr};
+ghost use Rattle.cpa_units.specs.declared.limits.TheConstants.{MAX_TRACE_FILE};
+ghost use Rattle.cpa_file.specs.Reading.{reading_of};
+ghost use Rattle.cpa_trace.specs.Reading.{trace_of};
+ghost use Rattle.cpa_sim.specs.Outcome.{CanReplay};
+ghost use Rattle.cpa_call.specs.Plans.{Do, content_in, system_by, system_in, trace_by, trace_in, traced_in, IsSecond};
+ghost use Rattle.cpa_call.specs.Ends.{IsEndOf, HasStatus, IsUnreadFile, IsNoUnread};
+
+use crate::ended::{Ended, Reply};
+use crate::lines::{breach_line, file_line, refusal_line, trace_line};
+use cpa_file::{FileRefusal, read_system};
+use cpa_io::{Files, LoadFault};
+use cpa_model::System;
+use cpa_trace::{Trace, TraceFault, obeys, read_trace};
+use cpa_units::limits::{MAX_SYSTEM_FILE, MAX_TRACE_FILE};
+use std::alloc::Global;
+
+/// A system, with a trace that obeys it.
+#[derive(Drop)]
+pub struct Traced {
+    pub system: System,
+    pub trace: Trace,
+}
+
+/// The bytes of a file of at most so many.
+pub fn load_file<F: Files>(
+    alloc: Global,
+    files: &mut F,
+    file: &str,
+    most: u64,
+) -> Result<Vec<u8>, Ended>
+    requires { most ≤ MAX_TRACE_FILE }
+    ensures planned { F.told files.old ≡ true → IfOk result (λ v. content_in (F.held files.old) file.now most ≡ Do v.items) }
+    ensures ended { F.told files.old ≡ true → IfErr result (IsEndOf (content_in (F.held files.old) file.now most)) }
+    ensures status { IfErr result HasStatus }
+    ensures unread { IfErr result (IsUnreadFile (λ last. last ≡ file.now) (F.faults files.old) (F.faults files.new) (F.last_failed files.new)) }
+    ensures told { F.told files.new ≡ F.told files.old }
+    ensures held { F.held files.new ≡ F.held files.old }
+    ensures rises { F.faults files.old ≤ F.faults files.new }
+{
+    match files.load(alloc, file, most) {
+        Ok(bytes) => Ok(bytes),
+        Err(LoadFault::Failed) => Err(Ended::Unread(file_line(alloc, b"cannot read ", file)?)),
+        Err(LoadFault::TooLong) => Err(Ended::Refused(Reply {
+            status: 12,
+            text: file_line(alloc, b"too long ", file)?,
+        })),
+        Err(LoadFault::Memory) => Err(Ended::Memory),
+    }
+}
+
+/// The system that the bytes of a file stand for.
+fn read_system_file(alloc: Global, file: &str, bytes: &[u8]) -> Result<System, Ended>
+    ensures planned { IfOk result (λ s. system_by file.now (reading_of bytes.now) ≡ Do s) }
+    ensures ended { IfErr result (IsEndOf (system_by file.now (reading_of bytes.now))) }
+    ensures status { IfErr result HasStatus }
+    ensures unread { IfErr result IsNoUnread }
+{
+    match read_system(alloc, bytes) {
+        Ok(system) => Ok(system),
+        Err(FileRefusal::NotToml) => Err(Ended::Refused(Reply {
+            status: 13,
+            text: file_line(alloc, b"not TOML ", file)?,
+        })),
+        Err(FileRefusal::Refused(refusal)) => {
+            Err(Ended::Refused(Reply {
+                status: 14,
+                text: refusal_line(alloc, refusal)?,
+            }))
+        }
+        Err(FileRefusal::Memory) => Err(Ended::Memory),
+    }
+}
+
+/// The system that a file stands for.
+pub fn load_system<F: Files>(alloc: Global, files: &mut F, file: &str) -> Result<System, Ended>
+    ensures planned { F.told files.old ≡ true → IfOk result (λ s. system_in (F.held files.old) file.now ≡ Do s) }
+    ensures ended { F.told files.old ≡ true → IfErr result (IsEndOf (system_in (F.held files.old) file.now)) }
+    ensures status { IfErr result HasStatus }
+    ensures unread { IfErr result (IsUnreadFile (λ last. last ≡ file.now) (F.faults files.old) (F.faults files.new) (F.last_failed files.new)) }
+    ensures told { F.told files.new ≡ F.told files.old }
+    ensures held { F.held files.new ≡ F.held files.old }
+    ensures rises { F.faults files.old ≤ F.faults files.new }
+{
+    let bytes = load_file(alloc, files, file, MAX_SYSTEM_FILE)?;
+    read_system_file(alloc, file, bytes.as_slice())
+}
+
+/// The trace that the bytes of a file are, where it obeys the system.
+fn read_trace_file(alloc: Global, system: &System, bytes: &[u8]) -> Result<Trace, Ended>
+    ensures planned { IfOk result (λ tr. trace_by system.now (trace_of system.now bytes.now) ≡ Do tr) }
+    ensures replay { IfOk result (CanReplay system.now) }
+    ensures ended { IfErr result (IsEndOf (trace_by system.now (trace_of system.now bytes.now))) }
+    ensures status { IfErr result HasStatus }
+    ensures unread { IfErr result IsNoUnread }
+{
+    let trace = match read_trace(alloc, system, bytes) {
+        Ok(trace) => trace,
+        Err(TraceFault::Memory) => return Err(Ended::Memory),
+        Err(fault) => return Err(Ended::Refused(Reply {
+            status: 16,
+            text: trace_line(alloc, fault)?,
+        })),
+    };
+    match obeys(system, &trace) {
+        None => Ok(trace),
+        Some(breach) => Err(Ended::Refused(Reply {
+            status: 17,
+            text: breach_line(alloc, system, breach)?,
+        })),
+    }
+}
+
+/// The trace that a file is, where it obeys the system.
+pub fn load_trace<F: Files>(
+    alloc: Global,
+    files: &mut F,
+    system: &System,
+    file: &str,
+) -> Result<Trace, Ended>
+    ensures planned { F.told files.old ≡ true → IfOk result (λ tr. trace_in (F.held files.old) system.now file.now ≡ Do tr) }
+    ensures replay { IfOk result (CanReplay system.now) }
+    ensures ended { F.told files.old ≡ true → IfErr result (IsEndOf (trace_in (F.held files.old) system.now file.now)) }
+    ensures status { IfErr result HasStatus }
+    ensures unread { IfErr result (IsUnreadFile (λ last. last ≡ file.now) (F.faults files.old) (F.faults files.new) (F.last_failed files.new)) }
+    ensures told { F.told files.new ≡ F.told files.old }
+    ensures held { F.held files.new ≡ F.held files.old }
+    ensures rises { F.faults files.old ≤ F.faults files.new }
+{
+    let bytes = load_file(alloc, files, file, MAX_TRACE_FILE)?;
+    read_trace_file(alloc, system, bytes.as_slice())
+}
+
+/// The system that a file stands for, and the trace that another is, where it obeys the system.
+pub fn load_traced<F: Files>(
+    alloc: Global,
+    files: &mut F,
+    file: &str,
+    trace: &str,
+) -> Result<Traced, Ended>
+    ensures planned { F.told files.old ≡ true → IfOk result (λ t. traced_in (F.held files.old) file.now trace.now ≡ Do t) }
+    ensures replay { IfOk result (λ t. CanReplay t.system t.trace) }
+    ensures ended { F.told files.old ≡ true → IfErr result (IsEndOf (traced_in (F.held files.old) file.now trace.now)) }
+    ensures status { IfErr result HasStatus }
+    ensures unread { IfErr result (IsUnreadFile (IsSecond (F.told files.old) (F.held files.old) file.now trace.now) (F.faults files.old) (F.faults files.new) (F.last_failed files.new)) }
+    ensures told { F.told files.new ≡ F.told files.old }
+    ensures held { F.held files.new ≡ F.held files.old }
+    ensures rises { F.faults files.old ≤ F.faults files.new }
+{
+    let system = load_system(alloc, files, file)?;
+    let trace = load_trace(alloc, files, &system, trace)?;
+    Ok(Traced { system, trace })
+}

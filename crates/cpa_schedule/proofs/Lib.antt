@@ -1,0 +1,5 @@
+mod FollowingLaws
+mod PlanLaws
+mod ReadLaws
+mod RowLaws
+mod WrittenLaws
