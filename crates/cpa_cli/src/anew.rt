@@ -1,8 +1,8 @@
 //! Sessions beside fresh analyses of the systems that their edits make.
 
-use crate::analysis::least_bounds;
 use crate::car::CAR_NETWORK;
 use crate::cases::JOINED_KINDS;
+use crate::rounds::search;
 use cpa_edit::{Edit, EditFault, Script, Step, read_script};
 use cpa_file::read_system;
 use cpa_fix::OneByOne;
@@ -104,8 +104,8 @@ fn edit_beside<H: Threads + Sync>(
         Err(EditFault::Refused(_)) => false,
         Err(EditFault::Memory) => return Err(Fail::from(AllocError)),
     };
-    let fresh = least_bounds(rt, alloc, session.system(), &mut OneByOne)?;
-    Ok((made, !are_equal(&fresh, session.bounds())))
+    let fresh = search(rt, alloc, session.system(), &mut OneByOne)?;
+    Ok((made, !are_equal(&fresh.bounds, session.bounds())))
 }
 
 /// 280 edits.

@@ -1,12 +1,12 @@
 //! What workers pass, and what a gate sees of them: that analyses run beside each other, and which there are.
 
 use crate::cases::{CROSSING_CHAINS, CROSSING_CHAINS_REPORT, ENDLESS_JITTER};
-use crate::command::run_with;
 use cpa_edit::{Edit, EditFault};
 use cpa_file::read_system;
 use cpa_fix::OneByOne;
 use cpa_io::{MemoryFiles, MemorySink};
 use cpa_local::Trail;
+use cpa_run::run_with;
 use cpa_session::Session;
 use cpa_units::{Name, ResId};
 use cpa_workers::{Gate, Shared};

@@ -3,9 +3,9 @@
 ghost use Rattle.std.specs.Prelude.{false, None, string_bytes};
 
 use crate::cases::{LONG_WINDOW, TWO_TASKS};
-use crate::command::run;
 use crate::tests::{Faults, NO_FAULTS, call_over};
 use cpa_io::{Files, LoadFault, Sink, SinkFault};
+use cpa_run::run;
 use std::alloc::Global;
 use std::test::Fail;
 use std::thread::Threads;

@@ -1,7 +1,6 @@
 //! Analyses a system of tasks and prints a bound for each, or replays a trace of it and prints what is observed.
 #![tactic(auto)]
 
-mod analysis;
 #[cfg(test)]
 mod anew;
 #[cfg(test)]
@@ -10,32 +9,24 @@ mod audits;
 mod car;
 #[cfg(test)]
 mod cases;
-mod command;
-mod ended;
 #[cfg(test)]
 mod gates;
 #[cfg(test)]
 mod hostile;
-mod lines;
-mod loading;
 #[cfg(test)]
 mod made;
 #[cfg(test)]
 mod orders;
-mod performing;
 #[cfg(test)]
 mod rounds;
 #[cfg(test)]
 mod runs;
-mod sending;
-mod session;
 #[cfg(test)]
 mod sessions;
 #[cfg(test)]
 mod tests;
 #[cfg(test)]
 mod waiting;
-mod work;
 
 use cpa_io::{RealFiles, RealSink};
 use std::alloc::Global;
@@ -64,5 +55,5 @@ fn main(rt: HostRuntime) -> ExitCode {
     };
     let mut sink = RealSink::new(io::writer(&rt));
     let mut files = RealFiles::new(&rt, alloc);
-    ExitCode::from(command::run(&rt, alloc, words.as_slice(), &mut files, &mut sink))
+    ExitCode::from(cpa_run::run(&rt, alloc, words.as_slice(), &mut files, &mut sink))
 }

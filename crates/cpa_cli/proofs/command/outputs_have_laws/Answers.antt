@@ -1,8 +1,0 @@
-use Rattle.cpa_cli.proofs.OutputLaws.{some-output, one-output}
-use Rattle.cpa_cli.proofs.command.outputs_have_laws.Goals as goal
-
-pub returns-clause-exist : goal.returns-clause-exist
-returns-clause-exist c = some-output
-
-pub returns-clause-one : goal.returns-clause-one
-returns-clause-one c = one-output

@@ -1,0 +1,27 @@
+use Rattle.std.proofs.Common.{◌≡◌, ◌∙◌, Some, None, map, string_bytes, ap, sym, subst, IfErr}
+use Rattle.std.specs.Prelude.{option_map}
+use Rattle.std.proofs.lemmas.Result.{IfOk-weaker}
+use Rattle.cpa_words.specs.Commands.{asked}
+use Rattle.cpa_words.specs.Words.{accepted}
+use Rattle.cpa_run.specs.Plan.{Refuse}
+use Rattle.cpa_run.specs.Ends.{IsEndOf}
+use Rattle.cpa_run.proofs.PlanLaws.{plan-some, plan-none}
+use Rattle.cpa_run.proofs.loading.plan.Goals as goal
+
+pub returns-in-Some-clause-planned : goal.returns-in-Some-clause-planned
+returns-in-Some-clause-planned g c = λ told.
+    let is : Some (asked c.in-Some.command) ≡ accepted (map string_bytes c.args.words.now) = ap (option_map asked) (sym c.in-Some.is) ∙ c.in_ok-command.ensures.value in
+    IfOk-weaker c.plan_command.result _ _
+    (λ work said. plan-some (map string_bytes c.args.words.now) (g.F.Files.held c.args.files.now) (asked c.in-Some.command) is ∙ said)
+    (c.plan_command.ensures.planned told)
+
+pub returns-in-Some-clause-ended : goal.returns-in-Some-clause-ended
+returns-in-Some-clause-ended g c = λ told.
+    let is : Some (asked c.in-Some.command) ≡ accepted (map string_bytes c.args.words.now) = ap (option_map asked) (sym c.in-Some.is) ∙ c.in_ok-command.ensures.value in
+    subst (λ p. IfErr c.plan_command.result (IsEndOf p)) (sym (plan-some (map string_bytes c.args.words.now) (g.F.Files.held c.args.files.now) (asked c.in-Some.command) is))
+    (c.plan_command.ensures.ended told)
+
+pub returns-in_ok-words_line-in-None-clause-ended : goal.returns-in_ok-words_line-in-None-clause-ended
+returns-in_ok-words_line-in-None-clause-ended g c = λ told.
+    let is : None ≡ accepted (map string_bytes c.args.words.now) = ap (option_map asked) (sym c.in-None.is) ∙ c.in_ok-command.ensures.value in
+    plan-none (map string_bytes c.args.words.now) (g.F.Files.held c.args.files.now) is ∙ ap (Refuse 10) (sym c.in_ok-words_line-in-None.ensures)

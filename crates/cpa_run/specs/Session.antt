@@ -1,0 +1,40 @@
+-- What a session writes: it knows the edits alone, and nothing of what is kept from one analysis to the next.
+use Rattle.std.specs.Prelude.{◌≡◌, ℕ, List, [], ◌∷◌, ◌++◌, Result, Ok, Err}
+use Rattle.cpa_model.specs.SystemLists.{SystemLists}
+use Rattle.cpa_edit.specs.declared.edit.EditRefusal.{EditRefusal}
+use Rattle.cpa_edit.specs.declared.script.Step.{Step}
+use Rattle.cpa_edit.specs.declared.script.Step.TheVariants.{Report, Change}
+use Rattle.cpa_edit.specs.Edited.{edited, or_unchanged}
+use Rattle.cpa_run.specs.Answers.{Answer, IsReport}
+use Rattle.cpa_run.specs.Lines.{edit_refused}
+
+-- the system after a step: one report or refused edit leaves it as it was
+abbrev pub system_after : SystemLists → Step → SystemLists
+system_after s Report = s
+system_after s (Change e) = or_unchanged s (edited s e)
+
+-- the text of an edit: nothing, or the line that it is refused by
+abbrev pub edit_text : ℕ → Result SystemLists EditRefusal → List ℕ
+edit_text line (Ok changed) = []
+edit_text line (Err number) = edit_refused line number
+
+-- the text of a step of a line
+abbrev pub IsStepText : SystemLists → ℕ → Step → List ℕ → Type 0
+IsStepText s line Report text = (answer : Answer) × IsReport s answer × (text ≡ answer.text)
+IsStepText s line (Change e) text = text ≡ edit_text line (edited s e)
+
+-- an answer with a text before it
+abbrev pub led_by : List ℕ → Answer → Answer
+led_by text later = record { status = later.status; text = text ++ later.text }
+
+pub record IsLed (first : List ℕ → Type 0) (rest : Answer → Type 0) (answer : Answer) : Type 0 where
+  pub text : List ℕ
+  pub later : Answer
+  pub is_text : first text
+  pub is_later : rest later
+  pub answer_is : answer ≡ led_by text later
+
+-- the text of each step in turn, and the report of the system that comes of them all, whose verdict is the status
+abbrev pub IsSession : SystemLists → List (ℕ × Step) → Answer → Type 0
+IsSession s [] answer = IsReport s answer
+IsSession s (step ∷ rest) answer = IsLed (IsStepText s step.0 step.1) (IsSession (system_after s step.1) rest) answer

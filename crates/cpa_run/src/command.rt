@@ -1,0 +1,119 @@
+//! The program's one call: words in, a text out.
+
+ghost use Rattle.std.specs.Prelude.{◌≡◌, ◌≢◌, ◌⊎◌, ◌≤◌, true, map, Err, IfOk, OnErr, string_bytes};
+ghost use Rattle.cpa_io.specs.Causes.{grown, Rose, SentPart};
+ghost use Rattle.cpa_run.specs.declared.ended.Stopped.TheVariants as stopped;
+ghost use Rattle.cpa_run.specs.Lines.{cannot_read};
+ghost use Rattle.cpa_run.specs.Plan.{plan_of};
+ghost use Rattle.cpa_run.specs.Output.{IsOutput, IsOfOutput, Sends, SendsSome, IsUnread, OutputsExist, OutputsAreOne};
+
+use crate::ended::{Ended, Stopped};
+use crate::loading::plan;
+use crate::performing::perform;
+use crate::sending::send;
+use cpa_fix::Round;
+use cpa_io::{Files, Sink};
+use cpa_workers::{Gate, NoGate, Shared};
+use std::alloc::Global;
+use std::thread::Threads;
+
+/// Does what the words ask for, or sends the line of a refusal.
+fn answer<H: Threads + Sync, F: Files, K: Sink, G: Gate>(
+    rt: &H,
+    alloc: Global,
+    words: &[String],
+    files: &mut F,
+    sink: &mut K,
+    gate: G,
+) -> Result<u8, Stopped>
+where
+    Shared<G>: Round,
+    ensures answered { F.told files.old ≡ true → IfOk result (λ status. status ≢ 11 → Sends (IsOutput (map string_bytes words.now) (F.held files.old)) status (K.sent sink.old) (K.sent sink.new)) }
+    ensures status { IfOk result (λ status. (status ≢ 20) × (status ≢ 30)) }
+    ensures unread { IfOk result (λ status. status ≡ 11 → IsUnread (map string_bytes words.now) (F.told files.old) (F.held files.old) (F.faults files.old) (F.faults files.new) (F.last_failed files.new)) }
+    ensures unread_line { IfOk result (λ status. status ≡ 11 → K.sent sink.new ≡ grown (K.sent sink.old) (cannot_read (F.last_failed files.new))) }
+    ensures part { F.told files.old ≡ true → OnErr result (SendsSome (plan_of (map string_bytes words.now) (F.held files.old)) (K.sent sink.old) (K.sent sink.new) ⊎ (IsUnread (map string_bytes words.now) (F.told files.old) (F.held files.old) (F.faults files.old) (F.faults files.new) (F.last_failed files.new) × SentPart (K.sent sink.old) (K.sent sink.new) (cannot_read (F.last_failed files.new)))) }
+    ensures rises { K.faults sink.old ≤ K.faults sink.new }
+    ensures failed { result ≡ Err stopped.Sink → Rose (K.faults sink.old) (K.faults sink.new) }
+{
+    match plan(alloc, words, files) {
+        Ok(work) => perform(rt, alloc, work, sink, gate),
+        Err(Ended::Refused(reply)) => send(sink, reply.status, reply.text.as_slice()),
+        Err(Ended::Unread(line)) => send(sink, 11, line.as_slice()),
+        Err(Ended::Memory) => Err(Stopped::Memory),
+    }
+}
+
+/// Does what the words ask for, and answers the status.
+///
+/// The words are those after the program's name. The statuses: 0 to 2 the verdict of a report or a summary, 3 where no
+/// order meets or a deadline is missed already, 4 where a schedule isn't that of the run, 0 besides for what has none;
+/// 10 and 12 to 19 a refusal, 11 a file that
+/// couldn't be read, each with its line sent; 20 a fault of the sink; 30 want of memory.
+pub fn run<H: Threads + Sync, F: Files, K: Sink>(
+    rt: &H,
+    alloc: Global,
+    words: &[String],
+    files: &mut F,
+    sink: &mut K,
+) -> u8
+    // Over files that tell what they hold, status and bytes sent are those of the output.
+    ensures answered { F.told files.old ≡ true → IsOfOutput result → Sends (IsOutput (map string_bytes words.now) (F.held files.old)) result (K.sent sink.old) (K.sent sink.new) }
+
+    // They are so, or memory was wanting, wherever neither count of faults rose.
+    ensures complete { F.told files.old ≡ true → ¬ (Rose (F.faults files.old) (F.faults files.new)) → ¬ (Rose (K.faults sink.old) (K.faults sink.new)) → result ≢ 30 → Sends (IsOutput (map string_bytes words.now) (F.held files.old)) result (K.sent sink.old) (K.sent sink.new) }
+
+    // A named file couldn't be loaded, and its line was sent.
+    ensures unread { result ≡ 11 → IsUnread (map string_bytes words.now) (F.told files.old) (F.held files.old) (F.faults files.old) (F.faults files.new) (F.last_failed files.new) }
+    ensures unread_line { result ≡ 11 → K.sent sink.new ≡ grown (K.sent sink.old) (cannot_read (F.last_failed files.new)) }
+
+    // The sink failed.
+    ensures unsent { result ≡ 20 → Rose (K.faults sink.old) (K.faults sink.new) }
+
+    // At a fault of the sink and at want of memory a prefix of the output was sent, or of the line of a file that couldn't be loaded.
+    ensures part { F.told files.old ≡ true → (result ≡ 20) ⊎ (result ≡ 30) → SendsSome (plan_of (map string_bytes words.now) (F.held files.old)) (K.sent sink.old) (K.sent sink.new) ⊎ (IsUnread (map string_bytes words.now) (F.told files.old) (F.held files.old) (F.faults files.old) (F.faults files.new) (F.last_failed files.new) × SentPart (K.sent sink.old) (K.sent sink.new) (cannot_read (F.last_failed files.new))) }
+{
+    run_with(rt, alloc, words, files, sink, NoGate)
+}
+
+/// The same, where each worker passes a gate before each analysis. The rounds of `analyse`, `session`, `load`,
+/// `slack` and `buffers` are those of `Shared`, by as many workers as the words ask for; the gate, and the order in which workers run,
+/// are in no answer.
+pub fn run_with<H: Threads + Sync, F: Files, K: Sink, G: Gate>(
+    rt: &H,
+    alloc: Global,
+    words: &[String],
+    files: &mut F,
+    sink: &mut K,
+    gate: G,
+) -> u8
+where
+    Shared<G>: Round,
+    // Over files that tell what they hold, status and bytes sent are those of the output.
+    ensures answered { F.told files.old ≡ true → IsOfOutput result → Sends (IsOutput (map string_bytes words.now) (F.held files.old)) result (K.sent sink.old) (K.sent sink.new) }
+
+    // They are so, or memory was wanting, wherever neither count of faults rose.
+    ensures complete { F.told files.old ≡ true → ¬ (Rose (F.faults files.old) (F.faults files.new)) → ¬ (Rose (K.faults sink.old) (K.faults sink.new)) → result ≢ 30 → Sends (IsOutput (map string_bytes words.now) (F.held files.old)) result (K.sent sink.old) (K.sent sink.new) }
+
+    // A named file couldn't be loaded, and its line was sent.
+    ensures unread { result ≡ 11 → IsUnread (map string_bytes words.now) (F.told files.old) (F.held files.old) (F.faults files.old) (F.faults files.new) (F.last_failed files.new) }
+    ensures unread_line { result ≡ 11 → K.sent sink.new ≡ grown (K.sent sink.old) (cannot_read (F.last_failed files.new)) }
+
+    // The sink failed.
+    ensures unsent { result ≡ 20 → Rose (K.faults sink.old) (K.faults sink.new) }
+
+    // At a fault of the sink and at want of memory a prefix of the output was sent, or of the line of a file that couldn't be loaded.
+    ensures part { F.told files.old ≡ true → (result ≡ 20) ⊎ (result ≡ 30) → SendsSome (plan_of (map string_bytes words.now) (F.held files.old)) (K.sent sink.old) (K.sent sink.new) ⊎ (IsUnread (map string_bytes words.now) (F.told files.old) (F.held files.old) (F.faults files.old) (F.faults files.new) (F.last_failed files.new) × SentPart (K.sent sink.old) (K.sent sink.new) (cannot_read (F.last_failed files.new))) }
+{
+    match answer(rt, alloc, words, files, sink, gate) {
+        Ok(status) => status,
+        Err(Stopped::Sink) => 20,
+        Err(Stopped::Memory) => 30,
+    }
+}
+
+/// Each call has an output, and one only.
+pub fn outputs_have_laws()
+    ensures exist { OutputsExist }
+    ensures one { OutputsAreOne }
+{}

@@ -1,0 +1,16 @@
+//! One call of the program: words in, a text out, over files and a sink.
+//!
+//! A call is planned first, from its words and the files that they name, and then done. The program itself is `cpa_cli`.
+#![tactic(auto)]
+
+mod analysis;
+mod command;
+mod ended;
+mod lines;
+mod loading;
+mod performing;
+mod sending;
+mod session;
+mod work;
+
+pub use command::{outputs_have_laws, run, run_with};

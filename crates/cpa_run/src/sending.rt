@@ -1,0 +1,46 @@
+//! Texts that are sent to the sink.
+
+ghost use Rattle.std.specs.Prelude.{◌≡◌, ◌≤◌, Err, IfOk, OnOk, OnErr};
+ghost use Rattle.cpa_io.specs.Causes.{Rose, SentPart, grown};
+ghost use Rattle.cpa_local.specs.Solution.{IsLeast};
+ghost use Rattle.cpa_run.specs.declared.ended.Stopped.TheVariants as stopped;
+ghost use Rattle.cpa_run.specs.Answers.{IsReport};
+ghost use Rattle.cpa_run.specs.Output.{IsOfOutput, Sends, SendsPart};
+
+use crate::ended::Stopped;
+use cpa_io::{Sink, put_all};
+use cpa_model::System;
+use cpa_report::{report_text, verdict};
+use cpa_units::Vector;
+use std::alloc::Global;
+
+/// Sends a text, which goes with a status.
+pub fn send<K: Sink>(sink: &mut K, status: u8, text: &[u8]) -> Result<u8, Stopped>
+    ensures sent { OnOk result (K.sent sink.new ≡ grown (K.sent sink.old) text.now) }
+    ensures status { IfOk result (λ told. told ≡ status) }
+    ensures part { OnErr result (SentPart (K.sent sink.old) (K.sent sink.new) text.now) }
+    ensures rises { K.faults sink.old ≤ K.faults sink.new }
+    ensures failed { result ≡ Err stopped.Sink → Rose (K.faults sink.old) (K.faults sink.new) }
+{
+    put_all(sink, text)?;
+    Ok(status)
+}
+
+/// Sends the report of a system, at its least solution.
+pub fn send_report<K: Sink>(
+    alloc: Global,
+    system: &System,
+    bounds: &Vector,
+    sink: &mut K,
+) -> Result<u8, Stopped>
+    requires { IsLeast system.now bounds.now }
+    ensures sends { IfOk result (λ status. Sends (IsReport system.now) status (K.sent sink.old) (K.sent sink.new)) }
+    ensures status { IfOk result IsOfOutput }
+    ensures part { OnErr result (SendsPart (IsReport system.now) (K.sent sink.old) (K.sent sink.new)) }
+    ensures rises { K.faults sink.old ≤ K.faults sink.new }
+    ensures failed { result ≡ Err stopped.Sink → Rose (K.faults sink.old) (K.faults sink.new) }
+{
+    system.has_rules();
+    let text = report_text(alloc, system, bounds)?;
+    send(sink, verdict(system, bounds), text.as_slice())
+}
