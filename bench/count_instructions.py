@@ -16,7 +16,8 @@ import tempfile
 
 from time_analyse import PROGRAM, systems
 
-ANALYSIS = "cpa_cli::analysis::least_bounds"
+# of cpa_run, and of cpa_cli in builds from before the two were parted
+ANALYSIS = "::analysis::least_bounds"
 
 
 def count(program, file, folder):
