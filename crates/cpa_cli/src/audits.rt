@@ -1,7 +1,7 @@
 //! Recorded schedules.
 
+use crate::calls::{Call, NO_OPTION, answers_over, try_calls};
 use crate::cases::{ROUND_ROBIN, TWO_ACTIVATORS};
-use crate::tests::answers_over;
 use std::alloc::{AllocError, Global};
 use std::test::Fail;
 use std::thread::Threads;
@@ -61,75 +61,185 @@ const LATE_RUN: &str =
 
 const RING_TRACE: &str = "event,sa,0\nevent,sb,0\n";
 
-/// A schedule that is held as `ran`, the status and the text, for the tasks that take turns.
-const RINGS: &[(&[u8], u8, &str)] = &[
-    (b"a,0,2\nb,2,3\na,3,4\n", 0, "audit same segments 3\n"),
+const AUDIT: &[&str] = &["audit", "sys", "tr", "ran"];
+
+/// Schedules of the tasks that take turns.
+const RINGS: &[Call] = &[
     (
-        b"a,0,2\nb,2,4\na,3,4\n",
-        4,
-        "audit wrong segment 2 expected b 2 3\n",
-    ),
-    (
-        b"a,0,2\nb,2,3\n",
-        4,
-        "audit wrong segment 3 expected a 3 4\n",
-    ),
-    (
-        b"a,0,2\nb,2,3\na,3,4\na,9,10\n",
-        4,
-        "audit wrong segment 4 expected none\n",
-    ),
-    (b"a,0,2\nb,3,3\n", 19, "schedule refused row 2 range\n"),
-    (b"zz,5,3\n", 19, "schedule refused row 1 name\n"),
-    (b"zz,x,3\n", 19, "schedule refused row 1 malformed\n"),
-    (b"a,0,20000001\n", 19, "schedule refused row 1 range\n"),
-    (b"a,0\n", 19, "schedule refused row 1 malformed\n"),
-    (
-        b"a,00000000000,3\n",
-        19,
-        "schedule refused row 1 malformed\n",
-    ),
-    (b"\xff,5,3\n", 19, "schedule refused row 1 name\n"),
-    (
-        b"\xef\xbb\xbfa,0,2\nb,2,3\na,3,4\n",
+        AUDIT,
+        &[
+            ("sys", ROUND_ROBIN),
+            ("tr", RING_TRACE),
+            ("ran", "a,0,2\nb,2,3\na,3,4\n"),
+        ],
         0,
-        "audit same segments 3\n",
+        &["audit same segments 3\n"],
     ),
-    (b"", 4, "audit wrong segment 1 expected a 0 2\n"),
+    (
+        AUDIT,
+        &[
+            ("sys", ROUND_ROBIN),
+            ("tr", RING_TRACE),
+            ("ran", "a,0,2\nb,2,4\na,3,4\n"),
+        ],
+        4,
+        &["audit wrong segment 2 expected b 2 3\n"],
+    ),
+    (
+        AUDIT,
+        &[
+            ("sys", ROUND_ROBIN),
+            ("tr", RING_TRACE),
+            ("ran", "a,0,2\nb,2,3\n"),
+        ],
+        4,
+        &["audit wrong segment 3 expected a 3 4\n"],
+    ),
+    (
+        AUDIT,
+        &[
+            ("sys", ROUND_ROBIN),
+            ("tr", RING_TRACE),
+            ("ran", "a,0,2\nb,2,3\na,3,4\na,9,10\n"),
+        ],
+        4,
+        &["audit wrong segment 4 expected none\n"],
+    ),
+    (
+        AUDIT,
+        &[
+            ("sys", ROUND_ROBIN),
+            ("tr", RING_TRACE),
+            ("ran", "\u{feff}a,0,2\nb,2,3\na,3,4\n"),
+        ],
+        0,
+        &["audit same segments 3\n"],
+    ),
+    (
+        AUDIT,
+        &[("sys", ROUND_ROBIN), ("tr", RING_TRACE), ("ran", "")],
+        4,
+        &["audit wrong segment 1 expected a 0 2\n"],
+    ),
 ];
 
-/// A system, a trace and a schedule, the status and the text.
-const RUNS: &[(&str, &str, &str, u8, &str)] = &[
+/// Schedules that are refused.
+const REFUSED_ROWS: &[Call] = &[
     (
-        FOUR_KINDS,
-        FOUR_KINDS_TRACE,
-        FOUR_KINDS_RUN,
-        0,
-        "audit same segments 11\n",
+        AUDIT,
+        &[
+            ("sys", ROUND_ROBIN),
+            ("tr", RING_TRACE),
+            ("ran", "a,0,2\nb,3,3\n"),
+        ],
+        19,
+        &["schedule refused row 2 range\n"],
     ),
     (
-        FOUR_KINDS,
-        FOUR_KINDS_TRACE,
-        FOUR_KINDS_JOINED,
-        4,
-        "audit wrong segment 8 expected m1 6 10\n",
+        AUDIT,
+        &[
+            ("sys", ROUND_ROBIN),
+            ("tr", RING_TRACE),
+            ("ran", "zz,5,3\n"),
+        ],
+        19,
+        &["schedule refused row 1 name\n"],
     ),
     (
-        LATE_JOBS,
-        LATE_TRACE,
-        LATE_RUN,
-        0,
-        "audit same segments 11\n",
+        AUDIT,
+        &[
+            ("sys", ROUND_ROBIN),
+            ("tr", RING_TRACE),
+            ("ran", "zz,x,3\n"),
+        ],
+        19,
+        &["schedule refused row 1 malformed\n"],
     ),
     (
-        TWO_ACTIVATORS,
-        "event,sa,0\nevent,sb,0\n",
-        "m,0,3\nm,3,6\nn,3,5\nn,6,8\n",
-        0,
-        "audit same segments 4\n",
+        AUDIT,
+        &[
+            ("sys", ROUND_ROBIN),
+            ("tr", RING_TRACE),
+            ("ran", "a,0,20000001\n"),
+        ],
+        19,
+        &["schedule refused row 1 range\n"],
     ),
-    ("format = 1", "", "", 0, "audit same segments 0\n"),
+    (
+        AUDIT,
+        &[("sys", ROUND_ROBIN), ("tr", RING_TRACE), ("ran", "a,0\n")],
+        19,
+        &["schedule refused row 1 malformed\n"],
+    ),
+    (
+        AUDIT,
+        &[
+            ("sys", ROUND_ROBIN),
+            ("tr", RING_TRACE),
+            ("ran", "a,00000000000,3\n"),
+        ],
+        19,
+        &["schedule refused row 1 malformed\n"],
+    ),
 ];
+
+/// Schedules of further systems.
+const RUNS: &[Call] = &[
+    (
+        AUDIT,
+        &[
+            ("sys", FOUR_KINDS),
+            ("tr", FOUR_KINDS_TRACE),
+            ("ran", FOUR_KINDS_RUN),
+        ],
+        0,
+        &["audit same segments 11\n"],
+    ),
+    (
+        AUDIT,
+        &[
+            ("sys", FOUR_KINDS),
+            ("tr", FOUR_KINDS_TRACE),
+            ("ran", FOUR_KINDS_JOINED),
+        ],
+        4,
+        &["audit wrong segment 8 expected m1 6 10\n"],
+    ),
+    (
+        AUDIT,
+        &[("sys", LATE_JOBS), ("tr", LATE_TRACE), ("ran", LATE_RUN)],
+        0,
+        &["audit same segments 11\n"],
+    ),
+    (
+        AUDIT,
+        &[
+            ("sys", TWO_ACTIVATORS),
+            ("tr", "event,sa,0\nevent,sb,0\n"),
+            ("ran", "m,0,3\nm,3,6\nn,3,5\nn,6,8\n"),
+        ],
+        0,
+        &["audit same segments 4\n"],
+    ),
+    (
+        AUDIT,
+        &[("sys", "format = 1"), ("tr", ""), ("ran", "")],
+        0,
+        &["audit same segments 0\n"],
+    ),
+];
+
+/// Each schedule of the tables.
+#[test]
+fn audits(rt: HostRuntime) -> Result<(), Fail> {
+    try_calls(&rt, RINGS, NO_OPTION)?;
+    try_calls(&rt, RUNS, NO_OPTION)
+}
+
+#[test]
+fn refuses_schedules(rt: HostRuntime) -> Result<(), Fail> {
+    try_calls(&rt, REFUSED_ROWS, NO_OPTION)
+}
 
 /// Words over the tasks that take turns and files beside them, the status and the text.
 const THIRDS: &[(&[&str], u8, &str)] = &[
@@ -148,67 +258,23 @@ const THIRDS: &[(&[&str], u8, &str)] = &[
     ),
 ];
 
-/// Whether an audit of a schedule gives this status and this text.
-fn is_audited<R: AllocGlobal + Threads + Sync>(
-    rt: &R,
-    held: (&str, &str, &[u8]),
-    status: u8,
-    text: &str,
-) -> Result<bool, Fail> {
-    let named: [(&str, &[u8]); 3] = [
-        ("sys", held.0.as_bytes()),
-        ("tr", held.1.as_bytes()),
-        ("ran", held.2),
-    ];
-    let words = ["audit", "sys", "tr", "ran"];
-    answers_over(rt, &words, &named, status, text.as_bytes())
-}
-
-/// The text of the first schedule of the tasks that take turns that has another answer.
-fn wrong_ring<R: AllocGlobal + Threads + Sync>(rt: &R) -> Result<Option<&'static str>, Fail> {
-    for (schedule, status, text) in RINGS {
-        if !is_audited(rt, (ROUND_ROBIN, RING_TRACE, *schedule), *status, text)? {
-            return Ok(Some(*text));
-        }
-    }
-    Ok(None)
-}
-
-/// The text of the first run whose schedule has another answer.
-fn wrong_run<R: AllocGlobal + Threads + Sync>(rt: &R) -> Result<Option<&'static str>, Fail> {
-    for (system, trace, schedule, status, text) in RUNS {
-        if !is_audited(rt, (*system, *trace, schedule.as_bytes()), *status, text)? {
-            return Ok(Some(*text));
-        }
-    }
-    Ok(None)
-}
-
-/// Each schedule of the tables.
-#[test]
-fn audits(rt: HostRuntime) -> Result<(), Fail> {
-    let ring = wrong_ring(&rt)?;
-    let run = wrong_run(&rt)?;
-    assert!(rt; ring.is_none() && run.is_none(), "{ring:?} {run:?}");
-    Ok(())
-}
-
 /// A row, how many of it a schedule has, the status and the text.
-const MANY_ROWS: &[(&str, u32, u8, &str)] = &[
+const MANY_ROWS: &[(&[u8], u32, u8, &str)] = &[
+    (b"\xff,5,3\n", 1, 19, "schedule refused row 1 name\n"),
     (
-        "a,0,2\n",
+        b"a,0,2\n",
         200_000,
         4,
         "audit wrong segment 2 expected b 2 3\n",
     ),
-    ("a,0,1\n", 200_001, 19, "schedule refused too many\n"),
+    (b"a,0,1\n", 200_001, 19, "schedule refused too many\n"),
 ];
 
 /// So many of a row.
-fn rows(alloc: Global, row: &str, count: u32) -> Result<Vec<u8>, AllocError> {
+fn rows(alloc: Global, row: &[u8], count: u32) -> Result<Vec<u8>, AllocError> {
     let mut rows = Vec::new(alloc);
     for _ in 0..count {
-        rows.extend_from_slice(row.as_bytes())?;
+        rows.extend_from_slice(row)?;
     }
     Ok(rows)
 }
@@ -217,19 +283,19 @@ fn rows(alloc: Global, row: &str, count: u32) -> Result<Vec<u8>, AllocError> {
 fn wrong_rows<R: AllocGlobal + Threads + Sync>(rt: &R) -> Result<Option<&'static str>, Fail> {
     for (row, count, status, text) in MANY_ROWS {
         let rows = rows(rt.alloc(), row, *count)?;
-        if !is_audited(
-            rt,
-            (ROUND_ROBIN, RING_TRACE, rows.as_slice()),
-            *status,
-            text,
-        )? {
+        let named: [(&str, &[u8]); 3] = [
+            ("sys", ROUND_ROBIN.as_bytes()),
+            ("tr", RING_TRACE.as_bytes()),
+            ("ran", rows.as_slice()),
+        ];
+        if !answers_over(rt, AUDIT, &named, *status, text.as_bytes())? {
             return Ok(Some(*text));
         }
     }
     Ok(None)
 }
 
-/// As many rows as there may be, and one more.
+/// As many rows as there may be, one more, and one that is no text.
 #[test]
 fn reads_many_rows(rt: HostRuntime) -> Result<(), Fail> {
     let wrong = wrong_rows(&rt)?;

@@ -17,14 +17,20 @@ use std::sync::atomic::Ordering::SeqCst;
 use std::test::Fail;
 use std::thread::Threads;
 
+/// How many met at a gate, and how many it held in vain.
+#[derive(Drop)]
+struct Meetings {
+    met: AtomicU64,
+    missed: AtomicU64,
+}
+
 /// Holds each analysis until that of another resource has begun, for so many turns at most, and counts those that met
 /// another and those that it held in vain. The first resource is one side, all others are the other.
 #[derive(Drop)]
 struct Meet {
     first: AtomicU64,
     others: AtomicU64,
-    met: Arc<AtomicU64>,
-    missed: Arc<AtomicU64>,
+    meetings: Arc<Meetings>,
 }
 
 /// Whether a count was seen to be more than 0.
@@ -46,9 +52,9 @@ impl Gate for Meet {
         };
         own.store(1, SeqCst);
         let count = if await_one(other) {
-            &self.met
+            &self.meetings.met
         } else {
-            &self.missed
+            &self.meetings.missed
         };
         count.fetch_add(1, SeqCst);
     }
@@ -57,7 +63,7 @@ impl Gate for Meet {
 /// Counts the analyses of each of three resources.
 #[derive(Drop)]
 struct Counts {
-    seen: [Arc<AtomicU64>; 3],
+    seen: Arc<[AtomicU64; 3]>,
 }
 
 impl Gate for Counts {
@@ -94,33 +100,22 @@ fn call_with<R: AllocGlobal + Threads + Sync>(
     Ok((status, Vec::from_slice(alloc, sink.sent())?))
 }
 
-fn counter(alloc: Global) -> Result<Arc<AtomicU64>, Fail> {
-    Ok(Arc::new(alloc, AtomicU64::new(0))?)
-}
-
-/// How many met at a gate, and how many it held in vain.
-#[derive(Drop)]
-struct Meetings {
-    met: Arc<AtomicU64>,
-    missed: Arc<AtomicU64>,
-}
-
 /// Whether two met, and none was held in vain.
 fn have_met(meetings: &Meetings) -> bool {
     meetings.met.load(SeqCst) >= 2 && meetings.missed.load(SeqCst) == 0
 }
 
 /// A gate at which two meet.
-fn meeting(alloc: Global) -> Result<(Box<dyn Gate>, Meetings), Fail> {
-    let meetings = Meetings {
-        met: counter(alloc)?,
-        missed: counter(alloc)?,
+fn meeting(alloc: Global) -> Result<(Box<dyn Gate>, Arc<Meetings>), Fail> {
+    let none = Meetings {
+        met: AtomicU64::new(0),
+        missed: AtomicU64::new(0),
     };
+    let meetings = Arc::new(alloc, none)?;
     let gate = Meet {
         first: AtomicU64::new(0),
         others: AtomicU64::new(0),
-        met: Arc::try_clone(&meetings.met)?,
-        missed: Arc::try_clone(&meetings.missed)?,
+        meetings: Arc::try_clone(&meetings)?,
     };
     Ok((Box::new(alloc, gate)?, meetings))
 }
@@ -161,13 +156,10 @@ fn count_calls<R: AllocGlobal + Threads + Sync>(
     script: &str,
 ) -> Result<[u64; 3], Fail> {
     let alloc = rt.alloc();
-    let seen = [counter(alloc)?, counter(alloc)?, counter(alloc)?];
+    let none = [AtomicU64::new(0), AtomicU64::new(0), AtomicU64::new(0)];
+    let seen = Arc::new(alloc, none)?;
     let gate = Counts {
-        seen: [
-            Arc::try_clone(&seen[0])?,
-            Arc::try_clone(&seen[1])?,
-            Arc::try_clone(&seen[2])?,
-        ],
+        seen: Arc::try_clone(&seen)?,
     };
     call_with(rt, words, ENDLESS_JITTER, script, Box::new(alloc, gate)?)?;
     Ok([

@@ -2,8 +2,8 @@
 
 ghost use Rattle.std.specs.Prelude.{false, None, string_bytes};
 
+use crate::calls::{Faults, NO_FAULTS, call_over};
 use crate::cases::{LONG_WINDOW, TWO_TASKS};
-use crate::tests::{Faults, NO_FAULTS, call_over};
 use cpa_io::{Files, LoadFault, Sink, SinkFault};
 use cpa_run::run;
 use std::alloc::Global;
@@ -378,23 +378,32 @@ fn spoil<R: AllocGlobal + Threads + Sync>(rt: &R, byte: u8) -> Result<Counts, Fa
     Ok(counts)
 }
 
-/// A byte that is 0 or 255 instead is never TOML. A quote is where there was one: 20 times. A line feed is where there was one
+/// A byte, and how many analyses end with each status where it stands in place of another.
+///
+/// 0 and 255 are never TOML. A quote is where there was one: 20 times. A line feed is where there was one
 /// or a space that may be one (35 times) or the last comma of the tasks. It makes a period of 1 of 10 and of 20 a period of
 /// 2, so that the processor is overloaded, and in place of the first letter of a key it leaves a key that is none: 22 times.
+const SPOILED: &[(u8, Counts)] = &[
+    (0, [0, 0, 0, 301, 0, 0, 0, 0, 0]),
+    (255, [0, 0, 0, 301, 0, 0, 0, 0, 0]),
+    (b'"', [20, 0, 0, 281, 0, 0, 0, 0, 0]),
+    (b'\n', [36, 0, 2, 241, 22, 0, 0, 0, 0]),
+];
+
+/// The first of the bytes by which other analyses end so, with how they end.
+fn wrongly_spoiled<R: AllocGlobal + Threads + Sync>(rt: &R) -> Result<Option<(u8, Counts)>, Fail> {
+    for (byte, wanted) in SPOILED {
+        let seen = spoil(rt, *byte)?;
+        if seen != *wanted {
+            return Ok(Some((*byte, seen)));
+        }
+    }
+    Ok(None)
+}
+
 #[test]
 fn reads_spoiled_files(rt: HostRuntime) -> Result<(), Fail> {
-    let found = [
-        spoil(&rt, 0)?,
-        spoil(&rt, 255)?,
-        spoil(&rt, b'"')?,
-        spoil(&rt, b'\n')?,
-    ];
-    let told = [
-        [0, 0, 0, 301, 0, 0, 0, 0, 0],
-        [0, 0, 0, 301, 0, 0, 0, 0, 0],
-        [20, 0, 0, 281, 0, 0, 0, 0, 0],
-        [36, 0, 2, 241, 22, 0, 0, 0, 0],
-    ];
-    assert_eq!(rt; found, told);
+    let wrong = wrongly_spoiled(&rt)?;
+    assert!(rt; wrong.is_none(), "{wrong:?}");
     Ok(())
 }

@@ -1,119 +1,80 @@
 //! Calls of the commands on made systems and made traces.
 
+use crate::calls::{Call, NO_FAULTS, NO_OPTION, WORKERS, call, try_calls};
 use crate::car::CAR_NETWORK;
 use crate::cases::{LIMIT_BELOW, LONG_WINDOW, TWO_ACTIVATORS};
-use crate::tests::{NO_FAULTS, answers, call};
 use std::test::Fail;
 use std::thread::Threads;
 
-/// A number and a size, the status and the text of `load`.
-const LOADS: &[(&str, &str, u8, &str)] = &[
+/// Summaries of made systems.
+const LOADS: &[Call] = &[
     (
-        "42",
-        "1",
+        &["load", "42", "1"],
+        &[],
         0,
-        "load number 42 size 1 bounds 1153\nsummary tasks 3 overload 0 missed 0\n",
+        &["load number 42 size 1 bounds 1153\nsummary tasks 3 overload 0 missed 0\n"],
     ),
     (
-        "7",
-        "0",
+        &["load", "7", "0"],
+        &[],
         0,
-        "load number 7 size 0 bounds 0\nsummary tasks 0 overload 0 missed 0\n",
+        &["load number 7 size 0 bounds 0\nsummary tasks 0 overload 0 missed 0\n"],
     ),
-    ("1", "128", 0, LARGE_SUMMARY),
+    (&["load", "1", "128"], &[], 0, &[LARGE_SUMMARY]),
 ];
 
 const LARGE_SUMMARY: &str =
     "load number 1 size 128 bounds 494143\nsummary tasks 384 overload 0 missed 0\n";
 
-/// Whether `load` gives this, by several numbers of workers.
-fn is_loaded<R: AllocGlobal + Threads + Sync>(
-    rt: &R,
-    made: (&'static str, &'static str),
-    status: u8,
-    text: &str,
-) -> Result<bool, Fail> {
-    let mut right = true;
-    for workers in ["1", "2", "8"] {
-        let words = ["load", made.0, made.1, "--workers", workers];
-        right = right && answers(rt, &words, &[], status, text)?;
-    }
-    Ok(right)
-}
-
-/// The text of the first `load` that has another answer.
-fn wrong_load<R: AllocGlobal + Threads + Sync>(rt: &R) -> Result<Option<&'static str>, Fail> {
-    for (number, size, status, text) in LOADS {
-        if !is_loaded(rt, (*number, *size), *status, text)? {
-            return Ok(Some(*text));
-        }
-    }
-    Ok(None)
-}
-
 /// Each summary of the table, by several numbers of workers: the bytes are the same.
 #[test]
 fn loads(rt: HostRuntime) -> Result<(), Fail> {
-    let wrong = wrong_load(&rt)?;
-    assert!(rt; wrong.is_none(), "{wrong:?}");
-    Ok(())
+    try_calls(&rt, LOADS, WORKERS)
 }
 
-/// The number and how many traces, a system that is held as `sys`, the status and the text of `hammer`.
-const HAMMERED: &[(&str, &str, &str, u8, &str)] = &[
+/// What is seen of systems under made traces.
+const HAMMERED: &[Call] = &[
     (
-        "1",
-        "1",
-        LONG_WINDOW,
+        &["hammer", "sys", "1", "1"],
+        &[("sys", LONG_WINDOW)],
         0,
-        "task a jobs 100 worst 26 bound 26\ntask b jobs 100 worst 118 bound 118\nsummary traces 1 jobs 200 beyond 0\n",
+        &[
+            "task a jobs 100 worst 26 bound 26\ntask b jobs 100 worst 118 bound 118\nsummary traces 1 jobs 200 beyond 0\n",
+        ],
     ),
     (
-        "1",
-        "1",
-        LIMIT_BELOW,
+        &["hammer", "sys", "1", "1"],
+        &[("sys", LIMIT_BELOW)],
         0,
-        "task a jobs 100 worst 3 bound 3\ntask b jobs 100 worst 10 bound overload\nsummary traces 1 jobs 200 beyond 0\n",
+        &[
+            "task a jobs 100 worst 3 bound 3\ntask b jobs 100 worst 10 bound overload\nsummary traces 1 jobs 200 beyond 0\n",
+        ],
     ),
     (
-        "1",
-        "2",
-        TWO_ACTIVATORS,
+        &["hammer", "sys", "1", "2"],
+        &[("sys", TWO_ACTIVATORS)],
         0,
-        "task m jobs 400 worst 6 bound 6\ntask n jobs 400 worst 3 bound 4\nsummary traces 2 jobs 800 beyond 0\n",
+        &[
+            "task m jobs 400 worst 6 bound 6\ntask n jobs 400 worst 3 bound 4\nsummary traces 2 jobs 800 beyond 0\n",
+        ],
     ),
     (
-        "4294967295",
-        "10000",
-        "format = 1",
+        &["hammer", "sys", "4294967295", "10000"],
+        &[("sys", "format = 1")],
         0,
-        "summary traces 10000 jobs 0 beyond 0\n",
+        &["summary traces 10000 jobs 0 beyond 0\n"],
     ),
     (
-        "1",
-        "1",
-        "format = 3",
+        &["hammer", "sys", "1", "1"],
+        &[("sys", "format = 3")],
         14,
-        "system refused reason 13 file 0\n",
+        &["system refused reason 13 file 0\n"],
     ),
 ];
 
-/// The text of the first `hammer` that has another answer.
-fn wrong_hammer<R: AllocGlobal + Threads + Sync>(rt: &R) -> Result<Option<&'static str>, Fail> {
-    for (number, traces, system, status, text) in HAMMERED {
-        let words = ["hammer", "sys", *number, *traces];
-        if !answers(rt, &words, system.as_bytes(), *status, text)? {
-            return Ok(Some(*text));
-        }
-    }
-    Ok(None)
-}
-
 #[test]
 fn hammers(rt: HostRuntime) -> Result<(), Fail> {
-    let wrong = wrong_hammer(&rt)?;
-    assert!(rt; wrong.is_none(), "{wrong:?}");
-    Ok(())
+    try_calls(&rt, HAMMERED, NO_OPTION)
 }
 
 /// The report of a made system, whose numbers are worked out from the generator's outputs.

@@ -6,6 +6,8 @@ mod anew;
 #[cfg(test)]
 mod audits;
 #[cfg(test)]
+mod calls;
+#[cfg(test)]
 mod car;
 #[cfg(test)]
 mod cases;

@@ -1,12 +1,11 @@
 //! Priority orders, and room to grow.
 
+use crate::calls::{Call, NO_OPTION, WORKERS, try_calls};
 use crate::cases::{
     CROSSING_CHAINS, CUT_NAME, DAVIS_BUS, ENDLESS_JITTER, JOINED_KINDS, TDMA_GAP, TWO_ACTIVATORS,
     TWO_TASKS,
 };
-use crate::tests::answers;
 use std::test::Fail;
-use std::thread::Threads;
 
 /// The bus of Davis and others with a deadline of 250 for each message, which none meets at the lowest place.
 const LATE_BUS: &str = r#"format = 1
@@ -74,95 +73,129 @@ path = [
 ]
 "#;
 
-/// A resource, the system that is held as `sys`, the status and the text of its order.
-const ORDERS: &[(&str, &str, u8, &str)] = &[
+/// Orders of resources.
+const ORDERS: &[Call] = &[
     (
-        "bus",
-        DAVIS_BUS,
+        &["assign", "sys", "bus"],
+        &[("sys", DAVIS_BUS)],
         0,
-        "priority m3 1\npriority m2 2\npriority m1 3\nassigned bus tasks 3\n",
+        &["priority m3 1\npriority m2 2\npriority m1 3\nassigned bus tasks 3\n"],
     ),
-    ("bus", LATE_BUS, 3, "none bus\n"),
-    ("zz", DAVIS_BUS, 18, "assign refused 1\n"),
-    ("ring", TDMA_GAP, 18, "assign refused 2\n"),
-    ("p", CROSSING_CHAINS, 18, "assign refused 3\n"),
     (
-        "r",
-        SOURCES_ALONE,
-        0,
-        "priority t3 4\npriority t1 6\npriority t2 9\nassigned r tasks 3\n",
+        &["assign", "sys", "bus"],
+        &[("sys", LATE_BUS)],
+        3,
+        &["none bus\n"],
     ),
-    ("q", SOURCES_ALONE, 18, "assign refused 3\n"),
-    ("p", IDLE, 0, "assigned p tasks 0\n"),
-    ("zz", CUT_NAME, 13, "not TOML sys\n"),
+    (
+        &["assign", "sys", "zz"],
+        &[("sys", DAVIS_BUS)],
+        18,
+        &["assign refused 1\n"],
+    ),
+    (
+        &["assign", "sys", "ring"],
+        &[("sys", TDMA_GAP)],
+        18,
+        &["assign refused 2\n"],
+    ),
+    (
+        &["assign", "sys", "p"],
+        &[("sys", CROSSING_CHAINS)],
+        18,
+        &["assign refused 3\n"],
+    ),
+    (
+        &["assign", "sys", "r"],
+        &[("sys", SOURCES_ALONE)],
+        0,
+        &["priority t3 4\npriority t1 6\npriority t2 9\nassigned r tasks 3\n"],
+    ),
+    (
+        &["assign", "sys", "q"],
+        &[("sys", SOURCES_ALONE)],
+        18,
+        &["assign refused 3\n"],
+    ),
+    (
+        &["assign", "sys", "p"],
+        &[("sys", IDLE)],
+        0,
+        &["assigned p tasks 0\n"],
+    ),
+    (
+        &["assign", "sys", "zz"],
+        &[("sys", CUT_NAME)],
+        13,
+        &["not TOML sys\n"],
+    ),
 ];
-
-/// A task, the system that is held as `sys`, the status and the text of its slack.
-const GROWTHS: &[(&str, &str, u8, &str)] = &[
-    ("b", TWO_IN_TIME, 0, "slack b 1 next missed\n"),
-    ("b", TWO_TASKS, 0, "slack b 999993 next limit\n"),
-    ("m1", DAVIS_BUS, 3, "slack m1 none\n"),
-    ("zz", DAVIS_BUS, 18, "slack refused 1\n"),
-    (
-        "c",
-        ENDLESS_WITHOUT_DEADLINE,
-        0,
-        "slack c 999996 next limit\n",
-    ),
-    ("c", ENDLESS_JITTER, 3, "slack c none\n"),
-    ("n", TWO_ACTIVATORS, 0, "slack n 0 next missed\n"),
-    ("b2", JOINED_KINDS, 0, "slack b2 16 next missed\n"),
-    ("zz", CUT_NAME, 13, "not TOML sys\n"),
-];
-
-/// The text of the first order that has another answer.
-fn wrong_order<R: AllocGlobal + Threads + Sync>(rt: &R) -> Result<Option<&'static str>, Fail> {
-    for (res, system, status, text) in ORDERS {
-        let words = ["assign", "sys", *res];
-        if !answers(rt, &words, system.as_bytes(), *status, text)? {
-            return Ok(Some(*text));
-        }
-    }
-    Ok(None)
-}
 
 #[test]
 fn assigns_and_refuses(rt: HostRuntime) -> Result<(), Fail> {
-    let wrong = wrong_order(&rt)?;
-    assert!(rt; wrong.is_none(), "{wrong:?}");
-    Ok(())
+    try_calls(&rt, ORDERS, NO_OPTION)
 }
 
-/// Whether a task has this slack, by several numbers of workers.
-fn has_slack<R: AllocGlobal + Threads + Sync>(
-    rt: &R,
-    task: &str,
-    system: &str,
-    status: u8,
-    text: &str,
-) -> Result<bool, Fail> {
-    let mut right = true;
-    for workers in ["1", "2", "8"] {
-        let words = ["slack", "sys", task, "--workers", workers];
-        right = right && answers(rt, &words, system.as_bytes(), status, text)?;
-    }
-    Ok(right)
-}
-
-/// The text of the first slack that has another answer.
-fn wrong_slack<R: AllocGlobal + Threads + Sync>(rt: &R) -> Result<Option<&'static str>, Fail> {
-    for (task, system, status, text) in GROWTHS {
-        if !has_slack(rt, task, system, *status, text)? {
-            return Ok(Some(*text));
-        }
-    }
-    Ok(None)
-}
+/// Slacks of tasks.
+const GROWTHS: &[Call] = &[
+    (
+        &["slack", "sys", "b"],
+        &[("sys", TWO_IN_TIME)],
+        0,
+        &["slack b 1 next missed\n"],
+    ),
+    (
+        &["slack", "sys", "b"],
+        &[("sys", TWO_TASKS)],
+        0,
+        &["slack b 999993 next limit\n"],
+    ),
+    (
+        &["slack", "sys", "m1"],
+        &[("sys", DAVIS_BUS)],
+        3,
+        &["slack m1 none\n"],
+    ),
+    (
+        &["slack", "sys", "zz"],
+        &[("sys", DAVIS_BUS)],
+        18,
+        &["slack refused 1\n"],
+    ),
+    (
+        &["slack", "sys", "c"],
+        &[("sys", ENDLESS_WITHOUT_DEADLINE)],
+        0,
+        &["slack c 999996 next limit\n"],
+    ),
+    (
+        &["slack", "sys", "c"],
+        &[("sys", ENDLESS_JITTER)],
+        3,
+        &["slack c none\n"],
+    ),
+    (
+        &["slack", "sys", "n"],
+        &[("sys", TWO_ACTIVATORS)],
+        0,
+        &["slack n 0 next missed\n"],
+    ),
+    (
+        &["slack", "sys", "b2"],
+        &[("sys", JOINED_KINDS)],
+        0,
+        &["slack b2 16 next missed\n"],
+    ),
+    (
+        &["slack", "sys", "zz"],
+        &[("sys", CUT_NAME)],
+        13,
+        &["not TOML sys\n"],
+    ),
+];
 
 /// Each slack of the table, by several numbers of workers: the bytes are the same.
 #[test]
 fn tells_slack(rt: HostRuntime) -> Result<(), Fail> {
-    let wrong = wrong_slack(&rt)?;
-    assert!(rt; wrong.is_none(), "{wrong:?}");
-    Ok(())
+    try_calls(&rt, GROWTHS, WORKERS)
 }
