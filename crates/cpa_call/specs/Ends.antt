@@ -26,6 +26,11 @@ abbrev pub IsUnreadFile : (List ℕ → Type 0) → ℕ → ℕ → List ℕ →
 IsUnreadFile named before now last (Unread line) = named last × Rose before now × (line.items ≡ cannot_read last)
 IsUnreadFile named before now last _ = Unit {0}
 
+-- so of a whole call, of which so much is known then
+abbrev pub IsUnreadLine : Type 0 → List ℕ → Ended → Type 0
+IsUnreadLine known last (Unread line) = known × (line.items ≡ cannot_read last)
+IsUnreadLine known last _ = Unit {0}
+
 abbrev pub IsStopOf : SinkFault → Stopped → Type 0
 IsStopOf fault.Failed s = s ≡ stopped.Sink
 IsStopOf fault.Memory s = s ≡ stopped.Memory

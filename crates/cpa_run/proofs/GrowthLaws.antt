@@ -15,7 +15,7 @@ use Rattle.cpa_slack.specs.declared.slack.Slack.{Slack}
 use Rattle.cpa_slack.specs.Slack.{IsSlack}
 use Rattle.cpa_slack.specs.SlackText.{slack_text}
 use Rattle.cpa_slack.proofs.OneSlackLaws.{slack_exists, slack_is_one}
-use Rattle.cpa_run.specs.Answers.{Answer, reply}
+use Rattle.cpa_call.specs.Answers.{Answer, reply}
 use Rattle.cpa_run.specs.Work.{IsAssigned, order_status, IsGrowth, slack_status}
 
 -- who is named is there

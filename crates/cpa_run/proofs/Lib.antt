@@ -1,8 +1,8 @@
-pub mod GrowthLaws
 pub mod BufferLaws
+pub mod GrowthLaws
 pub mod MadeLaws
 pub mod OutputLaws
 pub mod PlanLaws
+pub mod PlannedLaws
 pub mod ReportLaws
-pub mod SendLaws
 pub mod SessionLaws

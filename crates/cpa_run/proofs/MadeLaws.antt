@@ -15,7 +15,7 @@ use Rattle.cpa_gen.specs.Seen.{seen_over}
 use Rattle.cpa_gen.specs.Texts.{load_text, hammer_text}
 use Rattle.cpa_gen.proofs.MadeRules.{made_systems_keep_rules}
 use Rattle.cpa_gen.proofs.SeenLaws.{none-beyond}
-use Rattle.cpa_run.specs.Answers.{Answer, reply}
+use Rattle.cpa_call.specs.Answers.{Answer, reply}
 use Rattle.cpa_run.specs.Work.{IsSummary, IsHammered}
 
 pub summary-at : (number size : ℕ) (s t : SystemLists) (x : List Bound) → size ≤ MAX_SIZE → t ≡ made_system number size → s ≡ t → IsLeast s x

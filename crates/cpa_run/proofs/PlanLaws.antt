@@ -1,17 +1,17 @@
 -- What plans answer.
-use Rattle.std.proofs.Common.{◌≡◌, ℕ, Bool, List, Option, Some, None, Ok, Err, OnOk, IfOk, refl, sym, ap, ◌∙◌, subst}
-use Rattle.std.specs.Prelude.{Result}
-use Rattle.cpa_io.specs.Causes.{grown, SentPart}
-use Rattle.cpa_run.specs.declared.ended.Reply.{Reply}
-use Rattle.cpa_run.specs.declared.ended.Ended.{Ended}
-use Rattle.cpa_run.specs.declared.ended.Ended.TheVariants.{Refused, Unread}
-use Rattle.cpa_run.specs.Lines.{words_refused, cannot_read}
+use Rattle.std.proofs.Common.{◌≡◌, ℕ, List, Option, Some, None, refl, sym, ap, subst}
+use Rattle.cpa_io.specs.Causes.{SentPart}
 use Rattle.cpa_words.specs.Words.{Asked, accepted}
-use Rattle.cpa_run.specs.Plan.{Held, Refuse, plan_for, plan_of}
-use Rattle.cpa_run.specs.Answers.{reply}
-use Rattle.cpa_run.specs.Output.{IsAnswerTo, IsOutput, IsUnread, SendsSome}
-use Rattle.cpa_run.proofs.SendLaws.{part-reply}
-use Rattle.cpa_run.specs.Ends.{IsEndOf, IsUnreadCall}
+use Rattle.cpa_call.specs.declared.ended.Reply.{Reply}
+use Rattle.cpa_call.specs.declared.ended.Ended.{Ended}
+use Rattle.cpa_call.specs.declared.ended.Ended.TheVariants.{Refused}
+use Rattle.cpa_call.specs.Answers.{reply}
+use Rattle.cpa_call.specs.Ends.{IsEndOf}
+use Rattle.cpa_call.specs.Lines.{words_refused}
+use Rattle.cpa_call.specs.Plans.{Held, Refuse}
+use Rattle.cpa_call.proofs.SendLaws.{part-reply}
+use Rattle.cpa_run.specs.Plan.{plan_for, plan_of}
+use Rattle.cpa_run.specs.Output.{IsAnswerTo, IsOutput, SendsSome}
 
 pub plan-some : (words : List (List ℕ)) (held : Held) (asked : Asked) → Some asked ≡ accepted words → plan_of words held ≡ plan_for held asked
 unfolding plan_of
@@ -26,21 +26,6 @@ pub refused-answer : (words : List (List ℕ)) (held : Held) (e : Ended) (r : Re
 refused-answer words held e r text end is same =
     let plan : plan_of words held ≡ Refuse r.status r.text.items = subst (IsEndOf (plan_of words held)) is end in
     subst (λ p. IsAnswerTo p (reply r.status text)) (sym plan) (ap (reply r.status) same)
-
--- the line of a file that couldn't be read is sent
-pub unread-text : (words : List (List ℕ)) (told : Bool) (held : Held) (before now : ℕ) (last : List ℕ) (e : Ended) (line : _) → IsUnreadCall words told held before now last e → e ≡ Unread line → line.items ≡ cannot_read last
-unread-text words told held before now last e line h is = (subst (IsUnreadCall words told held before now last) is h).1
-
--- or a part of it
-pub unread-part : (words : List (List ℕ)) (told : Bool) (held : Held) (before now : ℕ) (last : List ℕ) (e : Ended) (line : _) (text : List ℕ) (first sent : Option (List ℕ)) → IsUnreadCall words told held before now last e → e ≡ Unread line → text ≡ line.items
-    → SentPart first sent text → IsUnread words told held before now last × SentPart first sent (cannot_read last)
-unread-part words told held before now last e line text first sent h is same part =
-    let call = subst (IsUnreadCall words told held before now last) is h in
-    (call.0, subst (SentPart first sent) (same ∙ call.1) part)
-
-pub unread-sent : {E : Type 0} (r : Result ℕ E) (before now : Option (List ℕ)) (text line : List ℕ) → OnOk r (now ≡ grown before text) → text ≡ line → IfOk r (λ status. status ≡ 11 → now ≡ grown before line)
-unread-sent (Ok status) before now text line sent same = λ eleven. sent ∙ ap (grown before) same
-unread-sent (Err e) before now text line sent same = sent
 
 -- a part of the line of a refusal
 pub refused-part : (words : List (List ℕ)) (held : Held) (e : Ended) (r : Reply) (text : List ℕ) (before now : Option (List ℕ)) → IsEndOf (plan_of words held) e → e ≡ Refused r → text ≡ r.text.items

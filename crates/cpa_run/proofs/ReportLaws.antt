@@ -8,7 +8,8 @@ use Rattle.cpa_local.proofs.VectorLaws.{least-one}
 use Rattle.cpa_local.proofs.SolutionLaws.{least_of-is_least}
 use Rattle.cpa_report.specs.Report.{report_text, verdict}
 use Rattle.cpa_sound.proofs.Soundness.{least_solutions_bound_every_run}
-use Rattle.cpa_run.specs.Answers.{Answer, reply, IsReport}
+use Rattle.cpa_call.specs.Answers.{Answer, reply}
+use Rattle.cpa_run.specs.Answers.{IsReport}
 
 pub report-at : (s : SystemLists) (x : List Bound) → IsSystem s → IsLeast s x → IsReport s (reply (verdict s x) (report_text s x))
 report-at s x rules least = record { bounds = x; least = least; hold = least_solutions_bound_every_run s x rules least; status_is = refl; text_is = refl }

@@ -12,12 +12,13 @@ use Rattle.cpa_edit.specs.declared.script.Step.{Step}
 use Rattle.cpa_edit.specs.declared.script.Step.TheVariants.{Report, Change}
 use Rattle.cpa_edit.specs.Edited.{edited, or_unchanged}
 use Rattle.cpa_edit.proofs.EditLaws.{edits-keep_rules}
-use Rattle.cpa_run.specs.Answers.{Answer, IsReport}
+use Rattle.cpa_call.specs.Answers.{Answer}
+use Rattle.cpa_run.specs.Answers.{IsReport}
 use Rattle.cpa_run.specs.Session.{led_by, edit_text, system_after, IsStepText, IsSession}
 use Rattle.cpa_run.specs.Steps.{IsWritten, IsWrittenPart, IsUnderWay}
 use Rattle.cpa_edit.specs.Script.{AreNamed, IsNamedChange}
-use Rattle.cpa_run.specs.Output.{Sends, SendsPart}
-use Rattle.cpa_run.proofs.SendLaws.{grown-none, grown-grown, part-after, part-first}
+use Rattle.cpa_call.specs.Answers.{Sends, SendsPart}
+use Rattle.cpa_call.proofs.SendLaws.{grown-none, grown-grown, part-after, part-first}
 use Rattle.cpa_run.proofs.ReportLaws.{some-report, one-report}
 
 kept-rules : (s : SystemLists) → IsSystem s → (r : Result SystemLists EditRefusal) → ((t : SystemLists) → r ≡ Ok t → IsSystem t) → IsSystem (or_unchanged s r)

@@ -1,17 +1,11 @@
--- Answers: a status, where there is one, and a text.
-use Rattle.std.specs.Prelude.{◌≡◌, ℕ, List, Option, Some}
+-- The report of a system, as an answer.
+use Rattle.std.specs.Prelude.{◌≡◌, List, Some}
 use Rattle.cpa_units.specs.declared.bound.Bound.{Bound}
 use Rattle.cpa_model.specs.SystemLists.{SystemLists}
 use Rattle.cpa_report.specs.Report.{report_text, verdict}
 use Rattle.cpa_local.specs.Solution.{IsLeast}
 use Rattle.cpa_sound.specs.BoundsHold.{BoundsHold}
-
-pub record Answer : Type 0 where
-  pub status : Option ℕ
-  pub text : List ℕ
-
-abbrev pub reply : ℕ → List ℕ → Answer
-reply status text = record { status = Some status; text = text }
+use Rattle.cpa_call.specs.Answers.{Answer}
 
 -- the report of a system, at its least solution
 pub record IsReport (s : SystemLists) (answer : Answer) : Type 0 where

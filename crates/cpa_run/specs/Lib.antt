@@ -1,5 +1,4 @@
 pub mod Answers
-pub mod Ends
 pub mod Lines
 pub mod Output
 pub mod Plan

@@ -1,15 +1,20 @@
 -- What the program answers, and what it has sent when it ends.
-use Rattle.std.specs.Prelude.{◌≡◌, ◌≢◌, ◌⊎◌, ℕ, Bool, true, List, [], Option, Some, None}
-use Rattle.cpa_io.specs.Causes.{grown, Rose, SentPart}
+use Rattle.std.specs.Prelude.{◌≡◌, ◌⊎◌, ℕ, Bool, true, List, [], Option, Some, None}
+use Rattle.cpa_io.specs.Causes.{Rose}
 use Rattle.cpa_file.specs.Reading.{reading_of}
 use Rattle.cpa_words.specs.Words.{Asked, accepted, Analyse, Session, Simulate, Generate, Load, Hammer, Assign, Slack, Buffers, Audit}
+use Rattle.cpa_call.specs.declared.ended.Ended.{Ended}
+use Rattle.cpa_call.specs.declared.loading.Traced.{Traced}
+use Rattle.cpa_call.specs.Answers.{Answer, reply, SendsPart}
+use Rattle.cpa_call.specs.Ends.{IsUnreadLine}
+use Rattle.cpa_call.specs.Plans.{Held, Plan, Do, Refuse, Missing, traced_in, IsSecond}
+use Rattle.cpa_run.specs.declared.work.Work.{Work}
 use Rattle.cpa_run.specs.declared.work.Work.TheVariants as work
-use Rattle.cpa_run.specs.Plan.{Held, Plan, Do, Refuse, Missing, plan_of, IsAccepted, AreAccepted}
-use Rattle.cpa_run.specs.Answers.{Answer, reply}
+use Rattle.cpa_run.specs.Plan.{plan_of}
 use Rattle.cpa_run.specs.Work.{IsDone}
 
 -- a refusal is its status and its line; where a file in turn isn't held, there is no answer but a fault
-abbrev pub IsAnswerTo : Plan → Answer → Type 0
+abbrev pub IsAnswerTo : Plan Work → Answer → Type 0
 IsAnswerTo (Do it) answer = IsDone it answer
 IsAnswerTo (Refuse status line) answer = answer ≡ reply status line
 IsAnswerTo Missing answer = answer ≡ record { status = None; text = [] }
@@ -18,36 +23,19 @@ IsAnswerTo Missing answer = answer ≡ record { status = None; text = [] }
 abbrev pub IsOutput : List (List ℕ) → Held → Answer → Type 0
 IsOutput words held answer = IsAnswerTo (plan_of words held) answer
 
--- a status that the output decides: neither a fault nor want of memory
-abbrev pub IsOfOutput : ℕ → Type 0
-IsOfOutput status = (status ≢ 11) × (status ≢ 20) × (status ≢ 30)
-
--- status and bytes sent are those of an answer
-pub record Sends (output : Answer → Type 0) (status : ℕ) (before now : Option (List ℕ)) : Type 0 where
-  pub answer : Answer
-  pub is_output : output answer
-  pub status_is : answer.status ≡ Some status
-  pub sent : now ≡ grown before answer.text
-
--- a prefix of an answer's text was sent
-pub record SendsPart (output : Answer → Type 0) (before now : Option (List ℕ)) : Type 0 where
-  pub answer : Answer
-  pub is_output : output answer
-  pub part : SentPart before now answer.text
-
 -- what may have been sent when a call ends before its whole answer: a prefix of an answer's text; of a made system's file, of which no
 -- definition lays one out, nothing or such a prefix
-abbrev pub SendsSome : Plan → Option (List ℕ) → Option (List ℕ) → Type 0
+abbrev pub SendsSome : Plan Work → Option (List ℕ) → Option (List ℕ) → Type 0
 SendsSome (Do (work.Generate number size)) before now = (now ≡ before) ⊎ SendsPart (IsDone (work.Generate number size)) before now
 SendsSome plan before now = SendsPart (IsAnswerTo plan) before now
 
 -- two answers to one call: a made system's file may be laid out in several ways, and all else is the same
-abbrev pub AreAlike : Plan → Answer → Answer → Type 0
+abbrev pub AreAlike : Plan Work → Answer → Answer → Type 0
 AreAlike (Do (work.Generate number size)) a b = (a.status ≡ b.status) × (reading_of a.text ≡ reading_of b.text)
 AreAlike plan a b = a ≡ b
 
 -- of a made system's file it isn't said that there is one
-abbrev pub HasAnswer : Plan → Type 0
+abbrev pub HasAnswer : Plan Work → Type 0
 HasAnswer (Do (work.Generate number size)) = Unit {0}
 HasAnswer plan = (answer : Answer) × IsAnswerTo plan answer
 
@@ -58,9 +46,9 @@ OutputsExist = (words : List (List ℕ)) (held : Held) → HasAnswer (plan_of wo
 abbrev pub OutputsAreOne : Type 0
 OutputsAreOne = (words : List (List ℕ)) (held : Held) (a b : Answer) → IsOutput words held a → IsOutput words held b → AreAlike (plan_of words held) a b
 
--- a second file is loaded once the system file is accepted
-abbrev pub IsSecond : Bool → Held → List ℕ → List ℕ → List ℕ → Type 0
-IsSecond told held file second last = (last ≡ file) ⊎ ((last ≡ second) × (told ≡ true → IsAccepted held file))
+-- two files are accepted, one after the other
+abbrev pub AreAccepted : Held → List ℕ → List ℕ → Type 0
+AreAccepted held file trace = (t : Traced) × (traced_in held file trace ≡ Do t)
 
 -- a third file is loaded once the trace obeys
 abbrev pub IsThird : Bool → Held → List ℕ → List ℕ → List ℕ → List ℕ → Type 0
@@ -85,3 +73,7 @@ pub record IsUnread (words : List (List ℕ)) (told : Bool) (held : Held) (befor
   pub accepted : accepted words ≡ Some asked
   pub named : IsNamed told held asked last
   pub rose : Rose before now
+
+-- why a call ends before its work: where a file couldn't be loaded, its line tells its name
+abbrev pub IsUnreadCall : List (List ℕ) → Bool → Held → ℕ → ℕ → List ℕ → Ended → Type 0
+IsUnreadCall words told held before now last = IsUnreadLine (IsUnread words told held before now last) last

@@ -5,7 +5,8 @@ use Rattle.cpa_edit.specs.declared.edit.EditRefusal.{EditRefusal}
 use Rattle.cpa_edit.specs.declared.script.Step.{Step}
 use Rattle.cpa_edit.specs.declared.script.Step.TheVariants.{Report, Change}
 use Rattle.cpa_edit.specs.Edited.{edited, or_unchanged}
-use Rattle.cpa_run.specs.Answers.{Answer, IsReport}
+use Rattle.cpa_call.specs.Answers.{Answer}
+use Rattle.cpa_run.specs.Answers.{IsReport}
 use Rattle.cpa_run.specs.Lines.{edit_refused}
 
 -- the system after a step: one report or refused edit leaves it as it was

@@ -4,7 +4,7 @@ use Rattle.cpa_io.specs.Causes.{grown, SentPart}
 use Rattle.cpa_model.specs.SystemLists.{SystemLists}
 use Rattle.cpa_model.specs.Rules.{IsSystem}
 use Rattle.cpa_edit.specs.declared.script.Step.{Step}
-use Rattle.cpa_run.specs.Answers.{Answer}
+use Rattle.cpa_call.specs.Answers.{Answer}
 use Rattle.cpa_run.specs.Session.{IsStepText, IsSession, led_by}
 
 -- the text of a step was sent

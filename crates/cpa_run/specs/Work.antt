@@ -33,7 +33,8 @@ use Rattle.cpa_audit.specs.Findings.{finding_of}
 use Rattle.cpa_audit.specs.AuditText.{audit_text}
 use Rattle.cpa_run.specs.declared.work.Work.{Work}
 use Rattle.cpa_run.specs.declared.work.Work.TheVariants.{Analyse, Session, Simulate, Generate, Load, Hammer, Assign, Slack as SlackOf, Buffers, Audit}
-use Rattle.cpa_run.specs.Answers.{Answer, reply, IsReport}
+use Rattle.cpa_call.specs.Answers.{Answer, reply}
+use Rattle.cpa_run.specs.Answers.{IsReport}
 use Rattle.cpa_run.specs.Session.{IsSession}
 
 -- a file that stands for a system, in any layout

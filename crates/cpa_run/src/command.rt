@@ -2,15 +2,16 @@
 
 ghost use Rattle.std.specs.Prelude.{◌≡◌, ◌≢◌, ◌⊎◌, ◌≤◌, true, map, Err, IfOk, OnErr, string_bytes};
 ghost use Rattle.cpa_io.specs.Causes.{grown, Rose, SentPart};
-ghost use Rattle.cpa_run.specs.declared.ended.Stopped.TheVariants as stopped;
-ghost use Rattle.cpa_run.specs.Lines.{cannot_read};
+ghost use Rattle.cpa_call.specs.declared.ended.Stopped.TheVariants as stopped;
+ghost use Rattle.cpa_call.specs.Answers.{IsOfOutput, Sends};
+ghost use Rattle.cpa_call.specs.Lines.{cannot_read};
 ghost use Rattle.cpa_run.specs.Plan.{plan_of};
-ghost use Rattle.cpa_run.specs.Output.{IsOutput, IsOfOutput, Sends, SendsSome, IsUnread, OutputsExist, OutputsAreOne};
+ghost use Rattle.cpa_run.specs.Output.{IsOutput, SendsSome, IsUnread, OutputsExist, OutputsAreOne};
 
-use crate::ended::{Ended, Stopped};
 use crate::loading::plan;
 use crate::performing::perform;
-use crate::sending::send;
+use cpa_call::ended::{Ended, Stopped};
+use cpa_call::sending::send;
 use cpa_fix::Round;
 use cpa_io::{Files, Sink};
 use cpa_workers::{Gate, NoGate, Shared};

@@ -5,7 +5,6 @@
 
 mod analysis;
 mod command;
-mod ended;
 mod lines;
 mod loading;
 mod performing;

@@ -1,119 +1,38 @@
 //! What the words ask for, with the files that they name.
 
-ghost use Rattle.std.specs.Prelude.{◌≡◌, ◌<◌, ◌≤◌, ℕ, true, List, map, string_bytes, length, Some, None, Ok, IfOk, IfErr};
-ghost use Rattle.cpa_units.specs.declared.limits.TheConstants.{MAX_TRACE_FILE};
-ghost use Rattle.cpa_file.specs.Reading.{Accepted, reading_of};
-ghost use Rattle.cpa_edit.specs.declared.script.Step.{Step};
+ghost use Rattle.std.specs.Prelude.{◌≡◌, ◌<◌, ◌≤◌, true, map, string_bytes, length, IfOk, IfErr};
 ghost use Rattle.cpa_edit.specs.Script.{script_of, AreNamed};
-ghost use Rattle.cpa_trace.specs.Breaches.{first_breach};
-ghost use Rattle.cpa_trace.specs.Reading.{trace_of};
-ghost use Rattle.cpa_audit.specs.declared.schedule.Segment.{Segment};
 ghost use Rattle.cpa_audit.specs.ScheduleReading.{schedule_of};
-ghost use Rattle.cpa_units.specs.declared.places.ResId.{ResId};
-ghost use Rattle.cpa_units.specs.declared.places.TaskId.{TaskId};
-ghost use Rattle.cpa_model.specs.SystemLists.{SystemLists, resource_named, task_named};
 ghost use Rattle.cpa_assign.specs.Orders.{IsOrderable};
-ghost use Rattle.cpa_run.specs.declared.ended.Ended.TheVariants.{Refused};
-ghost use Rattle.cpa_trace.specs.Trace.{TraceLists};
-ghost use Rattle.cpa_sim.specs.Outcome.{CanReplay};
 ghost use Rattle.cpa_words.specs.Words.{Analyse, Session, Simulate, Hammer, Assign, Slack, Buffers, Audit, AreWorkers, AreTraces, IsWithin};
 ghost use Rattle.cpa_words.specs.Commands.{asked};
-ghost use Rattle.cpa_run.specs.Plan.{Plan, Do, with_content, with_reading, with_system, with_steps, with_script, with_entries, with_trace, with_traced, with_segments, with_schedule, with_resource, with_task, plan_for, plan_of, AreAccepted, IsObeyed, StandsFor};
+ghost use Rattle.cpa_call.specs.declared.ended.Ended.TheVariants.{Refused};
+ghost use Rattle.cpa_call.specs.Ends.{IsEndOf, HasStatus, IsUnreadFile, IsNoUnread};
+ghost use Rattle.cpa_call.specs.Plans.{Do, IsSecond};
+ghost use Rattle.cpa_run.specs.Plan.{script_by, script_in, schedule_by, schedule_in, orderable_in, task_in, plan_for, plan_of};
 ghost use Rattle.cpa_run.specs.Work.{IsWithinLimits};
-ghost use Rattle.cpa_run.specs.Output.{IsNamed, IsSecond, IsThird};
-ghost use Rattle.cpa_run.specs.Ends.{IsEndOf, HasStatus, IsUnreadFile, IsNoUnread, IsUnreadCall};
+ghost use Rattle.cpa_run.specs.Output.{IsNamed, IsThird, IsUnreadCall};
 
-use crate::ended::{Ended, Reply};
-use crate::lines::{
-    assign_line, breach_line, file_line, refusal_line, schedule_line, script_line, slack_line,
-    trace_line, words_line,
-};
+use crate::lines::{assign_line, schedule_line, script_line, slack_line};
 use crate::work::Work;
 use cpa_assign::{has_priorities, is_fed_by_sources};
 use cpa_audit::{Schedule, ScheduleFault, read_schedule};
+use cpa_call::ended::{Ended, Reply};
+use cpa_call::lines::words_line;
+use cpa_call::loading::{load_file, load_system, load_traced};
 use cpa_edit::{Script, ScriptFault, read_script};
-use cpa_file::{FileRefusal, read_system};
-use cpa_io::{Files, LoadFault};
+use cpa_io::Files;
 use cpa_model::System;
-use cpa_trace::{Trace, TraceFault, obeys, read_trace};
-use cpa_units::limits::{MAX_SCRIPT_FILE, MAX_SYSTEM_FILE, MAX_TRACE_FILE};
+use cpa_units::limits::{MAX_SCRIPT_FILE, MAX_TRACE_FILE};
 use cpa_units::{ResId, TaskId};
 use cpa_words::{Command, accept};
 use std::alloc::Global;
 
-/// The bytes of a file of at most so many.
-fn load_file<F: Files>(
-    alloc: Global,
-    files: &mut F,
-    file: &str,
-    most: u64,
-) -> Result<Vec<u8>, Ended>
-    requires { most ≤ MAX_TRACE_FILE }
-    ensures planned { F.told files.old ≡ true → (next : List ℕ → Plan) → IfOk result (λ v. with_content file.now most (F.held files.old file.now) next ≡ next v.items) }
-    ensures content { F.told files.old ≡ true → IfOk result (λ v. F.held files.old file.now ≡ Some v.items) }
-    ensures within { IfOk result (λ v. length v.items ≤ most) }
-    ensures ended { F.told files.old ≡ true → (next : List ℕ → Plan) → IfErr result (IsEndOf (with_content file.now most (F.held files.old file.now) next)) }
-    ensures status { IfErr result HasStatus }
-    ensures unread { IfErr result (IsUnreadFile (λ last. last ≡ file.now) (F.faults files.old) (F.faults files.new) (F.last_failed files.new)) }
-    ensures told { F.told files.new ≡ F.told files.old }
-    ensures held { F.held files.new ≡ F.held files.old }
-    ensures rises { F.faults files.old ≤ F.faults files.new }
-{
-    match files.load(alloc, file, most) {
-        Ok(bytes) => Ok(bytes),
-        Err(LoadFault::Failed) => Err(Ended::Unread(file_line(alloc, b"cannot read ", file)?)),
-        Err(LoadFault::TooLong) => Err(Ended::Refused(Reply {
-            status: 12,
-            text: file_line(alloc, b"too long ", file)?,
-        })),
-        Err(LoadFault::Memory) => Err(Ended::Memory),
-    }
-}
-
-/// The system that the bytes of a file stand for.
-fn read_system_file(alloc: Global, file: &str, bytes: &[u8]) -> Result<System, Ended>
-    ensures planned { (next : SystemLists → Plan) → IfOk result (λ s. with_reading file.now (reading_of bytes.now) next ≡ next s) }
-    ensures reading { IfOk result (λ s. reading_of bytes.now ≡ Accepted s) }
-    ensures ended { (next : SystemLists → Plan) → IfErr result (IsEndOf (with_reading file.now (reading_of bytes.now) next)) }
-    ensures status { IfErr result HasStatus }
-    ensures unread { IfErr result IsNoUnread }
-{
-    match read_system(alloc, bytes) {
-        Ok(system) => Ok(system),
-        Err(FileRefusal::NotToml) => Err(Ended::Refused(Reply {
-            status: 13,
-            text: file_line(alloc, b"not TOML ", file)?,
-        })),
-        Err(FileRefusal::Refused(refusal)) => {
-            Err(Ended::Refused(Reply {
-                status: 14,
-                text: refusal_line(alloc, refusal)?,
-            }))
-        }
-        Err(FileRefusal::Memory) => Err(Ended::Memory),
-    }
-}
-
-/// The system that a file stands for.
-fn load_system<F: Files>(alloc: Global, files: &mut F, file: &str) -> Result<System, Ended>
-    ensures planned { F.told files.old ≡ true → (next : SystemLists → Plan) → IfOk result (λ s. with_system (F.held files.old) file.now next ≡ next s) }
-    ensures accepted { F.told files.old ≡ true → IfOk result (StandsFor (F.held files.old) file.now) }
-    ensures ended { F.told files.old ≡ true → (next : SystemLists → Plan) → IfErr result (IsEndOf (with_system (F.held files.old) file.now next)) }
-    ensures status { IfErr result HasStatus }
-    ensures unread { IfErr result (IsUnreadFile (λ last. last ≡ file.now) (F.faults files.old) (F.faults files.new) (F.last_failed files.new)) }
-    ensures told { F.told files.new ≡ F.told files.old }
-    ensures held { F.held files.new ≡ F.held files.old }
-    ensures rises { F.faults files.old ≤ F.faults files.new }
-{
-    let bytes = load_file(alloc, files, file, MAX_SYSTEM_FILE)?;
-    read_system_file(alloc, file, bytes.as_slice())
-}
-
 /// The script that the bytes of a file are.
 fn read_script_file(alloc: Global, bytes: &[u8]) -> Result<Script, Ended>
-    ensures planned { (next : List (ℕ × Step) → Plan) → IfOk result (λ steps. with_steps (script_of bytes.now) next ≡ next steps) }
+    ensures planned { IfOk result (λ steps. script_by (script_of bytes.now) ≡ Do steps) }
     ensures named { IfOk result AreNamed }
-    ensures ended { (next : List (ℕ × Step) → Plan) → IfErr result (IsEndOf (with_steps (script_of bytes.now) next)) }
+    ensures ended { IfErr result (IsEndOf (script_by (script_of bytes.now))) }
     ensures status { IfErr result HasStatus }
     ensures unread { IfErr result IsNoUnread }
 {
@@ -129,9 +48,9 @@ fn read_script_file(alloc: Global, bytes: &[u8]) -> Result<Script, Ended>
 
 /// The script that a file is.
 fn load_script<F: Files>(alloc: Global, files: &mut F, file: &str) -> Result<Script, Ended>
-    ensures planned { F.told files.old ≡ true → (next : List (ℕ × Step) → Plan) → IfOk result (λ steps. with_script (F.held files.old) file.now next ≡ next steps) }
+    ensures planned { F.told files.old ≡ true → IfOk result (λ steps. script_in (F.held files.old) file.now ≡ Do steps) }
     ensures named { IfOk result AreNamed }
-    ensures ended { F.told files.old ≡ true → (next : List (ℕ × Step) → Plan) → IfErr result (IsEndOf (with_script (F.held files.old) file.now next)) }
+    ensures ended { F.told files.old ≡ true → IfErr result (IsEndOf (script_in (F.held files.old) file.now)) }
     ensures status { IfErr result HasStatus }
     ensures unread { IfErr result (IsUnreadFile (λ last. last ≡ file.now) (F.faults files.old) (F.faults files.new) (F.last_failed files.new)) }
     ensures rises { F.faults files.old ≤ F.faults files.new }
@@ -140,86 +59,10 @@ fn load_script<F: Files>(alloc: Global, files: &mut F, file: &str) -> Result<Scr
     read_script_file(alloc, bytes.as_slice())
 }
 
-/// The trace that the bytes of a file are, where it obeys the system.
-fn read_trace_file(alloc: Global, system: &System, bytes: &[u8]) -> Result<Trace, Ended>
-    ensures planned { (next : TraceLists → Plan) → IfOk result (λ tr. with_entries system.now (trace_of system.now bytes.now) next ≡ next tr) }
-    ensures replay { IfOk result (CanReplay system.now) }
-    ensures reading { IfOk result (λ tr. (trace_of system.now bytes.now ≡ Ok tr) × (first_breach system.now tr ≡ None)) }
-    ensures ended { (next : TraceLists → Plan) → IfErr result (IsEndOf (with_entries system.now (trace_of system.now bytes.now) next)) }
-    ensures status { IfErr result HasStatus }
-    ensures unread { IfErr result IsNoUnread }
-{
-    let trace = match read_trace(alloc, system, bytes) {
-        Ok(trace) => trace,
-        Err(TraceFault::Memory) => return Err(Ended::Memory),
-        Err(fault) => return Err(Ended::Refused(Reply {
-            status: 16,
-            text: trace_line(alloc, fault)?,
-        })),
-    };
-    match obeys(system, &trace) {
-        None => Ok(trace),
-        Some(breach) => Err(Ended::Refused(Reply {
-            status: 17,
-            text: breach_line(alloc, system, breach)?,
-        })),
-    }
-}
-
-/// The trace that a file is, where it obeys the system.
-fn load_trace<F: Files>(
-    alloc: Global,
-    files: &mut F,
-    system: &System,
-    file: &str,
-) -> Result<Trace, Ended>
-    ensures planned { F.told files.old ≡ true → (next : TraceLists → Plan) → IfOk result (λ tr. with_trace (F.held files.old) system.now file.now next ≡ next tr) }
-    ensures replay { IfOk result (CanReplay system.now) }
-    ensures obeyed { F.told files.old ≡ true → IfOk result (λ tr. IsObeyed (F.held files.old) system.now file.now) }
-    ensures ended { F.told files.old ≡ true → (next : TraceLists → Plan) → IfErr result (IsEndOf (with_trace (F.held files.old) system.now file.now next)) }
-    ensures status { IfErr result HasStatus }
-    ensures unread { IfErr result (IsUnreadFile (λ last. last ≡ file.now) (F.faults files.old) (F.faults files.new) (F.last_failed files.new)) }
-    ensures told { F.told files.new ≡ F.told files.old }
-    ensures held { F.held files.new ≡ F.held files.old }
-    ensures rises { F.faults files.old ≤ F.faults files.new }
-{
-    let bytes = load_file(alloc, files, file, MAX_TRACE_FILE)?;
-    read_trace_file(alloc, system, bytes.as_slice())
-}
-
-/// A system, with a trace that obeys it.
-#[derive(Drop)]
-struct Traced {
-    system: System,
-    trace: Trace,
-}
-
-/// The system that a file stands for, and the trace that another is, where it obeys the system.
-fn load_traced<F: Files>(
-    alloc: Global,
-    files: &mut F,
-    file: &str,
-    trace: &str,
-) -> Result<Traced, Ended>
-    ensures planned { F.told files.old ≡ true → (next : SystemLists → TraceLists → Plan) → IfOk result (λ t. with_traced (F.held files.old) file.now trace.now next ≡ next t.system t.trace) }
-    ensures replay { IfOk result (λ t. CanReplay t.system t.trace) }
-    ensures accepted { F.told files.old ≡ true → IfOk result (λ t. AreAccepted (F.held files.old) file.now trace.now) }
-    ensures ended { F.told files.old ≡ true → (next : SystemLists → TraceLists → Plan) → IfErr result (IsEndOf (with_traced (F.held files.old) file.now trace.now next)) }
-    ensures status { IfErr result HasStatus }
-    ensures unread { IfErr result (IsUnreadFile (IsSecond (F.told files.old) (F.held files.old) file.now trace.now) (F.faults files.old) (F.faults files.new) (F.last_failed files.new)) }
-    ensures told { F.told files.new ≡ F.told files.old }
-    ensures held { F.held files.new ≡ F.held files.old }
-    ensures rises { F.faults files.old ≤ F.faults files.new }
-{
-    let system = load_system(alloc, files, file)?;
-    let trace = load_trace(alloc, files, &system, trace)?;
-    Ok(Traced { system, trace })
-}
-
 /// The schedule that the bytes of a file are.
 fn read_schedule_file(alloc: Global, system: &System, bytes: &[u8]) -> Result<Schedule, Ended>
-    ensures planned { (next : List Segment → Plan) → IfOk result (λ schedule. with_segments (schedule_of system.now bytes.now) next ≡ next schedule) }
-    ensures ended { (next : List Segment → Plan) → IfErr result (IsEndOf (with_segments (schedule_of system.now bytes.now) next)) }
+    ensures planned { IfOk result (λ schedule. schedule_by (schedule_of system.now bytes.now) ≡ Do schedule) }
+    ensures ended { IfErr result (IsEndOf (schedule_by (schedule_of system.now bytes.now))) }
     ensures status { IfErr result HasStatus }
     ensures unread { IfErr result IsNoUnread }
 {
@@ -240,8 +83,8 @@ fn load_schedule<F: Files>(
     system: &System,
     file: &str,
 ) -> Result<Schedule, Ended>
-    ensures planned { F.told files.old ≡ true → (next : List Segment → Plan) → IfOk result (λ schedule. with_schedule (F.held files.old) system.now file.now next ≡ next schedule) }
-    ensures ended { F.told files.old ≡ true → (next : List Segment → Plan) → IfErr result (IsEndOf (with_schedule (F.held files.old) system.now file.now next)) }
+    ensures planned { F.told files.old ≡ true → IfOk result (λ schedule. schedule_in (F.held files.old) system.now file.now ≡ Do schedule) }
+    ensures ended { F.told files.old ≡ true → IfErr result (IsEndOf (schedule_in (F.held files.old) system.now file.now)) }
     ensures status { IfErr result HasStatus }
     ensures unread { IfErr result (IsUnreadFile (λ last. last ≡ file.now) (F.faults files.old) (F.faults files.new) (F.last_failed files.new)) }
     ensures rises { F.faults files.old ≤ F.faults files.new }
@@ -337,9 +180,9 @@ fn plan_hammering<F: Files>(
 
 /// The resource of a name, which can be given an order.
 fn find_resource(alloc: Global, system: &System, name: &str) -> Result<ResId, Ended>
-    ensures planned { (next : ResId → Plan) → IfOk result (λ r. with_resource system.now (resource_named system.now name.now) next ≡ next r) }
+    ensures planned { IfOk result (λ r. orderable_in system.now name.now ≡ Do r) }
     ensures able { IfOk result (λ r. IsOrderable system.now r.0) }
-    ensures ended { (next : ResId → Plan) → IfErr result (IsEndOf (with_resource system.now (resource_named system.now name.now) next)) }
+    ensures ended { IfErr result (IsEndOf (orderable_in system.now name.now)) }
     ensures status { IfErr result HasStatus }
     ensures unread { IfErr result IsNoUnread }
 {
@@ -367,9 +210,9 @@ fn refused_by(line: Vec<u8>) -> Ended
 
 /// The task of a name.
 fn find_task(alloc: Global, system: &System, name: &str) -> Result<TaskId, Ended>
-    ensures planned { (next : TaskId → Plan) → IfOk result (λ i. with_task (task_named system.now name.now) next ≡ next i) }
+    ensures planned { IfOk result (λ i. task_in system.now name.now ≡ Do i) }
     ensures there { IfOk result (λ i. i.0 < length system.now.tasks) }
-    ensures ended { (next : TaskId → Plan) → IfErr result (IsEndOf (with_task (task_named system.now name.now) next)) }
+    ensures ended { IfErr result (IsEndOf (task_in system.now name.now)) }
     ensures status { IfErr result HasStatus }
     ensures unread { IfErr result IsNoUnread }
 {

@@ -1,30 +1,19 @@
-//! Texts that are sent to the sink.
+//! Reports that are sent to the sink.
 
-ghost use Rattle.std.specs.Prelude.{◌≡◌, ◌≤◌, Err, IfOk, OnOk, OnErr};
-ghost use Rattle.cpa_io.specs.Causes.{Rose, SentPart, grown};
+ghost use Rattle.std.specs.Prelude.{◌≡◌, ◌≤◌, Err, IfOk, OnErr};
+ghost use Rattle.cpa_io.specs.Causes.{Rose};
 ghost use Rattle.cpa_local.specs.Solution.{IsLeast};
-ghost use Rattle.cpa_run.specs.declared.ended.Stopped.TheVariants as stopped;
+ghost use Rattle.cpa_call.specs.declared.ended.Stopped.TheVariants as stopped;
+ghost use Rattle.cpa_call.specs.Answers.{IsOfOutput, Sends, SendsPart};
 ghost use Rattle.cpa_run.specs.Answers.{IsReport};
-ghost use Rattle.cpa_run.specs.Output.{IsOfOutput, Sends, SendsPart};
 
-use crate::ended::Stopped;
-use cpa_io::{Sink, put_all};
+use cpa_call::ended::Stopped;
+use cpa_call::sending::send;
+use cpa_io::Sink;
 use cpa_model::System;
 use cpa_report::{report_text, verdict};
 use cpa_units::Vector;
 use std::alloc::Global;
-
-/// Sends a text, which goes with a status.
-pub fn send<K: Sink>(sink: &mut K, status: u8, text: &[u8]) -> Result<u8, Stopped>
-    ensures sent { OnOk result (K.sent sink.new ≡ grown (K.sent sink.old) text.now) }
-    ensures status { IfOk result (λ told. told ≡ status) }
-    ensures part { OnErr result (SentPart (K.sent sink.old) (K.sent sink.new) text.now) }
-    ensures rises { K.faults sink.old ≤ K.faults sink.new }
-    ensures failed { result ≡ Err stopped.Sink → Rose (K.faults sink.old) (K.faults sink.new) }
-{
-    put_all(sink, text)?;
-    Ok(status)
-}
 
 /// Sends the report of a system, at its least solution.
 pub fn send_report<K: Sink>(

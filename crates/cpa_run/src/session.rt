@@ -3,15 +3,15 @@
 ghost use Rattle.std.specs.Prelude.{◌≡◌, ◌≤◌, Err, IfOk, OnOk, OnErr};
 ghost use Rattle.cpa_units.specs.declared.limits.TheConstants.{MAX_TASKS};
 ghost use Rattle.cpa_io.specs.Causes.{Rose};
-ghost use Rattle.cpa_run.specs.declared.ended.Stopped.TheVariants as stopped;
+ghost use Rattle.cpa_call.specs.declared.ended.Stopped.TheVariants as stopped;
+ghost use Rattle.cpa_call.specs.Answers.{IsOfOutput, Sends, SendsPart};
 ghost use Rattle.cpa_run.specs.Session.{IsSession, system_after};
 ghost use Rattle.cpa_run.specs.Steps.{IsWritten, IsWrittenPart};
 ghost use Rattle.cpa_edit.specs.Script.{AreNamed};
-ghost use Rattle.cpa_run.specs.Output.{IsOfOutput, Sends, SendsPart};
 
-use crate::ended::Stopped;
 use crate::lines::edit_line;
 use crate::sending::send_report;
+use cpa_call::ended::Stopped;
 use cpa_edit::{EditFault, Script, Step};
 use cpa_fix::Round;
 use cpa_io::{Sink, put_all};

@@ -3,8 +3,8 @@ use Rattle.std.specs.Prelude.{option_map}
 use Rattle.std.proofs.lemmas.Result.{IfOk-weaker}
 use Rattle.cpa_words.specs.Commands.{asked}
 use Rattle.cpa_words.specs.Words.{accepted}
-use Rattle.cpa_run.specs.Plan.{Refuse}
-use Rattle.cpa_run.specs.Ends.{IsEndOf}
+use Rattle.cpa_call.specs.Plans.{Refuse}
+use Rattle.cpa_call.specs.Ends.{IsEndOf}
 use Rattle.cpa_run.proofs.PlanLaws.{plan-some, plan-none}
 use Rattle.cpa_run.proofs.loading.plan.Goals as goal
 

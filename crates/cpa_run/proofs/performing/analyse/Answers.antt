@@ -1,5 +1,5 @@
 use Rattle.cpa_run.specs.Answers.{IsReport}
-use Rattle.cpa_run.proofs.SendLaws.{nothing-sent, on-err-any}
+use Rattle.cpa_call.proofs.SendLaws.{nothing-sent, on-err-any}
 use Rattle.cpa_run.proofs.ReportLaws.{some-report}
 use Rattle.cpa_run.proofs.performing.analyse.Goals as goal
 

@@ -1,6 +1,6 @@
 use Rattle.std.proofs.lemmas.Result.{on_err_weaker}
 use Rattle.cpa_run.specs.Work.{IsHammered}
-use Rattle.cpa_run.proofs.SendLaws.{nothing-sent, on-err-any, sends-by, part-reply}
+use Rattle.cpa_call.proofs.SendLaws.{nothing-sent, on-err-any, sends-by, part-reply}
 use Rattle.cpa_run.proofs.MadeLaws.{some-hammered, hammered-at}
 use Rattle.cpa_run.proofs.performing.hammer.Goals as goal
 

@@ -2,7 +2,7 @@ use Rattle.std.proofs.Common.{refl}
 use Rattle.std.proofs.lemmas.Result.{on_err_weaker}
 use Rattle.cpa_gen.specs.MadeSystems.{made_system}
 use Rattle.cpa_run.specs.Work.{IsSummary}
-use Rattle.cpa_run.proofs.SendLaws.{nothing-sent, on-err-any, sends-by, part-reply}
+use Rattle.cpa_call.proofs.SendLaws.{nothing-sent, on-err-any, sends-by, part-reply}
 use Rattle.cpa_run.proofs.MadeLaws.{some-summary, summary-at}
 use Rattle.cpa_run.proofs.performing.load.Goals as goal
 

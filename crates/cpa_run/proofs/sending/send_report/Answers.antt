@@ -1,6 +1,6 @@
 use Rattle.std.proofs.lemmas.Result.{on_err_weaker}
 use Rattle.cpa_run.specs.Answers.{IsReport}
-use Rattle.cpa_run.proofs.SendLaws.{nothing-sent, on-err-any, sends-by, part-reply}
+use Rattle.cpa_call.proofs.SendLaws.{nothing-sent, on-err-any, sends-by, part-reply}
 use Rattle.cpa_run.proofs.ReportLaws.{some-report, report-at}
 use Rattle.cpa_run.proofs.sending.send_report.Goals as goal
 

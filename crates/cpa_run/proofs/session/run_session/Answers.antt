@@ -2,7 +2,7 @@ use Rattle.std.proofs.Common.{◌+◌, ◌≤◌, sym, subst, slice_get, length,
 use Rattle.std.proofs.lemmas.Result.{IfOk-weaker, on_err_weaker}
 use Rattle.cpa_run.specs.Session.{IsSession}
 use Rattle.cpa_run.specs.Steps.{IsUnderWay}
-use Rattle.cpa_run.proofs.SendLaws.{nothing-sent, on-err-any}
+use Rattle.cpa_call.proofs.SendLaws.{nothing-sent, on-err-any}
 use Rattle.cpa_run.proofs.SessionLaws.{some-session, step-of, under-way-start, under-way-more, part-step, sends-session, part-session}
 use Rattle.cpa_run.proofs.session.run_session.Goals as goal
 

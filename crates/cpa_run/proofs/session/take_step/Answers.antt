@@ -1,6 +1,6 @@
 use Rattle.std.proofs.Common.{ap, Err, refl}
 use Rattle.cpa_run.specs.Steps.{IsWrittenPart}
-use Rattle.cpa_run.proofs.SendLaws.{sent-nothing, on-err-any}
+use Rattle.cpa_call.proofs.SendLaws.{sent-nothing, on-err-any}
 use Rattle.cpa_run.proofs.SessionLaws.{written-change, part-change, change-unchanged}
 use Rattle.cpa_run.proofs.session.take_step.Goals as goal
 
