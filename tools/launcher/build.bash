@@ -16,8 +16,10 @@ read_weights() {
   done < <(sed -n '/^## Times/,$p' "$here/docs/MAP.md" 2>/dev/null)
 }
 
-# The crates as `rt all` takes them up: by how many are below.
+# The crates as `rt all` takes them up: by how many are below. The last of them that stand on all before them, up to the program,
+# are the summit: beside them nothing else is proved.
 queue=()
+summit=1
 read_queue() {
   local it below
   local -A all=()
@@ -29,6 +31,11 @@ read_queue() {
     done
   done
   mapfile -t queue < <(for it in "${order[@]}"; do echo "$(wc -w <<<"${all[$it]}") $it"; done | sort -s -n -k 1,1 | cut -d ' ' -f 2)
+  while ((summit + 2 < ${#order[@]})); do
+    it=${order[-summit - 1]}
+    (($(wc -w <<<"${all[$it]}") == ${#order[@]} - summit - 1)) || break
+    summit=$((summit + 1))
+  done
 }
 
 # Whether a crate's library was built from what its sources, and those of the crates below it, are now. It is looked at for
@@ -229,7 +236,7 @@ interrupted() {
 }
 
 # Runs rt with some words in the program's crate, and shows how far it is; its status. It has a group of its own, so that an
-# interrupt of the terminal comes to this script alone, which ends all of it. With `libraries` it ends once all but the program
+# interrupt of the terminal comes to this script alone, which ends all of it. With `libraries` it ends once all below the summit
 # are proved, or one has failed.
 watch() {
   local until=$1 status
@@ -258,10 +265,13 @@ watch() {
 }
 
 are_libraries_done() {
-  ((${#is_done[@]} >= ${#order[@]} - 1)) && [[ ! -v is_done[$top] ]]
+  local it
+  for it in "${order[@]:0:${#order[@]}-summit}"; do
+    [[ -v is_done[$it] ]] || return
+  done
 }
 
-# Proves the libraries several at a time, and then the program with all processors, or all one after the other. rt lets only one
+# Proves the libraries several at a time, and then the summit with all processors, or all one after the other. rt lets only one
 # of its runs work in a crate and those below it, so that several at a time are its own affair.
 run_rt() {
   local why
