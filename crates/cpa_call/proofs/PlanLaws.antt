@@ -1,5 +1,5 @@
 -- What is known of what is planned.
-use Rattle.std.proofs.Common.{◌≡◌, ℕ, List, refl, ap, subst, sym}
+use Rattle.std.proofs.Common.{◌≡◌, ℕ, List, refl, ap, subst}
 use Rattle.cpa_units.specs.declared.limits.TheConstants.{MAX_SYSTEM_FILE}
 use Rattle.cpa_model.specs.SystemLists.{SystemLists}
 use Rattle.cpa_model.specs.Rules.{IsSystem}
@@ -30,7 +30,7 @@ planned-system held file s e =
     accepted-is_system h.0 s (read-system file (reading_of h.0) s h.2)
 
 traced-system : (s : SystemLists) (tr : TraceLists) (t : Traced) → traced s tr ≡ Do t → s ≡ t.system
-traced-system s tr t e = ap (λ (x : Traced). x.system) (done-same (record { system = s; trace = tr }) t e)
+traced-system s tr t e = ap (λ (x : Traced). x.system) (done-same {A = Traced} (record { system = s; trace = tr }) t e)
 
 -- and so with a trace
 pub planned-traced : (held : Held) (file trace : List ℕ) (t : Traced) → traced_in held file trace ≡ Do t → IsSystem t.system
