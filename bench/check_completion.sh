@@ -64,7 +64,8 @@ for command in "${commands[@]}"; do
   ask "--help${takes:+ --workers}" "$command" -
 done
 ask "analyse assign audit" a
-ask "session simulate slack" s
+ask "schedule session simulate slack" s
+ask "schedule" sch
 ask "--help --version" --
 ask "slack" --help sl
 ask "" help slack ""
@@ -86,6 +87,9 @@ ask "two.toml" analyse --workers 2 tw
 ask "script.txt sub" session two.toml ""
 ask "sub trace.csv" simulate two.toml ""
 ask "sub trace.csv" audit two.toml trace.csv ""
+ask "two.toml" schedule tw
+ask "sub trace.csv" schedule two.toml ""
+ask "" schedule two.toml trace.csv ""
 ask "bus.1 cpu" assign two.toml ""
 ask "cpu" assign two.toml c
 ask "a a-2" slack two.toml ""

@@ -1,11 +1,12 @@
 #!/usr/bin/env python3
-"""Compares `simulate`, `buffers` and `audit` with runs that are followed plainly, tick by tick. Outside the gate.
+"""Compares `simulate`, `buffers`, `audit` and `schedule` with runs that are followed plainly, tick by tick. Outside the gate.
 
 Random systems with all four kinds of resource get random traces that obey. The step rules of docs/FILES.md and
 docs/DEFINITIONS.md are followed here once more: what is seen of each task, how many jobs are pending at each time, and who
 gets which tick, and from which job each one comes. `buffers` must tell those peaks, none of them above its bound, and each bound must be
 the most events of the task's streams in its greatest response; no response is above that. `audit` must take the schedule that was recorded here, and of one with a
-row changed, left out, added or exchanged it must tell the first place that differs, with what is expected there.
+row changed, left out, added or exchanged it must tell the first place that differs, with what is expected there. `schedule` must
+write the schedule that was recorded here, and of that `audit` must say that it is the run's.
 
     python3 bench/check_runs.py [COUNT, 300 if absent] [SEED, 1 if absent]
 """
@@ -19,6 +20,7 @@ from calls import built
 import subprocess
 
 PROGRAM = built("cpa_cli")
+SCHEDULE = built("cpa_schedule")
 KINDS = ("preemptive", "round-robin", "tdma", "can")
 
 
@@ -321,6 +323,10 @@ def tell_audit(rows, segments):
     return f"audit same segments {len(segments)}\n", 0
 
 
+def text_of(segments):
+    return "".join(f"{task},{start},{end}\n" for task, start, end in segments)
+
+
 def write(path, text):
     with open(path, "w", encoding="ascii") as file:
         file.write(text)
@@ -333,11 +339,14 @@ def main():
     with tempfile.TemporaryDirectory() as room:
         file, rows, recorded = (os.path.join(room, name) for name in ("system.toml", "trace.csv", "schedule.csv"))
 
-        def compare(told, *words):
-            done = subprocess.run([PROGRAM, *words], capture_output=True, text=True, check=False)
+        def compare(told, command, *words):
+            # `schedule` has a program of its own, which takes the words after it
+            call = [SCHEDULE] if command == "schedule" else [PROGRAM, command]
+            done = subprocess.run([*call, *words], capture_output=True, text=True, check=False)
             if (done.stdout, done.returncode) != told:
                 with open(file, encoding="ascii") as system, open(rows, encoding="ascii") as trace:
-                    sys.exit(f"{words[0]} differs:\n{system.read()}\n{trace.read()}\nby the rules:\n{told}\nby the program:\n{done.stdout}{done.returncode}")
+                    sys.exit(f"{command} differs:\n{system.read()}\n{trace.read()}\nby the rules:\n{told}\nby the program:\n{done.stdout}{done.returncode}")
+            return done.stdout
 
         for _ in range(count):
             system = made(draw)
@@ -350,11 +359,13 @@ def main():
             compare((tell(system, run), 0), "simulate", file, rows)
             compare((tell_buffers(system, run, report), 0), "buffers", file, rows, "--workers", str(draw.randint(1, 4)))
             names = [it["name"] for it in system["task"]]
-            for schedule in (segments, changed(draw, segments, names), changed(draw, segments, names)):
-                write(recorded, "".join(f"{task},{start},{end}\n" for task, start, end in schedule))
+            write(recorded, compare((text_of(segments), 0), "schedule", file, rows))
+            compare((f"audit same segments {len(segments)}\n", 0), "audit", file, rows, recorded)
+            for schedule in (changed(draw, segments, names), changed(draw, segments, names)):
+                write(recorded, text_of(schedule))
                 compare(tell_audit(schedule, segments), "audit", file, rows, recorded)
                 audits += 1
-    print(f"{count} runs and buffers and {audits} audits alike")
+    print(f"{count} runs, buffers and schedules and {count + audits} audits alike")
 
 
 if __name__ == "__main__":

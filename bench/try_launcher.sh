@@ -7,7 +7,6 @@ top=$(cd "$(dirname "${BASH_SOURCE[0]}")/.." && pwd) || exit 1
 room=$(mktemp -d) || exit 1
 trap 'rm -rf "$room"' EXIT
 work="$room/with blanks"
-real=$top/crates/cpa_cli/out/cpa_cli
 wrong=0
 export RT_ROOM=$room TERM=xterm
 
@@ -41,6 +40,21 @@ in_terminal() {
   status=$?
 }
 
+# is_built COMMAND: this repository's program for the command is built
+is_built() {
+  case $1 in
+  schedule) [ -x "$top/crates/cpa_schedule/out/cpa_schedule" ] ;;
+  *) [ -x "$top/crates/cpa_cli/out/cpa_cli" ] ;;
+  esac
+}
+# run_built WORD..: what that program makes of the words
+run_built() {
+  case ${1-} in
+  schedule) "$top/crates/cpa_schedule/out/cpa_schedule" "${@:2}" ;;
+  *) "$top/crates/cpa_cli/out/cpa_cli" "$@" ;;
+  esac
+}
+
 # ---- a small repository of its own, and a stand-in for rt
 afresh() {
   local it
@@ -54,10 +68,11 @@ cpa_io: cpa_units
 cpa_model: cpa_units indexmap
 cpa_fix: cpa_units cpa_model
 cpa_cli may_wait=1: cpa_io cpa_fix
+cpa_schedule: cpa_io cpa_model
 cpa_bench: cpa_units
 cpa_cases: cpa_units cpa_model
 END
-  for it in cpa_units cpa_io cpa_model cpa_fix cpa_cli cpa_bench cpa_cases; do
+  for it in cpa_units cpa_io cpa_model cpa_fix cpa_cli cpa_schedule cpa_bench cpa_cases; do
     mkdir -p "$work/crates/$it"/{src,specs,proofs}
     touch -d '1 hour ago' "$work/crates/$it"/src/lib.rt "$work/crates/$it"/{src,specs,proofs}
   done
@@ -74,7 +89,12 @@ cat >"$room/bin/rt" <<'END'
 # Stands in for rt: proves a crate in half a second, and keeps that.
 [ "$1" != version ] || exec echo "${RT_IDENTITY:-rattle-kit-13f} logic 0"
 echo "$*" >>"$RT_ROOM/calls"
-[ "${PWD##*/}" = cpa_cli ] || exit 2
+own=${PWD##*/}
+case $own in
+cpa_cli) below="cpa_units cpa_io cpa_model cpa_fix" ;;
+cpa_schedule) below="cpa_units cpa_io cpa_model" ;;
+*) exit 2 ;;
+esac
 
 prove() {
   if [ -e "$RT_ROOM/slow" ] && [ "$1" = cpa_model ]; then
@@ -95,7 +115,7 @@ prove() {
 
 case $1 in
 all)
-  for it in cpa_units cpa_io cpa_model cpa_fix cpa_cli; do
+  for it in $below "$own"; do
     if [ ! -e "../$it/out/rlib/stamp" ]; then
       if [ -e "$RT_ROOM/kill" ] && [ "$it" = cpa_model ]; then
         printf '== %s\nfn %s::first: proved\n== summary\ncpa_units: ok\n%s: failed (-9)\n1 of 5 crates ok\n' "$it" "$it" "$it"
@@ -120,14 +140,14 @@ all)
   printf '== summary\n5 of 5 crates ok\n'
   ;;
 run)
-  for it in cpa_units cpa_io cpa_model cpa_fix cpa_cli; do
+  for it in $below "$own"; do
     [ ! -e "../$it/out/rlib/stamp" ] || continue
     echo "rt: chose --jobs 2 for $it"
     prove "$it" || exit 1
-    [ "$it" = cpa_cli ] || { mkdir -p "../$it/out/rlib" && touch "../$it/out/rlib/stamp"; }
+    [ "$it" = "$own" ] || { mkdir -p "../$it/out/rlib" && touch "../$it/out/rlib/stamp"; }
   done
-  printf '#!/bin/sh\necho "called $*"\ncase $2 in status.*) exit ${2#status.} ;; esac\ncase $1 in anal*) exit 0 ;; esac\nexit 10\n' >out/cpa_cli
-  chmod +x out/cpa_cli
+  printf '#!/bin/sh\necho "called $*"\ncase $2 in status.*) exit ${2#status.} ;; esac\ncase $1 in anal*) exit 0 ;; esac\nexit 10\n' >"out/$own"
+  chmod +x "out/$own"
   ;;
 esac
 END
@@ -140,7 +160,7 @@ cd "$room" || exit 1
 
 # ---- words that need no build
 afresh
-commands="analyse session simulate generate load hammer assign slack buffers audit"
+commands="analyse session simulate generate load hammer assign slack buffers audit schedule"
 for words in --help -h help; do
   call "$words"
   hold "$words: status 0" is "$status" 0
@@ -161,9 +181,9 @@ for command in $commands; do
   for file in $(tr ' ' '\n' <<<"$example" | grep /); do
     hold "the example of $command: ${file##*/}" [ -f "$top/$file" ]
   done
-  if [ -x "$real" ]; then
+  if is_built "$command"; then
     # shellcheck disable=SC2086 # an example's words
-    (cd "$top" && "$real" $example) >"$room/text" 2>&1
+    (cd "$top" && run_built $example) >"$room/text" 2>&1
     hold "the example of $command is accepted" [ $? -lt 10 ]
   fi
 done
@@ -185,7 +205,7 @@ hold "no word in a terminal: help" said '^  analyse FILE'
 hold "no word in a terminal: status 0" is "$status" 0
 
 # ---- words that are refused, without a build
-for near in analyze:analyse anaylse:analyse sim:simulate Bufers:buffers simulation:simulate --slack:slack loda:load ASSIGN:assign; do
+for near in analyze:analyse anaylse:analyse sim:simulate Bufers:buffers simulation:simulate --slack:slack loda:load ASSIGN:assign shedule:schedule; do
   call "${near%:*}" two.toml
   hold "${near%:*}: status 10, as the program says it" is "$status $(cat "$room/text")" "10 words refused"
   hold "${near%:*}: the nearest is ${near#*:}" said "the nearest is ${near#*:} "
@@ -203,18 +223,19 @@ hold "no word, and no terminal" is "$status $(cat "$room/text")" "10 words refus
 for words in "analyse f" "analyse f --workers 2" "analyse --workers=2 f" "session --workers 2 f s" "load 1 2 --workers=" \
   "simulate f t" "simulate f --workers" "audit f t s" "analyse f g" "analyse" "analyse f --workers" "analyse --workers f" \
   "analyse -f" "analyse f --workers 2 --workers 2" "analyse f --workers -2" "analyse ./-f" "simulate f t --workers 2" \
-  "generate 1 2 3" "slack f t --workers=8" "assign f" "hammer f 1 2" "buffers f t --workers 3" "buffers f" "analyse --workers --workers=2 f"; do
+  "generate 1 2 3" "slack f t --workers=8" "assign f" "hammer f 1 2" "buffers f t --workers 3" "buffers f" "analyse --workers --workers=2 f" \
+  "schedule f t" "schedule f" "schedule f t s" "schedule f -t" "schedule f t --workers 2" "schedule schedule t"; do
   case $words in
   "analyse f" | "analyse f --workers 2" | "analyse --workers=2 f" | "session --workers 2 f s" | "simulate f t" | "audit f t s" | "analyse ./-f" | \
-    "slack f t --workers=8" | "hammer f 1 2" | "buffers f t --workers 3") wanted=70 ;;
+    "slack f t --workers=8" | "hammer f 1 2" | "buffers f t --workers 3" | "schedule f t" | "schedule schedule t") wanted=70 ;;
   *) wanted=10 ;;
   esac
   # shellcheck disable=SC2086 # the words
   PATH=$room/none call $words
   hold "$words: status $wanted" is "$status" "$wanted"
-  if [ -x "$real" ]; then
+  if is_built "${words%% *}"; then
     # shellcheck disable=SC2086
-    (cd "$room" && "$real" $words) >"$room/text"
+    (cd "$room" && run_built $words) >"$room/text"
     hold "$words: the program agrees" is "$([ $? = 10 ] && echo 10 || echo 70)" "$wanted"
   fi
 done
@@ -258,6 +279,42 @@ rm "$work/crates/cpa_fix/src/lib.rt"
 call analyse two.toml
 hold "a source was taken away" said 'crates/cpa_fix/src is newer than the program'
 
+# ---- the program of `schedule`
+afresh
+LOKWURMI_JOBS=1 call analyse two.toml
+LOKWURMI_JOBS=3 call schedule two.toml trace.csv
+hold "schedule: status and text of its own program, without the word" is "$status $(cat "$room/text")" "10 called two.toml trace.csv"
+hold "schedule: it is built first" said "^lokwurmi: the program isn't built yet: it is proved and built first, 4 crates, of which 3 are proved already, 3 at a time; "
+hold "schedule: a line for the crate that is left" said '^lokwurmi: 4 of 4: cpa_schedule is proved; '
+hold "schedule: the words that it is first run with" is "$(tail -n 1 "$room/calls")" "run -- data/crossing_chains.toml data/crossing_chains.trace.csv"
+hold "schedule: a file that isn't there is told" said "note: 'trace.csv' can't be read"
+call schedule two.toml trace.csv
+hold "schedule: the second call builds nothing" [ ! -s "$room/said" ]
+touch "$work/crates/cpa_fix/src/lib.rt"
+call schedule two.toml trace.csv
+hold "schedule: a source that it doesn't stand on is newer: nothing is built" [ ! -s "$room/said" ]
+touch "$work/crates/cpa_schedule/src/lib.rt"
+call schedule two.toml trace.csv
+hold "schedule: a source of its own is newer: it is built again" said 'crates/cpa_schedule/src/lib.rt is newer than the program'
+in_terminal "'$work/lokwurmi' schedule two.toml status.17"
+hold "schedule: a status is handed on, with its hint" said '^lokwurmi: the trace is readable'
+hold "schedule: that status" is "$status" 17
+in_terminal "'$work/lokwurmi' schedule two.toml"
+hold "schedule: its words, where they are refused" said '  lokwurmi schedule FILE TRACE'
+afresh
+LOKWURMI_JOBS=2 "$work/lokwurmi" analyse one.toml >"$room/text.1" 2>"$room/said.1" </dev/null &
+sleep 1
+call schedule two.toml trace.csv
+wait $!
+hold "schedule: waits while the other program is built" said 'another call builds already'
+hold "schedule: builds what is left then" said '4 crates, of which 3 are proved already'
+hold "schedule: each is proved once" is "$(sort "$room/proved" | uniq -d | wc -l)" 0
+afresh
+echo cpa_schedule >"$room/fail"
+call schedule two.toml trace.csv
+hold "schedule: a failure: status 70" is "$status" 70
+hold "schedule: a failure: the toolchain's message" said '^src/lib.rt:7: not proved: the sum may wrap$'
+rm "$room/fail"
 
 # ---- a source that changes while it is built
 afresh
@@ -358,7 +415,7 @@ afresh
 sleep 1
 call analyse two.toml
 wait $!
-hold "a second call meanwhile waits" said 'another call builds it'
+hold "a second call meanwhile waits" said 'another call builds already'
 hold "both have their text" is "$(cat "$room/text.1" "$room/text" | tr '\n' ' ')" "called analyse one.toml called analyse two.toml "
 hold "and it is built once" is "$(grep -c run "$room/calls")" 1
 

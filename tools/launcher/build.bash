@@ -346,12 +346,13 @@ need_rt() {
   [ "$identity" = "$kit" ] || echo "lokwurmi: note: rt is of ${identity:-another toolchain}, and the proofs are for $kit" >&2
 }
 
-# Has one call at a time build; whether another has built it meanwhile.
+# Has one call at a time build, whichever program it wants; whether another has built it meanwhile.
 wait_for_others() {
-  mkdir -p "$here/crates/$top/out" && exec {lock}>"$here/crates/$top/out/lokwurmi.lock" || exit 70
+  local room=$here/crates/cpa_cli/out
+  mkdir -p "$room" "$here/crates/$top/out" && exec {lock}>"$room/lokwurmi.lock" || exit 70
   command -v flock >/dev/null || return
   if ! flock -n "$lock"; then
-    echo "lokwurmi: $1: another call builds it, and this one waits" >&2
+    echo "lokwurmi: $1: another call builds already, and this one waits" >&2
     flock "$lock"
     [ -z "$(stale)" ] && return
   fi

@@ -2,7 +2,7 @@
 # The words of `lokwurmi`, help, and the version. `here` is the folder of the repository.
 version=1.0
 kit=rattle-kit-13f
-commands=(analyse session simulate generate load hammer assign slack buffers audit)
+commands=(analyse session simulate generate load hammer assign slack buffers audit schedule)
 
 # Sets of a command: its words, whether it takes --workers N too, what it writes, what its status tells beside 0, and the words
 # of an example.
@@ -49,6 +49,10 @@ describe() {
     words="FILE TRACE SCHEDULE" writes="whether a recorded schedule is the run's"
     example="examples/round_robin.toml examples/round_robin.trace.csv examples/round_robin.schedule.csv"
     statuses="4: they differ"
+    ;;
+  schedule)
+    words="FILE TRACE" writes="the schedule of the run under a trace"
+    example="examples/crossing_chains.toml examples/crossing_chains.trace.csv"
     ;;
   *) return 1 ;;
   esac
