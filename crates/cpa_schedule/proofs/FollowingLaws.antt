@@ -1,5 +1,6 @@
--- A run that is followed for one resource.
-use Rattle.std.proofs.Common.{◌≡◌, ◌∙◌, ℕ, zero, suc, ◌+◌, ◌-◌, ◌<◌, ◌≤◌, ◌⊎◌, List, [], ◌∷◌, ◌++◌, length, set, Bool, true, false, ◌||◌, ◌&&◌, eqb, cond, nat_lt, nat_le, Option, Some, None, slice_get, refl, sym, ap, subst, inl, inr, arith, add-one}
+-- A resource that is followed along a run.
+use Rattle.std.proofs.Common.{◌≡◌, ◌∙◌, ◌⊎◌, ℕ, zero, suc, ◌+◌, ◌-◌, ◌<◌, ◌≤◌, List, [], ◌∷◌, ◌++◌, length, set, Bool, true, false, eqb, cond, nat_lt, Option, Some, None, slice_get, refl, sym, ap, subst, inl, inr, arith, add-one}
+use Rattle.std.specs.Option.{option_to_list}
 use Rattle.std.proofs.lemmas.Bool.{cases_lt, cases_Bool, eqb-true, eq-eqb, lt-ltb, le-ltb, cond-true, cond-false, false≢true}
 use Rattle.std.proofs.lemmas.Option.{slice_get_within}
 use Rattle.cpa_model.specs.SystemLists.{SystemLists}
@@ -7,72 +8,73 @@ use Rattle.cpa_model.specs.Rules.{IsSystem}
 use Rattle.cpa_trace.specs.Trace.{TraceLists}
 use Rattle.cpa_sim.specs.declared.jobs.Served.{Served}
 use Rattle.cpa_sim.specs.Outcome.{CanReplay, end_of}
-use Rattle.cpa_sim.specs.Replays.{ReplayLists, IsReplay}
-use Rattle.cpa_sim.specs.Served.{served_at, ran_by}
+use Rattle.cpa_sim.specs.Replays.{FollowedRun}
+use Rattle.cpa_sim.specs.Served.{served_at}
+use Rattle.cpa_sim.proofs.CourseLaws.{ended}
 use Rattle.cpa_sim.proofs.StartLaws.{can-run}
 use Rattle.cpa_sim.proofs.ServedLaws.{served-on}
-use Rattle.cpa_audit.specs.Segments.{same_job, is_job, gets, last_served, stop_of}
+use Rattle.cpa_audit.specs.declared.schedule.Segment.{Segment}
+use Rattle.cpa_audit.specs.Segments.{is_job, gets, last_served, stop_of, segment_at}
 use Rattle.cpa_audit.proofs.SegmentLaws.{same-refl, same-is, gets-is, stops-at}
 use Rattle.cpa_schedule.specs.declared.following.Follower.{Follower}
-use Rattle.cpa_schedule.specs.Following.{IsAhead, IsFollowing, AreFollowing, goes_further}
+use Rattle.cpa_schedule.specs.Following.{IsAhead, IsFollowing, AreFollowing}
 
 is-some : (o : Option Served) (j : Served) → is_job o j ≡ true → o ≡ Some j
 is-some None j e = absurd (false≢true e)
 is-some (Some k) j e = ap Some (same-is k j e)
 
-or-either : (a b : Bool) → (a || b) ≡ true → (a ≡ true) ⊎ (b ≡ true)
-or-either true b e = inl refl
-or-either false b e = inr e
+-- by the run that a replay itself tells
+pub following-there : (s : SystemLists) (tr : TraceLists) (r t : ℕ) (f : Follower) → IsFollowing s tr r t f → IsFollowing f.replay.system f.replay.trace r t f
+following-there s tr r t f h =
+    subst (λ x. IsFollowing x f.replay.trace r t f) (sym h.ahead.system) (subst (λ y. IsFollowing s y r t f) (sym h.ahead.trace) h)
 
-or-none : (a b : Bool) → (a || b) ≡ false → (a ≡ false) × (b ≡ false)
-or-none true b e = absurd (false≢true (sym e))
-or-none false b e = (refl, e)
+pub following-back : (s : SystemLists) (tr : TraceLists) (r t : ℕ) (f g : Follower) → IsFollowing s tr r t f → IsFollowing f.replay.system f.replay.trace r (t + 1) g → IsFollowing s tr r (t + 1) g
+following-back s tr r t f g h k =
+    subst (λ x. IsFollowing x tr r (t + 1) g) h.ahead.system (subst (λ y. IsFollowing f.replay.system y r (t + 1) g) h.ahead.trace k)
 
-and-both : (a b : Bool) → (a && b) ≡ true → (a ≡ true) × (b ≡ true)
-and-both true b e = (refl, e)
-and-both false b e = absurd (false≢true e)
-
-le-true : (a b : ℕ) → nat_le a b ≡ true → a ≤ b
-le-true a b e = grind arith
-
-le-false : (a b : ℕ) → nat_le a b ≡ false → b < a
-le-false a b e = grind arith
-
-lt-true : (a b : ℕ) → nat_lt a b ≡ true → a < b
-lt-true a b e = grind arith
+pub starts-here : (s : SystemLists) (tr : TraceLists) (r t : ℕ) (f : Follower) (o : Option Segment) → IsFollowing s tr r t f → option_to_list o ≡ segment_at f.replay.system f.replay.trace t r → option_to_list o ≡ segment_at s tr t r
+starts-here s tr r t f o h is = is ∙ (ap (λ x. segment_at x f.replay.trace t r) h.ahead.system ∙ ap (λ y. segment_at s y t r) h.ahead.trace)
 
 module _ (s : SystemLists) (tr : TraceLists) (r : ℕ) where
   pub task-there : IsSystem s → CanReplay s tr → (t : ℕ) (j : Served) → r < length s.resources → served_at s tr t r ≡ Some j → j.task.0 < length s.tasks
   task-there rules can t j there got = (served-on s tr (can-run s tr rules can) t r j there got).task
 
   -- at the start
-  pub following-start : (f : Follower) → IsReplay s tr f.replay → f.replay.time ≡ 0 → f.replay.keeps ≡ false → f.last ≡ None → f.from ≡ 0 → IsFollowing s tr r 0 f
-  following-start f run time keeps last from = record {
-    ahead = record {
-      run = run;
-      keeps = keeps;
-      within = omega (arith, time);
-      some = λ h. absurd (omega (arith, time, h));
-      ran = λ u low high. absurd (omega (arith, time, high));
-    };
-    last = last;
-    goes = λ u low high. absurd (omega (arith, from, high));
-  }
+  pub following-start : (f : Follower) → IsSystem s → CanReplay s tr → f.replay ≡ record { system = s; trace = tr; since = 0; time = 0 } → f.last ≡ None → f.since ≡ 0 → IsFollowing s tr r 0 f
+  following-start f rules can replay last since =
+      let time : f.replay.time ≡ 0 = ap (λ (p : FollowedRun). p.time) replay in
+      record {
+        ahead = record {
+          rules = rules;
+          can = can;
+          system = ap (λ (p : FollowedRun). p.system) replay;
+          trace = ap (λ (p : FollowedRun). p.trace) replay;
+          since = since ∙ sym (ap (λ (p : FollowedRun). p.since) replay);
+          later = λ h. absurd (omega (arith, time, h));
+          within = omega (arith, time);
+        };
+        last = last;
+        goes = λ u low high. absurd (omega (arith, since, high));
+      }
 
   -- who got the last tick is in none of it
-  pub ahead-last : (f g : Follower) → IsAhead s tr r f → g.replay ≡ f.replay → g.from ≡ f.from → IsAhead s tr r g
-  ahead-last f g h same from = record {
-    run = subst (IsReplay s tr) (sym same) h.run;
-    keeps = ap (λ (p : ReplayLists). p.keeps) same ∙ h.keeps;
-    within = omega (arith, ap (λ (p : ReplayLists). p.time) same, h.within);
-    some = λ more. let m : 0 < f.replay.time = omega (arith, ap (λ (p : ReplayLists). p.time) same, more) in omega (arith, h.some m, from, ap (λ (p : ReplayLists). p.time) same);
-    ran = λ u low high. h.ran u (omega (arith, from, low)) (omega (arith, ap (λ (p : ReplayLists). p.time) same, high)) ∙ ap (λ (p : ReplayLists). ran_by p.lines p.desks r) (sym same);
-  }
+  pub ahead-last : (f g : Follower) → IsAhead s tr f → g.replay ≡ f.replay → g.since ≡ f.since → IsAhead s tr g
+  ahead-last f g h replay since =
+      let time : g.replay.time ≡ f.replay.time = ap (λ (p : FollowedRun). p.time) replay in
+      record {
+        rules = h.rules;
+        can = h.can;
+        system = ap (λ (p : FollowedRun). p.system) replay ∙ h.system;
+        trace = ap (λ (p : FollowedRun). p.trace) replay ∙ h.trace;
+        since = since ∙ (h.since ∙ sym (ap (λ (p : FollowedRun). p.since) replay));
+        later = λ more. let m : 0 < f.replay.time = omega (arith, time, more) in omega (arith, h.later m, since, time);
+        within = omega (arith, time, h.within);
+      }
 
-  -- where another job gets the tick, the run isn't ahead of it
-  pub following-behind : (t : ℕ) (f : Follower) (j : Served) → IsFollowing s tr r t f → served_at s tr t r ≡ Some j → is_job f.last j ≡ false → f.from ≤ t
+  -- where another job gets the tick, the replay isn't ahead of it
+  pub following-behind : (t : ℕ) (f : Follower) (j : Served) → IsFollowing s tr r t f → served_at s tr t r ≡ Some j → is_job f.last j ≡ false → f.since ≤ t
   following-behind t f j h got other =
-      elim (cases_lt t f.from) [
+      elim (cases_lt t f.since) [
         | inl less ↦
             let last : f.last ≡ Some j = sym (h.goes t (omega arith) less) ∙ got in
             absurd (false≢true (sym other ∙ (ap (λ o. is_job o j) last ∙ same-refl j)))
@@ -82,19 +84,19 @@ module _ (s : SystemLists) (tr : TraceLists) (r : ℕ) where
   last-is : (t : ℕ) (ran : Option Served) → served_at s tr t r ≡ ran → ran ≡ last_served s tr r (t + 1)
   last-is t ran got = rw add-one (sym got)
 
-  -- where no segment starts, the run stays where it is
-  pub following-kept : (t : ℕ) (f g : Follower) (ran : Option Served) → IsFollowing s tr r t f → served_at s tr t r ≡ ran → g.replay ≡ f.replay → g.from ≡ f.from → g.last ≡ ran → IsFollowing s tr r (t + 1) g
-  following-kept t f g ran h got same from last = record {
-    ahead = ahead-last f g h.ahead same from;
+  -- where no segment starts, the replay stays where it is
+  pub following-kept : (t : ℕ) (f g : Follower) (ran : Option Served) → IsFollowing s tr r t f → served_at s tr t r ≡ ran → g.replay ≡ f.replay → g.since ≡ f.since → g.last ≡ ran → IsFollowing s tr r (t + 1) g
+  following-kept t f g ran h got replay since last = record {
+    ahead = ahead-last f g h.ahead replay since;
     last = last ∙ last-is t ran got;
     goes = λ u low high.
-        let high' : u < f.from = omega (arith, from, high) in
+        let high' : u < f.since = omega (arith, since, high) in
         let was : f.last ≡ ran = sym (h.goes t (omega arith) (omega (arith, low, high'))) ∙ got in
         h.goes u (omega (arith, low)) high' ∙ (was ∙ sym last);
   }
 
   -- where one starts, it is at its end
-  pub following-ahead : (t : ℕ) (g : Follower) (j : Served) → IsAhead s tr r g → served_at s tr t r ≡ Some j → g.last ≡ Some j → ((u : ℕ) → t ≤ u → u < g.from → served_at s tr u r ≡ Some j) → IsFollowing s tr r (t + 1) g
+  pub following-ahead : (t : ℕ) (g : Follower) (j : Served) → IsAhead s tr g → served_at s tr t r ≡ Some j → g.last ≡ Some j → ((u : ℕ) → t ≤ u → u < g.since → served_at s tr u r ≡ Some j) → IsFollowing s tr r (t + 1) g
   following-ahead t g j ahead got last goes = record {
     ahead = ahead;
     last = last ∙ last-is t (Some j) got;
@@ -113,61 +115,43 @@ module _ (s : SystemLists) (tr : TraceLists) (r : ℕ) where
     goes = λ u low high. h.goes u (omega (arith, low, later)) high;
   }
 
-  -- ---- ahead
+  -- ---- where a segment stops, of a replay that is past its start, by who got the ticks of the replay's last step
 
-  module _ (j : Served) (start : ℕ) (f : Follower) (h : IsAhead s tr r f) (less : start < end_of s tr) (each : (u : ℕ) → start ≤ u → u < f.from → served_at s tr u r ≡ Some j) where
-    abbrev pub ran : Option Served
-    ran = ran_by f.replay.lines f.replay.desks r
+  module _ (j : Served) (start : ℕ) (f : Follower) (h : IsAhead s tr f) (past : start < f.replay.time) (each : (u : ℕ) → start ≤ u → u < f.since → served_at s tr u r ≡ Some j)
+      (ran : Option Served) (last-step : (u : ℕ) → f.replay.since ≤ u → u < f.replay.time → served_at f.replay.system f.replay.trace u r ≡ ran) where
+    step-is : (u : ℕ) → f.since ≤ u → u < f.replay.time → served_at s tr u r ≡ ran
+    step-is u low high =
+        subst (λ x. served_at x tr u r ≡ ran) h.system (subst (λ y. served_at f.replay.system y u r ≡ ran) h.trace (last-step u (omega (arith, h.since, low)) high))
 
-    abbrev behind_by : Bool
-    behind_by = nat_le f.replay.time start
-
-    abbrev going_by : Bool
-    going_by = nat_lt f.replay.time (end_of s tr) && is_job (ran_by f.replay.lines f.replay.desks r) j
-
-    each-ran : is_job ran j ≡ true → (u : ℕ) → start ≤ u → u < f.replay.time → served_at s tr u r ≡ Some j
-    each-ran one u low high =
-        elim (cases_lt u f.from) [
+    pub each-more : is_job ran j ≡ true → (u : ℕ) → start ≤ u → u < f.replay.time → served_at s tr u r ≡ Some j
+    each-more one u low high =
+        elim (cases_lt u f.since) [
           | inl early ↦ each u low early
-          | inr late ↦ h.ran u late high ∙ is-some ran j one
-        ]
-
-    pub further-more : goes_further s tr r j start f ≡ true → f.replay.time < end_of s tr
-    further-more on =
-        elim (or-either behind_by going_by on) [
-          | inl behind ↦ omega (arith, le-true f.replay.time start behind, less)
-          | inr goes ↦ lt-true f.replay.time (end_of s tr) (and-both (nat_lt f.replay.time (end_of s tr)) (is_job ran j) goes).0
-        ]
-
-    pub further-each : goes_further s tr r j start f ≡ true → (u : ℕ) → start ≤ u → u < f.replay.time → served_at s tr u r ≡ Some j
-    further-each on u low high =
-        elim (or-either behind_by going_by on) [
-          | inl behind ↦ absurd (omega (arith, le-true f.replay.time start behind, low, high))
-          | inr goes ↦ each-ran (and-both (nat_lt f.replay.time (end_of s tr)) (is_job ran j) goes).1 u low high
+          | inr late ↦ step-is u late high ∙ is-some ran j one
         ]
 
     got-by : (u : ℕ) → served_at s tr u r ≡ Some j → gets s tr r j u ≡ true
     got-by u e = gets-is s tr r j u ∙ (ap (λ o. is_job o j) e ∙ same-refl j)
 
-    past : goes_further s tr r j start f ≡ false → start < f.replay.time
-    past off = le-false f.replay.time start (or-none behind_by going_by off).0
+    end-is : end_of f.replay.system f.replay.trace ≡ end_of s tr
+    end-is = ap (λ x. end_of x f.replay.trace) h.system ∙ ap (λ x. end_of s x) h.trace
 
     -- the job goes on to the end of the run
-    pub stop-end : goes_further s tr r j start f ≡ false → is_job ran j ≡ true → f.replay.time ≡ stop_of s tr r j start
-    stop-end off one =
-        let over : f.replay.time < end_of s tr → ⊥ = λ more. false≢true (sym (or-none behind_by going_by off).1 ∙ (ap (λ b. b && is_job ran j) (lt-ltb _ _ more) ∙ one)) in
-        sym (stops-at s tr r j start f.replay.time (omega (arith, past off)) h.within (λ u low high. got-by u (each-ran one u low high)) (λ more. absurd (over more)))
+    pub stop-end : is_job ran j ≡ true → nat_lt f.replay.time (end_of f.replay.system f.replay.trace) ≡ false → f.replay.time ≡ stop_of s tr r j start
+    stop-end one off =
+        let at : f.replay.time ≡ end_of s tr = ended s tr f.replay.time (ap (nat_lt f.replay.time) (sym end-is) ∙ off) h.within in
+        sym (stops-at s tr r j start f.replay.time (omega (arith, past)) h.within (λ u low high. got-by u (each-more one u low high)) (λ more. absurd (omega (arith, at, more))))
 
-    -- another one, or nobody, gets the tick
-    pub stop-from : goes_further s tr r j start f ≡ false → is_job ran j ≡ false → served_at s tr start r ≡ Some j → f.from ≡ stop_of s tr r j start
-    stop-from off other got =
-        let some : f.from < f.replay.time = h.some (omega (arith, past off)) in
-        let later : start < f.from =
-        elim (cases_lt start f.from) [
-          | inl l ↦ l
-          | inr g ↦ absurd (false≢true (sym other ∙ (ap (λ o. is_job o j) (sym (h.ran start g (past off)) ∙ got) ∙ same-refl j)))
+    -- another one, or nobody, gets the next tick
+    pub stop-since : is_job ran j ≡ false → served_at s tr start r ≡ Some j → f.since ≡ stop_of s tr r j start
+    stop-since other got =
+        let some : f.since < f.replay.time = h.later (omega (arith, past)) in
+        let from : start ≤ f.since =
+        elim (cases_lt f.since start) [
+          | inl before ↦ absurd (false≢true (sym other ∙ (ap (λ o. is_job o j) (sym (step-is start (omega arith) past) ∙ got) ∙ same-refl j)))
+          | inr l ↦ l
         ] in
-        sym (stops-at s tr r j start f.from (omega (arith, later)) (omega (arith, some, h.within)) (λ u low high. got-by u (each u low high)) (λ more. gets-is s tr r j f.from ∙ (ap (λ o. is_job o j) (h.ran f.from (omega arith) some) ∙ other)))
+        sym (stops-at s tr r j start f.since from (omega (arith, some, h.within)) (λ u low high. got-by u (each u low high)) (λ more. gets-is s tr r j f.since ∙ (ap (λ o. is_job o j) (step-is f.since (omega arith) some) ∙ other)))
 
 -- ---- all resources
 

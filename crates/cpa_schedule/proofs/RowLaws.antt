@@ -28,21 +28,21 @@ unfolding schedule_text
 rows-one s seg = append-nil (row_text s seg)
 
 module _ (s : SystemLists) (tr : TraceLists) where
-  -- what a resource adds at a time
+  -- the segment that a resource starts with a tick
 
-  pub adds-none : (t r : ℕ) → served_at s tr t r ≡ None → schedule_text s (segment_at s tr t r) ≡ []
-  adds-none t r e = ap (schedule_text s) (at-is s tr t r ∙ ap (segment_by s tr t r) e) ∙ rows-none s
+  pub starts-none : (t r : ℕ) → served_at s tr t r ≡ None → [] ≡ segment_at s tr t r
+  starts-none t r e = sym (at-is s tr t r ∙ ap (segment_by s tr t r) e)
 
-  pub adds-kept : (t r : ℕ) (j : Served) (last : Option Served) → served_at s tr t r ≡ Some j → last ≡ last_served s tr r t → is_job last j ≡ true → schedule_text s (segment_at s tr t r) ≡ []
-  adds-kept t r j last e l h =
+  pub starts-kept : (t r : ℕ) (j : Served) (last : Option Served) → served_at s tr t r ≡ Some j → last ≡ last_served s tr r t → is_job last j ≡ true → [] ≡ segment_at s tr t r
+  starts-kept t r j last e l h =
       let h' : is_job (last_served s tr r t) j ≡ true = subst (λ o. is_job o j ≡ true) l h in
-      ap (schedule_text s) (at-is s tr t r ∙ (ap (segment_by s tr t r) e ∙ cond-true _ _ _ h')) ∙ rows-none s
+      sym (at-is s tr t r ∙ (ap (segment_by s tr t r) e ∙ cond-true _ _ _ h'))
 
-  pub adds-one : (t r : ℕ) (j : Served) (last : Option Served) (seg : Segment) → served_at s tr t r ≡ Some j → last ≡ last_served s tr r t → is_job last j ≡ false
-      → seg ≡ record { task = j.task; start = t; end = stop_of s tr r j t } → schedule_text s (segment_at s tr t r) ≡ row_text s seg
-  adds-one t r j last seg e l h is =
+  pub starts-one : (t r : ℕ) (j : Served) (last : Option Served) (seg : Segment) → served_at s tr t r ≡ Some j → last ≡ last_served s tr r t → is_job last j ≡ false
+      → seg ≡ record { task = j.task; start = t; end = stop_of s tr r j t } → seg ∷ [] ≡ segment_at s tr t r
+  starts-one t r j last seg e l h is =
       let h' : is_job (last_served s tr r t) j ≡ false = subst (λ o. is_job o j ≡ false) l h in
-      ap (schedule_text s) (at-is s tr t r ∙ (ap (segment_by s tr t r) e ∙ (cond-false _ _ _ h' ∙ ap (λ x. x ∷ []) (sym is)))) ∙ rows-one s seg
+      sym (at-is s tr t r ∙ (ap (segment_by s tr t r) e ∙ (cond-false _ _ _ h' ∙ ap (λ x. x ∷ []) (sym is))))
 
   -- the rows of the first so many resources at a time
   abbrev pub rows_below : ℕ → ℕ → List ℕ
@@ -78,13 +78,15 @@ module _ (s : SystemLists) (tr : TraceLists) where
   pub rows-zero : schedule_text s (started s tr 0) ≡ []
   rows-zero = ap (schedule_text s) (started-zero s tr) ∙ rows-none s
 
-  pub rows-jump : (t next : ℕ) → t < next → ((r u : ℕ) → r < length s.resources → t ≤ u → u < next → served_at s tr u r ≡ served_at s tr t r)
-      → schedule_text s (started s tr next) ≡ schedule_text s (started s tr t) ++ schedule_text s (starting s tr t)
-  rows-jump t next later same =
+  pub started-next : (t next : ℕ) → t < next → ((r u : ℕ) → r < length s.resources → t ≤ u → u < next → served_at s tr u r ≡ served_at s tr t r) → started s tr next ≡ started s tr t ++ starting s tr t
+  started-next t next later same =
       let n : ℕ = next - suc t in
       let e : t + suc n ≡ next = omega arith in
-      let grown : started s tr next ≡ started s tr t ++ starting s tr t = let g = started-jump s tr t n (λ r u less low high. same r u less low (omega (arith, high))) in rw e at g in
-      ap (schedule_text s) grown ∙ rows-append s (started s tr t) (starting s tr t)
+      let grown = started-jump s tr t n (λ r u less low high. same r u less low (omega (arith, high))) in
+      rw e at grown
+
+  pub rows-next : (t next : ℕ) → started s tr next ≡ started s tr t ++ starting s tr t → schedule_text s (started s tr next) ≡ schedule_text s (started s tr t) ++ schedule_text s (starting s tr t)
+  rows-next t next is = ap (schedule_text s) is ∙ rows-append s (started s tr t) (starting s tr t)
 
   segments-is : segments s tr ≡ started s tr (end_of s tr)
   unfolding segments

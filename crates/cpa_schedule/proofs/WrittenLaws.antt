@@ -16,6 +16,10 @@ written-none sent unsent = written-kept sent unsent unsent [] (sym (append-nil u
 pub written-all : (before now : Option (List ℕ)) (unsent : List ℕ) → now ≡ grown before unsent → IsWritten before now unsent [] []
 written-all before now unsent is = record { first = unsent; sent = is; all = refl }
 
+-- a row was written, of which nothing was sent before
+pub written-row : (before now : Option (List ℕ)) (unsent mid left row : List ℕ) → mid ≡ unsent ++ row → IsWritten before now mid left [] → IsWritten before now unsent left row
+written-row before now unsent mid left row is h = record { first = h.first; sent = h.sent; all = sym is ∙ (sym (append-nil mid) ∙ h.all) }
+
 -- one text after another
 pub written-more : (before mid now : Option (List ℕ)) (u v w a b : List ℕ) → IsWritten before mid u v a → IsWritten mid now v w b → IsWritten before now u w (a ++ b)
 written-more before mid now u v w a b h k = record {

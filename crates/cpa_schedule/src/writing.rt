@@ -1,22 +1,22 @@
 //! The rows of a schedule, written along a run and sent in pieces. Times are in ticks.
 
-ghost use Rattle.std.specs.Prelude.{◌≡◌, ◌<◌, ◌≤◌, ◌+◌, ◌++◌, ℕ, [], length, true, false, Err, IfOk, OnOk, OnErr};
+ghost use Rattle.std.specs.Prelude.{◌≡◌, ◌<◌, ◌≤◌, ◌++◌, ℕ, [], length, Err, IfOk, OnOk, OnErr};
+ghost use Rattle.std.specs.Option.{ForSome, option_to_list};
 ghost use Rattle.cpa_io.specs.Causes.{Rose, SentPart, grown};
+ghost use Rattle.cpa_model.specs.Rules.{IsSystem};
 ghost use Rattle.cpa_sim.specs.Outcome.{CanReplay, end_of};
-ghost use Rattle.cpa_sim.specs.Served.{served_at, ran_by};
-ghost use Rattle.cpa_sim.specs.Replays.{IsReplay};
-ghost use Rattle.cpa_audit.specs.Segments.{segment_at, starting, segments};
+ghost use Rattle.cpa_audit.specs.Segments.{starting, started, segments};
 ghost use Rattle.cpa_call.specs.declared.ended.Stopped.TheVariants as stopped;
-ghost use Rattle.cpa_schedule.specs.Following.{IsFollowing, AreFollowing};
+ghost use Rattle.cpa_schedule.specs.Following.{AreFollowing};
 ghost use Rattle.cpa_schedule.specs.Rows.{row_text, schedule_text};
 ghost use Rattle.cpa_schedule.specs.Written.{IsWritten};
 
-use crate::following::{Follower, find_stop, is_job};
+use crate::following::{Follower, follow};
 use cpa_audit::Segment;
 use cpa_call::ended::Stopped;
 use cpa_io::{Sink, put_all};
 use cpa_model::System;
-use cpa_sim::{Replay, Served};
+use cpa_sim::Replay;
 use cpa_text::Text;
 use cpa_trace::Trace;
 use cpa_units::{NoMemory, ResId};
@@ -24,13 +24,6 @@ use std::alloc::Global;
 
 /// From this many bytes on what is written is sent.
 const FULL: usize = 65_536;
-
-/// A schedule that is written: what is followed of each resource, and what wasn't sent yet.
-#[derive(Debug, Drop)]
-struct Writing {
-    followers: Vec<Follower>,
-    unsent: Vec<u8>,
-}
 
 /// The row of a segment.
 #[tactic(auto, unfolding(crate::specs::Rows::row_text))]
@@ -76,126 +69,92 @@ fn send_full<K: Sink>(unsent: &mut Vec<u8>, sink: &mut K) -> Result<(), Stopped>
     Ok(())
 }
 
-/// Writes the row of a segment, and sends what is enough for a piece.
+/// Writes the row of a segment, where one starts, and sends what is written, if that is enough for a piece.
 fn put_segment<K: Sink>(
     alloc: Global,
     system: &System,
-    segment: Segment,
+    segment: Option<Segment>,
     unsent: &mut Vec<u8>,
     sink: &mut K,
 ) -> Result<(), Stopped>
-    requires { segment.task.0 < length system.now.tasks }
-    ensures written { OnOk result (IsWritten (K.sent sink.old) (K.sent sink.new) unsent.old.items unsent.new.items (row_text system.now segment)) }
-    ensures part { OnErr result (SentPart (K.sent sink.old) (K.sent sink.new) (unsent.old.items ++ row_text system.now segment)) }
+    requires { ForSome segment (λ seg. seg.task.0 < length system.now.tasks) }
+    ensures written { OnOk result (IsWritten (K.sent sink.old) (K.sent sink.new) unsent.old.items unsent.new.items (schedule_text system.now (option_to_list segment))) }
+    ensures part { OnErr result (SentPart (K.sent sink.old) (K.sent sink.new) (unsent.old.items ++ schedule_text system.now (option_to_list segment))) }
     ensures rises { K.faults sink.old ≤ K.faults sink.new }
     ensures failed { result ≡ Err stopped.Sink → Rose (K.faults sink.old) (K.faults sink.new) }
 {
-    put_row(alloc, system, segment, unsent)?;
-    send_full(unsent, sink)
-}
-
-/// A resource's job at a time: where it starts a segment, that is written, with its end.
-fn follow<K: Sink>(
-    alloc: Global,
-    system: &System,
-    trace: &Trace,
-    follower: &mut Follower,
-    res: ResId,
-    ran: Option<Served>,
-    time: u64,
-    unsent: &mut Vec<u8>,
-    sink: &mut K,
-) -> Result<(), Stopped>
-    requires there { res.0 < length system.now.resources }
-    requires following { IsFollowing system.now trace.now res.0 time follower.old }
-    requires within { time < end_of system.now trace.now }
-    requires served { served_at system.now trace.now time res.0 ≡ ran }
-    ensures following { OnOk result (IsFollowing system.now trace.now res.0 (time + 1) follower.new) }
-    ensures written { OnOk result (IsWritten (K.sent sink.old) (K.sent sink.new) unsent.old.items unsent.new.items (schedule_text system.now (segment_at system.now trace.now time res.0))) }
-    ensures part { OnErr result (SentPart (K.sent sink.old) (K.sent sink.new) (unsent.old.items ++ schedule_text system.now (segment_at system.now trace.now time res.0))) }
-    ensures rises { K.faults sink.old ≤ K.faults sink.new }
-    ensures failed { result ≡ Err stopped.Sink → Rose (K.faults sink.old) (K.faults sink.new) }
-{
-    let was = follower.last;
-    follower.last = ran;
-    match ran {
+    match segment {
         None => Ok(()),
-        Some(job) => {
-            if is_job(was, job) {
-                return Ok(());
-            }
-            let segment = Segment {
-                task: job.task,
-                start: time,
-                end: find_stop(system, trace, follower, res, job, time),
-            };
-            put_segment(alloc, system, segment, unsent, sink)
+        Some(segment) => {
+            put_row(alloc, system, segment, unsent)?;
+            send_full(unsent, sink)
         }
     }
 }
 
-/// All resources are followed over the ticks that a run has passed since a time.
-fn follow_all<K: Sink>(
-    alloc: Global,
-    system: &System,
-    trace: &Trace,
-    writing: &mut Writing,
-    replay: &Replay,
-    time: u64,
-    sink: &mut K,
-) -> Result<(), Stopped>
-    requires run { IsReplay system.now trace.now replay.now }
-    requires later { time < replay.now.time }
-    requires within { replay.now.time ≤ end_of system.now trace.now }
-    requires ran { (r u : ℕ) → r < length system.now.resources → time ≤ u → u < replay.now.time → served_at system.now trace.now u r ≡ ran_by replay.now.lines replay.now.desks r }
-    requires long { length writing.old.followers.items ≡ length system.now.resources }
-    requires following { AreFollowing system.now trace.now 0 time time writing.old.followers.items }
-    ensures long { OnOk result (length writing.new.followers.items ≡ length system.now.resources) }
-    ensures following { OnOk result (AreFollowing system.now trace.now 0 replay.now.time replay.now.time writing.new.followers.items) }
-    ensures written { OnOk result (IsWritten (K.sent sink.old) (K.sent sink.new) writing.old.unsent.items writing.new.unsent.items (schedule_text system.now (starting system.now trace.now time))) }
-    ensures part { OnErr result (SentPart (K.sent sink.old) (K.sent sink.new) (writing.old.unsent.items ++ schedule_text system.now (starting system.now trace.now time))) }
-    ensures rises { K.faults sink.old ≤ K.faults sink.new }
-    ensures failed { result ≡ Err stopped.Sink → Rose (K.faults sink.old) (K.faults sink.new) }
-{
-    for k in 0..system.resources() {
-        let ran = replay.ran(ResId(k));
-        let follower = &mut writing.followers[k as usize];
-        follow(
-            alloc,
-            system,
-            trace,
-            follower,
-            ResId(k),
-            ran,
-            time,
-            &mut writing.unsent,
-            sink,
-        )?;
-    }
-    Ok(())
+/// A schedule that is written along a run: what is followed of each resource, and what wasn't sent yet.
+#[derive(Drop)]
+struct Writing<'a> {
+    followers: Vec<Follower<'a>>,
+    unsent: Vec<u8>,
 }
 
-/// Nothing written so far.
-fn start(alloc: Global, system: &System, trace: &Trace) -> Result<Writing, NoMemory>
-    requires { CanReplay system.now trace.now }
-    ensures long { IfOk result (λ w. length w.followers.items ≡ length system.now.resources) }
-    ensures following { IfOk result (λ w. AreFollowing system.now trace.now 0 0 0 w.followers.items) }
-    ensures unsent { IfOk result (λ w. w.unsent.items ≡ []) }
-{
-    let mut followers = Vec::new(alloc);
-    for k in 0..system.resources() {
-        let follower = Follower::start(alloc, system, trace)?;
-        followers.push(follower)?;
+impl<'a> Writing<'a> {
+    /// Nothing written so far.
+    fn start(alloc: Global, system: &'a System, trace: &'a Trace) -> Result<Writing<'a>, NoMemory>
+        requires { CanReplay system.now trace.now }
+        ensures long { IfOk result (λ w. length w.followers.items ≡ length system.now.resources) }
+        ensures following { IfOk result (λ w. AreFollowing system.now trace.now 0 0 0 w.followers.items) }
+        ensures unsent { IfOk result (λ w. w.unsent.items ≡ []) }
+    {
+        let mut followers = Vec::new(alloc);
+        for k in 0..system.resources() {
+            let follower = Follower::start(alloc, system, trace)?;
+            followers.push(follower)?;
+        }
+        Ok(Writing {
+            followers,
+            unsent: Vec::new(alloc),
+        })
     }
-    Ok(Writing {
-        followers,
-        unsent: Vec::new(alloc),
-    })
+
+    /// Writes the rows of the segments that start in the ticks that a replay has passed last, which all start with
+    /// the first of them.
+    fn write_moment<K: Sink>(
+        &mut self,
+        alloc: Global,
+        system: &System,
+        replay: &Replay<'_>,
+        time: u64,
+        sink: &mut K,
+    ) -> Result<(), Stopped>
+        requires system { replay.now.system ≡ system.now }
+        requires since { replay.now.since ≡ time }
+        requires later { time < replay.now.time }
+        requires within { replay.now.time ≤ end_of system.now replay.now.trace }
+        requires long { length self.old.followers.items ≡ length system.now.resources }
+        requires following { AreFollowing system.now replay.now.trace 0 time time self.old.followers.items }
+        ensures long { OnOk result (length self.new.followers.items ≡ length system.now.resources) }
+        ensures following { OnOk result (AreFollowing system.now replay.now.trace 0 replay.now.time replay.now.time self.new.followers.items) }
+        ensures started { OnOk result (started system.now replay.now.trace replay.now.time ≡ started system.now replay.now.trace time ++ starting system.now replay.now.trace time) }
+        ensures written { OnOk result (IsWritten (K.sent sink.old) (K.sent sink.new) self.old.unsent.items self.new.unsent.items (schedule_text system.now (starting system.now replay.now.trace time))) }
+        ensures part { OnErr result (SentPart (K.sent sink.old) (K.sent sink.new) (self.old.unsent.items ++ schedule_text system.now (starting system.now replay.now.trace time))) }
+        ensures rises { K.faults sink.old ≤ K.faults sink.new }
+        ensures failed { result ≡ Err stopped.Sink → Rose (K.faults sink.old) (K.faults sink.new) }
+    {
+        for k in 0..system.resources() {
+            let ran = replay.ran(ResId(k));
+            let segment = follow(&mut self.followers[k as usize], ResId(k), ran, time);
+            put_segment(alloc, system, segment, &mut self.unsent, sink)?;
+        }
+        Ok(())
+    }
 }
 
-/// Sends the schedule of the run of a trace, in pieces of some 64 KB. The condition on the trace is that of `replay`.
-/// Memory is wanted for a piece, and for a run of each resource beside that of all, however many jobs and segments there are:
-/// a segment's end is found by the run of its resource, which goes ahead to it.
+/// Sends the schedule of the run of a trace, in pieces of some 64 KB. The condition on the trace is that of
+/// `Replay::start`. Memory is wanted for a piece and a row, and for a replay of each resource beside that of all,
+/// however many jobs and segments there are: a segment's end is found by the replay of its resource, which goes
+/// ahead to it.
 pub(crate) fn send_schedule<K: Sink>(
     alloc: Global,
     system: &System,
@@ -209,11 +168,11 @@ pub(crate) fn send_schedule<K: Sink>(
     ensures failed { result ≡ Err stopped.Sink → Rose (K.faults sink.old) (K.faults sink.new) }
 {
     let mut replay = Replay::start(alloc, system, trace)?;
-    let mut writing = start(alloc, system, trace)?;
+    let mut writing = Writing::start(alloc, system, trace)?;
     'moments: while replay.goes_on() {
         let time = replay.time();
-        replay.advance(system, trace);
-        follow_all(alloc, system, trace, &mut writing, &replay, time, sink)?;
+        replay.advance();
+        writing.write_moment(alloc, system, &replay, time, sink)?;
     }
     put_all(sink, writing.unsent.as_slice())?;
     Ok(())

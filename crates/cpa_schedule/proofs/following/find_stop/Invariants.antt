@@ -4,12 +4,13 @@ use Rattle.cpa_sim.specs.Served.{served_at}
 use Rattle.cpa_schedule.specs.Following.{IsAhead}
 use Rattle.cpa_schedule.proofs.following.find_stop.Given as goal
 
-abbrev pub invariant-ahead : goal.invariant-ahead
-invariant-ahead l = record {
-  ahead : IsAhead l.system l.trace l.res.0 l.follower;
-  each : (u : ℕ) → l.start ≤ u → u < l.follower.from → served_at l.system l.trace u l.res.0 ≡ Some l.job;
-  last : l.follower.last ≡ l.initial.follower.last;
+abbrev pub invariant-going : goal.invariant-going
+invariant-going l = record {
+  ahead : IsAhead l.fn.follower.replay.system l.fn.follower.replay.trace l.follower;
+  past : l.start < l.follower.replay.time;
+  each : (u : ℕ) → l.start ≤ u → u < l.follower.since → served_at l.fn.follower.replay.system l.fn.follower.replay.trace u l.res.0 ≡ Some l.job;
+  last : l.follower.last ≡ l.fn.follower.last;
 }
 
-abbrev pub decreases-ahead : goal.decreases-ahead
-decreases-ahead l = HORIZON - l.follower.replay.time
+abbrev pub decreases-going : goal.decreases-going
+decreases-going l = HORIZON - l.follower.replay.time

@@ -1,23 +1,26 @@
-use Rattle.std.proofs.Common.{◌≡◌, ◌∙◌, ◌<◌, ◌≤◌, ◌+◌, ◌++◌, [], length, sym, ap, subst, refl, arith}
+use Rattle.std.proofs.Common.{◌≡◌, ◌∙◌, ◌<◌, ◌≤◌, ◌++◌, [], nat_lt, false, sym, ap, subst, arith}
 use Rattle.cpa_sim.specs.Outcome.{end_of}
-use Rattle.cpa_sim.proofs.ReplayLaws.{ended}
+use Rattle.cpa_sim.specs.Replays.{FollowedRun}
+use Rattle.cpa_sim.proofs.CourseLaws.{ended, end-within}
+use Rattle.cpa_trace.specs.Trace.{TraceLists}
 use Rattle.cpa_audit.specs.Segments.{starting, started, segments}
 use Rattle.cpa_call.proofs.SendLaws.{sent-nothing, on-err-any}
+use Rattle.cpa_io.specs.Causes.{SentPart}
 use Rattle.cpa_schedule.specs.Following.{AreFollowing}
 use Rattle.cpa_schedule.specs.Rows.{schedule_text}
 use Rattle.cpa_schedule.specs.Written.{IsWritten}
 use Rattle.cpa_schedule.proofs.WrittenLaws.{written-kept, written-more, part-written, part-last, sent-written}
-use Rattle.cpa_schedule.proofs.RowLaws.{rows-zero, rows-jump, rows-part, rows-all}
+use Rattle.cpa_schedule.proofs.RowLaws.{rows-zero, rows-next, rows-part, rows-all}
 use Rattle.cpa_schedule.proofs.writing.send_schedule.Goals as goal
 
 pub moments-init : goal.moments-init
 moments-init g c =
     let s = c.args.system.now in
     let tr = c.args.trace.now in
-    let zero = c.in_ok-replay.ensures.time in
+    let zero = ap (λ (p : FollowedRun). p.time) c.in_ok-replay.ensures in
     record {
-      run = c.in_ok-replay.ensures.run;
-      keeps = c.in_ok-replay.ensures.keeps;
+      system = ap (λ (p : FollowedRun). p.system) c.in_ok-replay.ensures;
+      trace = ap (λ (p : FollowedRun). p.trace) c.in_ok-replay.ensures;
       within = omega (arith, zero);
       long = c.in_ok-writing.ensures.long;
       following = subst (λ t. AreFollowing s tr 0 t t c.in_ok-writing.writing.followers.items) (sym zero) c.in_ok-writing.ensures.following;
@@ -26,56 +29,79 @@ moments-init g c =
       rises = omega arith;
     }
 
+pub write_moment-requires-clause-within : goal.write_moment-requires-clause-within
+write_moment-requires-clause-within g c =
+    let run = c.advance.new.self in
+    let same : end_of run.system run.trace ≡ end_of c.args.system.now run.trace = ap (λ x. end_of x run.trace) (c.advance.ensures.system ∙ c.moments.invariant.system) in
+    omega (arith, same, c.advance.ensures.within)
+
+pub write_moment-requires-clause-following : goal.write_moment-requires-clause-following
+write_moment-requires-clause-following g c =
+    let s = c.args.system.now in
+    let inv = c.moments.invariant in
+    let fs = c.moments.writing.followers.items in
+    subst (λ t. AreFollowing s c.advance.new.self.trace 0 t t fs) (sym c.time-time.ensures)
+    (subst (λ x. AreFollowing s x 0 c.moments.replay.time c.moments.replay.time fs) (sym (c.advance.ensures.trace ∙ inv.trace)) inv.following)
+
+pub moments-smaller : goal.moments-smaller
+moments-smaller g c = omega (arith, end-within c.advance.new.self.system c.advance.new.self.trace, c.advance.ensures.later, c.advance.ensures.within)
+
 pub moments-preserved : goal.moments-preserved
 moments-preserved g c =
     let s = c.args.system.now in
     let tr = c.args.trace.now in
     let inv = c.moments.invariant in
+    let run = c.advance.new.self in
     let t = c.moments.replay.time in
-    let jump = rows-jump s tr t c.advance.new.self.time c.advance.ensures.later
-    (λ r u there low high. c.advance.ensures.ran r u there low high ∙ sym (c.advance.ensures.ran r t there (omega arith) c.advance.ensures.later)) in
+    let trace = c.advance.ensures.trace ∙ inv.trace in
+    let same : end_of run.system run.trace ≡ end_of s tr = ap (λ x. end_of x run.trace) (c.advance.ensures.system ∙ inv.system) ∙ ap (λ x. end_of s x) trace in
+    let next = rw (trace, c.time-time.ensures) at c.in_ok-write_moment.ensures.started in
+    let more = rw (trace, c.time-time.ensures) at c.in_ok-write_moment.ensures.written in
     record {
-      run = c.advance.ensures.run;
-      keeps = c.advance.ensures.keeps;
-      within = c.advance.ensures.within;
-      long = c.in_ok-follow_all.ensures.long;
-      following = c.in_ok-follow_all.ensures.following;
-      written = rw jump (written-more (g.K.Sink.sent c.args.sink.now) (g.K.Sink.sent c.moments.sink) (g.K.Sink.sent c.follow_all.new.sink) [] c.moments.writing.unsent.items c.follow_all.new.writing.unsent.items
-          (schedule_text s (started s tr t)) (schedule_text s (starting s tr t)) inv.written (rw c.time-time.ensures at c.in_ok-follow_all.ensures.written));
-      rises = omega (arith, inv.rises, c.follow_all.ensures.rises);
+      system = c.advance.ensures.system ∙ inv.system;
+      trace = trace;
+      within = omega (arith, same, c.advance.ensures.within);
+      long = c.in_ok-write_moment.ensures.long;
+      following = subst (λ x. AreFollowing s x 0 run.time run.time c.write_moment.new.self.followers.items) trace c.in_ok-write_moment.ensures.following;
+      written = rw (rows-next s tr t run.time next) (written-more (g.K.Sink.sent c.args.sink.now) (g.K.Sink.sent c.moments.sink) (g.K.Sink.sent c.write_moment.new.sink) [] c.moments.writing.unsent.items c.write_moment.new.self.unsent.items
+          (schedule_text s (started s tr t)) (schedule_text s (starting s tr t)) inv.written more);
+      rises = omega (arith, inv.rises, c.write_moment.ensures.rises);
     }
 
-pub follow_all-requires-clause-following : goal.follow_all-requires-clause-following
-follow_all-requires-clause-following g c =
-    subst (λ t. AreFollowing c.args.system.now c.args.trace.now 0 t t c.moments.writing.followers.items) (sym c.time-time.ensures) c.moments.invariant.following
-
-pub returns-in_err-follow_all-clause-part : goal.returns-in_err-follow_all-clause-part
-returns-in_err-follow_all-clause-part g c =
+pub returns-in_err-write_moment-clause-part : goal.returns-in_err-write_moment-clause-part
+returns-in_err-write_moment-clause-part g c =
     let s = c.args.system.now in
     let tr = c.args.trace.now in
     let inv = c.moments.invariant in
+    let run = c.advance.new.self in
     let t = c.moments.replay.time in
-    let less : t < end_of s tr = omega (arith, c.advance.ensures.later, c.advance.ensures.within) in
+    let trace = c.advance.ensures.trace ∙ inv.trace in
+    let same : end_of run.system run.trace ≡ end_of s tr = ap (λ x. end_of x run.trace) (c.advance.ensures.system ∙ inv.system) ∙ ap (λ x. end_of s x) trace in
+    let less : c.moments.replay.time < end_of c.args.system.now c.args.trace.now = omega (arith, same, c.advance.ensures.later, c.advance.ensures.within) in
     let part = rows-part s tr t less in
     on-err-any _ _
-    (part-written (g.K.Sink.sent c.args.sink.now) (g.K.Sink.sent c.moments.sink) (g.K.Sink.sent c.follow_all.new.sink) [] c.moments.writing.unsent.items
-    (schedule_text s (started s tr t)) (schedule_text s (starting s tr t)) part.0 (schedule_text s (segments s tr)) inv.written (rw c.time-time.ensures at c.in_err-follow_all.ensures.part) part.1)
+    (part-written (g.K.Sink.sent c.args.sink.now) (g.K.Sink.sent c.moments.sink) (g.K.Sink.sent c.write_moment.new.sink) [] c.moments.writing.unsent.items
+    (schedule_text s (started s tr t)) (schedule_text s (starting s tr t)) part.0 (schedule_text s (segments s tr)) inv.written (rw (trace, c.time-time.ensures) at c.in_err-write_moment.ensures.part) part.1)
 
 pub returns-in_err-put_all-clause-part : goal.returns-in_err-put_all-clause-part
 returns-in_err-put_all-clause-part g c =
     let s = c.args.system.now in
     let tr = c.args.trace.now in
     let inv = c.moments.invariant in
-    let at = ended s tr c.moments.replay.time (sym (c.goes_on.ensures s tr inv.run) ∙ c.moments-test.false) inv.within in
+    let run = c.moments.replay in
+    let same : end_of run.system run.trace ≡ end_of s tr = ap (λ x. end_of x run.trace) inv.system ∙ ap (λ x. end_of s x) inv.trace in
+    let at = ended s tr run.time (ap (nat_lt run.time) (sym same) ∙ (sym c.goes_on.ensures ∙ c.moments-test.false)) inv.within in
     on-err-any _ _
     (part-last (g.K.Sink.sent c.args.sink.now) (g.K.Sink.sent c.moments.sink) (g.K.Sink.sent c.put_all.new.sink) c.moments.writing.unsent.items (schedule_text s (segments s tr))
-    (rw (rows-all s tr c.moments.replay.time at) at inv.written) (rw c.as_slice.ensures.value at c.in_err-put_all.ensures.part))
+    (rw (rows-all s tr run.time at) at inv.written) (rw c.as_slice.ensures.value at c.in_err-put_all.ensures.part))
 
 pub returns-clause-sent : goal.returns-clause-sent
 returns-clause-sent g c =
     let s = c.args.system.now in
     let tr = c.args.trace.now in
     let inv = c.moments.invariant in
-    let at = ended s tr c.moments.replay.time (sym (c.goes_on.ensures s tr inv.run) ∙ c.moments-test.false) inv.within in
+    let run = c.moments.replay in
+    let same : end_of run.system run.trace ≡ end_of s tr = ap (λ x. end_of x run.trace) inv.system ∙ ap (λ x. end_of s x) inv.trace in
+    let at = ended s tr run.time (ap (nat_lt run.time) (sym same) ∙ (sym c.goes_on.ensures ∙ c.moments-test.false)) inv.within in
     sent-written (g.K.Sink.sent c.args.sink.now) (g.K.Sink.sent c.moments.sink) (g.K.Sink.sent c.put_all.new.sink) c.moments.writing.unsent.items (schedule_text s (segments s tr))
-    (rw (rows-all s tr c.moments.replay.time at) at inv.written) (rw c.as_slice.ensures.value at c.in_ok-put_all.ensures.sent)
+    (rw (rows-all s tr run.time at) at inv.written) (rw c.as_slice.ensures.value at c.in_ok-put_all.ensures.sent)

@@ -1,7 +1,6 @@
-use Rattle.std.proofs.Common.{◌≡◌, ◌≤◌, ◌-◌, length, false, []}
+use Rattle.std.proofs.Common.{◌≡◌, ◌≤◌, ◌-◌, length, []}
 use Rattle.cpa_units.specs.declared.limits.TheConstants.{HORIZON}
 use Rattle.cpa_sim.specs.Outcome.{end_of}
-use Rattle.cpa_sim.specs.Replays.{IsReplay}
 use Rattle.cpa_audit.specs.Segments.{started}
 use Rattle.cpa_schedule.specs.Following.{AreFollowing}
 use Rattle.cpa_schedule.specs.Rows.{schedule_text}
@@ -10,8 +9,8 @@ use Rattle.cpa_schedule.proofs.writing.send_schedule.Given as goal
 
 abbrev pub invariant-moments : goal.invariant-moments
 invariant-moments g l = record {
-  run : IsReplay l.system l.trace l.replay;
-  keeps : l.replay.keeps ≡ false;
+  system : l.replay.system ≡ l.system;
+  trace : l.replay.trace ≡ l.trace;
   within : l.replay.time ≤ end_of l.system l.trace;
   long : length l.writing.followers.items ≡ length l.system.resources;
   following : AreFollowing l.system l.trace 0 l.replay.time l.replay.time l.writing.followers.items;

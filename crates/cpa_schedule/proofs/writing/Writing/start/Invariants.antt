@@ -1,6 +1,6 @@
 use Rattle.std.proofs.Common.{◌≡◌, length}
 use Rattle.cpa_schedule.specs.Following.{AreFollowing}
-use Rattle.cpa_schedule.proofs.writing.start.Given as goal
+use Rattle.cpa_schedule.proofs.writing.Writing.start.Given as goal
 
 abbrev pub invariant-loop-k : goal.invariant-loop-k
 invariant-loop-k l = record {
