@@ -20,7 +20,7 @@ use Rattle.cpa_sim.specs.declared.jobs.Cause.{Cause}
 use Rattle.cpa_sim.specs.Run.{is_chosen, events_at, by_task, by_source}
 use Rattle.cpa_sim.specs.Lines.{LineCounts, new_seen, with_arrivals}
 use Rattle.cpa_sim.specs.Simulation.{line_at, dispatch_at, runner, runs_at, ends_at, ends_of, IsUnchanged, AreEnding}
-use Rattle.cpa_sim.specs.Arrivals.{is_among, IsListOf, AreGiven, ended_of, first_of, IsNextEnd}
+use Rattle.cpa_sim.specs.Arrivals.{is_among, IsListOf, IsWithin, AreGiven, ended_of, first_of, IsNextEnd}
 use Rattle.cpa_sim.proofs.CauseLists.{by-none}
 use Rattle.cpa_sim.proofs.DispatchLaws.{unchanged-same, unchanged-then}
 use Rattle.cpa_sim.proofs.SameTaskLaws.{chosen-is}
@@ -50,8 +50,8 @@ arrivals-add now a b line =
     ap (λ n. let made : LineCounts = record { count = n; done = line.done; left = line.left; kept = option_map (λ js. js ++ new_seen now b) (option_map (λ js. js ++ new_seen now a) line.kept) } in made) e
     ∙ ap (λ k. let made : LineCounts = record { count = line.count + length (a ++ b); done = line.done; left = line.left; kept = k } in made) (seen-add now a b line.kept)
 
-module _ (s : SystemLists) (now : ℕ) where
-  pub given-none : (lines : List LineCounts) (dispatches : List Dispatch) → length lines ≡ length s.tasks → length dispatches ≡ length s.resources → AreGiven s now (λ i. []) lines dispatches lines dispatches
+module _ (s : SystemLists) (places : List ℕ) (now : ℕ) where
+  pub given-none : (lines : List LineCounts) (dispatches : List Dispatch) → length lines ≡ length s.tasks → length dispatches ≡ length s.resources → AreGiven s places now (λ i. []) lines dispatches lines dispatches
   given-none lines dispatches count_lines count_dispatches =
       record {
         count_lines = count_lines;
@@ -59,9 +59,10 @@ module _ (s : SystemLists) (now : ℕ) where
         arrived = λ i less. sym (arrivals-none now (line_at lines i));
         unchanged = λ r less. unchanged-same (kind_of s r) (dispatch_at dispatches r) (dispatch_at dispatches r) refl;
         asked = λ i less more. refl;
+        within = λ i less. inl refl;
       }
 
-  pub given-same : (c d : ℕ → List Cause) (l1 : List LineCounts) (d1 : List Dispatch) (l2 : List LineCounts) (d2 : List Dispatch) → AreGiven s now c l1 d1 l2 d2 → ((i : ℕ) → i < length s.tasks → c i ≡ d i) → AreGiven s now d l1 d1 l2 d2
+  pub given-same : (c d : ℕ → List Cause) (l1 : List LineCounts) (d1 : List Dispatch) (l2 : List LineCounts) (d2 : List Dispatch) → AreGiven s places now c l1 d1 l2 d2 → ((i : ℕ) → i < length s.tasks → c i ≡ d i) → AreGiven s places now d l1 d1 l2 d2
   given-same c d l1 d1 l2 d2 h same =
       record {
         count_lines = h.count_lines;
@@ -69,10 +70,11 @@ module _ (s : SystemLists) (now : ℕ) where
         arrived = λ i less. h.arrived i less ∙ ap (λ new. with_arrivals now new (line_at l1 i)) (same i less);
         unchanged = h.unchanged;
         asked = λ i less more. sym (same i less) ∙ h.asked i less more;
+        within = λ i less. elim (h.within i less) [ inl none ↦ inl (sym (same i less) ∙ none) | inr at ↦ inr at ];
       }
 
   module _ (placed : (i : ℕ) → i < length s.tasks → (task_at s i).res.0 < length s.resources) where
-    pub given-then : (c d : ℕ → List Cause) (l1 : List LineCounts) (d1 : List Dispatch) (l2 : List LineCounts) (d2 : List Dispatch) (l3 : List LineCounts) (d3 : List Dispatch) → AreGiven s now c l1 d1 l2 d2 → AreGiven s now d l2 d2 l3 d3 → AreGiven s now (λ i. c i ++ d i) l1 d1 l3 d3
+    pub given-then : (c d : ℕ → List Cause) (l1 : List LineCounts) (d1 : List Dispatch) (l2 : List LineCounts) (d2 : List Dispatch) (l3 : List LineCounts) (d3 : List Dispatch) → AreGiven s places now c l1 d1 l2 d2 → AreGiven s places now d l2 d2 l3 d3 → AreGiven s places now (λ i. c i ++ d i) l1 d1 l3 d3
     given-then c d l1 d1 l2 d2 l3 d3 first then =
         record {
           count_lines = then.count_lines;
@@ -84,16 +86,27 @@ module _ (s : SystemLists) (now : ℕ) where
               let same = (then.unchanged r (placed i less)).same more in
               let none = first.asked i less (subst (λ (x : Dispatch). x.gone < x.ticks) same more) in
               ap (λ new. new ++ d i) none ∙ then.asked i less more;
+          within = λ i less.
+              elim (then.within i less) [
+                | inl none ↦ elim (first.within i less) [
+                  | inl before ↦ inl (ap (λ new. new ++ d i) before ∙ none)
+                  | inr at ↦
+                      let wide = then.unchanged (task_at s i).res.0 (placed i less) in
+                      inr (record { first = omega (arith, at.first, wide.first); last = omega (arith, at.last, wide.last) })
+                ]
+                | inr at ↦ inr at
+              ];
         }
 
 -- ---- the tasks of a list, one after the other
 
 -- the jobs of one task
-pub given-one : (s : SystemLists) (now t : ℕ) (new : List Cause) (l1 : List LineCounts) (d1 : List Dispatch) (l2 : List LineCounts) (d2 : List Dispatch)
+pub given-one : (s : SystemLists) (places : List ℕ) (now t : ℕ) (new : List Cause) (l1 : List LineCounts) (d1 : List Dispatch) (l2 : List LineCounts) (d2 : List Dispatch)
     → length l2 ≡ length s.tasks → length d2 ≡ length s.resources → line_at l2 t ≡ with_arrivals now new (line_at l1 t) → ((i : ℕ) → i ≢ t → line_at l2 i ≡ line_at l1 i)
     → ((r : ℕ) → r < length s.resources → IsUnchanged (kind_of s r) (dispatch_at d1 r) (dispatch_at d2 r))
-    → (dispatch_at d2 (task_at s t).res.0).gone ≡ (dispatch_at d2 (task_at s t).res.0).ticks → AreGiven s now (λ i. cond (eqb t i) new []) l1 d1 l2 d2
-given-one s now t new l1 d1 l2 d2 count_lines count_dispatches here others unchanged passed =
+    → (dispatch_at d2 (task_at s t).res.0).gone ≡ (dispatch_at d2 (task_at s t).res.0).ticks → IsWithin (dispatch_at d2 (task_at s t).res.0).reach (get_or places t 0)
+    → AreGiven s places now (λ i. cond (eqb t i) new []) l1 d1 l2 d2
+given-one s places now t new l1 d1 l2 d2 count_lines count_dispatches here others unchanged passed within =
     record {
       count_lines = count_lines;
       count_dispatches = count_dispatches;
@@ -110,6 +123,11 @@ given-one s now t new l1 d1 l2 d2 count_lines count_dispatches here others uncha
                 let more' = subst (λ k. (dispatch_at d2 (task_at s k).res.0).gone < (dispatch_at d2 (task_at s k).res.0).ticks) (sym e) more in
                 absurd (omega (arith, more', passed))
             | inr differs ↦ rw differs refl
+          ];
+      within = λ i less.
+          elim (cases_Bool (eqb t i)) [
+            | inl same ↦ inr (subst (λ k. IsWithin (dispatch_at d2 (task_at s k).res.0).reach (get_or places k 0)) (eqb-true t i same) within)
+            | inr differs ↦ inl (rw differs refl)
           ];
     }
 
@@ -351,6 +369,10 @@ first-all s dispatches from next count places on h =
 abbrev pub upto : ℕ → Option ℕ → ℕ
 upto n None = n
 upto n (Some j) = j
+
+pub upto-none : (n : ℕ) (o : Option TaskId) → ((task : TaskId) → o ≡ Some task → ⊥) → upto n (option_map place_of o) ≡ n
+upto-none n None none = refl
+upto-none n (Some task) none = absurd (none task refl)
 
 module _ (s : SystemLists) (lines : List LineCounts) (dispatches : List Dispatch) (i : ℕ) where
   -- what the first so many tasks start

@@ -89,7 +89,7 @@ module _ (s : SystemLists) (tr : TraceLists) (t n : ℕ) (w : ℕ → Bool) (d :
 module _ (s : SystemLists) (tr : TraceLists) (can : CanRun s tr) (t : ℕ) (keeping : Bool) (lines : List LineCounts) (dispatches : List Dispatch) (feeds : List Feed) (at : IsAt s tr t keeping lines dispatches feeds) (n : ℕ) (ran : List Dispatch) (jump : IsJump s tr t lines dispatches feeds n ran)
     (served_lines : List LineCounts) (served : (i : ℕ) → i < length s.tasks → line_at served_lines i ≡ served_line (need s tr i) (runs_at (dispatch_at ran (task_at s i).res.0) i) n (t + n) (line_at lines i))
     (served_dispatches : List Dispatch) (serves : (r : ℕ) → r < length s.resources → IsServed s r lines n (dispatch_at ran r) (dispatch_at served_dispatches r))
-    (causes : ℕ → List Cause) (next_lines : List LineCounts) (next_dispatches : List Dispatch) (given : AreGiven s (t + n) causes served_lines served_dispatches next_lines next_dispatches) where
+    (places : List ℕ) (causes : ℕ → List Cause) (next_lines : List LineCounts) (next_dispatches : List Dispatch) (given : AreGiven s places (t + n) causes served_lines served_dispatches next_lines next_dispatches) where
   -- the job that ran on a resource
   last-is : (r i : ℕ) → r < length s.resources → runner (dispatch_at ran r) ≡ Some i → last_of (line_at next_lines i) (dispatch_at next_dispatches r).ends ≡ done_at s tr t i
   last-is r i there e =

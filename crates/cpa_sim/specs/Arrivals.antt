@@ -1,11 +1,12 @@
 -- The jobs that come at one time, and which tasks follow each source and each task.
-use Rattle.std.specs.Prelude.{ℕ, ◌≡◌, ◌<◌, ◌≤◌, ◌-◌, ◌++◌, ◌==◌, ◌&&◌, nat_lt, nat_le, Bool, true, if◌then◌else◌, List, [], ◌∷◌, filter, length, Option, Some, None, slice_index_or, slice_set}
+use Rattle.std.specs.Prelude.{ℕ, ◌≡◌, ◌<◌, ◌≤◌, ◌-◌, ◌++◌, ◌==◌, ◌&&◌, nat_lt, nat_le, Bool, true, if◌then◌else◌, List, [], ◌∷◌, filter, length, Option, Some, None, slice_index, slice_index_or, slice_set, ◌⊎◌}
 use Rattle.std.specs.List.{list_any, range_with_len}
 use Rattle.cpa_units.specs.declared.places.TaskId.{TaskId}
 use Rattle.cpa_model.specs.declared.entries.Activator.{Activator}
 use Rattle.cpa_model.specs.declared.entries.Activator.TheVariants.{Source, Task}
 use Rattle.cpa_model.specs.SystemLists.{SystemLists, places_of, task_at, is_fed_by, is_activated_by}
 use Rattle.cpa_sched.specs.Steps.{kind_of}
+use Rattle.cpa_sched.specs.declared.orders.Reach.{Reach}
 use Rattle.cpa_sim.specs.declared.dispatches.Dispatch.{Dispatch}
 use Rattle.cpa_sim.specs.declared.jobs.Cause.{Cause}
 use Rattle.cpa_sim.specs.Lines.{LineCounts, with_arrivals}
@@ -53,13 +54,20 @@ is_among tasks i = list_any (λ (t : TaskId). t.0 == i) tasks
 abbrev pub IsListOf : SystemLists → List TaskId → Type 0
 IsListOf s tasks = places_of tasks ≡ filter (is_among tasks) (range_with_len 0 (length s.tasks))
 
--- each task has got the jobs with these causes, and where it has got one, nothing is foreseen of its resource any more
-pub record AreGiven (s : SystemLists) (now : ℕ) (causes : ℕ → List Cause) (lines : List LineCounts) (dispatches : List Dispatch) (next_lines : List LineCounts) (next_dispatches : List Dispatch) : Type 0 where
+-- a place that is looked at where those that wait are looked for
+pub record IsWithin (reach : Reach) (place : ℕ) : Type 0 where
+  pub first : reach.first ≤ place
+  pub last : place ≤ reach.last
+
+-- each task has got the jobs with these causes, and where it has got one, nothing is foreseen of its resource any more, and its place in the
+-- resource's list is looked at
+pub record AreGiven (s : SystemLists) (places : List ℕ) (now : ℕ) (causes : ℕ → List Cause) (lines : List LineCounts) (dispatches : List Dispatch) (next_lines : List LineCounts) (next_dispatches : List Dispatch) : Type 0 where
   pub count_lines : length next_lines ≡ length s.tasks
   pub count_dispatches : length next_dispatches ≡ length s.resources
   pub arrived : (i : ℕ) → i < length s.tasks → line_at next_lines i ≡ with_arrivals now (causes i) (line_at lines i)
   pub unchanged : (r : ℕ) → r < length s.resources → IsUnchanged (kind_of s r) (dispatch_at dispatches r) (dispatch_at next_dispatches r)
   pub asked : (i : ℕ) → i < length s.tasks → (dispatch_at next_dispatches (task_at s i).res.0).gone < (dispatch_at next_dispatches (task_at s i).res.0).ticks → causes i ≡ []
+  pub within : (i : ℕ) → i < length s.tasks → (causes i ≡ []) ⊎ IsWithin (dispatch_at next_dispatches (task_at s i).res.0).reach (slice_index places i)
 
 -- which jobs of a task end now: the last that is complete, if one does
 abbrev pub ended_of : SystemLists → List LineCounts → List Dispatch → ℕ → List ℕ

@@ -9,7 +9,7 @@ use Rattle.cpa_sim.specs.declared.dispatches.Dispatch.{Dispatch}
 use Rattle.cpa_sim.specs.declared.feeds.Feed.{Feed}
 use Rattle.cpa_sim.specs.Arrivals.{AreFollowers, HasSingle}
 use Rattle.cpa_sim.specs.Lines.{LineCounts}
-use Rattle.cpa_sim.specs.Orders.{AreOrders}
+use Rattle.cpa_sim.specs.Orders.{AreOrders, ArePlaces, AreReached}
 use Rattle.cpa_sim.specs.Outcome.{CanReplay, events_from, is_over}
 use Rattle.cpa_sim.specs.Simulation.{IsAt, IsSoon}
 use Rattle.cpa_sim.specs.Served.{RanWithin}
@@ -20,6 +20,7 @@ pub record CourseLists : Type 0 where
   pub by_task : List (List TaskId)
   pub single : Bool
   pub orders : List (List TaskId)
+  pub places : List ℕ
   pub keeps : Bool
   pub lines : List LineCounts
   pub dispatches : List Dispatch
@@ -34,8 +35,10 @@ pub record IsCourse (s : SystemLists) (tr : TraceLists) (p : CourseLists) : Type
   pub can : CanReplay s tr
   pub followers : AreFollowers s (length s.tasks) p.by_source p.by_task
   pub orders : AreOrders s p.orders
+  pub places : ArePlaces s p.orders p.places
   pub single : p.single ≡ true → HasSingle s
   pub at : IsAt s tr p.time p.keeps p.lines p.dispatches p.feeds
+  pub reached : AreReached s p.orders p.lines p.dispatches
   pub coming : IsSoon s tr p.time p.soon p.feeds
   pub ran : RanWithin p.lines p.dispatches
   pub events : (u : ℕ) → events_from tr u ≡ nat_lt u p.quiet

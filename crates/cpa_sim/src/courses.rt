@@ -11,7 +11,7 @@ ghost use Rattle.cpa_sim.specs.Courses.{IsCourse};
 use crate::feeds::quiet_from;
 use crate::followers::{Followers, find_followers};
 use crate::jobs::Served;
-use crate::orders::find_orders;
+use crate::orders::{find_orders, find_places};
 use crate::outcome::Outcome;
 use crate::settings::Setting;
 use crate::simulation::{Simulation, advance, goes_on, most_ticks, start};
@@ -28,6 +28,8 @@ pub(crate) struct Course {
     followers: Followers,
     /// The tasks of each resource by urgency.
     orders: Vec<Vec<TaskId>>,
+    /// Where each task stands in the list of its resource.
+    places: Vec<usize>,
     sim: Simulation,
     /// From this time on no event comes.
     quiet: u64,
@@ -39,7 +41,7 @@ impl Model for Course {
 
     ghost Value = { CourseLists };
 
-    ghost view = { λ p. record { by_source = map (λ v. v.items) p.followers.by_source.items; by_task = map (λ v. v.items) p.followers.by_task.items; single = p.followers.single; orders = map (λ v. v.items) p.orders.items; keeps = p.sim.keeps; lines = p.sim.lines.items; dispatches = p.sim.dispatches.items; feeds = p.sim.feeds.items; time = p.sim.time; soon = p.sim.soon; quiet = p.quiet } };
+    ghost view = { λ p. record { by_source = map (λ v. v.items) p.followers.by_source.items; by_task = map (λ v. v.items) p.followers.by_task.items; single = p.followers.single; orders = map (λ v. v.items) p.orders.items; places = p.places.items; keeps = p.sim.keeps; lines = p.sim.lines.items; dispatches = p.sim.dispatches.items; feeds = p.sim.feeds.items; time = p.sim.time; soon = p.sim.soon; quiet = p.quiet } };
 }
 
 impl Course {
@@ -59,16 +61,19 @@ impl Course {
         let quiet = quiet_from(system, trace);
         let followers = find_followers(alloc, system)?;
         let orders = find_orders(alloc, system)?;
+        let places = find_places(alloc, system, &orders)?;
         let setting = Setting {
             system,
             trace,
             followers: &followers,
             orders: &orders,
+            places: &places,
         };
         let sim = start(alloc, &setting, keeps)?;
         Ok(Course {
             followers,
             orders,
+            places,
             sim,
             quiet,
         })
@@ -107,6 +112,7 @@ impl Course {
             trace,
             followers: &self.followers,
             orders: &self.orders,
+            places: &self.places,
         };
         advance(&setting, &mut self.sim, most)?;
         Ok(())

@@ -10,15 +10,17 @@ ghost use Rattle.cpa_sched.specs.Steps.{kind_of, completed};
 ghost use Rattle.cpa_sched.specs.Stretches.{IsStretch, state_later};
 ghost use Rattle.cpa_sched.specs.States.{seen, Belongs, FrameWaits, IsWaiting};
 ghost use Rattle.cpa_sched.specs.Urgency.{IsByUrgency};
+ghost use Rattle.cpa_sched.specs.Reaches.{HasReach};
+ghost use Rattle.cpa_sim.specs.Arrivals.{listed};
 ghost use Rattle.cpa_sim.specs.Lines.{served_line};
-ghost use Rattle.cpa_sim.specs.Orders.{AreOrders};
+ghost use Rattle.cpa_sim.specs.Orders.{AreOrders, AreReached};
 ghost use Rattle.cpa_sim.specs.Outcome.{CanReplay};
 ghost use Rattle.cpa_sim.specs.Run.{settled};
 ghost use Rattle.cpa_sim.specs.Simulation.{line_at, dispatch_at, runner, runs_at, waiting, state_by, state_now, Foresees, HasEnough, IsServed, AreEnding};
 
 use crate::lines::{Line, work};
 use cpa_model::System;
-use cpa_sched::{Queue, Ranking, ResState, Stretch, begin_by, completed, go_on};
+use cpa_sched::{Queue, Ranking, Reach, ResState, Stretch, begin_within, completed, go_on};
 use cpa_trace::Trace;
 use cpa_units::limits::{HORIZON, MAX_PHASE};
 use cpa_units::{ResId, ResSet, TaskId};
@@ -36,6 +38,8 @@ pub(crate) struct Dispatch {
     pub(crate) gone: u64,
     /// Whether the job that ran is complete now.
     pub(crate) ends: bool,
+    /// Between which places of its list by urgency those of its tasks stand that wait.
+    pub(crate) reach: Reach,
 }
 
 /// The tasks that wait.
@@ -79,12 +83,14 @@ fn begin_now(
     trace: &Trace,
     lines: &[Line],
     ranking: &Ranking<'_>,
+    reach: &mut Reach,
     state: &mut ResState,
     now: u64,
     most: u64,
 ) -> Stretch
     requires there { ranking.now.res.0 < length system.now.resources }
     requires ranking { IsByUrgency system.now ranking.now.res.0 (places_of ranking.now.tasks.now) }
+    requires reach { HasReach (places_of ranking.now.tasks.now) (waiting lines.now) reach.old }
     requires can { CanReplay system.now trace.now }
     requires belongs { Belongs system.now ranking.now.res.0 (seen state.old) }
     requires frame { FrameWaits (kind_of system.now ranking.now.res.0) (seen state.old) (waiting lines.now) }
@@ -92,11 +98,12 @@ fn begin_now(
     requires horizon { now + most ≤ HORIZON }
     ensures stretch { (n : ℕ) → n < result.ticks → IsStretch system.now ranking.now.res.0 (seen state.old) (waiting lines.now) now (phase_of trace.now ranking.now.res.0) (n + 1) (option_map place_of result.task) (state_later (kind_of system.now ranking.now.res.0) (option_map place_of result.task) (seen state.new) n) }
     ensures some { 1 ≤ result.ticks }
+    ensures reach { HasReach (places_of ranking.now.tasks.now) (waiting lines.now) reach.new }
     ensures waits { IfSome result.task (λ t. IsWaiting system.now ranking.now.res.0 (waiting lines.now) t.0) }
 {
     let queue = Waiting { lines };
     let phase = trace.phase(ranking.res).min(MAX_PHASE);
-    begin_by(system, ranking, state, &queue, now, phase, most)
+    begin_within(system, ranking, reach, state, &queue, now, phase, most)
 }
 
 /// For how many ticks of a stretch the job that runs isn't complete before the last of them is over.
@@ -122,6 +129,7 @@ pub(crate) fn refresh(system: &System, dispatch: &mut Dispatch, res: ResId)
     ensures ticks { dispatch.new.ticks ≡ 0 }
     ensures running { dispatch.new.running ≡ dispatch.old.running }
     ensures ends { dispatch.new.ends ≡ dispatch.old.ends }
+    ensures reach { dispatch.new.reach ≡ dispatch.old.reach }
 {
     dispatch.ticks = 0;
     if dispatch.gone == 0 {
@@ -149,6 +157,7 @@ fn foresee(
 )
     requires there { ranking.now.res.0 < length system.now.resources }
     requires ranking { IsByUrgency system.now ranking.now.res.0 (places_of ranking.now.tasks.now) }
+    requires reach { HasReach (places_of ranking.now.tasks.now) (waiting lines.now) dispatch.old.reach }
     requires can { CanReplay system.now trace.now }
     requires lines { length lines.now ≡ length system.now.tasks }
     requires belongs { Belongs system.now ranking.now.res.0 (state_now (kind_of system.now ranking.now.res.0) dispatch.old) }
@@ -157,11 +166,13 @@ fn foresee(
     ensures foresees { Foresees system.now ranking.now.res.0 (state_now (kind_of system.now ranking.now.res.0) dispatch.old) (waiting lines.now) now (phase_of trace.now ranking.now.res.0) dispatch.new }
     ensures some { dispatch.new.gone < dispatch.new.ticks }
     ensures enough { HasEnough lines.now dispatch.new }
+    ensures reach { HasReach (places_of ranking.now.tasks.now) (waiting lines.now) dispatch.new.reach }
 {
     refresh(system, dispatch, ranking.res);
     let most = HORIZON - now;
     let mut state = dispatch.state;
-    let stretch = begin_now(system, trace, lines, ranking, &mut state, now, most);
+    let reach = &mut dispatch.reach;
+    let stretch = begin_now(system, trace, lines, ranking, reach, &mut state, now, most);
     if stretch.task.is_none()
         && stretch.ticks < most
         && !is_busy(lines, system.tasks_on(ranking.res))
@@ -180,27 +191,34 @@ fn foresee_more(
     system: &System,
     trace: &Trace,
     lines: &[Line],
-    ranking: &Ranking<'_>,
+    orders: &Vec<Vec<TaskId>>,
     dispatch: &mut Dispatch,
+    res: ResId,
     now: u64,
 )
-    requires there { ranking.now.res.0 < length system.now.resources }
-    requires ranking { IsByUrgency system.now ranking.now.res.0 (places_of ranking.now.tasks.now) }
+    requires there { res.0 < length system.now.resources }
+    requires orders { AreOrders system.now (map (λ v. v.items) orders.now.items) }
+    requires reach { HasReach (places_of (listed (map (λ v. v.items) orders.now.items) res.0)) (waiting lines.now) dispatch.old.reach }
     requires can { CanReplay system.now trace.now }
     requires lines { length lines.now ≡ length system.now.tasks }
-    requires belongs { Belongs system.now ranking.now.res.0 (state_now (kind_of system.now ranking.now.res.0) dispatch.old) }
-    requires frame { FrameWaits (kind_of system.now ranking.now.res.0) (state_now (kind_of system.now ranking.now.res.0) dispatch.old) (waiting lines.now) }
+    requires belongs { Belongs system.now res.0 (state_now (kind_of system.now res.0) dispatch.old) }
+    requires frame { FrameWaits (kind_of system.now res.0) (state_now (kind_of system.now res.0) dispatch.old) (waiting lines.now) }
     requires horizon { now < HORIZON }
-    requires foresees { Foresees system.now ranking.now.res.0 (state_now (kind_of system.now ranking.now.res.0) dispatch.old) (waiting lines.now) now (phase_of trace.now ranking.now.res.0) dispatch.old }
+    requires foresees { Foresees system.now res.0 (state_now (kind_of system.now res.0) dispatch.old) (waiting lines.now) now (phase_of trace.now res.0) dispatch.old }
     requires enough { HasEnough lines.now dispatch.old }
-    ensures foresees { Foresees system.now ranking.now.res.0 (state_now (kind_of system.now ranking.now.res.0) dispatch.old) (waiting lines.now) now (phase_of trace.now ranking.now.res.0) dispatch.new }
+    ensures foresees { Foresees system.now res.0 (state_now (kind_of system.now res.0) dispatch.old) (waiting lines.now) now (phase_of trace.now res.0) dispatch.new }
     ensures some { dispatch.new.gone < dispatch.new.ticks }
     ensures enough { HasEnough lines.now dispatch.new }
+    ensures reach { HasReach (places_of (listed (map (λ v. v.items) orders.now.items) res.0)) (waiting lines.now) dispatch.new.reach }
 {
     if dispatch.gone < dispatch.ticks {
         return;
     }
-    foresee(system, trace, lines, ranking, dispatch, now);
+    let ranking = Ranking {
+        res,
+        tasks: orders[res.0 as usize].as_slice(),
+    };
+    foresee(system, trace, lines, &ranking, dispatch, now);
 }
 
 /// Foresees what becomes of all resources. Answers for how many ticks from now on, at most so many, the
@@ -222,11 +240,13 @@ pub(crate) fn foresee_all(
     requires frames { (r : ℕ) → r < length system.now.resources → FrameWaits (kind_of system.now r) (state_now (kind_of system.now r) (dispatch_at dispatches.old.items r)) (waiting lines.now) }
     requires foresees { (r : ℕ) → r < length system.now.resources → Foresees system.now r (state_now (kind_of system.now r) (dispatch_at dispatches.old.items r)) (waiting lines.now) now (phase_of trace.now r) (dispatch_at dispatches.old.items r) }
     requires enough { (r : ℕ) → r < length system.now.resources → HasEnough lines.now (dispatch_at dispatches.old.items r) }
+    requires reached { AreReached system.now (map (λ v. v.items) orders.now.items) lines.now dispatches.old.items }
     requires some { 1 ≤ most }
     requires horizon { now < HORIZON }
     ensures count { length dispatches.new.items ≡ length system.now.resources }
     ensures foresees { (r : ℕ) → r < length system.now.resources → Foresees system.now r (state_now (kind_of system.now r) (dispatch_at dispatches.old.items r)) (waiting lines.now) now (phase_of trace.now r) (dispatch_at dispatches.new.items r) }
     ensures enough { (r : ℕ) → r < length system.now.resources → HasEnough lines.now (dispatch_at dispatches.new.items r) }
+    ensures reached { AreReached system.now (map (λ v. v.items) orders.now.items) lines.now dispatches.new.items }
     ensures some { 1 ≤ result }
     ensures most { result ≤ most }
     ensures fits { (r : ℕ) → r < length system.now.resources → (dispatch_at dispatches.new.items r).gone + result ≤ (dispatch_at dispatches.new.items r).ticks }
@@ -234,11 +254,7 @@ pub(crate) fn foresee_all(
     let mut ticks = most;
     for k in 0..system.resources() {
         let dispatch = &mut dispatches[k as usize];
-        let ranking = Ranking {
-            res: ResId(k),
-            tasks: orders[k as usize].as_slice(),
-        };
-        foresee_more(system, trace, lines, &ranking, dispatch, now);
+        foresee_more(system, trace, lines, orders, dispatch, ResId(k), now);
         ticks = ticks.min(dispatch.ticks - dispatch.gone);
     }
     ticks
@@ -253,6 +269,7 @@ fn complete(system: &System, dispatch: &mut Dispatch, res: ResId)
     ensures ticks { dispatch.new.ticks ≡ 0 }
     ensures running { dispatch.new.running ≡ dispatch.old.running }
     ensures ends { dispatch.new.ends ≡ dispatch.old.ends }
+    ensures reach { dispatch.new.reach ≡ dispatch.old.reach }
 {
     refresh(system, dispatch, res);
     completed(system, res, &mut dispatch.state);

@@ -13,4 +13,6 @@ pub(crate) struct Setting<'a> {
     pub(crate) followers: &'a Followers,
     /// The tasks of each resource by urgency.
     pub(crate) orders: &'a Vec<Vec<TaskId>>,
+    /// Where each task stands in the list of its resource.
+    pub(crate) places: &'a Vec<usize>,
 }

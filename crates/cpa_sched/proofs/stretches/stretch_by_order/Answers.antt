@@ -16,7 +16,7 @@ returns-in-Preemptive-clause-stretch g c n less =
     let kind : kind_of s r ≡ Preemptive = sym (ap (λ (x : Resource). x.kind) c.resource.ensures.value) ∙ c.in-Preemptive.is in
     let o = option_map place_of c.first_waiting.result in
     subst (λ k. IsStretch s r (seen c.args.state.now) w c.args.tick c.args.phase (n + 1) o (state_later k o (seen c.args.state.now) n)) (sym kind)
-    (subst (λ o. IsStretch s r (seen c.args.state.now) w c.args.tick c.args.phase (n + 1) o (seen c.args.state.now)) (sym (c.first_waiting.ensures ∙ c.requires.ranking w))
+    (subst (λ o. IsStretch s r (seen c.args.state.now) w c.args.tick c.args.phase (n + 1) o (seen c.args.state.now)) (sym (c.first_waiting.ensures.first ∙ c.requires.ranking w))
     (priority-stretch s r w (seen c.args.state.now) c.args.tick c.args.phase (n + 1) kind))
 
 pub returns-in-Preemptive-clause-length : goal.returns-in-Preemptive-clause-length
@@ -35,7 +35,7 @@ returns-in-Can-clause-stretch g c n less =
     let kind : kind_of s r ≡ Can c.in-Can.bit = sym (ap (λ (x : Resource). x.kind) c.resource.ensures.value) ∙ c.in-Can.is in
     let o = option_map place_of c.frame_by.result in
     subst (λ k. IsStretch s r (seen c.args.state.now) w c.args.tick c.args.phase (n + 1) o (state_later k o (seen c.frame_by.new.state) n)) (sym kind)
-    (frame-stretch s r w (seen c.args.state.now) c.args.tick c.args.phase c.in-Can.bit (n + 1) (option_map place_of c.frame_by.result) (seen c.frame_by.new.state) kind (omega arith) (c.frame_by.ensures ∙ ap (can_step (seen c.args.state.now) (seen c.args.state.now).holder) (c.requires.ranking w)))
+    (frame-stretch s r w (seen c.args.state.now) c.args.tick c.args.phase c.in-Can.bit (n + 1) (option_map place_of c.frame_by.result) (seen c.frame_by.new.state) kind (omega arith) (c.frame_by.ensures.step ∙ ap (can_step (seen c.args.state.now) (seen c.args.state.now).holder) (c.requires.ranking w)))
 
 pub returns-in-Can-clause-length : goal.returns-in-Can-clause-length
 returns-in-Can-clause-length g c =

@@ -24,7 +24,7 @@ arrive_at-requires-clause-few c =
     omega (arith, ap (λ (l : LineCounts). l.count) same, few)
 
 pub loop-task-init : goal.loop-task-init
-loop-task-init c = given-none c.args.system.now c.args.now c.args.lines.now.items c.args.dispatches.now.items c.requires.lines c.requires.dispatches
+loop-task-init c = given-none c.args.system.now c.args.places.now.items c.args.now c.args.lines.now.items c.args.dispatches.now.items c.requires.lines c.requires.dispatches
 
 pub loop-task-preserved : goal.loop-task-preserved
 loop-task-preserved c =
@@ -40,7 +40,7 @@ loop-task-preserved c =
     let l2 = c.arrive_at.new.lines.items in
     let d2 = c.arrive_at.new.dispatches.items in
     let made = c.in_ok-arrive_at.ensures in
-    let one = given-one s now (place_in tasks m) new l1 d1 l2 d2 made.count_lines made.count_dispatches made.arrived made.others made.unchanged made.asked in
-    let both = given-then s now (placed s c.has_rules.ensures) (λ i. cond (is_among (take m tasks) i) new []) (λ i. cond (eqb (place_in tasks m) i) new []) l0 d0 l1 d1 l2 d2 c.loop-task.invariant one in
-    given-same s now (λ i. cond (is_among (take m tasks) i) new [] ++ cond (eqb (place_in tasks m) i) new []) (λ i. cond (is_among (take (m + 1) tasks) i) new []) l0 d0 l2 d2 both
+    let one = given-one s c.args.places.now.items now (place_in tasks m) new l1 d1 l2 d2 made.count_lines made.count_dispatches made.arrived made.others made.unchanged made.asked made.within in
+    let both = given-then s c.args.places.now.items now (placed s c.has_rules.ensures) (λ i. cond (is_among (take m tasks) i) new []) (λ i. cond (eqb (place_in tasks m) i) new []) l0 d0 l1 d1 l2 d2 c.loop-task.invariant one in
+    given-same s c.args.places.now.items now (λ i. cond (is_among (take m tasks) i) new [] ++ cond (eqb (place_in tasks m) i) new []) (λ i. cond (is_among (take (m + 1) tasks) i) new []) l0 d0 l2 d2 both
     (λ i less. listed-more s tasks c.requires.tasks new m c.loop-task-test.true i)

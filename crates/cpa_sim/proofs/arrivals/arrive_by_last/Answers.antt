@@ -51,7 +51,7 @@ returns-clause-given c =
     let first : c.saturating_sub.result ≡ (line_at l0 t).done - 1 = omega (arith, c.saturating_sub.ensures, c.done.ensures.value, done) in
     let causes : Causes = record { by = Task c.args.task; first = c.saturating_sub.result; count = 1 } in
     on_ok_weaker c.arrive_at_all.result
-    (λ given. given-same s c.args.now (λ i. cond (is_among tasks i) (causes_of causes) []) (by_last s l0 t) l0 d0 c.arrive_at_all.new.lines.items c.arrive_at_all.new.dispatches.items given
+    (λ given. given-same s c.args.places.now.items c.args.now (λ i. cond (is_among tasks i) (causes_of causes) []) (by_last s l0 t) l0 d0 c.arrive_at_all.new.lines.items c.arrive_at_all.new.dispatches.items given
     (λ i less. ap (λ b. cond b (causes_of causes) []) (among-is s (is_activated_by s t) tasks are i less)
     ∙ ap (λ n. cond (is_activated_by s t i) (causes_by (Task (record { 0 = t })) (range_with_len n 1)) []) first))
     c.arrive_at_all.ensures.given

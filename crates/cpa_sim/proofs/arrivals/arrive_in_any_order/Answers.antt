@@ -61,16 +61,16 @@ loop-k-preserved c =
     c.ended_on.ensures.value ∙ (ap ended_task here ∙ ended-unchanged (kind_of s k) (dispatch_at d0 k) (dispatch_at d1 k) (inv.unchanged k low)) in
     let on : (j : ℕ) → task ≡ Some j → j < length s.tasks =
     λ j e. (c.requires.runs k j low (ap (option_map place_of) (sym (inv.unchanged k low).running) ∙ (ap runner (sym here) ∙ c.ended_on.ensures.runs j e))).task in
-    let step : AreGiven s now (by_ended s l1 task) l1 d1 l2 d2 =
+    let step : AreGiven s c.args.places.now.items now (by_ended s l1 task) l1 d1 l2 d2 =
     elim c.match-ended_on.branch [
       | in-Some+in_ok-arrive_by_last w ↦
-          subst (λ o. AreGiven s now (by_ended s l1 (option_map place_of o)) l1 d1 l2 d2) (sym w.in-Some.is) (rw (w.lines-is, w.dispatches-is) w.in_ok-arrive_by_last.ensures.given)
+          subst (λ o. AreGiven s c.args.places.now.items now (by_ended s l1 (option_map place_of o)) l1 d1 l2 d2) (sym w.in-Some.is) (rw (w.lines-is, w.dispatches-is) w.in_ok-arrive_by_last.ensures.given)
       | in_default w ↦
           rw (w.lines-is, w.dispatches-is)
-          (given-same s now (λ i. []) (by_ended s l1 task) l1 d1 l1 d1 (given-none s now l1 d1 inv.count_lines inv.count_dispatches) (λ i less. sym (nobody-ended s l1 c.ended_on.result i w.in_default.not-Some)))
+          (given-same s c.args.places.now.items now (λ i. []) (by_ended s l1 task) l1 d1 l1 d1 (given-none s c.args.places.now.items now l1 d1 inv.count_lines inv.count_dispatches) (λ i less. sym (nobody-ended s l1 c.ended_on.result i w.in_default.not-Some)))
     ] in
-    let whole = given-then s now (placed s c.has_rules.ensures) (λ i. ended_below s l0 d0 i k) (by_ended s l1 task) l0 d0 l1 d1 l2 d2 inv step in
-    given-same s now (λ i. ended_below s l0 d0 i k ++ by_ended s l1 task i) (λ i. ended_below s l0 d0 i (k + 1)) l0 d0 l2 d2 whole
+    let whole = given-then s c.args.places.now.items now (placed s c.has_rules.ensures) (λ i. ended_below s l0 d0 i k) (by_ended s l1 task) l0 d0 l1 d1 l2 d2 inv step in
+    given-same s c.args.places.now.items now (λ i. ended_below s l0 d0 i k ++ by_ended s l1 task i) (λ i. ended_below s l0 d0 i (k + 1)) l0 d0 l2 d2 whole
     (λ i less.
     ap (λ cs. ended_below s l0 d0 i k ++ cs) (by-ended-same s l0 l1 task i (λ j e. ap (λ (l : LineCounts). l.done) (inv.arrived j (on j e))) ∙ ap (λ o. by_ended s l0 o i) is)
     ∙ sym (flat_map-places_more (λ r. by_ended s l0 (ended_task (dispatch_at d0 r)) i) k))
@@ -81,7 +81,7 @@ returns-clause-given c =
     let l0 = c.args.lines.now.items in
     let d0 = c.args.dispatches.now.items in
     let all : c.loop-k.k ≡ length s.resources = omega (arith, c.loop-k-test.false, c.loop-k.auto.k-end, c.resources-k-end.ensures.count) in
-    let whole : AreGiven s c.args.now (λ i. ended_below s l0 d0 i (length s.resources)) l0 d0 c.loop-k.lines.items c.loop-k.dispatches.items =
-    subst (λ m. AreGiven s c.args.now (λ i. ended_below s l0 d0 i m) l0 d0 c.loop-k.lines.items c.loop-k.dispatches.items) all c.loop-k.invariant in
-    given-same s c.args.now (λ i. ended_below s l0 d0 i (length s.resources)) _ l0 d0 c.loop-k.lines.items c.loop-k.dispatches.items whole
+    let whole : AreGiven s c.args.places.now.items c.args.now (λ i. ended_below s l0 d0 i (length s.resources)) l0 d0 c.loop-k.lines.items c.loop-k.dispatches.items =
+    subst (λ m. AreGiven s c.args.places.now.items c.args.now (λ i. ended_below s l0 d0 i m) l0 d0 c.loop-k.lines.items c.loop-k.dispatches.items) all c.loop-k.invariant in
+    given-same s c.args.places.now.items c.args.now (λ i. ended_below s l0 d0 i (length s.resources)) _ l0 d0 c.loop-k.lines.items c.loop-k.dispatches.items whole
     (λ i less. ended-all s l0 d0 i (placed s c.has_rules.ensures) c.requires.runs (c.requires.single i less))

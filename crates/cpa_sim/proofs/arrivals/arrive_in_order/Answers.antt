@@ -1,14 +1,14 @@
 use Rattle.std.proofs.Common.{◌≡◌, ◌∙◌, ◌+◌, ◌++◌, ◌<◌, ℕ, length, [], Option, option_map, sym, ap, subst, arith}
 use Rattle.cpa_units.proofs.PlaceLaws.{flat_map-places_more}
 use Rattle.cpa_model.specs.SystemLists.{place_of}
-use Rattle.cpa_sim.specs.Run.{by_task}
+use Rattle.cpa_sim.specs.Run.{by_task, by_tasks}
 use Rattle.cpa_sim.specs.Lines.{LineCounts}
 use Rattle.cpa_sim.specs.Simulation.{line_at, dispatch_at, runner, ends_of}
 use Rattle.cpa_sim.specs.Arrivals.{AreGiven, ended_of, by_last}
 use Rattle.cpa_sim.proofs.RangeLaws.{part-le}
 use Rattle.cpa_sim.proofs.FollowerLaws.{placed}
 use Rattle.cpa_sim.proofs.DispatchLaws.{ends-unchanged, ending-unchanged}
-use Rattle.cpa_sim.proofs.ArrivalLaws.{given-none, given-same, given-then, upto, started_below, quiet-before, started-one}
+use Rattle.cpa_sim.proofs.ArrivalLaws.{given-none, given-same, given-then, upto, upto-none, started_below, quiet-before, started-one}
 use Rattle.cpa_sim.proofs.SingleLaws.{by-last-is}
 use Rattle.cpa_sim.proofs.arrivals.arrive_in_order.Goals as goal
 
@@ -26,7 +26,7 @@ ends-init c =
     record {
       there = first.there;
       ends = λ j e. ap (λ ds. ends_of s ds j) (sym same) ∙ first.ends j e;
-      given = given-same s c.args.now (λ i. []) (λ i. started_below s l0 d0 i (upto (length s.tasks) next)) l0 d0 l0 d0 (given-none s c.args.now l0 d0 c.requires.lines c.requires.dispatches)
+      given = given-same s c.args.places.now.items c.args.now (λ i. []) (λ i. started_below s l0 d0 i (upto (length s.tasks) next)) l0 d0 l0 d0 (given-none s c.args.places.now.items c.args.now l0 d0 c.requires.lines c.requires.dispatches)
           (λ i less. quiet-before s l0 d0 i 0 next (omega arith) (λ j low there before. ap (λ ds. ends_of s ds j) (sym same) ∙ first.none j low there before) first.from_on first.there);
     }
 
@@ -42,8 +42,8 @@ arrive_by_last-requires-clause-few c = λ i less activates.
     let d0 = c.args.dispatches.now.items in
     let inv = c.ends.invariant in
     let there = inv.there t (ap (option_map place_of) c.in-Some.is) in
-    let here : AreGiven s c.args.now (λ i. started_below s l0 d0 i t) l0 d0 c.ends.lines.items c.ends.dispatches.items =
-    subst (λ (o : Option ℕ). AreGiven s c.args.now (λ i. started_below s l0 d0 i (upto (length s.tasks) o)) l0 d0 c.ends.lines.items c.ends.dispatches.items) (ap (option_map place_of) c.in-Some.is) inv.given in
+    let here : AreGiven s c.args.places.now.items c.args.now (λ i. started_below s l0 d0 i t) l0 d0 c.ends.lines.items c.ends.dispatches.items =
+    subst (λ (o : Option ℕ). AreGiven s c.args.places.now.items c.args.now (λ i. started_below s l0 d0 i (upto (length s.tasks) o)) l0 d0 c.ends.lines.items c.ends.dispatches.items) (ap (option_map place_of) c.in-Some.is) inv.given in
     let so_far = ap (λ (l : LineCounts). l.count) (here.arrived i less) in
     let one = started-one s l0 d0 i t (inv.ends t (ap (option_map place_of) c.in-Some.is)) activates in
     omega (arith, so_far, one, part-le (λ j. by_task s (ended_of s l0 d0) j i) t (length s.tasks) there, c.requires.few i less)
@@ -76,10 +76,10 @@ ends-preserved c =
     let inv = c.ends.invariant in
     let there = inv.there t (ap (option_map place_of) c.in-Some.is) in
     let one = inv.ends t (ap (option_map place_of) c.in-Some.is) in
-    let here : AreGiven s time (λ i. started_below s l0 d0 i t) l0 d0 l1 d1 =
-    subst (λ (o : Option ℕ). AreGiven s time (λ i. started_below s l0 d0 i (upto (length s.tasks) o)) l0 d0 l1 d1) (ap (option_map place_of) c.in-Some.is) inv.given in
+    let here : AreGiven s c.args.places.now.items time (λ i. started_below s l0 d0 i t) l0 d0 l1 d1 =
+    subst (λ (o : Option ℕ). AreGiven s c.args.places.now.items time (λ i. started_below s l0 d0 i (upto (length s.tasks) o)) l0 d0 l1 d1) (ap (option_map place_of) c.in-Some.is) inv.given in
     let done : (line_at l1 t).done ≡ (line_at l0 t).done = ap (λ (l : LineCounts). l.done) (here.arrived t there) in
-    let both = given-then s time (placed s c.has_rules.ensures) (λ i. started_below s l0 d0 i t) (by_last s l1 t) l0 d0 l1 d1 l2 d2 here c.in_ok-arrive_by_last.ensures.given in
+    let both = given-then s c.args.places.now.items time (placed s c.has_rules.ensures) (λ i. started_below s l0 d0 i t) (by_last s l1 t) l0 d0 l1 d1 l2 d2 here c.in_ok-arrive_by_last.ensures.given in
     let next = option_map place_of c.next_end-next-in-Some.result in
     let found = c.next_end-next-in-Some.ensures in
     let same = c.as_slice-in-Some.ensures.value in
@@ -88,9 +88,18 @@ ends-preserved c =
     record {
       there = found.there;
       ends = λ j e. ends j (found.there j e) ∙ found.ends j e;
-      given = given-same s time (λ i. started_below s l0 d0 i t ++ by_last s l1 t i) (λ i. started_below s l0 d0 i (upto (length s.tasks) next)) l0 d0 l2 d2 both
+      given = given-same s c.args.places.now.items time (λ i. started_below s l0 d0 i t ++ by_last s l1 t i) (λ i. started_below s l0 d0 i (upto (length s.tasks) next)) l0 d0 l2 d2 both
           (λ i less.
           ap (λ cs. started_below s l0 d0 i t ++ cs) (by-last-is s l0 l1 d0 t i one done)
           ∙ (sym (flat_map-places_more (λ j. by_task s (ended_of s l0 d0) j i) t)
           ∙ quiet-before s l0 d0 i (t + 1) next (omega (arith, there)) (λ j low high before. ends j high ∙ found.none j (omega (arith, low, c.from-from.ensures)) high before) (λ j e. omega (arith, found.from_on j e, c.from-from.ensures)) found.there));
     }
+
+pub returns-clause-given : goal.returns-clause-given
+returns-clause-given c =
+    let s = c.args.system.now in
+    let l0 = c.args.lines.now.items in
+    let d0 = c.args.dispatches.now.items in
+    let next = option_map place_of c.ends.next in
+    given-same s c.args.places.now.items c.args.now (λ i. started_below s l0 d0 i (upto (length s.tasks) next)) (by_tasks s (ended_of s l0 d0)) l0 d0 c.ends.lines.items c.ends.dispatches.items c.ends.invariant.given
+    (λ i less. ap (started_below s l0 d0 i) (upto-none (length s.tasks) c.ends.next c.in_default.not-Some))

@@ -28,7 +28,7 @@ pub loop-k-init : goal.loop-k-init
 loop-k-init c =
     record {
       count = c.requires.feeds;
-      given = given-none c.args.setting.now.system.now c.args.now c.args.lines.now.items c.args.dispatches.now.items c.requires.lines c.requires.dispatches;
+      given = given-none c.args.setting.now.system.now c.args.setting.now.places.now.items c.args.now c.args.lines.now.items c.args.dispatches.now.items c.requires.lines c.requires.dispatches;
       later = omega (arith, c.requires.horizon);
       soonest = λ i less. absurd (omega arith);
       ahead = λ i less. absurd (omega arith);
@@ -49,10 +49,10 @@ loop-k-preserved c =
     let l0 = c.args.lines.now.items in
     let d0 = c.args.dispatches.now.items in
     let there : k < length feeds = omega (arith, inv.count, c.sources-k-end.ensures.count) in
-    let whole = given-then s now (placed s c.sources-k-end.ensures.rules) (λ i. fed_below s tr now i k) (by_source s tr now k) l0 d0 c.loop-k.lines.items c.loop-k.dispatches.items c.take_event.new.lines.items c.take_event.new.dispatches.items inv.given c.in_ok-feed.ensures.given in
+    let whole = given-then s c.args.setting.now.places.now.items now (placed s c.sources-k-end.ensures.rules) (λ i. fed_below s tr now i k) (by_source s tr now k) l0 d0 c.loop-k.lines.items c.loop-k.dispatches.items c.take_event.new.lines.items c.take_event.new.dispatches.items inv.given c.in_ok-feed.ensures.given in
     record {
       count = length-set feeds k feed ∙ inv.count;
-      given = given-same s now (λ i. fed_below s tr now i k ++ by_source s tr now k i) (λ i. fed_below s tr now i (k + 1)) l0 d0 c.take_event.new.lines.items c.take_event.new.dispatches.items whole (λ i less. sym (flat_map-places_more (λ q. by_source s tr now q i) k));
+      given = given-same s c.args.setting.now.places.now.items now (λ i. fed_below s tr now i k ++ by_source s tr now k i) (λ i. fed_below s tr now i (k + 1)) l0 d0 c.take_event.new.lines.items c.take_event.new.dispatches.items whole (λ i less. sym (flat_map-places_more (λ q. by_source s tr now q i) k));
       later = omega (arith, inv.later, c.in_ok-feed.ensures.later, c.min-soon.ensures);
       soonest = below-more (λ i (x : Feed). c.min-soon.result ≤ x.time) feeds k feed no_feed there (λ i less. omega (arith, inv.soonest i less, c.min-soon.ensures)) (omega (arith, c.min-soon.ensures));
       ahead = below-more (λ i (x : Feed). IsAhead (times_of tr i) x.time x.next) feeds k feed no_feed there inv.ahead c.in_ok-feed.ensures.ahead;

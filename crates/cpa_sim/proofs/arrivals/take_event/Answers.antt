@@ -57,6 +57,6 @@ returns-clause-given c =
     let read = listed-read (λ v. v.items) lists k c.index.result.now there c.index.ensures in
     let are = ap places_of (c.as_slice-tasks.ensures.value ∙ sym read) ∙ c.requires.followers.fed k c.requires.there in
     let new = causes_by (Source c.args.source) (range_with_len c.args.feed.next (c.pass-next.result - c.args.feed.next)) in
-    given-same s c.args.now (λ i. cond (is_among tasks i) new []) (by_source s c.args.setting.now.trace.now c.args.now k) c.args.lines.now.items c.args.dispatches.now.items c.arrive_at_all.new.lines.items c.arrive_at_all.new.dispatches.items
+    given-same s c.args.setting.now.places.now.items c.args.now (λ i. cond (is_among tasks i) new []) (by_source s c.args.setting.now.trace.now c.args.now k) c.args.lines.now.items c.args.dispatches.now.items c.arrive_at_all.new.lines.items c.arrive_at_all.new.dispatches.items
     c.in_ok-arrive_at_all.ensures.given
     (λ i less. ap (λ b. cond b new []) (among-is s (is_fed_by s k) tasks are i less) ∙ ap (λ ns. cond (is_fed_by s k i) (causes_by (Source c.args.source) ns) []) (sym c.pass-next.ensures.fresh))

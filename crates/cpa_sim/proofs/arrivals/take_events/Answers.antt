@@ -14,7 +14,7 @@ returns-then-now-soon-clause-given c =
     let now = c.args.now in
     let lines = c.args.lines.now.items in
     let dispatches = c.args.dispatches.now.items in
-    given-same s now (λ i. []) (by_sources s tr now) lines dispatches lines dispatches (given-none s now lines dispatches c.requires.lines c.requires.dispatches)
+    given-same s c.args.setting.now.places.now.items now (λ i. []) (by_sources s tr now) lines dispatches lines dispatches (given-none s c.args.setting.now.places.now.items now lines dispatches c.requires.lines c.requires.dispatches)
     (λ i less. sym
     (flat_map-none (λ k. by_source s tr now k i) 0 (length s.sources)
     (λ k low high. by-none (is_fed_by s k i) (Source (record { 0 = k })) (events_at tr k now) (c.requires.silent k (omega arith) (omega (arith, c.if-now-soon.true, c.requires.soonest k (omega arith)))))))

@@ -1,6 +1,9 @@
-use Rattle.std.proofs.Common.{◌≡◌, ℕ, ◌+◌, ◌<◌, ◌≤◌, length}
+use Rattle.std.proofs.Common.{◌≡◌, ℕ, ◌+◌, ◌<◌, ◌≤◌, length, map}
 use Rattle.cpa_trace.specs.Trace.{phase_of}
+use Rattle.cpa_model.specs.SystemLists.{places_of}
 use Rattle.cpa_sched.specs.Steps.{kind_of}
+use Rattle.cpa_sched.specs.Reaches.{HasReach}
+use Rattle.cpa_sim.specs.Arrivals.{listed}
 use Rattle.cpa_sim.specs.Simulation.{dispatch_at, waiting, state_now, Foresees, HasEnough}
 use Rattle.cpa_sim.proofs.dispatches.foresee_all.Given as goal
 
@@ -11,6 +14,7 @@ invariant-loop-k l = record {
   most : l.ticks ≤ l.most;
   foresees : (r : ℕ) → r < l.k → Foresees l.system r (state_now (kind_of l.system r) (dispatch_at l.initial.dispatches.items r)) (waiting l.lines) l.now (phase_of l.trace r) (dispatch_at l.dispatches.items r);
   enough : (r : ℕ) → r < l.k → HasEnough l.lines (dispatch_at l.dispatches.items r);
+  reached : (r : ℕ) → r < l.k → HasReach (places_of (listed (map (λ v. v.items) l.orders.items) r)) (waiting l.lines) (dispatch_at l.dispatches.items r).reach;
   fits : (r : ℕ) → r < l.k → (dispatch_at l.dispatches.items r).gone + l.ticks ≤ (dispatch_at l.dispatches.items r).ticks;
   same : (r : ℕ) → l.k ≤ r → dispatch_at l.dispatches.items r ≡ dispatch_at l.initial.dispatches.items r;
 }

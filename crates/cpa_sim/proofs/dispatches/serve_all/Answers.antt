@@ -64,6 +64,7 @@ loop-k-preserved c =
                 h.ends i e ∙ ap (λ (l : LineCounts). nat_le l.left c.args.ticks) (inv.still i p.on.task (omega (arith, on)));
             state = h.state;
             unchanged = h.unchanged;
+            reach = h.reach;
           });
       ended = below-more (λ r (x : Dispatch). holds c.with_if-ended.result r ≡ x.ends) dispatches k dispatch no_dispatch there (λ r less. more r ∙ (with-other k r c.serve-ends.result (holds c.loop-k.ended r) (λ e. absurd (omega (arith, e, less))) ∙ inv.ended r less))
           (more k ∙ (with-this k c.serve-ends.result (holds c.loop-k.ended k) (inv.past k (omega arith)) ∙ c.serve-ends.ensures.ends));
