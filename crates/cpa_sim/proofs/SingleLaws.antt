@@ -1,10 +1,13 @@
 -- Ends of jobs that are taken resource by resource, where no task has more than one activator.
 use Rattle.std.proofs.Common.{◌≡◌, ◌≢◌, ℕ, ◌+◌, ◌-◌, ◌<◌, ◌≤◌, ◌++◌, ◌⊎◌, length, List, [], ◌∷◌, Bool, true, false, cond, eqb, ◌&&◌, Option, option_map, Some, None, refl, sym, ◌∙◌, ap, inl, inr, arith}
+use Rattle.std.specs.Prelude.{MatchOption}
 use Rattle.std.specs.List.{flat_map, list_any, range_with_len}
 use Rattle.std.proofs.lemmas.Bool.{cases_lt, cases_Bool, eq-eqb, eqb-true, ne_eqb, false≢true}
 use Rattle.cpa_units.proofs.PlaceLaws.{flat_map-places_more}
 use Rattle.cpa_model.specs.declared.entries.Activator.{Activator}
+use Rattle.cpa_units.specs.declared.places.ResId.{ResId}
 use Rattle.cpa_units.specs.declared.places.TaskId.{TaskId}
+use Rattle.cpa_units.specs.Sets.{holds, IsNextMember}
 use Rattle.cpa_model.specs.declared.entries.Kind.{Kind}
 use Rattle.cpa_model.specs.declared.entries.Activator.TheVariants.{Source, Task}
 use Rattle.cpa_model.specs.SystemLists.{SystemLists, place_of, task_at, is_task, is_activated_by}
@@ -13,9 +16,10 @@ use Rattle.cpa_sim.specs.declared.dispatches.Dispatch.{Dispatch}
 use Rattle.cpa_sim.specs.declared.jobs.Cause.{Cause}
 use Rattle.cpa_sim.specs.Run.{is_chosen, causes_by, by_task, by_tasks}
 use Rattle.cpa_sim.specs.Lines.{LineCounts}
-use Rattle.cpa_sim.specs.Simulation.{line_at, dispatch_at, runner, ends_of, IsUnchanged}
+use Rattle.cpa_sim.specs.Simulation.{line_at, dispatch_at, runner, ends_of, IsUnchanged, AreEnding}
 use Rattle.cpa_sim.specs.Arrivals.{ended_of, by_last}
 use Rattle.cpa_sim.proofs.CauseLists.{by-none}
+use Rattle.cpa_sim.proofs.ArrivalLaws.{upto_resource, member-there}
 use Rattle.cpa_sim.proofs.RangeLaws.{flat_map-none, flat_map-quiet}
 
 -- one place alone has something
@@ -70,6 +74,20 @@ module _ (s : SystemLists) (lines : List LineCounts) (dispatches : List Dispatch
   -- what the ends on the first so many resources start
   abbrev pub ended_below : ℕ → List Cause
   ended_below k = flat_map (λ r. by_ended s lines (ended_task (dispatch_at dispatches r)) i) (range_with_len 0 k)
+
+  idle-ended : (dispatch : Dispatch) → dispatch.ends ≡ false → by_ended s lines (ended_task dispatch) i ≡ []
+  idle-ended dispatch none = rw none refl
+
+  -- nothing is started up to the next resource on which a job ends, or past all of them
+  pub ended-upto : (ended : List Bool) (m : ℕ) (place : Option ResId) → AreEnding dispatches ended → m ≤ length dispatches
+      → MatchOption place ((r : ℕ) → m ≤ r → holds ended r ≡ false) (λ res. IsNextMember ended m res.0) → ended_below m ≡ ended_below (upto_resource (length dispatches) place)
+  ended-upto ended m None are low none =
+      flat_map-quiet (λ r. by_ended s lines (ended_task (dispatch_at dispatches r)) i) m (length dispatches) low
+      (λ r after less. idle-ended (dispatch_at dispatches r) (sym (are.there r less) ∙ none r after))
+  ended-upto ended m (Some res) are low is =
+      let there = member-there dispatches 0 ended m res are is in
+      flat_map-quiet (λ r. by_ended s lines (ended_task (dispatch_at dispatches r)) i) m res.0 is.past
+      (λ r after less. idle-ended (dispatch_at dispatches r) (sym (are.there r (omega (arith, less, there))) ∙ is.first r after less))
 
   unstarted : (o : Option ℕ) → ((j : ℕ) → o ≡ Some j → is_activated_by s j i ≡ false) → by_ended s lines o i ≡ []
   unstarted None none = refl
