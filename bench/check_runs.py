@@ -19,8 +19,9 @@ from calls import built
 
 import subprocess
 
-PROGRAM = built("cpa_cli")
-SCHEDULE = built("cpa_schedule")
+# another script may take the step rules from here, and call no program
+PROGRAM = built("cpa_cli") if __name__ == "__main__" else None
+SCHEDULE = built("cpa_schedule") if __name__ == "__main__" else None
 KINDS = ("preemptive", "round-robin", "tdma", "can")
 
 

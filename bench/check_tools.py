@@ -6,7 +6,9 @@ that is drawn must have its line, and no other line may be there; tasks with sev
 their streams as the report does; bounds, deadlines and marks are those of the report. Each report and each session is drawn
 as a chart, which must have the name of each path, and of each task where tasks are asked for. Where Graphviz is there, it
 must take each graph. The streams of each task, from which the curve of its events is drawn, are those that its report tells,
-and the steps of a curve are where it rises. What isn't a report or a picture's name is refused.
+and the steps of a curve are where it rises. Each recorded schedule is drawn as a Gantt chart: its bars lie where the rows
+say, on the lane of their resource, with a mark where each job comes and one where it is done, and a job is red exactly where
+it is later than its bound. What isn't a report, a schedule or a picture's name is refused.
 
     python3 bench/check_tools.py
 """
@@ -18,6 +20,7 @@ import subprocess
 import sys
 import tempfile
 import tomllib
+import xml.etree.ElementTree
 
 try:
     import matplotlib
@@ -28,6 +31,7 @@ TOP = os.path.join(os.path.dirname(os.path.abspath(__file__)), "..")
 os.chdir(TOP)
 sys.path.append("tools")
 from report import read_report
+from runs import jobs_in, read_schedule, read_trace
 from system import first_windows, input_of, most_events, read_system
 
 tried = 0
@@ -41,8 +45,8 @@ def hold(is_so, what):
         faults.append(what)
 
 
-def run(tool, *words):
-    return subprocess.run([sys.executable, os.path.join("tools", tool), *words], capture_output=True, text=True, check=False)
+def run(tool, *words, given=None):
+    return subprocess.run([sys.executable, os.path.join("tools", tool), *words], input=given, capture_output=True, text=True, check=False)
 
 
 def lines_of(file):
@@ -142,6 +146,103 @@ def check_curves(room):
         hold(done.returncode == 1 and refusal in done.stderr, f"curve.py {given}: {done.stderr}")
 
 
+SVG = "{http://www.w3.org/2000/svg}"
+
+
+def written(room, name, text):
+    with open(os.path.join(room, name), "w", encoding="ascii") as it:
+        it.write(text)
+    return os.path.join(room, name)
+
+
+def gantt(room, *words, given=None):
+    """The texts of a Gantt chart, its bars from left to right in points, each with its height, and how many marks it has."""
+    picture = os.path.join(room, "gantt.svg")
+    done = run("gantt.py", *words, "--to", picture, given=given)
+    hold(done.returncode == 0 and not done.stderr, f"gantt.py {words}: {done.stderr}")
+    tree = xml.etree.ElementTree.parse(picture)
+    bars, marks = [], 0
+    for group in tree.iter(f"{SVG}g"):
+        if group.get("id", "").startswith("PatchCollection"):
+            # a single bar is defined and then used, which moves it down
+            down = sum(float(it.get("y")) for it in group.iter(f"{SVG}use"))
+            for path in group.iter(f"{SVG}path"):
+                points = [tuple(map(float, it)) for it in re.findall(r"[ML] (\S+) (\S+)", path.get("d"))]
+                bars.append((min(x for x, _ in points), max(x for x, _ in points), round(min(y for _, y in points) + down, 2)))
+        elif group.get("id", "").startswith("PathCollection"):
+            marks += sum(1 for _ in group.iter(f"{SVG}use"))
+    return ["".join(it.itertext()).strip() for it in tree.iter(f"{SVG}text")], sorted(bars), marks
+
+
+def check_gantt(room, name):
+    """The chart of a recorded schedule of an example."""
+    file, schedule, trace, report = (f"examples/{name}.{end}" for end in ("toml", "schedule.csv", "trace.csv", "report.txt"))
+    system = read_system(file)
+    on = {it["name"]: it["on"] for it in system["task"]}
+    rows = [(task, int(start), int(end)) for task, start, end in (line.split(",") for line in lines_of(schedule))]
+    jobs = jobs_in(system, read_schedule(schedule, system), read_trace(trace))
+    for line in lines_of(f"examples/{name}.run.txt"):
+        if line.startswith("task "):
+            words = line.split()
+            worst = max((done - came for came, done in jobs[words[1]] if done is not None), default="none")
+            hold([str(len(jobs[words[1]])), str(worst)] == [words[3], words[7]], f"gantt.py {name}: the jobs of {words[1]}: {jobs[words[1]]}")
+    texts, bars, marks = gantt(room, file, schedule, "--trace", trace, "--report", report)
+    hold(marks == sum(1 + (done is not None) for several in jobs.values() for _, done in several), f"gantt.py {name}: {marks} marks")
+    hold(set(on.values()) <= set(texts) and "a job comes" in texts and "later than its bound" not in texts, f"gantt.py {name}: it says {texts}")
+    # the first bar and the last tell how long a tick is
+    first, last = min(start for _, start, _ in rows), max(end for _, _, end in rows)
+    left = min(x for x, _, _ in bars)
+    tick = (max(x for _, x, _ in bars) - left) / (last - first)
+    lanes = sorted({y for _, _, y in bars})
+    order = [it["name"] for it in system["resource"] if it["name"] in {on[task] for task, _, _ in rows}]
+    wanted = sorted((left + (start - first) * tick, left + (end - first) * tick, lanes[order.index(on[task])]) for task, start, end in rows)
+    hold(len(bars) == len(wanted) and all(abs(a - b) < 0.6 for pair in zip(bars, wanted) for a, b in zip(*pair)), f"gantt.py {name}: its bars are {bars}, and not {wanted}")
+
+
+def check_late(room):
+    """What is marked, cut out and refused."""
+    chains = ["examples/crossing_chains.toml", "examples/crossing_chains.schedule.csv"]
+    trace = ["--trace", "examples/crossing_chains.trace.csv"]
+    with open("examples/crossing_chains.report.txt", encoding="ascii") as it:
+        report = it.read()
+    lower = written(room, "lower.txt", report.replace("best 5 worst 30", "best 5 worst 25"))
+    texts, _, _ = gantt(room, *chains, *trace, "--report", lower)
+    hold("later than its bound" in texts and [it for it in texts if "bound " in it] == ["a1: 30, bound 25"], f"gantt.py, a late job: {texts}")
+    cut = written(room, "cut.csv", "b1,0,20\nb2,20,40\nb1,100,120\n")
+    texts, _, _ = gantt(room, chains[0], cut, *trace, "--report", "examples/crossing_chains.report.txt")
+    hold([it for it in texts if "bound " in it] == ["a1: not done, bound 30"], f"gantt.py, a job that isn't done: {texts}")
+    texts, bars, _ = gantt(room, *chains, *trace, "--report", "examples/crossing_chains.report.txt", "--longest", "b1")
+    hold("b1: 20, bound 30" in texts, f"gantt.py --longest b1: {texts}")
+    texts, bars, _ = gantt(room, *chains, "--from", "100", "--until", "130")
+    hold(len(bars) == 2 and "b1" in texts and "a1" not in texts and "it is done" not in texts, f"gantt.py, a part: {texts} {bars}")
+    with open(chains[1], encoding="ascii") as it:
+        hold(gantt(room, chains[0], "-", given=it.read()) == gantt(room, *chains), "gantt.py: what comes in")
+    ring = 'format = 1\nresource = [{ name = "ring", kind = "tdma", gap = 8 }]\nsource = [{ name = "s", period = 40 }]\ntask = [{ name = "t", on = "ring", after = "s", best = 3, worst = 3, slot = 2 }]\n'
+    texts, _, marks = gantt(room, written(room, "ring.toml", ring), written(room, "ring.csv", "t,6,8\nt,16,17\n"), "--trace", written(room, "ring.trace.csv", "event,s,3\nphase,ring,4\n"))
+    hold("gap" in texts and marks == 2, f"gantt.py, a TDMA resource: {texts}")
+    for said, words in (
+        ("name a SCHEDULE, or a trace", chains[:1]),
+        ("--report wants --trace", [*chains, "--report", lower]),
+        ("--longest wants --trace", [*chains, "--longest", "a1"]),
+        ("no task of this name", [*chains, *trace, "--longest", "a3"]),
+        ("has no tick", [*chains, "--from", "5", "--until", "5"]),
+        ("row 2: the system has no task z", [chains[0], written(room, "z.csv", "a1,0,1\nz,1,2\n")]),
+        ("row 1: its end isn't after its start", [chains[0], written(room, "e.csv", "a1,1,1\n")]),
+        ("row 1 isn't TASK,START,END", [chains[0], written(room, "n.csv", "a1,x,1\n")]),
+        ("can't be called", [chains[0], *trace, "--program", os.path.join(room, "nothing")]),
+        ("it doesn't take `schedule FILE TRACE`", [chains[0], *trace, "--program", written_program(room)]),
+    ):
+        done = run("gantt.py", *words, "--to", os.path.join(room, "refused.svg"))
+        hold(done.returncode == 1 and said in done.stderr, f"gantt.py {words}: {done.stderr}")
+
+
+def written_program(room):
+    """A program that accepts no words."""
+    program = written(room, "program", "#!/bin/sh\necho words refused\nexit 10\n")
+    os.chmod(program, 0o755)
+    return program
+
+
 with tempfile.TemporaryDirectory() as room:
     files = sorted(glob.glob("examples/*.toml"))
     formats = set()
@@ -158,6 +259,9 @@ with tempfile.TemporaryDirectory() as room:
         check_charts(report, room)
         check_streams(file, report)
     check_curves(room)
+    for schedule in sorted(glob.glob("examples/*.schedule.csv")):
+        check_gantt(room, os.path.basename(schedule).removesuffix(".schedule.csv"))
+    check_late(room)
     hold(formats == {1, 2}, "examples/ has systems of both formats")
     for session in sorted(glob.glob("examples/*.session.txt")):
         # the last report is drawn, whose tasks may be others than before
@@ -180,7 +284,7 @@ with tempfile.TemporaryDirectory() as room:
     with open(cut, "w", encoding="ascii") as it:
         it.write("task m cpu streams two best 1 worst 6\nsummary tasks 1 overload 0 missed 0\n")
     hold("line 1 is no line of a report" in run("chart.py", cut).stderr, "chart.py: a line that isn't one")
-    for tool, words in (("chart.py", ["examples/gateway.report.txt"]), ("graph.py", ["examples/gateway.toml"])):
+    for tool, words in (("chart.py", ["examples/gateway.report.txt"]), ("graph.py", ["examples/gateway.toml"]), ("gantt.py", ["examples/pedal.toml", "examples/pedal.schedule.csv"])):
         hold("a picture's name ends with" in run(tool, "--to", os.path.join(room, "picture.gif"), *words).stderr, f"{tool}: the name of a picture")
 
 for fault in faults:

@@ -17,10 +17,10 @@ import shutil
 import subprocess
 import sys
 
+from colours import HUES, hues
 from report import read_report
 from system import activators, execution, read_system
 
-HUES = ["#1b6ca8", "#b5541c", "#2e7d4f", "#7b4fa3", "#a3862a", "#a83254", "#2a8c8c", "#5b6770", "#8c5a2a", "#4f63c9", "#6f8c1f", "#c04f9b"]
 OVERLOADED, MISSED = "#f5b7b1", "#fbe3b5"
 
 
@@ -59,10 +59,9 @@ def graph(system, report, chains):
     activates = {before for it in tasks.values() for before in activators(it)}
     drawn = {name for name, it in tasks.items() if not chains or name in activates or any(before in tasks for before in activators(it))}
     streams = streams_of(tasks)
-    hue, links, missed = {}, {}, set()
+    hue, links, missed = hues(system), {}, set()
     for place, path in enumerate(system.get("path", [])):
         for before, name in zip([None, *path["tasks"]], path["tasks"]):
-            hue.setdefault(name, HUES[place % len(HUES)])
             links.setdefault((before, name), HUES[place % len(HUES)])
             if found_paths.get(path["name"], {}).get("verdict") == "missed":
                 missed.add(name)
@@ -134,4 +133,5 @@ def main():
     subprocess.run(["dot", f"-T{form}", "-o", words.to], input=text, text=True, check=True)
 
 
-main()
+if __name__ == "__main__":
+    main()

@@ -1,15 +1,46 @@
-"""Reads what `lokwurmi analyse` and `lokwurmi session` write, for the tools beside it."""
+"""Reads what `lokwurmi analyse`, `lokwurmi session` and `lokwurmi simulate` write, for the tools beside it."""
 import re
 import sys
 
-TASK = re.compile(r"task (\S+) (\S+) (?:period \d+ jitter (?:\d+|overload) distance (?:\d+|overload)|streams \d+) best (\d+) worst (\d+|overload)")
+TASK = re.compile(r"task (\S+) (\S+) (?:period (\d+) jitter (\d+|overload) distance (\d+|overload)|streams (\d+)) best (\d+) worst (\d+|overload)")
 PATH = re.compile(r"path (\S+) best (\d+) worst (\d+|overload) deadline (\d+|-) (met|missed|unknown|none)")
 SUMMARY = re.compile(r"summary tasks \d+ overload \d+ missed \d+")
+REFUSED = re.compile(r"line (\d+) refused (\d)")
+SEEN_TASK = re.compile(r"task (\S+) jobs (\d+) done (\d+) worst (\d+|none)")
+SEEN_PATH = re.compile(r"path (\S+) passages (\d+) worst (\d+|none)")
+SEEN_SUMMARY = re.compile(r"summary jobs (\d+) done (\d+) end (\d+)")
 
 
 def number(word):
-    """A number, or None for `overload` and for no deadline."""
+    """A number, or None for `overload`, for `none` and for no deadline."""
     return int(word) if word.isdigit() else None
+
+
+def task_in(it):
+    """What a task's line says. Where it has several streams, it has no period, no jitter and no distance."""
+    period, jitter, distance = (word and number(word) for word in it.group(3, 4, 5))
+    return {"on": it[2], "period": period, "jitter": jitter, "distance": distance, "streams": int(it[6] or 1), "best": int(it[7]), "worst": number(it[8])}
+
+
+def reports_in(lines, file):
+    """The reports of some lines, in order: the tasks and the paths of each, dictionaries by name, and which edits were refused
+    before it, the reason by the number of the line."""
+    found, tasks, paths, refused = [], {}, {}, {}
+    for place, line in enumerate(lines, 1):
+        if it := TASK.fullmatch(line):
+            tasks[it[1]] = task_in(it)
+        elif it := PATH.fullmatch(line):
+            paths[it[1]] = {"best": int(it[2]), "worst": number(it[3]), "deadline": number(it[4]), "verdict": it[5]}
+        elif SUMMARY.fullmatch(line):
+            found.append((tasks, paths, refused))
+            tasks, paths, refused = {}, {}, {}
+        elif it := REFUSED.fullmatch(line):
+            refused[int(it[1])] = int(it[2])
+        else:
+            sys.exit(f"{file}: line {place} is no line of a report: {line}")
+    if not found or tasks or paths:
+        sys.exit(f"{file}: there is no whole report; its last line begins with summary")
+    return found
 
 
 def read_report(file):
@@ -19,16 +50,21 @@ def read_report(file):
             lines = it.read().splitlines()
     except (OSError, UnicodeDecodeError) as fault:
         sys.exit(f"{file}: can't be read: {fault}")
-    tasks, paths, found = {}, {}, None
+    return reports_in(lines, file)[-1][:2]
+
+
+def seen_in(lines, file):
+    """What `simulate` observed: the tasks and the paths, each a dictionary by name, and the end of the run."""
+    tasks, paths, end = {}, {}, None
     for place, line in enumerate(lines, 1):
-        if it := TASK.fullmatch(line):
-            tasks[it[1]] = {"on": it[2], "best": int(it[3]), "worst": number(it[4])}
-        elif it := PATH.fullmatch(line):
-            paths[it[1]] = {"best": int(it[2]), "worst": number(it[3]), "deadline": number(it[4]), "verdict": it[5]}
-        elif SUMMARY.fullmatch(line):
-            found, tasks, paths = (tasks, paths), {}, {}
-        elif not re.fullmatch(r"line \d+ refused \d", line):
-            sys.exit(f"{file}: line {place} is no line of a report: {line}")
-    if found is None or tasks or paths:
-        sys.exit(f"{file}: there is no whole report; its last line begins with summary")
-    return found
+        if it := SEEN_TASK.fullmatch(line):
+            tasks[it[1]] = {"jobs": int(it[2]), "done": int(it[3]), "worst": number(it[4])}
+        elif it := SEEN_PATH.fullmatch(line):
+            paths[it[1]] = {"passages": int(it[2]), "worst": number(it[3])}
+        elif it := SEEN_SUMMARY.fullmatch(line):
+            end = int(it[3])
+        else:
+            sys.exit(f"{file}: line {place} is no line of a run: {line}")
+    if end is None:
+        sys.exit(f"{file}: there is no whole run; its last line begins with summary")
+    return tasks, paths, end

@@ -25,6 +25,12 @@ def activators(task):
     return [task["after"]] if isinstance(task["after"], str) else task["after"]
 
 
+def sources_of(system, name):
+    """The source of each stream that starts a task, in the order of its streams. There is no ring in a system."""
+    tasks = {it["name"]: it for it in system.get("task", [])}
+    return [source for before in activators(tasks[name]) for source in (sources_of(system, before) if before in tasks else [before])]
+
+
 def input_of(system, bounds, name):
     """The streams that start a task, each a period, a jitter and a distance, where `bounds` has what each task's response is at most.
 

@@ -25,12 +25,12 @@ import sys
 import tempfile
 import time
 
-from report import read_report
+from program import LAUNCHER, TOP, add_program, written_by
+from report import reports_in
 from system import activators, execution, read_system
 
-TOP = os.path.dirname(os.path.dirname(os.path.abspath(__file__)))
-LAUNCHER = os.path.join(TOP, "lokwurmi")
-PROGRAM = os.path.join(TOP, "crates/cpa_cli/out/cpa_cli")
+# what the script lokwurmi calls, which is called many times here
+BUILT = os.path.join(TOP, "crates/cpa_cli/out/cpa_cli")
 LATEST = 10_000_000
 MOST_ROWS = 20_000
 
@@ -134,16 +134,16 @@ def rows_of(system, plan, span):
 class Judge:
     """Replays plans by `simulate`, several side by side."""
 
-    def __init__(self, system, folder, jobs):
+    def __init__(self, system, folder, jobs, program):
         self.system, self.folder, self.pool, self.count = system, folder, concurrent.futures.ThreadPoolExecutor(jobs), 0
-        self.program = [PROGRAM] if os.access(PROGRAM, os.X_OK) else [LAUNCHER]
+        self.program = BUILT if program == LAUNCHER and os.access(BUILT, os.X_OK) else program
 
     def seen(self, number, plan, span):
         """The greatest response of each task and time of each path that was seen."""
         trace = os.path.join(self.folder, f"{number}.csv")
         with open(trace, "w", encoding="ascii") as file:
             file.write("".join(row + "\n" for row in rows_of(self.system, plan, span)))
-        run = subprocess.run([*self.program, "simulate", self.system.path, trace], capture_output=True, text=True, check=False)
+        run = subprocess.run([self.program, "simulate", self.system.path, trace], capture_output=True, text=True, check=False)
         os.remove(trace)
         if run.returncode == 16:
             return {}
@@ -307,6 +307,7 @@ def asked_for():
     parser.add_argument("--seconds", type=float, default=60, help="ends the search after this time (60)")
     parser.add_argument("--seed", type=int, default=1, help="another number looks in other places (1)")
     parser.add_argument("--jobs", type=int, default=os.cpu_count(), help="how many traces are replayed side by side")
+    add_program(parser)
     options = parser.parse_args()
     if (options.task is not None) + (options.path is not None) + options.all != 1:
         parser.error("name a task, or --path NAME, or --all")
@@ -317,22 +318,16 @@ def asked_for():
     return options
 
 
-def report_of(path, folder):
+def report_of(path, program):
     """The bounds, as `analyse` prints them."""
-    run = subprocess.run([LAUNCHER, "analyse", path], stdout=subprocess.PIPE, text=True, check=False)
-    if run.returncode > 2:
-        stop(f"{path}: {run.stdout.strip()}")
-    report = os.path.join(folder, "report")
-    with open(report, "w", encoding="ascii") as file:
-        file.write(run.stdout)
-    tasks, paths = read_report(report)
+    tasks, paths, _ = reports_in(written_by(program, "analyse", path).splitlines(), path)[-1]
     return {("task", name): it["worst"] for name, it in tasks.items()} | {("path", name): it["worst"] for name, it in paths.items()}
 
 
 def main():
     options = asked_for()
     with tempfile.TemporaryDirectory() as folder:
-        bounds = report_of(options.file, folder)
+        bounds = report_of(options.file, options.program)
         system = System(options.file)
         if options.all:
             targets = [what for what, bound in bounds.items() if bound is not None]
@@ -341,7 +336,7 @@ def main():
             if targets[0] not in bounds:
                 kind, name = targets[0]
                 stop(f"{options.file} has no {kind} {name}; it has {', '.join(sorted(one for what, one in bounds if what == kind)) or 'none'}")
-        judge, best, rng = Judge(system, folder, options.jobs), Best(), random.Random(options.seed)
+        judge, best, rng = Judge(system, folder, options.jobs, options.program), Best(), random.Random(options.seed)
         began, cut = time.monotonic(), 0
         for place, target in enumerate(targets):
             ends = began + options.seconds * (place + 1) / len(targets)

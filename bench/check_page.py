@@ -1,0 +1,447 @@
+#!/usr/bin/env python3
+"""Tries the pages of tools/page.py in headless Chromium. Outside the gate; takes about a minute, and no network.
+
+For some of the examples a page is made, with a trace, a schedule and a script where there are some. It must load without an
+error and without asking for anything else, show the numbers of the report, of `simulate` and of `session`, and the load of
+each resource, sort each column both ways by mouse and by keyboard, filter, fit into a narrow window, be light and dark, and
+print. Pages of overloaded systems must tell what lies behind; what is told of random systems that are overloaded must be so:
+with a limit a hundred times as high a task that has too much work has no bound still, and each task without one has a cause.
+What page.py doesn't take is refused in a line.
+
+A schedule that isn't among the examples is made by the step rules of check_runs.py. With --keep pictures of the pages, in
+light and dark, wide and narrow, the documents that they print, and the pages themselves stay in a folder.
+
+    python3 bench/check_page.py [--program PROGRAM] [--keep FOLDER]
+"""
+import argparse
+import json
+import os
+import random
+import re
+import subprocess
+import sys
+import tempfile
+import tomllib
+from fractions import Fraction
+
+from browser import Browser
+from check_runs import Run, file_of, made
+
+TOP = os.path.join(os.path.dirname(os.path.abspath(__file__)), "..")
+sys.path.append(os.path.join(TOP, "tools"))
+
+from behind import Behind
+from report import reports_in
+from runs import jobs_in, read_schedule, read_trace
+from system import activators, execution, read_system
+
+EXAMPLES = os.path.join(TOP, "examples")
+# the examples, and whether they have a trace and a script
+PAGES = [("car_network", True, False), ("crossing_chains", True, True), ("sensor_fusion", True, True), ("gateway", True, False), ("tdma", False, False), ("overload", False, False)]
+RANDOM = 150
+
+faults, tried = [], 0
+
+
+def hold(is_so, what):
+    global tried
+    tried += 1
+    if not is_so:
+        faults.append(what)
+
+
+def call(program, *words):
+    return subprocess.run([program, *words], stdout=subprocess.PIPE, text=True, check=False).stdout
+
+
+def example(name, end):
+    return os.path.join(EXAMPLES, name + end)
+
+
+def written(path, text):
+    with open(path, "w", encoding="utf-8") as it:
+        it.write(text)
+    return path
+
+
+def told(text):
+    """The lines of a report by their words, read here once more: those of tasks, and those of paths."""
+    lines = [line.split() for line in text.splitlines()]
+    return [it for it in lines if it[0] == "task"], [it for it in lines if it[0] == "path"]
+
+
+def plain(system):
+    """A system as check_runs.py has it."""
+    resources = {it["name"]: it | {"gap": it.get("gap", 0)} for it in system.get("resource", [])}
+    tasks = []
+    for it in system.get("task", []):
+        best, worst = execution(it, resources[it["on"]])
+        tasks.append(it | {"after": activators(it), "best": best, "worst": worst})
+    return {"resource": list(resources.values()), "source": system.get("source", []), "task": tasks, "path": system.get("path", [])}
+
+
+def schedule_of(file, trace):
+    """The schedule of a run, by the step rules followed tick by tick."""
+    system, (events, executions, phases) = plain(read_system(file)), read_trace(trace)
+    whole = [{it["name"]: given.get(it["name"], none) for it in system[part]} for part, given, none in (("source", events, []), ("task", executions, []), ("resource", phases, 0))]
+    return "".join(f"{task},{start},{end}\n" for task, start, end in Run(system, whole).segments)
+
+
+class Page:
+    """A page in the browser."""
+
+    def __init__(self, browser, name):
+        self.browser, self.name = browser, name
+
+    def run(self, text):
+        return self.browser.run(text)
+
+    def hold(self, is_so, what):
+        hold(is_so, f"{self.name}: {what}")
+
+    def rows(self, table):
+        """The cells of a table, row by row."""
+        return self.run(f"[...document.querySelectorAll('#{table} tbody tr')].map((row) => [...row.cells].map((it) => it.innerText.trim()))")
+
+    def table(self, table):
+        """The rows of a table, each by the names of its columns; of a path's name the first line."""
+        heads = self.run(f"[...document.querySelectorAll('#{table} thead th')].map((it) => it.innerText.trim())")
+        return [{head: cell.split("\n")[0] for head, cell in zip(heads, row)} for row in self.rows(table)]
+
+    def shown(self, table):
+        """The names of the rows that are to be seen."""
+        return self.run(f"[...document.querySelectorAll('#{table} tbody tr')].filter((it) => it.offsetParent !== null).map((it) => it.dataset.name)")
+
+    def choose(self, table, name, value):
+        self.run(f"(() => {{ const it = document.querySelector('.tools[data-of={table}] select[name={name}]'); it.value = {json.dumps(value)}; it.dispatchEvent(new Event('input', {{bubbles: true}})); }})()")
+
+    def clear(self, table):
+        self.run(f"document.querySelector('.tools[data-of={table}] input').focus()")
+        self.browser.key("Escape")
+
+
+def check_numbers(page, program, with_trace):
+    file = example(page.name, ".toml")
+    tasks, paths = told(call(program, "analyse", file))
+    rows = page.table("task-table")
+    page.hold([it["Task"] for it in rows] == [it[1] for it in tasks], "the tasks aren't those of the report")
+    for row, line in zip(rows, tasks):
+        page.hold((row["Resource"], row["Best"], row["Bound"]) == (line[2], line[-3], line[-1]), f"task {line[1]}: {row}")
+        if line[3] == "period":
+            page.hold((row["Period"], row["Jitter"], row["Distance"]) == (line[4], line[6], line[8]), f"the input of {line[1]}: {row}")
+        else:
+            page.hold(row["Period"] == f"{line[4]} streams", f"the streams of {line[1]}: {row}")
+    rows = page.table("path-table") if paths else []
+    page.hold(len(rows) == len(paths), f"there are {len(rows)} paths")
+    for row, line in zip(rows, paths):
+        room = str(int(line[7]) - int(line[5])) if line[7] != "-" and line[5] != "overload" else "–"
+        page.hold([row["Path"], row["Best"], row["Worst"], row["Deadline"].replace("–", "-"), row["Room"], row["Verdict"]] == [line[1], line[3], line[5], line[7], room.replace("-", "−"), line[8]], f"path {line[1]}: {row}")
+    if with_trace:
+        seen = told(call(program, "simulate", file, example(page.name, ".trace.csv")))
+        for kind, lines, key in (("task", seen[0], "Task"), ("path", seen[1], "Path")):
+            by_name = {it[key]: it for it in page.table(f"{kind}-table")} if lines else {}
+            for line in lines:
+                page.hold(by_name[line[1]]["Seen"].replace("–", "none") == line[-1], f"what is seen of {line[1]}: {by_name[line[1]]}")
+                if kind == "task":
+                    row = by_name[line[1]]
+                    # 100 % only where the bound is reached
+                    page.hold(row["Of bound"] == (f"{100 * int(row['Seen']) // int(row['Bound'])} %" if row["Seen"] != "–" and row["Bound"] != "overload" else "–"), f"what is seen of the bound of {line[1]}: {row}")
+
+
+def check_bars(page):
+    """The parts of each path's bar are as long as the bounds of its tasks, which are told, and the deadline is where it should be."""
+    bounds = {it["Task"]: it["Bound"] for it in page.table("task-table")}
+    system = read_system(example(page.name, ".toml"))
+    for path in system.get("path", []):
+        row = f"document.querySelector('#path-table tr[data-name=\"{path['name']}\"]')"
+        label = page.run(f"{row}.querySelector('.chain').getAttribute('aria-label')")
+        on = {it["name"]: it["on"] for it in system["task"]}
+        page.hold(label == ", ".join(f"{it} on {on[it]} {bounds[it]}" for it in path["tasks"]), f"the bar of {path['name']} says {label}")
+        widths = page.run(f"[...{row}.querySelectorAll('.chain i')].map((it) => it.getBoundingClientRect().width)")
+        text = page.run(f"{row}.cells[{row}.cells.length - 1].innerText")
+        known = [(width, int(bounds[it])) for it, width in zip(path["tasks"], widths) if bounds[it] != "overload"]
+        page.hold(all(it in text for it in path["tasks"]) and all(str(bound) in text for _, bound in known), f"the bar of {path['name']} doesn't tell each bound: {text}")
+        if "deadline" in path and len(known) == len(widths):
+            at = page.run(f"(() => {{ const it = {row}.querySelector('.chain'); return it.querySelector('u').getBoundingClientRect().left - it.getBoundingClientRect().left; }})()")
+            per = at / path["deadline"]
+            page.hold(all(abs(width - bound * per) < 2 for width, bound in known), f"the parts of {path['name']}: {known}, and the deadline is at {at}")
+
+
+def check_loads(page):
+    """The load of each resource, summed here once more along the ways from sources."""
+    system = tomllib.loads(open(example(page.name, ".toml"), encoding="utf-8").read())
+    periods = {it["name"]: it["period"] for it in system["source"]}
+    tasks = {it["name"]: it for it in plain(system)["task"]}
+
+    def rate(name):
+        return Fraction(1, periods[name]) if name in periods else sum(map(rate, tasks[name]["after"]))
+
+    for row in page.table("resource-table"):
+        load = sum(rate(name) * it["worst"] for name, it in tasks.items() if it["on"] == row["Resource"])
+        page.hold(row["Load"] == f"{float(load) * 100:.1f} %", f"the load of {row['Resource']}: {row['Load']}, and not {float(load):.4f}")
+    for row in page.table("task-table"):
+        page.hold(row["Load"] == f"{float(rate(row['Task']) * tasks[row['Task']]['worst']) * 100:.1f} %", f"the load of {row['Task']}: {row['Load']}")
+
+
+def check_chart(page, program, schedule):
+    """The Gantt chart has a lane a resource, and its jobs have the greatest responses that `simulate` tells."""
+    file, trace = example(page.name, ".toml"), example(page.name, ".trace.csv")
+    texts = page.run("[...document.querySelectorAll('.chart svg text')].map((it) => it.textContent.trim())")
+    system = read_system(file)
+    used = {it["on"] for it in system["task"]}
+    page.hold(all(any(it["name"] in text for text in texts) == (it["name"] in used) for it in system["resource"]), f"the lanes of the chart: {texts}")
+    page.hold("a job comes" in texts and not any("later than" in it for it in texts), f"the marks of the chart: {texts}")
+    page.hold("none of them takes longer than its bound" in page.run("document.getElementById('run').innerText"), "late jobs")
+    jobs = jobs_in(system, read_schedule(schedule, system), read_trace(trace))
+    for line in told(call(program, "simulate", file, trace))[0]:
+        greatest = max((end - came for came, end in jobs[line[1]] if end is not None), default="none")
+        page.hold((str(len(jobs[line[1]])), str(greatest)) == (line[3], line[-1]), f"the jobs of {line[1]} on the chart: {jobs[line[1]]}")
+
+
+def check_column(page, table, place, press):
+    """Sorts a column up and down. What has no value comes last; numbers go by their value."""
+    cell = f"it.cells[{place}]"
+    start = len(page.rows(table))
+    for way in ("ascending", "descending"):
+        press(f"#{table} thead th:nth-child({place + 1}) button")
+        page.hold(page.run(f"document.querySelectorAll('#{table} thead th')[{place}].getAttribute('aria-sort')") == way, f"{table}, column {place}: it isn't {way}")
+        values = page.run(f"[...document.querySelectorAll('#{table} tbody tr')].map((it) => {cell}.dataset.v ?? {cell}.textContent.trim())")
+        known = [it for it in values if it != ""]
+        page.hold(len(values) == start and values[: len(known)] == known, f"{table}, column {place}: rows are lost, or those without a value aren't last: {values}")
+        if all(re.fullmatch(r"-?[\d.]+(e[+-]?\d+)?", it) for it in known):
+            numbers = [float(it) for it in known]
+            page.hold(numbers == sorted(numbers, reverse=way == "descending"), f"{table}, column {place}: it isn't {way}: {numbers}")
+        else:
+            pairs = [(b, a) if way == "descending" else (a, b) for a, b in zip(known, known[1:])]
+            page.hold(page.run(f"{json.dumps(pairs)}.every(([a, b]) => a.localeCompare(b, 'en', {{numeric: true}}) <= 0)"), f"{table}, column {place}: it isn't {way}: {known}")
+
+
+def check_sorting(page):
+    def by_key(selector):
+        page.run(f"document.querySelector({json.dumps(selector)}).focus()")
+        page.browser.key("Enter", "\r")
+
+    for table in page.run("[...document.querySelectorAll('table')].map((it) => it.id)"):
+        heads = page.run(f"[...document.querySelectorAll('#{table} thead th')].map((it) => it.hasAttribute('aria-sort'))")
+        for place, sorts in enumerate(heads):
+            if sorts:
+                check_column(page, table, place, by_key if place % 2 else page.browser.click)
+
+
+def check_filters(page):
+    tasks = page.table("task-table")
+    resource = tasks[-1]["Resource"]
+    wanted = sorted(it["Task"] for it in tasks if it["Resource"] == resource)
+    page.choose("task-table", "on", resource)
+    page.hold(sorted(page.shown("task-table")) == wanted, f"the filter of the resource {resource}")
+    page.hold(page.run("document.querySelector('.tools[data-of=task-table] output').textContent") == f"{len(wanted)} of {len(tasks)}", "the count of what is shown")
+    page.clear("task-table")
+    page.hold(len(page.shown("task-table")) == len(tasks), "Escape doesn't show all again")
+    word = tasks[-1]["Task"]
+    for letter in word:
+        page.browser.key(letter, letter)
+    shown = page.shown("task-table")
+    words = page.run("Object.fromEntries([...document.querySelectorAll('#task-table tbody tr')].map((it) => [it.dataset.name, it.dataset.words]))")
+    page.hold(word in shown and sorted(shown) == sorted(it for it, text in words.items() if word in text), f"what is typed, {word}, shows {shown}")
+    page.clear("task-table")
+    page.choose("task-table", "is", "overload")
+    page.hold(sorted(page.shown("task-table")) == sorted(it["Task"] for it in tasks if it["Bound"] == "overload"), "the filter of what has no bound")
+    page.clear("task-table")
+    page.browser.click(f"button[data-show=\"{resource}\"]")
+    page.hold(sorted(page.shown("task-table")) == wanted, f"the number of the tasks of {resource} leads to them")
+    page.clear("task-table")
+
+
+def check_changes(page, program):
+    """Each column of changes has the bounds of one report, and each bound that changes has a row."""
+    texts, part = [call(program, "analyse", example(page.name, ".toml"))], ""
+    for line in call(program, "session", example(page.name, ".toml"), example(page.name, ".script.txt")).splitlines():
+        part += "" if line.startswith("line ") else line + "\n"
+        if line.startswith("summary"):
+            texts.append(part)
+            part = ""
+    values = []
+    for text in texts:
+        tasks, paths = told(text)
+        values.append({("task", it[1]): it[-1] for it in tasks} | {("path", it[1]): it[5] for it in paths})
+    rows = {(row[0], row[1]): row[2:] for row in page.rows("change-table")}
+    for key, cells in rows.items():
+        for place, cell in enumerate(cells):
+            page.hold(cell.split()[0].replace("–", "-") == values[place].get(key, "-"), f"the change of {key}, report {place}: {cells}")
+    for key in set().union(*values):
+        page.hold(key in rows or len({it.get(key) for it in values}) == 1, f"the change of {key} isn't shown")
+    refused = re.findall(r"^line (\d+) refused", call(program, "session", example(page.name, ".toml"), example(page.name, ".script.txt")), re.M)
+    page.hold(re.findall(r"line (\d+) refused", page.run("document.getElementById('changes').innerText")) == refused, f"the refused edits are {refused}")
+
+
+def is_dark(page):
+    paper, ink = (sum(map(int, re.findall(r"\d+", it)[:3])) for it in page.run("(() => { const it = getComputedStyle(document.body); return [it.backgroundColor, it.color]; })()"))
+    return True if paper < 200 and ink > 400 else False if paper > 600 and ink < 200 else None
+
+
+def check_views(page, keep):
+    browser = page.browser
+    for scheme in ("light", "dark"):
+        browser.look(scheme)
+        page.hold(is_dark(page) == (scheme == "dark"), f"its colours in {scheme}")
+        for width in (1400, 420) if keep else ():
+            browser.picture(os.path.join(keep, f"{page.name}.{scheme}.{width}.png"), width)
+    browser.size(1400)
+    browser.click("#look")
+    page.hold(is_dark(page) is False, "the button doesn't make it light")
+    browser.click("#look")
+    page.hold(is_dark(page) is True, "the button doesn't make it dark again")
+    for width in (1400, 420):
+        browser.size(width)
+        page.hold(page.run("document.documentElement.scrollWidth <= innerWidth"), f"it is wider than a window of {width}")
+    browser.size(1400)
+    browser.look("dark", "print")
+    page.hold(page.run("getComputedStyle(document.body).backgroundColor") == "rgb(255, 255, 255)", "its print isn't light")
+    page.hold(all(page.run(f"getComputedStyle(document.querySelector('{it}')).display") == "none" for it in ("nav", ".tools")), "its print has what only a screen wants")
+    document = browser.printed()
+    page.hold(document.startswith(b"%PDF") and len(document) > 5000, "it doesn't print")
+    if keep:
+        with open(os.path.join(keep, page.name + ".pdf"), "wb") as it:
+            it.write(document)
+    browser.look("light")
+
+
+def check_names(page):
+    """What can be reached by keyboard has a name, and no two elements have one id."""
+    page.hold(page.run("[...document.querySelectorAll('button, a, [tabindex]')].every((it) => (it.getAttribute('aria-label') || it.textContent.trim()))"), "an element has no name")
+    page.hold(page.run("[...document.querySelectorAll('input, select')].every((it) => it.labels.length === 1)"), "a field has no label")
+    page.hold(page.run("new Set([...document.querySelectorAll('[id]')].map((it) => it.id)).size === document.querySelectorAll('[id]').length"), "an id stands twice")
+    page.hold(page.run("[...document.querySelectorAll('nav a, a.skip')].every((it) => document.getElementById(it.hash.slice(1)))"), "a link within the page leads nowhere")
+    page.run("document.activeElement.blur()")
+    page.browser.key("Tab")
+    page.hold(page.run("document.activeElement.className") == "skip", "the key Tab doesn't begin at the link to the tasks")
+
+
+PRIORITY = 'format = 1\nresource = [{ name = "cpu", kind = "preemptive", limit = LIMIT }]\nsource = [{ name = "s", period = PERIOD }]\n'
+TWO = '{ name = "a", on = "cpu", after = "s", best = 6, worst = 6, priority = 1 }, { name = "b", on = "cpu", after = "s", best = 6, worst = 6, priority = 2 }'
+AFTER_B = ', { name = "c", on = "cpu", after = "b", best = 1, worst = 1, priority = 3 }'
+TDMA = 'format = 1\nresource = [{ name = "ring", kind = "tdma", gap = 8 }]\nsource = [{ name = "s", period = PERIOD }]\ntask = [{ name = "t", on = "ring", after = "s", best = 3, worst = 3, slot = 2 }]\n'
+TURNS = 'format = 1\nresource = [{ name = "rr", kind = "round-robin" }]\nsource = [{ name = "s", period = 10 }, { name = "l", period = 1000 }]\ntask = [{ name = "a", on = "rr", after = "s", best = 6, worst = 6, slot = 2 }, { name = "b", on = "rr", after = "s", best = 9, worst = 9, slot = 2 }, { name = "c", on = "rr", after = "l", best = 1, worst = 1, slot = 2 }]\n'
+CASES = [
+    ("too_much", PRIORITY.replace("LIMIT", "1000").replace("PERIOD", "10") + f"task = [{TWO}{AFTER_B}]\n", ["Too much work on cpu", "120.0 %", "Further tasks without a bound because of it: c"]),
+    ("short_limit", PRIORITY.replace("LIMIT", "8").replace("PERIOD", "100") + f"task = [{TWO}]\n", ["A long busy window on cpu", "limit of 8 ticks", "12.0 %"]),
+    ("short_slot", TDMA.replace("PERIOD", "10"), ["Too much work on ring", "its slot is 20.0 %"]),
+    ("turns", TURNS, ["Too much work on rr", "each for its turns"]),
+    ("empty", "format = 1\n", ["each task has a bound"]),
+]
+
+
+def check_cases(room, program, page_of):
+    for name, text, wanted in CASES:
+        page = page_of(name, written(os.path.join(room, name + ".toml"), text))
+        shown = page.run("document.body.innerText")
+        for it in wanted:
+            page.hold(it in shown, f"the page doesn't say {it!r}")
+        for it in page.browser.complaints():
+            page.hold(False, it)
+
+
+def check_causes(room, program):
+    """What is told of random systems that are overloaded."""
+    draw, found = random.Random(1), {}
+    file = os.path.join(room, "random.toml")
+    for number in range(RANDOM):
+        system = made(draw)
+        for it in system["source"]:
+            it["period"] = draw.randint(10, 90)
+            it["distance"] = min(it["distance"], it["period"])
+        texts = [file_of(system).replace("limit = 2000", f"limit = {limit}") for limit in (300, 30000)]
+        low, high = (reports_in(call(program, "analyse", written(file, text)).splitlines(), file)[-1][0] for text in texts)
+        causes, over = Behind(tomllib.loads(texts[0]), low).causes()
+        hold({it["name"] for it in over} == {name for name, it in low.items() if it["worst"] is None}, f"system {number}: not each task without a bound is told of")
+        covered = {name for it in causes for name in it["tasks"] + it["leaves"]}
+        hold(covered == {it["name"] for it in over}, f"system {number}: {covered} have a cause, and {[it['name'] for it in over]} no bound")
+        for it in causes:
+            found[it["kind"]] = found.get(it["kind"], 0) + 1
+            hold(it["kind"] != "load" or all(high[name]["worst"] is None for name in it["tasks"]), f"system {number}: {it['tasks']} have a bound with a higher limit\n{texts[0]}")
+    hold(all(found.get(kind, 0) >= 5 for kind in ("load", "limit", "circle")), f"causes of each kind: {found}")
+
+
+def check_refusals(room, program):
+    page = os.path.join(room, "refused.html")
+    two, trace = example("two_tasks", ".toml"), example("crossing_chains", ".trace.csv")
+    bad = written(os.path.join(room, "bad.toml"), "format = 3\n")
+    schedule = written(os.path.join(room, "bad.csv"), "a,1,2\nz,3,4\n")
+    chains = example("crossing_chains", ".toml")
+    for said, words in (
+        ("a page's name ends with .html", [two, "--to", "page.pdf"]),
+        ("--schedule wants --trace", [two, "--to", page, "--schedule", schedule]),
+        ("has no tick", [two, "--to", page, "--from", "5", "--until", "5"]),
+        ("can't be called", [two, "--to", page, "--program", os.path.join(room, "nothing")]),
+        ("status 14: system refused reason 13 file 0", [bad, "--to", page]),
+        ("status 16", [two, "--to", page, "--trace", trace]),
+        ("the system has no task a", [chains, "--to", page, "--trace", trace, "--schedule", schedule]),
+    ):
+        words += [] if "--program" in words else ["--program", program]
+        done = subprocess.run([sys.executable, os.path.join(TOP, "tools", "page.py"), *words], capture_output=True, text=True, check=False)
+        hold(done.returncode == 1 and said in done.stderr, f"page.py {words}: {done.returncode} {done.stderr}")
+    hold(not os.path.exists(page), "a page is written though something is refused")
+
+
+def check_examples(room, words, page_of):
+    for name, with_trace, with_script in PAGES:
+        more, schedule = [], example(name, ".schedule.csv")
+        if with_trace:
+            if not os.path.exists(schedule):
+                schedule = written(os.path.join(room, name + ".csv"), schedule_of(example(name, ".toml"), example(name, ".trace.csv")))
+            more += ["--trace", example(name, ".trace.csv"), "--schedule", schedule]
+        if with_script:
+            more += ["--session", example(name, ".script.txt")]
+        page = page_of(name, example(name, ".toml"), *more)
+        page.browser.size(1400)
+        check_names(page)
+        check_numbers(page, words.program, with_trace)
+        check_bars(page)
+        check_loads(page)
+        if with_trace:
+            check_chart(page, words.program, schedule)
+        if with_script:
+            check_changes(page, words.program)
+        check_views(page, words.keep)
+        check_sorting(page)
+        check_filters(page)
+        for it in page.browser.complaints():
+            page.hold(False, it)
+
+
+def main():
+    reader = argparse.ArgumentParser(description=__doc__, formatter_class=argparse.RawDescriptionHelpFormatter)
+    reader.add_argument("--program", default=os.path.join(TOP, "lokwurmi"), help="lokwurmi above this folder if absent")
+    reader.add_argument("--keep", metavar="FOLDER", help="where pages and pictures go to")
+    words = reader.parse_args()
+    with tempfile.TemporaryDirectory(ignore_cleanup_errors=True) as room:
+        to = words.keep or room
+        os.makedirs(to, exist_ok=True)
+        browser = Browser(room)
+
+        def page_of(name, file, *more):
+            """The page of a file, in the browser."""
+            made_page = os.path.join(to, name + ".html")
+            done = subprocess.run([sys.executable, os.path.join(TOP, "tools", "page.py"), "--program", words.program, "--to", made_page, *more, file], capture_output=True, text=True, check=False)
+            if done.returncode or done.stderr:
+                sys.exit(f"{name}: no page: {done.stderr}")
+            with open(made_page, encoding="utf-8") as it:
+                hold(not re.search(r"https?://|@import|url\((?!#)", it.read()), f"{name}: it has a link to the outside")
+            browser.load(made_page)
+            return Page(browser, name)
+
+        try:
+            check_examples(room, words, page_of)
+            check_cases(room, words.program, page_of)
+        finally:
+            browser.close()
+        check_causes(room, words.program)
+        check_refusals(room, words.program)
+    for fault in faults:
+        print(fault)
+    print(f"{tried} tried, {len(faults)} faults")
+    sys.exit(1 if faults else 0)
+
+
+if __name__ == "__main__":
+    main()

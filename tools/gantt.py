@@ -1,0 +1,275 @@
+#!/usr/bin/env python3
+"""Draws a schedule as a Gantt chart: a lane a resource, a colour a task, and who ran there when.
+
+    python3 tools/gantt.py examples/pedal.toml examples/pedal.schedule.csv --to pedal.svg
+    python3 tools/gantt.py examples/pedal.toml examples/pedal.schedule.csv --trace examples/pedal.trace.csv \\
+        --report examples/pedal.report.txt --from 0 --until 6000 --longest report --to pedal.svg
+    ./lokwurmi schedule FILE TRACE | python3 tools/gantt.py FILE - --trace TRACE --to run.png
+
+FILE is a system file, SCHEDULE has rows TASK,START,END as `lokwurmi audit` reads them and `lokwurmi schedule` writes them; -
+stands for what comes in. Where it is absent, `lokwurmi schedule` is called with --trace. The picture's name ends with .svg,
+.png or .pdf. The tasks of a path have its colour, as tools/graph.py draws it, lighter from task to task.
+
+With a trace, the one that the schedule is of, triangles show when jobs came (above the lane) and when they were done (below
+it), and TDMA slots stand where the trace's phases put them; without one the phases are 0. With a report of `lokwurmi analyse`
+as well, a job that took longer than its bound, or that isn't done though its bound is past, is framed in red, with a red line
+from its bound on. --longest marks the job of a task that took longest. --from and --until cut a part out.
+"""
+import argparse
+import os
+import sys
+from typing import NamedTuple
+
+from colours import PALE, hues, letters_on, shades
+from program import add_program, schedule_by
+from report import read_report
+from runs import jobs_in, read_schedule, read_trace, schedule_in
+from system import read_system
+
+try:
+    import matplotlib
+    from matplotlib.collections import LineCollection, PatchCollection
+    from matplotlib.lines import Line2D
+    from matplotlib.patches import Patch, Rectangle
+except ImportError:
+    sys.exit("gantt.py: the package matplotlib isn't here: pip install matplotlib, or apt-get install python3-matplotlib")
+
+matplotlib.use("Agg")
+import matplotlib.pyplot as plt
+
+# a picture's own ink and paper, which tools/page.py takes for those of the page
+INK, PAPER, FAINT, LATE = "#1c2733", "#fefefe", "#9aa5b1", "#c0392b"
+MOST_SEGMENTS, MOST_SLOTS, MOST_NAMES = 20000, 400, 24
+# the bars, the slots behind them, and where the marks of jobs are, in parts of a lane
+BAR, BAND, CAME, DONE, BELOW = 0.44, 0.68, -0.34, 0.34, 0.5
+
+
+class Late(NamedTuple):
+    """A job that took longer than its bound: `done` is None where it isn't done, and `last` is its end, or that of the run."""
+
+    name: str
+    came: int
+    bound: int
+    last: int
+    done: int | None
+
+
+class Chart(NamedTuple):
+    """What is drawn, in the time from `start` to `until`."""
+
+    system: dict
+    rows: list
+    jobs: dict
+    late: list
+    phases: dict
+    bounds: dict
+    start: int
+    until: int
+
+    def lanes(self):
+        used = {it["on"] for it in self.system.get("task", [])}
+        return [it for it in self.system.get("resource", []) if it["name"] in used]
+
+    def place(self):
+        """The lane of each task."""
+        lane = {it["name"]: k for k, it in enumerate(self.lanes())}
+        return {it["name"]: lane[it["on"]] for it in self.system.get("task", [])}
+
+
+def slots(resource, tasks, phase, start, until):
+    """The slots of a TDMA resource in this time, each with its task; the gap has None."""
+    turns = [(it["name"], it["slot"]) for it in tasks if it["on"] == resource["name"]] if resource["kind"] == "tdma" else []
+    if not turns:
+        return
+    turns.append((None, resource.get("gap", 0)))
+    time = start - (start + phase) % sum(ticks for _, ticks in turns)
+    while time < until:
+        for name, ticks in turns:
+            if ticks and time + ticks > start and time < until:
+                yield name, max(time, start), min(time + ticks, until)
+            time += ticks
+
+
+def late_jobs(jobs, bounds, end):
+    """The jobs that took longer than their bounds, or are pending at the end though these are past."""
+    for name, several in jobs.items():
+        bound = bounds.get(name)
+        for came, done in several if bound is not None else ():
+            last = end if done is None else done
+            if last > came + bound:
+                yield Late(name, came, bound, last, done)
+
+
+def draw_slots(axes, chart, colour):
+    for place, resource in enumerate(chart.lanes()):
+        bands = []
+        for band in slots(resource, chart.system["task"], chart.phases.get(resource["name"], 0), chart.start, chart.until):
+            bands.append(band)
+            if len(bands) > MOST_SLOTS:
+                break
+        for name, start, end in bands if len(bands) <= MOST_SLOTS else ():
+            look = {"facecolor": colour[name], "alpha": 0.16, "linewidth": 0} if name else {"facecolor": "none", "edgecolor": FAINT, "hatch": "////", "linewidth": 0, "alpha": 0.6}
+            axes.add_patch(Rectangle((start, place - BAND / 2), end - start, BAND, **look))
+
+
+def draw_bars(axes, chart, colour, unit):
+    """The segments, with the names of their tasks where there is room: a letter is about 4 points wide, and a point `unit` ticks."""
+    place, bars = chart.place(), {}
+    for name, start, end in chart.rows:
+        bars.setdefault(name, []).append((max(start, chart.start), min(end, chart.until)))
+    for name, several in bars.items():
+        boxes = [Rectangle((start, place[name] - BAR / 2), end - start, BAR) for start, end in several]
+        axes.add_collection(PatchCollection(boxes, facecolor=colour[name], edgecolor=PAPER, linewidth=0.4, zorder=2))
+        for start, end in several:
+            if (end - start) / unit > 4 * len(name) + 4:
+                axes.text((start + end) / 2, place[name], name, ha="center", va="center", fontsize=6.5, color=letters_on(colour[name]), zorder=4, clip_on=True)
+
+
+def draw_jobs(axes, chart, colour):
+    place = chart.place()
+    for name, several in chart.jobs.items():
+        for times, where, mark in (([came for came, _ in several], CAME, "v"), ([done for _, done in several if done is not None], DONE, "^")):
+            times = [it for it in times if chart.start <= it <= chart.until]
+            axes.scatter(times, [place[name] + where] * len(times), marker=mark, s=17, color=colour[name], linewidths=0, zorder=3, clip_on=False)
+
+
+def draw_late(axes, chart):
+    place = chart.place()
+    for it in chart.late:
+        y, past = place[it.name], it.came + it.bound
+        axes.add_collection(LineCollection([[(max(past, chart.start), y + 0.26), (min(it.last, chart.until), y + 0.26)]], colors=LATE, linewidths=2.6, zorder=5))
+        axes.add_collection(LineCollection([[(past, y - 0.3), (past, y + 0.3)]], colors=LATE, linewidths=1.2, zorder=5))
+        for name, start, end in chart.rows:
+            if name == it.name and start < it.last and end > it.came:
+                axes.add_patch(Rectangle((max(start, chart.start), y - BAR / 2), min(end, chart.until) - max(start, chart.start), BAR, facecolor="none", edgecolor=LATE, linewidth=1.4, zorder=5))
+        took = "not done" if it.done is None else it.done - it.came
+        axes.text(min(it.last, chart.until), y + BELOW, f"{it.name}: {took}, bound {it.bound}", ha="right", va="center", fontsize=6.5, color=LATE, zorder=6)
+
+
+def draw_longest(axes, chart, name):
+    """A line from where the job of a task that took longest came to its end, and a dotted one to its bound."""
+    came, done = max(((came, done) for came, done in chart.jobs[name] if done is not None), key=lambda it: it[1] - it[0], default=(0, None))
+    if done is None:
+        sys.exit(f"{name}: no job of it is done")
+    y, bound = chart.place()[name] + BELOW, chart.bounds.get(name)
+    end = done if bound is None else max(done, came + bound)
+    axes.plot([came, done], [y, y], color=INK, linewidth=1.2, marker="|", markersize=6, zorder=6)
+    if end > done:
+        axes.plot([done, end], [y, y], color=INK, linewidth=1, linestyle=":", zorder=6)
+        axes.plot([end], [y], color=INK, marker="|", markersize=6, zorder=6)
+    axes.text((came + end) / 2, y, f"{name}: {done - came}" + (f", bound {bound}" if bound is not None else ""), ha="center", va="center", fontsize=7, color=INK, zorder=7, bbox={"facecolor": PAPER, "edgecolor": "none", "pad": 1.2}, clip_on=True)
+
+
+def draw_frame(axes, chart):
+    lanes = chart.lanes()
+    axes.set_xlim(chart.start, max(chart.until, chart.start + 1))
+    axes.set_ylim(len(lanes) - 0.36, -0.58)
+    axes.set_yticks(range(len(lanes)), [f"{it['name']}\n{it['kind']}" for it in lanes], fontsize=8, color=INK)
+    axes.hlines([k + 0.5 for k in range(len(lanes) - 1)], chart.start, chart.until, color=FAINT, linewidth=0.4, alpha=0.6)
+    axes.set_xlabel("ticks", fontsize=8, color=INK)
+    axes.tick_params(axis="x", labelsize=8, color=FAINT, labelcolor=INK)
+    axes.tick_params(axis="y", length=0)
+    axes.xaxis.grid(True, color=FAINT, linewidth=0.4, alpha=0.35)
+    axes.set_axisbelow(True)
+    axes.ticklabel_format(axis="x", style="plain", useOffset=False)
+    for side, spine in axes.spines.items():
+        spine.set_visible(side == "bottom")
+        spine.set_color(FAINT)
+
+
+def draw_legend(axes, chart, colour, width):
+    """The tasks, or where there are many the paths, and the marks that are there."""
+    ran, entries = {row[0] for row in chart.rows}, []
+    names = [it["name"] for it in chart.system.get("task", []) if it["name"] in ran]
+    if len(names) <= MOST_NAMES:
+        entries += [(Patch(color=colour[name]), name) for name in names]
+    else:
+        on_paths, paths = hues(chart.system), {}
+        for path in chart.system.get("path", []):
+            paths.setdefault(on_paths[path["tasks"][0]], []).append(path["name"])
+        entries += [(Patch(color=hue), ", ".join(several)) for hue, several in paths.items()]
+        if any(name not in on_paths for name in names):
+            entries.append((Patch(color=PALE[0]), "tasks on no path"))
+    if chart.jobs:
+        entries += [(Line2D([], [], color=INK, marker=mark, linestyle="none", markersize=4), text) for mark, text in (("v", "a job comes"), ("^", "it is done"))]
+    if any(it["kind"] == "tdma" and it.get("gap") for it in chart.lanes()):
+        entries.append((Patch(facecolor="none", edgecolor=FAINT, hatch="////", linewidth=0), "gap"))
+    if chart.late:
+        entries.append((Line2D([], [], color=LATE, linewidth=2.6), "later than its bound"))
+    if entries:
+        room = max(len(text) for _, text in entries) * 4.1 + 24
+        axes.legend(*zip(*entries), fontsize=7, ncols=max(1, min(len(entries), int((width - 0.8) * 72 / room))), loc="lower left", bbox_to_anchor=(0, 1), borderaxespad=0.2, columnspacing=1.1, handlelength=1.2, handletextpad=0.5, frameon=False, labelcolor=INK)
+
+
+def chart_of(system, schedule, trace=None, bounds=None, start=None, until=None):
+    """What is drawn of a schedule, and of the jobs in it where there is a trace."""
+    jobs = jobs_in(system, schedule, trace) if trace else {}
+    last = max([end for _, _, end in schedule] + [came for several in jobs.values() for came, _ in several], default=1)
+    start, until = start or 0, last if until is None else until
+    rows = [row for row in schedule if row[1] < until and row[2] > start]
+    late = [it for it in late_jobs(jobs, bounds or {}, last) if it.came + it.bound < until and it.last > start]
+    return Chart(system, rows, jobs, late, trace[2] if trace else {}, bounds or {}, start, until)
+
+
+def drawn(chart, width=10.0, longest=None):
+    """The figure of a chart."""
+    # words stay words, and the same schedule gives the same picture
+    plt.rcParams.update({"svg.fonttype": "none", "svg.hashsalt": "lokwurmi", "font.family": "DejaVu Sans", "hatch.linewidth": 0.6})
+    colour = shades(chart.system)
+    figure, axes = plt.subplots(figsize=(width, 0.62 * max(1, len(chart.lanes())) + 1.25), layout="constrained")
+    draw_slots(axes, chart, colour)
+    draw_bars(axes, chart, colour, (chart.until - chart.start) / (width * 72))
+    draw_jobs(axes, chart, colour)
+    draw_late(axes, chart)
+    if longest:
+        draw_longest(axes, chart, longest)
+    draw_frame(axes, chart)
+    draw_legend(axes, chart, colour, width)
+    return figure
+
+
+def asked_for():
+    reader = argparse.ArgumentParser(description=__doc__, formatter_class=argparse.RawDescriptionHelpFormatter)
+    reader.add_argument("file", metavar="FILE", help="a system file")
+    reader.add_argument("schedule", metavar="SCHEDULE", nargs="?", help="rows TASK,START,END, or - for the standard input; what lokwurmi schedule writes of the trace if absent")
+    reader.add_argument("--trace", metavar="TRACE", help="the trace that the schedule is of: marks when jobs came and were done")
+    reader.add_argument("--report", metavar="REPORT", help="what lokwurmi analyse wrote: marks jobs later than their bounds; wants --trace")
+    reader.add_argument("--longest", metavar="TASK", help="marks the job of this task that took longest; wants --trace")
+    reader.add_argument("--from", metavar="T", type=int, dest="start", default=0, help="the first tick that is drawn; 0 if absent")
+    reader.add_argument("--until", metavar="T", type=int, help="the tick at which the picture ends; that of the schedule if absent")
+    reader.add_argument("--to", metavar="PICTURE", required=True, help="a name that ends with .svg, .png or .pdf")
+    add_program(reader)
+    words = reader.parse_args()
+    if os.path.splitext(words.to)[1] not in (".svg", ".png", ".pdf"):
+        sys.exit(f"{words.to}: a picture's name ends with .svg, .png or .pdf")
+    for name in ("report", "longest"):
+        if getattr(words, name) and not words.trace:
+            sys.exit(f"gantt.py: --{name} wants --trace, which tells when jobs came")
+    if not (words.schedule or words.trace):
+        sys.exit("gantt.py: name a SCHEDULE, or a trace by --trace, whose schedule `lokwurmi schedule` writes")
+    if words.start < 0 or words.until is not None and words.until <= words.start:
+        sys.exit("gantt.py: the time from --from to --until has no tick")
+    return words
+
+
+def main():
+    words = asked_for()
+    system = read_system(words.file)
+    if words.longest and words.longest not in {it["name"] for it in system.get("task", [])}:
+        sys.exit(f"{words.longest}: the system has no task of this name")
+    if words.schedule:
+        schedule = read_schedule(words.schedule, system)
+    else:
+        text = schedule_by(words.program, words.file, words.trace)
+        if text is None:
+            sys.exit(f"{words.program}: it doesn't take `schedule FILE TRACE`: name a SCHEDULE")
+        schedule = schedule_in(text, "lokwurmi schedule", system)
+    bounds = {name: it["worst"] for name, it in read_report(words.report)[0].items()} if words.report else None
+    chart = chart_of(system, schedule, words.trace and read_trace(words.trace), bounds, words.start, words.until)
+    if len(chart.rows) > MOST_SEGMENTS:
+        sys.exit(f"{words.schedule or words.trace}: there are {len(chart.rows)} segments in this time, and a picture takes {MOST_SEGMENTS}: cut a part out by --from and --until")
+    drawn(chart, longest=words.longest).savefig(words.to, metadata={"Date": None} if words.to.endswith(".svg") else None)
+
+
+if __name__ == "__main__":
+    main()

@@ -1,0 +1,91 @@
+"""Reads traces and schedules, and tells the jobs in them, for the tools beside it."""
+import csv
+import io
+import sys
+
+from system import activators, execution
+
+
+def is_number(word):
+    return word.isascii() and word.isdecimal() and len(word) <= 10
+
+
+def read(file):
+    """The text of a file; `-` is the standard input."""
+    try:
+        with open(0 if file == "-" else file, encoding="utf-8", newline="") as it:
+            return it.read()
+    except (OSError, UnicodeDecodeError) as fault:
+        sys.exit(f"{file}: can't be read: {fault}")
+
+
+def rows_in(text, file):
+    """The rows of comma-separated values, each with its number, without empty lines."""
+    try:
+        return list(enumerate((row for row in csv.reader(io.StringIO(text, newline="")) if row), 1))
+    except csv.Error as fault:
+        sys.exit(f"{file}: can't be read: {fault}")
+
+
+def schedule_in(text, file, system):
+    """The rows of a schedule: the task, and from when to before when it ran."""
+    names, rows = {it["name"] for it in system.get("task", [])}, []
+    for place, row in rows_in(text, file):
+        if len(row) != 3 or not (is_number(row[1]) and is_number(row[2])):
+            sys.exit(f"{file}: row {place} isn't TASK,START,END: {','.join(row)}")
+        if row[0] not in names:
+            sys.exit(f"{file}: row {place}: the system has no task {row[0]}")
+        if int(row[1]) >= int(row[2]):
+            sys.exit(f"{file}: row {place}: its end isn't after its start: {','.join(row)}")
+        rows.append((row[0], int(row[1]), int(row[2])))
+    return rows
+
+
+def read_schedule(file, system):
+    return schedule_in(read(file), file, system)
+
+
+def read_trace(file):
+    """The times of the events of each source, the executions of each task, and the phase of each TDMA resource that has a row."""
+    events, executions, phases = {}, {}, {}
+    for place, row in rows_in(read(file), file):
+        if len(row) != 3 or row[0] not in ("event", "exec", "phase") or not is_number(row[2]):
+            sys.exit(f"{file}: row {place} is none of event, exec and phase with a name and a number: {','.join(row)}")
+        if row[0] == "phase":
+            phases[row[1]] = int(row[2])
+        else:
+            (events if row[0] == "event" else executions).setdefault(row[1], []).append(int(row[2]))
+    return events, executions, phases
+
+
+def ends_in(segments, executions, greatest):
+    """When the jobs of a task were done, by its segments: each job takes its execution, and the one before goes first."""
+    ends, left = [], None
+    for start, end in segments:
+        while start < end:
+            if left is None:
+                left = executions[len(ends)] if len(ends) < len(executions) else greatest
+            ran = min(left, end - start)
+            start, left = start + ran, left - ran
+            if left == 0:
+                ends.append(start)
+                left = None
+    return ends
+
+
+def jobs_in(system, schedule, trace):
+    """The jobs of each task in the order in which they came, by a schedule and the trace that it is of: when each came, and
+    when it was done, None where it wasn't."""
+    events, executions, _ = trace
+    resources = {it["name"]: it for it in system.get("resource", [])}
+    tasks = {it["name"]: it for it in system.get("task", [])}
+    segments, ends = {name: [] for name in tasks}, {}
+    for name, start, end in schedule:
+        segments[name].append((start, end))
+    for name, task in tasks.items():
+        ends[name] = ends_in(sorted(segments[name]), executions.get(name, []), execution(task, resources[task["on"]])[1])
+    jobs = {}
+    for name, task in tasks.items():
+        came = sorted(time for before in activators(task) for time in (ends[before] if before in tasks else events.get(before, [])))
+        jobs[name] = [(time, ends[name][place] if place < len(ends[name]) else None) for place, time in enumerate(came)]
+    return jobs
