@@ -267,7 +267,10 @@ def check_changes(page, program):
     rows = {(row[0], row[1]): row[2:] for row in page.rows("change-table")}
     for key, cells in rows.items():
         for place, cell in enumerate(cells):
-            page.hold(cell.split()[0].replace("–", "-") == values[place].get(key, "-"), f"the change of {key}, report {place}: {cells}")
+            first, now = values[0].get(key, "-"), values[place].get(key, "-")
+            page.hold(cell.split()[0].replace("–", "-") == now, f"the change of {key}, report {place}: {cells}")
+            change = int(now) - int(first) if first.isdigit() and now.isdigit() else 0
+            page.hold(re.findall(r"[+−]\d+", cell) == ([f"{change:+d}".replace("-", "−")] if change else []), f"by how much {key} changes, report {place}: {cells}")
     for key in set().union(*values):
         page.hold(key in rows or len({it.get(key) for it in values}) == 1, f"the change of {key} isn't shown")
     refused = re.findall(r"^line (\d+) refused", call(program, "session", example(page.name, ".toml"), example(page.name, ".script.txt")), re.M)
@@ -296,7 +299,7 @@ def check_views(page, keep):
         page.hold(page.run("document.documentElement.scrollWidth <= innerWidth"), f"it is wider than a window of {width}")
     browser.size(1400)
     browser.look("dark", "print")
-    page.hold(page.run("getComputedStyle(document.body).backgroundColor") == "rgb(255, 255, 255)", "its print isn't light")
+    page.hold(page.run("getComputedStyle(document.body).backgroundColor") == "rgb(255, 255, 255)" and is_dark(page) is False, "its print isn't light")
     page.hold(all(page.run(f"getComputedStyle(document.querySelector('{it}')).display") == "none" for it in ("nav", ".tools")), "its print has what only a screen wants")
     document = browser.printed()
     page.hold(document.startswith(b"%PDF") and len(document) > 5000, "it doesn't print")

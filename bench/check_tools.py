@@ -8,12 +8,13 @@ as a chart, which must have the name of each path, and of each task where tasks 
 must take each graph. The streams of each task, from which the curve of its events is drawn, are those that its report tells,
 and the steps of a curve are where it rises. Each recorded schedule is drawn as a Gantt chart: its bars lie where the rows
 say, on the lane of their resource, with a mark where each job comes and one where it is done, and a job is red exactly where
-it is later than its bound. What isn't a report, a schedule or a picture's name is refused.
+it is later than its bound. The jobs in schedules of random systems are those of the step rules, followed tick by tick. What isn't a report, a schedule or a picture's name is refused.
 
     python3 bench/check_tools.py
 """
 import glob
 import os
+import random
 import re
 import shutil
 import subprocess
@@ -30,6 +31,7 @@ except ImportError:
 TOP = os.path.join(os.path.dirname(os.path.abspath(__file__)), "..")
 os.chdir(TOP)
 sys.path.append("tools")
+from check_runs import Run, made, traced
 from report import read_report
 from runs import jobs_in, read_schedule, read_trace
 from system import first_windows, input_of, most_events, read_system
@@ -199,6 +201,17 @@ def check_gantt(room, name):
     hold(len(bars) == len(wanted) and all(abs(a - b) < 0.6 for pair in zip(bars, wanted) for a, b in zip(*pair)), f"gantt.py {name}: its bars are {bars}, and not {wanted}")
 
 
+def check_jobs():
+    """The jobs of random systems, by their schedules and traces."""
+    draw = random.Random(1)
+    for number in range(100):
+        system = made(draw)
+        trace = traced(draw, system)
+        run_of_it = Run(system, trace)
+        jobs = jobs_in(system, [tuple(it) for it in run_of_it.segments], trace)
+        hold(jobs == {name: [(it["arrival"], it["end"]) for it in several] for name, several in run_of_it.jobs.items()}, f"gantt.py: the jobs of random system {number}")
+
+
 def check_late(room):
     """What is marked, cut out and refused."""
     chains = ["examples/crossing_chains.toml", "examples/crossing_chains.schedule.csv"]
@@ -262,6 +275,7 @@ with tempfile.TemporaryDirectory() as room:
     for schedule in sorted(glob.glob("examples/*.schedule.csv")):
         check_gantt(room, os.path.basename(schedule).removesuffix(".schedule.csv"))
     check_late(room)
+    check_jobs()
     hold(formats == {1, 2}, "examples/ has systems of both formats")
     for session in sorted(glob.glob("examples/*.session.txt")):
         # the last report is drawn, whose tasks may be others than before
