@@ -1,6 +1,7 @@
 """Calls of programs, timed: shared by the scripts of this folder."""
 import os
 import subprocess
+import sys
 import tempfile
 import time
 
@@ -13,6 +14,14 @@ def built(crate):
     if not os.path.exists(program):
         subprocess.run(["rt", "run"], cwd=os.path.join(TOP, "crates", crate), capture_output=True, check=False)
     return program
+
+
+def python_with(*modules):
+    """A Python that has these modules: this one, or Debian's, for which packages are installed; None where neither has them."""
+    for python in (sys.executable, "/usr/bin/python3"):
+        if os.path.exists(python) and not subprocess.run([python, "-c", "import " + ", ".join(modules)], capture_output=True, check=False).returncode:
+            return python
+    return None
 
 
 def call(command):

@@ -2,7 +2,8 @@
 """Tries what the pages show: each call of ./lokwurmi with its output, each system that docs/FILES.md shows as refused, and
 each edit that it shows as refused. docs/TUTORIAL.md is followed from its first line to its last: the files that it has a
 reader write are written, added to and changed, and each call is made with the files as they are by then; at its end they are
-those of examples/. Outside the gate.
+those of examples/. Each call of a tool of tools/ in a block of a page, that writes a picture or a page of docs/, is made once
+more, and must write what stands there: the same tables, and pictures that say the same. Outside the gate.
 
 Of docs/TUTORIAL.md, and of the sections that tell of examples with several activators, the figures in the text are held too:
 each number above 10 stands in a block or a table of its section of the page, in the files of those examples, or in what
@@ -20,6 +21,8 @@ import subprocess
 import sys
 import tempfile
 import tomllib
+
+from calls import python_with
 
 TOP = os.path.join(os.path.dirname(os.path.abspath(__file__)), "..")
 os.chdir(TOP)
@@ -154,11 +157,40 @@ def check_streams(page, section, room):
     hold(f"{page}: with the edits", forward[0] == forward[1] and text in section, True)
 
 
+PICTURE = re.compile(r"<svg.*?</svg>", re.S)
+
+
+def said(text):
+    """What a picture or a page of HTML says: the words in its pictures, and all that is outside of them."""
+    pictures = PICTURE.findall(text)
+    words = [re.findall(r"<(?:text|title)\b[^>]*>([^<]*)<", it) for it in pictures]
+    return [] if len(pictures) == 1 and text.strip().endswith("</svg>") else PICTURE.sub("", text).splitlines(), [sorted(it) for it in words]
+
+
+def check_drawn(page, text, room, python):
+    """The calls of tools in the blocks of a page that write into docs/."""
+    for block in re.findall(r"^```\w*\n(.*?)^```$", text, re.M | re.S):
+        for line in block.replace("\\\n", " ").splitlines():
+            words = line.split()
+            if words[:1] != ["python3"] or not words[-1].startswith("docs/"):
+                continue
+            drawn = os.path.join(room, os.path.basename(words[-1]))
+            done = subprocess.run([python, *words[1:-1], drawn], capture_output=True, text=True, check=False)
+            hold(f"{page}: {line}", done.stderr, "")
+            if not done.returncode:
+                for wrote, told in zip(said(read(drawn)), said(read(words[-1]))):
+                    hold(f"{page}: {words[-1]}", [it for it in wrote if it not in told], [it for it in told if it not in wrote])
+                    hold(f"{page}: {words[-1]}", wrote == told, True)
+
+
+python = python_with("matplotlib", "jinja2")
 with tempfile.TemporaryDirectory() as room:
     for page in ["README.md", *sorted(glob.glob("docs/*.md")), *sorted(glob.glob("examples/*.md"))]:
         text = read(page) if page != "docs/TUTORIAL.md" else ""
         for words, told in re.findall(r"^```\n\$ \./lokwurmi (.*)\n((?:(?!```).*\n)*)```", text, re.M):
             hold(f"{page}: {words}", call(*shlex.split(words)), told)
+        if python and page != "docs/TUTORIAL.md":
+            check_drawn(page, text, room, python)
     page = read("docs/FILES.md")
     for system, told in re.findall(r"```toml\n((?:(?!```).*\n)*)```\n\n`(system refused .*?)`", page):
         hold(f"docs/FILES.md: {told}", call("analyse", written(system)), told + "\n")
@@ -195,5 +227,5 @@ with tempfile.TemporaryDirectory() as room:
 
 for fault in faults:
     print(fault)
-print(f"{tried} tried, {len(faults)} faults")
+print(f"{tried} tried, {len(faults)} faults{'' if python else ', without what tools draw: matplotlib and jinja2 are not here'}")
 sys.exit(1 if faults else 0)

@@ -44,14 +44,16 @@ MOST_SEGMENTS, MOST_SLOTS, MOST_NAMES = 20000, 400, 24
 BAR, BAND, CAME, DONE, BELOW = 0.44, 0.68, -0.34, 0.34, 0.5
 
 
-class Late(NamedTuple):
-    """A job that took longer than its bound: `done` is None where it isn't done, and `last` is its end, or that of the run."""
+class Job(NamedTuple):
+    """A job: when it came, and when it was done, None where it wasn't; `last` is then the end of the run. The job of its task
+    before it was done at `after`."""
 
     name: str
     came: int
-    bound: int
-    last: int
     done: int | None
+    last: int
+    after: int
+    bound: int | None
 
 
 class Chart(NamedTuple):
@@ -90,14 +92,17 @@ def slots(resource, tasks, phase, start, until):
             time += ticks
 
 
-def late_jobs(jobs, bounds, end):
-    """The jobs that took longer than their bounds, or are pending at the end though these are past."""
-    for name, several in jobs.items():
-        bound = bounds.get(name)
-        for came, done in several if bound is not None else ():
-            last = end if done is None else done
-            if last > came + bound:
-                yield Late(name, came, bound, last, done)
+def jobs_of(jobs, name, bounds, end):
+    """The jobs of a task."""
+    after = 0
+    for came, done in jobs.get(name, ()):
+        yield Job(name, came, done, end if done is None else done, after, bounds.get(name))
+        after = done
+
+
+def is_late(job):
+    """Whether a job took longer than its bound, or is pending at the end of the run though this is past."""
+    return job.bound is not None and job.last > job.came + job.bound
 
 
 def draw_slots(axes, chart, colour):
@@ -133,25 +138,33 @@ def draw_jobs(axes, chart, colour):
             axes.scatter(times, [place[name] + where] * len(times), marker=mark, s=17, color=colour[name], linewidths=0, zorder=3, clip_on=False)
 
 
+def draw_outline(axes, chart, job, colour):
+    """A frame around the segments of a job: those of its task after the job before."""
+    y = chart.place()[job.name]
+    for name, start, end in chart.rows:
+        start, end = max(start, chart.start, job.came if job.after is None else job.after), min(end, job.last, chart.until)
+        if name == job.name and start < end:
+            axes.add_patch(Rectangle((start, y - BAR / 2), end - start, BAR, facecolor="none", edgecolor=colour, linewidth=1.4, zorder=5))
+
+
 def draw_late(axes, chart):
     place = chart.place()
     for it in chart.late:
         y, past = place[it.name], it.came + it.bound
         axes.add_collection(LineCollection([[(max(past, chart.start), y + 0.26), (min(it.last, chart.until), y + 0.26)]], colors=LATE, linewidths=2.6, zorder=5))
         axes.add_collection(LineCollection([[(past, y - 0.3), (past, y + 0.3)]], colors=LATE, linewidths=1.2, zorder=5))
-        for name, start, end in chart.rows:
-            if name == it.name and start < it.last and end > it.came:
-                axes.add_patch(Rectangle((max(start, chart.start), y - BAR / 2), min(end, chart.until) - max(start, chart.start), BAR, facecolor="none", edgecolor=LATE, linewidth=1.4, zorder=5))
+        draw_outline(axes, chart, it, LATE)
         took = "not done" if it.done is None else it.done - it.came
         axes.text(min(it.last, chart.until), y + BELOW, f"{it.name}: {took}, bound {it.bound}", ha="right", va="center", fontsize=6.5, color=LATE, zorder=6)
 
 
 def draw_longest(axes, chart, name):
     """A line from where the job of a task that took longest came to its end, and a dotted one to its bound."""
-    came, done = max(((came, done) for came, done in chart.jobs[name] if done is not None), key=lambda it: it[1] - it[0], default=(0, None))
-    if done is None:
+    job = max((it for it in jobs_of(chart.jobs, name, chart.bounds, 0) if it.done is not None), key=lambda it: it.done - it.came, default=None)
+    if job is None:
         sys.exit(f"{name}: no job of it is done")
-    y, bound = chart.place()[name] + BELOW, chart.bounds.get(name)
+    draw_outline(axes, chart, job, INK)
+    came, done, bound, y = job.came, job.done, job.bound, chart.place()[name] + BELOW
     end = done if bound is None else max(done, came + bound)
     axes.plot([came, done], [y, y], color=INK, linewidth=1.2, marker="|", markersize=6, zorder=6)
     if end > done:
@@ -207,7 +220,7 @@ def chart_of(system, schedule, trace=None, bounds=None, start=None, until=None):
     last = max([end for _, _, end in schedule] + [came for several in jobs.values() for came, _ in several], default=1)
     start, until = start or 0, last if until is None else until
     rows = [row for row in schedule if row[1] < until and row[2] > start]
-    late = [it for it in late_jobs(jobs, bounds or {}, last) if it.came + it.bound < until and it.last > start]
+    late = [it for name in jobs for it in jobs_of(jobs, name, bounds or {}, last) if is_late(it) and it.came + it.bound < until and it.last > start]
     return Chart(system, rows, jobs, late, trace[2] if trace else {}, bounds or {}, start, until)
 
 
