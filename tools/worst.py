@@ -5,6 +5,7 @@ to the bound.
     python3 tools/worst.py examples/long_window.toml b --to worst.trace.csv
     python3 tools/worst.py examples/crossing_chains.toml --path pa
     python3 tools/worst.py examples/sae_can.toml --all
+    python3 tools/worst.py examples/gateway.toml --all --keep traces
 
 What is printed as seen is exact: `lokwurmi simulate` replays the trace, whose events and executions obey the system, and by what
 it proves no run is later than the bound. Where the two are equal, the bound can't be lower. Where they aren't, either the bound
@@ -12,7 +13,8 @@ isn't reached by any run, or the search hasn't found the run.
 
 The search begins with what is known of worst cases on the four kinds of resource, and then changes phases, jitter, executions
 and the phases of TDMA cycles, and keeps what is later. It makes so many tries (--tries), so that the same call gives the same
-answer for the same --seed; --seconds ends it before, and then it says so.
+answer for the same --seed; --seconds ends it before, and then it says so. With --all, --keep writes as few and as short traces
+as do to show all that was seen: FOLDER/NAME.worst1.csv and so on for NAME.toml.
 """
 import argparse
 import concurrent.futures
@@ -131,6 +133,11 @@ def rows_of(system, plan, span):
     return rows
 
 
+def write(file, rows):
+    with open(file, "w", encoding="ascii") as it:
+        it.write("".join(row + "\n" for row in rows))
+
+
 class Judge:
     """Replays plans by `simulate`, several side by side."""
 
@@ -141,8 +148,7 @@ class Judge:
     def seen(self, number, plan, span):
         """The greatest response of each task and time of each path that was seen."""
         trace = os.path.join(self.folder, f"{number}.csv")
-        with open(trace, "w", encoding="ascii") as file:
-            file.write("".join(row + "\n" for row in rows_of(self.system, plan, span)))
+        write(trace, rows_of(self.system, plan, span))
         run = subprocess.run([self.program, "simulate", self.system.path, trace], capture_output=True, text=True, check=False)
         os.remove(trace)
         if run.returncode == 16:
@@ -278,6 +284,31 @@ def search(system, judge, best, target, bounds, options, rng, ends):
         plans = [change(system, pool[min(int(rng.expovariate(0.7)), len(pool) - 1)][1], rng, sources, tasks) for _ in range(32)]
 
 
+def shortest(judge, plan, span, shows):
+    """The rows of the shortest trace of a plan, as found by halving the time that it goes on, that still shows what it does."""
+    least, most = 0, span
+    while most - least > max(1, span // 100):
+        middle = (least + most) // 2
+        answer = judge.all([plan], middle)[0]
+        if all(answer.get(what, -1) == worst for what, worst in shows.items()):
+            most = middle
+        else:
+            least = middle
+    return rows_of(judge.system, plan, most)
+
+
+def cover(judge, best, targets):
+    """As few traces as are found to do to show the latest of each target: the plan that shows most of what is left comes first."""
+    plans = {id(best.found[what][1]): best.found[what][1:] for what in targets if what in best.found}
+    answers = {key: judge.all([plan], span)[0] for key, (plan, span) in plans.items()}
+    left = {what: best.found[what][0] for what in targets if what in best.found}
+    while left:
+        shows = {key: {what: worst for what, worst in left.items() if answer.get(what) == worst} for key, answer in answers.items()}
+        key = max(shows, key=lambda it: len(shows[it]))
+        yield shortest(judge, *plans[key], shows[key])
+        left = {what: worst for what, worst in left.items() if what not in shows[key]}
+
+
 def progress(text):
     if sys.stderr.isatty():
         sys.stderr.write("\r\033[K" + text)
@@ -303,6 +334,7 @@ def asked_for():
     parser.add_argument("--path", help="a path that is to take long, in place of a task")
     parser.add_argument("--all", action="store_true", help="all tasks and paths that have a bound, in a table")
     parser.add_argument("--to", metavar="TRACE", help="writes the trace to this file")
+    parser.add_argument("--keep", metavar="FOLDER", help="writes the traces of --all into this folder")
     parser.add_argument("--tries", type=int, default=2000, help="how many traces are tried for a task or a path (2000)")
     parser.add_argument("--seconds", type=float, default=60, help="ends the search after this time (60)")
     parser.add_argument("--seed", type=int, default=1, help="another number looks in other places (1)")
@@ -313,6 +345,8 @@ def asked_for():
         parser.error("name a task, or --path NAME, or --all")
     if options.all and options.to:
         parser.error("--to wants one task or path")
+    if options.keep and not options.all:
+        parser.error("--keep wants --all")
     if options.jobs < 1 or options.tries < 1 or options.seconds <= 0:
         parser.error("--jobs, --tries and --seconds are at least 1")
     return options
@@ -351,8 +385,12 @@ def main():
         if options.all and ratios:
             print(f"middle ratio {statistics.median(ratios):.4f}, least {min(ratios):.4f}, {sum(ratio == 1 for ratio in ratios)} of {len(ratios)} bounds reached")
         if options.to and plan is not None:
-            with open(options.to, "w", encoding="ascii") as file:
-                file.write("".join(row + "\n" for row in rows_of(system, plan, span)))
+            write(options.to, rows_of(system, plan, span))
+        if options.keep:
+            os.makedirs(options.keep, exist_ok=True)
+            name = os.path.splitext(os.path.basename(options.file))[0]
+            for number, rows in enumerate(cover(judge, best, targets), 1):
+                write(os.path.join(options.keep, f"{name}.worst{number}.csv"), rows)
         if cut:
             print(f"the clock ended the search of {cut} of {len(targets)}: another call may see more (--seconds)", file=sys.stderr)
 
