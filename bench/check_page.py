@@ -37,7 +37,7 @@ from system import activators, execution, read_system
 
 EXAMPLES = os.path.join(TOP, "examples")
 # the examples, and whether they have a trace and a script
-PAGES = [("car_network", True, False), ("crossing_chains", True, True), ("sensor_fusion", True, True), ("gateway", True, False), ("tdma", False, False), ("overload", False, False)]
+PAGES = [("car_network", True, True), ("crossing_chains", True, True), ("sensor_fusion", True, True), ("gateway", True, False), ("tdma", False, False), ("overload", False, False)]
 RANDOM = 150
 
 faults, tried = [], 0

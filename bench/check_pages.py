@@ -3,7 +3,8 @@
 each edit that it shows as refused. docs/TUTORIAL.md is followed from its first line to its last: the files that it has a
 reader write are written, added to and changed, and each call is made with the files as they are by then; at its end they are
 those of examples/. Each call of a tool of tools/ in a block of a page, that writes a picture or a page of docs/, is made once
-more, and must write what stands there: the same tables, and pictures that say the same. Outside the gate.
+more, and must write what stands there: the same tables, and pictures that say the same. The tables of docs/TIGHTNESS.md are
+worked out from the traces of examples/worst/, which are replayed. Outside the gate.
 
 Of docs/TUTORIAL.md, and of the sections that tell of examples with several activators, the figures in the text are held too:
 each number above 10 stands in a block or a table of its section of the page, in the files of those examples, or in what
@@ -183,6 +184,40 @@ def check_drawn(page, text, room, python):
                     hold(f"{page}: {words[-1]}", wrote == told, True)
 
 
+def latest(name):
+    """Of an example the bounds that are numbers, and the latest that its traces in examples/worst/ show."""
+    found = {}
+    for trace in glob.glob(f"examples/worst/{name}.worst*.csv"):
+        for kind, what, worst in re.findall(r"^(task|path) (\S+) .*worst (\d+)$", call("simulate", f"examples/{name}.toml", trace), re.M):
+            found[kind, what] = max(found.get((kind, what), 0), int(worst))
+    report = re.findall(r"^(task|path) (\S+) .*?worst (\d+)\b", call("analyse", f"examples/{name}.toml"), re.M)
+    return [(kind, what, int(bound), found.get((kind, what), 0)) for kind, what, bound in report]
+
+
+def ratio_of(seen, bound):
+    """In four digits, rounded down: 1.0000 only where the bound is reached."""
+    return f"{seen * 10_000 // bound / 10_000:.4f}"
+
+
+def check_tightness(page, text):
+    """The rows of examples, and of single tasks and paths."""
+    told = {}
+    for names, *numbers in re.findall(r"^\| ([a-z_, ]+) \| (\d+) \| (\d+) \| (\S+) \|", text, re.M):
+        every = []
+        for name in names.split(", "):
+            told |= {(name, *it[:2]): it[2:] for it in latest(name)}
+            every += [it[2:] for it in latest(name)]
+        hold(f"{page}: {names}", [str(len(every)), str(sum(seen == bound for bound, seen in every)), min(ratio_of(seen, bound) for bound, seen in every)], numbers)
+        rest = re.search(rf"^\| {names} \|.*$", text, re.M)[0]
+        for kind, what, seen, bound in re.findall(r"(task|path) `(\w+)`: (\d+) of (\d+)", rest):
+            hold(f"{page}: {names}, {kind} {what}", told.get((names, kind, what)), (int(bound), int(seen)))
+    for name, kind, what, bound, seen, ratio in re.findall(r"^\| (\w+) \| (task|path) `([\w.]+)` \| (\d+) \| (\d+) \| (\S+) \|", text, re.M):
+        hold(f"{page}: {name}, {kind} {what}", [told.get((name, kind, what)), ratio_of(int(seen), int(bound))], [(int(bound), int(seen)), ratio])
+    # each example is in a row
+    rows = {name for names in re.findall(r"^\| ([a-z_, ]+) \| \d+ \|", text, re.M) for name in names.split(", ")}
+    hold(f"{page}: its examples", sorted(rows), sorted(os.path.basename(it)[:-5] for it in glob.glob("examples/*.toml")))
+
+
 python = python_with("matplotlib", "jinja2")
 with tempfile.TemporaryDirectory() as room:
     for page in ["README.md", *sorted(glob.glob("docs/*.md")), *sorted(glob.glob("examples/*.md"))]:
@@ -224,6 +259,8 @@ for page, title in (("examples/README.md", "## Several activators"), ("docs/ANAL
     check_figures(page, re.sub(r"With `source [^\n]*?\. ", "", section[page]), known, known)
 with tempfile.TemporaryDirectory() as room:
     check_streams("docs/ANALYSIS.md", section["docs/ANALYSIS.md"], room)
+
+check_tightness("docs/TIGHTNESS.md", read("docs/TIGHTNESS.md"))
 
 for fault in faults:
     print(fault)
