@@ -2,7 +2,8 @@
 """Tries tools/worst.py. Outside the gate; takes a minute or two, and no network.
 
 For the examples whose bounds are known to be reached it has to find them. What it prints is what `simulate` sees under the
-trace that it writes, the same call gives the same answer, and what it can't take is told in a line.
+trace that it writes, and of all tasks and paths under the traces that it keeps; the same call gives the same answer, and what
+it can't take is told in a line.
 
     python3 bench/check_worst.py
 """
@@ -33,6 +34,7 @@ REFUSED = [
     (["two_tasks.toml"], "name a task, or --path NAME, or --all"),
     (["two_tasks.toml", "a", "--all"], "name a task, or --path NAME, or --all"),
     (["two_tasks.toml", "a", "--tries", "0"], "at least 1"),
+    (["two_tasks.toml", "a", "--keep", "folder"], "--keep wants --all"),
 ]
 faults = []
 
@@ -62,12 +64,20 @@ def main():
         run = subprocess.run([program, "simulate", os.path.join(TOP, "examples", words[0]), trace], capture_output=True, text=True, check=False)
         seen = re.search(r"^task report seen (\d+)", first[1], re.M)
         hold(seen and f" worst {seen[1]}\n" in run.stdout, f"the trace doesn't show what was seen: {first[1]} {run.stdout}")
+    with tempfile.TemporaryDirectory() as folder:
+        told = call(["two_activators.toml", "--all", "--tries", "200", "--keep", folder, "--program", program])[1]
+        seen = {}
+        for name in os.listdir(folder):
+            run = subprocess.run([program, "simulate", os.path.join(TOP, "examples", "two_activators.toml"), os.path.join(folder, name)], capture_output=True, text=True, check=False)
+            for what, worst in re.findall(r"^((?:task|path) \S+) .* worst (\d+)$", run.stdout, re.M):
+                seen[what] = max(seen.get(what, 0), int(worst))
+        hold(seen and seen == {what: int(worst) for what, worst in re.findall(r"^((?:task|path) \S+) seen (\d+)", told, re.M)}, f"what is kept doesn't show what was seen: {seen} {told}")
     for words, line in REFUSED:
         status, told, said = call(words)
         hold(status and not told and line in said, f"{words}: {status} {told} {said}")
     for fault in faults:
         print(fault)
-    print(f"{len(KNOWN) + len(REFUSED) + 2} tries, {len(faults)} wrong")
+    print(f"{len(KNOWN) + len(REFUSED) + 3} tries, {len(faults)} wrong")
     sys.exit(1 if faults else 0)
 
 

@@ -358,39 +358,54 @@ def report_of(path, program):
     return {("task", name): it["worst"] for name, it in tasks.items()} | {("path", name): it["worst"] for name, it in paths.items()}
 
 
+def targets_of(options, bounds):
+    """What is asked for: one task or path, or all that have a bound."""
+    if options.all:
+        return [what for what, bound in bounds.items() if bound is not None]
+    target = ("task", options.task) if options.path is None else ("path", options.path)
+    if target not in bounds:
+        kind, name = target
+        stop(f"{options.file} has no {kind} {name}; it has {', '.join(sorted(one for what, one in bounds if what == kind)) or 'none'}")
+    return [target]
+
+
+def tell(best, targets, bounds, is_all):
+    """A line for each target, and for all of them one more."""
+    ratios = []
+    for target in targets:
+        seen = best.found.get(target, (0,))[0]
+        print(line(target, seen, bounds[target]))
+        if bounds[target] is not None:
+            ratios.append(seen / bounds[target])
+    if is_all and ratios:
+        print(f"middle ratio {statistics.median(ratios):.4f}, least {min(ratios):.4f}, {sum(ratio == 1 for ratio in ratios)} of {len(ratios)} bounds reached")
+
+
+def keep(options, judge, best, targets):
+    """Writes the traces that are asked for."""
+    if options.to and targets[0] in best.found:
+        write(options.to, rows_of(judge.system, *best.found[targets[0]][1:]))
+    if options.keep:
+        os.makedirs(options.keep, exist_ok=True)
+        name = os.path.splitext(os.path.basename(options.file))[0]
+        for number, rows in enumerate(cover(judge, best, targets), 1):
+            write(os.path.join(options.keep, f"{name}.worst{number}.csv"), rows)
+
+
 def main():
     options = asked_for()
     with tempfile.TemporaryDirectory() as folder:
         bounds = report_of(options.file, options.program)
         system = System(options.file)
-        if options.all:
-            targets = [what for what, bound in bounds.items() if bound is not None]
-        else:
-            targets = [("task", options.task) if options.path is None else ("path", options.path)]
-            if targets[0] not in bounds:
-                kind, name = targets[0]
-                stop(f"{options.file} has no {kind} {name}; it has {', '.join(sorted(one for what, one in bounds if what == kind)) or 'none'}")
+        targets = targets_of(options, bounds)
         judge, best, rng = Judge(system, folder, options.jobs, options.program), Best(), random.Random(options.seed)
         began, cut = time.monotonic(), 0
         for place, target in enumerate(targets):
             ends = began + options.seconds * (place + 1) / len(targets)
             cut += search(system, judge, best, target, bounds, options, rng, ends)
         progress("")
-        ratios = []
-        for target in targets:
-            seen, plan, span = best.found.get(target, (0, None, 0))
-            print(line(target, seen, bounds[target]))
-            if bounds[target] is not None:
-                ratios.append(seen / bounds[target])
-        if options.all and ratios:
-            print(f"middle ratio {statistics.median(ratios):.4f}, least {min(ratios):.4f}, {sum(ratio == 1 for ratio in ratios)} of {len(ratios)} bounds reached")
-        if options.to and plan is not None:
-            write(options.to, rows_of(system, plan, span))
-        if options.keep:
-            os.makedirs(options.keep, exist_ok=True)
-            name = os.path.splitext(os.path.basename(options.file))[0]
-            for number, rows in enumerate(cover(judge, best, targets), 1):
-                write(os.path.join(options.keep, f"{name}.worst{number}.csv"), rows)
+        tell(best, targets, bounds, options.all)
+        keep(options, judge, best, targets)
         if cut:
             print(f"the clock ended the search of {cut} of {len(targets)}: another call may see more (--seconds)", file=sys.stderr)
 
