@@ -54,6 +54,7 @@ impl<'a> BusyWindow for PreemptiveJobs<'a> {
         self.worst
     }
 
+    #[inline(always)]
     fn steady_until(&self, _jobs: u64, window: u64) -> u64 {
         work_until(self.rivals, window)
     }

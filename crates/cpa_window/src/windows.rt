@@ -25,6 +25,7 @@ pub trait Demand {
 ///
 /// It goes on from each window that has no room to the length that is asked for there, and looks at
 /// none between.
+#[inline(always)]
 pub fn least_window<D: Demand>(demand: &D, from: u64, limit: u64) -> Option<u64>
     requires { limit ≤ MAX_LIMIT }
     ensures found { IfSome result (λ w. IsWindow (λ v. Bound.Within (D.demand demand.now v)) from limit (Bound.Within w)) }
