@@ -1,15 +1,14 @@
 //! The report of a system and its bounds.
 
-ghost use Rattle.std.specs.Prelude.{◌≡◌, ◌<◌, ◌≤◌, ◌++◌, length, count_by, OnOk, IfOk};
+ghost use Rattle.std.specs.Prelude.{◌≡◌, ◌<◌, ◌≤◌, ◌++◌, ◌==◌, if◌then◌else◌, length, count_by, OnOk, IfOk};
 ghost use Rattle.std.specs.List.{list_any, range_with_len, flat_map};
 ghost use Rattle.std.specs.Fmt.{decimal};
 ghost use Rattle.cpa_units.specs.Bounds.{bound_of};
 ghost use Rattle.cpa_events.specs.Events.{IsModelInRange};
-ghost use Rattle.cpa_model.specs.SystemLists.{path_at, task_places};
-ghost use Rattle.cpa_local.specs.Inputs.{input};
+ghost use Rattle.cpa_model.specs.SystemLists.{path_at, streams_of, task_places};
 ghost use Rattle.cpa_local.specs.Solution.{IsVector};
 ghost use Rattle.cpa_local.specs.Paths.{is_overload, is_missed};
-ghost use Rattle.cpa_report.specs.Report.{bound_text, outcome_text, deadline_text, names_text, stream_text, model_text, unbounded_text, input_text, count_text, streams_text, bounds_text, task_line, path_line, summary_line, report_text, verdict};
+ghost use Rattle.cpa_report.specs.Report.{bound_text, outcome_text, deadline_text, names_text, stream_text, model_text, unbounded_text, root_period, count_text, streams_text, bounds_text, task_line, path_line, summary_line, report_text, verdict};
 
 use cpa_events::{Model, Stream};
 use cpa_local::{
@@ -67,28 +66,47 @@ pub(crate) fn put_unbounded(text: &mut Text, period: u64) -> Result<(), NoMemory
     text.put(b" jitter overload distance overload")
 }
 
-fn put_input(text: &mut Text, system: &System, task: TaskId, x: &Vector) -> Result<(), NoMemory>
-    requires there { task.0 < length system.now.tasks }
-    requires vector { IsVector system.now x.now }
-    ensures { OnOk result (text.new ≡ text.old ++ input_text system.now task.0 (input system.now x.now task.0)) }
+#[tactic(auto, unfolding(crate::specs::Report::count_text))]
+fn put_streams_count(text: &mut Text, streams: u32) -> Result<(), NoMemory>
+    ensures { OnOk result (text.new ≡ text.old ++ count_text streams) }
 {
-    match input(system, task, x) {
-        Some(model) => put_model(text, &model),
-        None => put_unbounded(text, system.source(system.root(task)).period),
+    text.put_count(b" streams ", u64::from(streams))
+}
+
+/// Writes the input of a task that is bounded.
+fn put_bounded_input(text: &mut Text, model: &Model) -> Result<(), NoMemory>
+    requires { IsModelInRange model.now }
+    ensures { OnOk result (text.new ≡ text.old ++ (if length model.now == 1 then model_text model.now else count_text (length model.now))) }
+{
+    if model.len() == 1 {
+        put_model(text, model)
+    } else {
+        put_streams_count(text, model.len())
     }
 }
 
-#[tactic(auto, unfolding(crate::specs::Report::count_text))]
-fn put_streams(text: &mut Text, system: &System, task: TaskId, x: &Vector) -> Result<(), NoMemory>
+/// Writes the input of a task that isn't.
+fn put_unbounded_input(text: &mut Text, system: &System, task: TaskId) -> Result<(), NoMemory>
+    requires { task.0 < length system.now.tasks }
+    ensures { OnOk result (text.new ≡ text.old ++ (if length (streams_of system.now task.0) == 1 then unbounded_text (root_period system.now task.0) else count_text (length (streams_of system.now task.0)))) }
+{
+    let streams = system.streams(task);
+    if streams == 1 {
+        put_unbounded(text, system.source(system.root(task)).period)
+    } else {
+        put_streams_count(text, streams)
+    }
+}
+
+fn put_input(text: &mut Text, system: &System, task: TaskId, x: &Vector) -> Result<(), NoMemory>
     requires there { task.0 < length system.now.tasks }
     requires vector { IsVector system.now x.now }
     ensures { OnOk result (text.new ≡ text.old ++ streams_text system.now x.now task.0) }
 {
-    let streams = system.streams(task);
-    if streams == 1 {
-        put_input(text, system, task, x)
-    } else {
-        text.put_count(b" streams ", u64::from(streams))
+    system.has_rules();
+    match input(system, task, x) {
+        Some(model) => put_bounded_input(text, &model),
+        None => put_unbounded_input(text, system, task),
     }
 }
 
@@ -108,7 +126,7 @@ fn put_task(text: &mut Text, system: &System, task: TaskId, x: &Vector) -> Resul
     ensures { OnOk result (text.new ≡ text.old ++ task_line system.now x.now task.0) }
 {
     put_names(text, system, task)?;
-    put_streams(text, system, task, x)?;
+    put_input(text, system, task, x)?;
     put_bounds(text, system.task(task).best, x.get(task))?;
     text.put(b"\n")
 }

@@ -1,4 +1,4 @@
-use Rattle.std.proofs.Common.{◌≡◌, ◌<◌, ◌++◌, [], ◌∷◌, length, slice_index_or, sym, ap, arith}
+use Rattle.std.proofs.Common.{◌≡◌, ◌<◌, [], ◌∷◌, length, slice_index_or, sym, ap, arith}
 use Rattle.cpa_events.specs.declared.stream.Stream.{Stream}
 use Rattle.cpa_events.specs.Events.{Model}
 use Rattle.cpa_report.specs.Report.{stream_text, model_text}
