@@ -67,11 +67,11 @@ def least(command, calls):
     return min(seconds), int(done.stderr.split()[-1]) / 1024, lines[-1]
 
 
-def least_over(program, command, texts, calls):
-    """The same for a command of a program over files with these texts."""
+def least_over(call, texts, calls):
+    """The same for a program, with the words before its files if there are any, over files with these texts."""
     with tempfile.TemporaryDirectory() as folder:
         files = [os.path.join(folder, str(k)) for k in range(len(texts))]
         for path, text in zip(files, texts):
             with open(path, "w") as file:
                 file.write(text)
-        return least([program, command, *files], calls)
+        return least([*call, *files], calls)

@@ -47,7 +47,7 @@ def largest(worst):
 
 
 def timed(system, script, calls=5):
-    return least_over(PROGRAM, "session", (system, script), calls)
+    return least_over([PROGRAM, "session"], (system, script), calls)
 
 
 def main():

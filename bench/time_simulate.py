@@ -1,5 +1,5 @@
 #!/usr/bin/env python3
-"""Measures how long `simulate`, `buffers` and `audit` take from their files to the text, and how much memory.
+"""Measures how long `simulate`, `buffers`, `audit` and `schedule` take from their files to the text, and how much memory.
 
 Makes traces as text and prints a line a case: the least time of some calls, the peak memory, the last line.
 
@@ -14,17 +14,21 @@ Each case goes to `simulate` and to `buffers`; the chain also to `audit`, with t
 schedule, as many as one may have, and with one of which the first is wrong. So that it is seen what an audit takes beside its
 trace and its schedule, chains of ten tasks and of one and the burst go to it with an empty schedule.
 
+The chain goes to `schedule` too, and so do (apart) tasks on 2, 8, 32 and 64 processors that have nothing to do with each other: its
+time grows with the number of resources.
+
     python3 bench/time_simulate.py [NAME ..]
 """
 import os
 import sys
 import tomllib
 
-from calls import least_over
+from calls import built, least_over
 from check_runs import Run
 
 TOP = os.path.join(os.path.dirname(os.path.abspath(__file__)), "..")
 PROGRAM = os.path.join(TOP, "crates/cpa_cli/out/cpa_cli")
+SCHEDULE = built("cpa_schedule")
 
 CHAIN_KINDS = ["preemptive", "can", "round-robin", "tdma", "preemptive", "can", "round-robin", "tdma"]
 
@@ -75,6 +79,21 @@ def burst():
     return "\n".join(text) + "\n]\n", "event,s,0\n" * 3900
 
 
+def apart(resources):
+    """Five tasks, one after the other, on each of so many processors: some 950,000 jobs, which don't wait for other processors."""
+    text = ["format = 1", "resource = ["]
+    text += [f'{{ name = "r{r}", kind = "preemptive" }},' for r in range(resources)]
+    text += ["]", "source = ["]
+    text += [f'{{ name = "s{r}", period = 50 }},' for r in range(resources)]
+    text += ["]", "task = ["]
+    for r in range(resources):
+        for k in range(5):
+            after = f"t{r}_{k - 1}" if k else f"s{r}"
+            text.append(f'{{ name = "t{r}_{k}", on = "r{r}", after = "{after}", best = 1, worst = {1 + r % 3}, priority = {k} }},')
+    rows = [f"event,s{r},{50 * n + r % 7}\n" for r in range(resources) for n in range(190_000 // resources)]
+    return "\n".join(text) + "\n]\n", "".join(rows)
+
+
 def car():
     with open(os.path.join(TOP, "examples/car_network.toml")) as file:
         system = file.read()
@@ -102,19 +121,23 @@ def show(what, seconds, peak, last):
 
 
 def main():
-    for name in sys.argv[1:] or CASES:
-        texts = CASES[name]()
-        for command in ("simulate", "buffers"):
-            show(f"{command} {name}", *least_over(PROGRAM, command, texts, 5))
-    if not sys.argv[1:] or "chain" in sys.argv[1:]:
+    wanted = sys.argv[1:] or [*CASES, "apart"]
+    for name in wanted:
+        for command in ("simulate", "buffers") if name in CASES else ():
+            show(f"{command} {name}", *least_over([PROGRAM, command], CASES[name](), 5))
+    if "chain" in wanted:
         system, trace = chain()
         schedule = chain_schedule(system)
-        show("audit chain", *least_over(PROGRAM, "audit", (system, trace, schedule), 5))
-        show("audit wrong", *least_over(PROGRAM, "audit", (system, trace, schedule.replace(",0,", ",1,", 1)), 5))
-        show("audit chain, empty", *least_over(PROGRAM, "audit", (system, trace, ""), 5))
-        show("audit one task, empty", *least_over(PROGRAM, "audit", (*chain(1), ""), 5))
-    if not sys.argv[1:] or "burst" in sys.argv[1:]:
-        show("audit burst, empty", *least_over(PROGRAM, "audit", (*burst(), ""), 5))
+        show("audit chain", *least_over([PROGRAM, "audit"], (system, trace, schedule), 5))
+        show("audit wrong", *least_over([PROGRAM, "audit"], (system, trace, schedule.replace(",0,", ",1,", 1)), 5))
+        show("audit chain, empty", *least_over([PROGRAM, "audit"], (system, trace, ""), 5))
+        show("audit one task, empty", *least_over([PROGRAM, "audit"], (*chain(1), ""), 5))
+        show("schedule chain", *least_over([SCHEDULE], (system, trace), 5))
+    if "burst" in wanted:
+        show("audit burst, empty", *least_over([PROGRAM, "audit"], (*burst(), ""), 5))
+    if "apart" in wanted:
+        for resources in (2, 8, 32, 64):
+            show(f"schedule apart, {resources}", *least_over([SCHEDULE], apart(resources), 2))
 
 
 if __name__ == "__main__":

@@ -1,7 +1,7 @@
 #!/usr/bin/env bash
-# Analyses each system of this folder, replays each trace, audits each schedule and takes each script beside one, makes and
-# hammers systems, looks for priority orders, room to grow and jobs that wait, and compares what is printed with what stands beside it. It ends with 1 where something
-# differs.
+# Analyses each system of this folder, replays each trace, audits and writes each schedule and takes each script beside one,
+# makes and hammers systems, looks for priority orders, room to grow and jobs that wait, and compares what is printed with what
+# stands beside it. It ends with 1 where something differs.
 cd "$(dirname "$0")" || exit 1
 status=0
 # tell WHAT TEXT WORD..: the command with these words writes the text
@@ -25,6 +25,7 @@ done
 for schedule in *.schedule.csv; do
   name=${schedule%.schedule.csv}
   tell "$schedule" "$name.audit.txt" audit "$name.toml" "$name.trace.csv" "$schedule"
+  tell "schedule of $name" "$schedule" schedule "$name.toml" "$name.trace.csv"
 done
 for buffers in *.buffers.txt; do
   name=${buffers%.buffers.txt}
