@@ -6,10 +6,10 @@ use Rattle.cpa_call.specs.declared.ended.Reply.{Reply}
 use Rattle.cpa_call.specs.declared.ended.Ended.{Ended}
 use Rattle.cpa_call.specs.declared.ended.Ended.TheVariants.{Refused, Unread}
 use Rattle.cpa_call.specs.declared.loading.Traced.{Traced}
-use Rattle.cpa_call.specs.Answers.{Answer, reply, Sends, SendsPart}
+use Rattle.cpa_call.specs.Answers.{reply, SendsPart}
 use Rattle.cpa_call.specs.Ends.{IsEndOf}
 use Rattle.cpa_call.specs.Lines.{words_refused, cannot_read}
-use Rattle.cpa_call.specs.Plans.{Held, Plan, Do, Refuse, Missing, traced_in}
+use Rattle.cpa_call.specs.Plans.{Held, Do, Refuse, traced_in}
 use Rattle.cpa_call.proofs.SendLaws.{sent-nothing, part-reply}
 use Rattle.cpa_audit.specs.Segments.{segments}
 use Rattle.cpa_schedule.specs.Calls.{Asked, accepted, plan_of, answer_to, IsOutput, IsUnread, IsUnreadCall}

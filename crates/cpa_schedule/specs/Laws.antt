@@ -1,5 +1,5 @@
 -- What holds of written schedules.
-use Rattle.std.specs.Prelude.{◌≡◌, ◌≤◌, List, length, Ok}
+use Rattle.std.specs.Prelude.{◌≡◌, ◌≤◌, length, Ok}
 use Rattle.cpa_units.specs.declared.limits.TheConstants.{MAX_TRACE_ROWS}
 use Rattle.cpa_model.specs.SystemLists.{SystemLists}
 use Rattle.cpa_model.specs.Rules.{IsSystem}

@@ -1,5 +1,4 @@
-use Rattle.std.proofs.Common.{◌≡◌, ◌∙◌, sym, None, Some, Option}
-use Rattle.cpa_audit.specs.declared.schedule.Segment.{Segment}
+use Rattle.std.proofs.Common.{◌≡◌, ◌∙◌, sym}
 use Rattle.cpa_schedule.proofs.RowLaws.{starts-none, starts-kept, starts-one}
 use Rattle.cpa_schedule.proofs.FollowingLaws.{task-there}
 use Rattle.cpa_schedule.proofs.following.follow.Goals as goal

@@ -1,14 +1,11 @@
-use Rattle.std.proofs.Common.{◌≡◌, ◌∙◌, ◌<◌, ◌≤◌, ◌++◌, [], nat_lt, false, sym, ap, subst, arith}
+use Rattle.std.proofs.Common.{◌≡◌, ◌∙◌, ◌<◌, [], nat_lt, sym, ap, subst, arith}
 use Rattle.cpa_sim.specs.Outcome.{end_of}
 use Rattle.cpa_sim.specs.Replays.{FollowedRun}
 use Rattle.cpa_sim.proofs.CourseLaws.{ended, end-within}
-use Rattle.cpa_trace.specs.Trace.{TraceLists}
 use Rattle.cpa_audit.specs.Segments.{starting, started, segments}
-use Rattle.cpa_call.proofs.SendLaws.{sent-nothing, on-err-any}
-use Rattle.cpa_io.specs.Causes.{SentPart}
+use Rattle.cpa_call.proofs.SendLaws.{on-err-any}
 use Rattle.cpa_schedule.specs.Following.{AreFollowing}
 use Rattle.cpa_schedule.specs.Rows.{schedule_text}
-use Rattle.cpa_schedule.specs.Written.{IsWritten}
 use Rattle.cpa_schedule.proofs.WrittenLaws.{written-kept, written-more, part-written, part-last, sent-written}
 use Rattle.cpa_schedule.proofs.RowLaws.{rows-zero, rows-next, rows-part, rows-all}
 use Rattle.cpa_schedule.proofs.writing.send_schedule.Goals as goal

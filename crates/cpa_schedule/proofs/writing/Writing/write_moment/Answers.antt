@@ -1,15 +1,12 @@
-use Rattle.std.proofs.Common.{◌≡◌, ◌∙◌, ◌<◌, ◌≤◌, ◌+◌, ◌++◌, ℕ, Some, length, slice_get, sym, ap, subst, refl, inl, inr, arith}
-use Rattle.std.specs.Option.{option_to_list}
+use Rattle.std.proofs.Common.{◌≡◌, ◌∙◌, ◌<◌, ◌≤◌, ℕ, Some, length, sym, subst, refl, inl, inr, arith}
 use Rattle.std.proofs.lemmas.Bool.{cases_lt}
 use Rattle.std.proofs.lemmas.List.{length-set}
 use Rattle.std.proofs.lemmas.Option.{slice_get_read}
-use Rattle.cpa_io.specs.Causes.{SentPart}
 use Rattle.cpa_model.specs.SystemLists.{SystemLists}
 use Rattle.cpa_sim.specs.Served.{served_at}
 use Rattle.cpa_audit.specs.declared.schedule.Segment.{Segment}
 use Rattle.cpa_audit.specs.Segments.{segment_at, starting}
 use Rattle.cpa_call.proofs.SendLaws.{on-err-any}
-use Rattle.cpa_schedule.specs.Following.{IsFollowing}
 use Rattle.cpa_schedule.specs.Rows.{schedule_text}
 use Rattle.cpa_schedule.specs.Written.{IsWritten}
 use Rattle.cpa_schedule.proofs.WrittenLaws.{written-none, written-more, part-written}
