@@ -163,6 +163,11 @@ class Judge:
         return list(self.pool.map(lambda it: self.seen(it[0], it[1], span), enumerate(plans)))
 
 
+def travel_of(system, bounds, way, which):
+    """How long a job is on its way to a task: with least or greatest executions, or as late as the bounds allow."""
+    return sum(bounds.get(one) or system.tasks[one]["worst"] if which == "bound" else system.tasks[one][which] for one in way)
+
+
 def known_plans(system, target, bounds):
     """Plans that are known to be bad for a task: its rivals come with it, jitter is used up first, all take their greatest; a
     frame of lower priority has just begun; the slot has just ended. Where tasks come along chains, these are started before, so
@@ -170,7 +175,7 @@ def known_plans(system, target, bounds):
     task = system.tasks[target]
     resource = system.resources[task["on"]]
     higher, lower = system.rivals(target)
-    travel = lambda way, which: sum(bounds.get(one) or system.tasks[one]["worst"] if which == "bound" else system.tasks[one][which] for one in way)
+    travel = lambda way, which: travel_of(system, bounds, way, which)
     plans = []
     for which in ("worst", "best", "bound"):
         for shift in (0, 1, -1):
@@ -207,6 +212,37 @@ def known_plans(system, target, bounds):
                 plans.append(more)
     together = Plan({name: 0 for name in system.sources})
     return plans + [together, Plan(together.start, long={name: 1 for name in system.tasks})]
+
+
+def path_plan(system, links, bounds, busy, which):
+    """A plan in which the passage of a path finds those tasks of it that are busy at their worst: their rivals come with it, and
+    a frame of lower priority a tick before. What is already bound to come elsewhere stays there."""
+    source, way = system.streams(links[0])[0]
+    start, at, ways = {source: -travel_of(system, bounds, way, "worst")}, 0, set(way)
+    for name in links:
+        task = system.tasks[name]
+        if name not in busy:
+            at += task["worst"]
+            continue
+        higher, lower = system.rivals(name)
+        lower = sorted((one for one in lower if all(source not in start for source, _ in system.streams(one))), key=lambda one: -system.tasks[one]["worst"])
+        for rival, ahead in [(one, 0) for one in higher] + [(one, 1) for one in lower[:1]]:
+            for source, way in system.streams(rival):
+                start.setdefault(source, at - ahead - travel_of(system, bounds, way, which))
+                ways.update(way)
+        at += (bounds.get(name) or task["worst"]) - (1 if lower else 0)
+    return start, ways
+
+
+def path_plans(system, links, bounds):
+    """Plans that are bad for a path: each of its tasks is busy, or some are, as one that comes late may spare it others."""
+    some = [{links[k] for k in range(len(links)) if number >> k & 1} for number in range(1, 2 ** len(links))] if len(links) <= 4 else [set(links), *({name} for name in links)]
+    plans = []
+    for busy in some:
+        for which in ("worst", "best", "bound"):
+            start, ways = path_plan(system, links, bounds, busy, which)
+            plans += [Plan(start), Plan(start, long={one: 1 for one in ways})]
+    return plans
 
 
 def change(system, plan, rng, sources, tasks):
@@ -267,7 +303,8 @@ def search(system, judge, best, target, bounds, options, rng, ends):
     of_tasks = {one: bounds.get(("task", one)) for one in system.tasks}
     longest = sum(of_tasks.get(one) or 10 * system.tasks[one]["worst"] for one in reach)
     span = min(15 * longest + 100, LATEST)
-    plans = [plan for task in dict.fromkeys([last, *links]) for plan in known_plans(system, task, of_tasks)]
+    plans = path_plans(system, links, of_tasks) if len(links) > 1 else []
+    plans += [plan for task in dict.fromkeys([last, *links]) for plan in known_plans(system, task, of_tasks)]
     made, pool = 0, []
     while True:
         answers = judge.all(plans, span)
