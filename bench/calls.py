@@ -1,4 +1,5 @@
 """Calls of programs, timed: shared by the scripts of this folder."""
+import contextlib
 import os
 import subprocess
 import sys
@@ -67,11 +68,24 @@ def least(command, calls):
     return min(seconds), int(done.stderr.split()[-1]) / 1024, lines[-1]
 
 
-def least_over(call, texts, calls):
-    """The same for a program, with the words before its files if there are any, over files with these texts."""
+@contextlib.contextmanager
+def files_of(texts):
+    """Files with these texts."""
     with tempfile.TemporaryDirectory() as folder:
         files = [os.path.join(folder, str(k)) for k in range(len(texts))]
         for path, text in zip(files, texts):
             with open(path, "w") as file:
                 file.write(text)
+        yield files
+
+
+def least_over(call, texts, calls):
+    """What `least` tells of a program, with the words before its files if there are any, over files with these texts."""
+    with files_of(texts) as files:
         return least([*call, *files], calls)
+
+
+def spent_over(call, texts):
+    """What `spent` tells of it."""
+    with files_of(texts) as files:
+        return spent([*call, *files])

@@ -15,7 +15,7 @@ schedule, as many as one may have, and with one of which the first is wrong. So 
 trace and its schedule, chains of ten tasks and of one and the burst go to it with an empty schedule.
 
 The chain goes to `schedule` too, and so do (apart) tasks on 2, 8, 32 and 64 processors that have nothing to do with each other: its
-time grows with the number of resources.
+time grows with the number of resources. These lines tell the seconds of a processor that one call takes.
 
     python3 bench/time_simulate.py [NAME ..]
 """
@@ -23,7 +23,7 @@ import os
 import sys
 import tomllib
 
-from calls import built, least_over
+from calls import built, least_over, spent_over
 from check_runs import Run
 
 TOP = os.path.join(os.path.dirname(os.path.abspath(__file__)), "..")
@@ -137,7 +137,8 @@ def main():
         show("audit burst, empty", *least_over([PROGRAM, "audit"], (*burst(), ""), 5))
     if "apart" in wanted:
         for resources in (2, 8, 32, 64):
-            show(f"schedule apart, {resources}", *least_over([SCHEDULE], apart(resources), 2))
+            seconds, _, peak, last = spent_over([SCHEDULE], apart(resources))
+            show(f"schedule apart, {resources}", seconds, peak, last)
 
 
 if __name__ == "__main__":
