@@ -4,21 +4,25 @@
 # and ends with 1 where one answers otherwise than it should. Outside the gate: bash bench/hostile.sh
 top=$(cd "$(dirname "${BASH_SOURCE[0]}")/.." && pwd) || exit 1
 program=$top/crates/cpa_cli/out/cpa_cli
+schedule=$top/crates/cpa_schedule/out/cpa_schedule
 work=$(mktemp -d) || exit 1
 trap 'rm -rf "$work"' EXIT
 cd "$work" || exit 1
 [ -x "$program" ] || "$top/lokwurmi" analyse "$top/examples/two_tasks.toml" >first || exit 1
+[ -x "$schedule" ] || "$top/lokwurmi" schedule "$top/examples/crossing_chains".{toml,trace.csv} >first || exit 1
 cp "$top/examples/two_tasks.toml" two.toml
 cp "$top/examples/car_network.toml" car.toml
 wrong=0
 
 # Makes a call with a stack of 256 KB, and says whether its status is the one that is wanted, and whether the last line of its
-# text begins so. The words of the call come after these two.
+# text begins so. The words of the call come after these two; of `schedule` they go to its own program.
 answers() {
   local status=$1 last=$2
   shift 2
   words=$*
-  (ulimit -s 256 && exec "$program" "$@") >text 2>errors
+  local call=("$program" "$@")
+  [ "$1" != schedule ] || call=("$schedule" "${@:2}")
+  (ulimit -s 256 && exec "${call[@]}") >text 2>errors
   got=$?
   line=$(tail -n 1 text)
   ((got == status)) && [[ $line == "$last"* ]]
@@ -68,6 +72,10 @@ expect_status 20 $? 'a full disk, slack'
 expect_status 20 $? 'a full disk, buffers'
 "$program" audit two.toml /dev/null /dev/null >/dev/full
 expect_status 20 $? 'a full disk, audit'
+"$schedule" "$top/examples/crossing_chains".{toml,trace.csv} >/dev/full
+expect_status 20 $? 'a full disk, schedule'
+"$schedule" two.toml >/dev/full
+expect_status 20 $? 'a full disk, refused words of schedule'
 "$program" help >/dev/full
 expect_status 20 $? 'a full disk, refused words'
 
@@ -81,10 +89,13 @@ expect 11 'cannot read none' slack none a
 expect 11 'cannot read none' buffers two.toml none
 expect 11 'cannot read folder' audit two.toml folder none
 expect 11 'cannot read none' audit two.toml /dev/null none
+expect 11 'cannot read folder' schedule folder none
+expect 11 'cannot read none' schedule two.toml none
 expect 18 'assign refused 1' assign two.toml "$(printf '%0100000d' 0)"
 expect 18 'assign refused 1' assign two.toml $'c\npu'
 expect 18 'slack refused 1' slack two.toml sa
 expect 10 'words refused' slack two.toml $'\xff'
+expect 10 'words refused' schedule two.toml $'\xff'
 if [ "$(id -u)" != 0 ]; then
   : >closed && chmod 0 closed
   expect 11 'cannot read closed' analyse closed
@@ -278,6 +289,12 @@ expect 0 'summary tasks 2 overload 0' buffers two.toml rows
 expect 12 'too long late' buffers two.toml late
 expect 16 'trace refused too many' buffers two.toml many
 expect 0 'audit same segments 200000' audit two.toml rows ran
+expect 0 'a,1999990,1999993' schedule two.toml rows
+cmp -s text ran
+expect_status 0 $? 'a schedule of 200,000 rows'
+expect 12 'too long late' schedule two.toml late
+expect 16 'trace refused too many' schedule two.toml many
+expect 16 'trace refused row' schedule two.toml quotes
 expect 12 'too long late' audit two.toml rows late
 expect 19 'schedule refused too many' audit two.toml rows more_ran
 expect 19 'schedule refused row' audit two.toml rows quotes
@@ -335,6 +352,7 @@ expect 0 'summary jobs 1 done 1 end 11000000' simulate end.toml end.csv
 expect 0 'summary tasks 1 overload 0' buffers end.toml end.csv
 printf 't,10000000,11000000\n' >end.ran
 expect 0 'audit same segments 1' audit end.toml end.csv end.ran
+expect 0 't,10000000,11000000' schedule end.toml end.csv
 for kind in preemptive round-robin tdma can; do expect 0 'summary tasks 512 overload 0' buffers "crowd_$kind" /dev/null; done
 expect 0 'summary tasks 512 overload 0' buffers chains /dev/null --workers 64
 expect 4 'audit wrong segment 1 expected none' audit two.toml /dev/null ran

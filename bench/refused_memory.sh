@@ -6,6 +6,7 @@
 #   bash bench/refused_memory.sh [analyse FILE | session FILE SCRIPT | .. | edit_without_memory]
 top=$(cd "$(dirname "${BASH_SOURCE[0]}")/.." && pwd) || exit 1
 program=$top/crates/cpa_cli/out/cpa_cli
+schedule=$top/crates/cpa_schedule/out/cpa_schedule
 tests=$top/crates/cpa_bound_cases/out/cpa_bound_cases_tests
 work=$(mktemp -d) || exit 1
 trap 'rm -rf "$work"' EXIT
@@ -75,16 +76,19 @@ if [ "$*" = edit_without_memory ]; then
   exit
 fi
 [ -x "$program" ] || "$top/lokwurmi" analyse "$top/examples/two_tasks.toml" >"$work/first" || exit 1
+[ -x "$schedule" ] || "$top/lokwurmi" schedule "$top/examples/crossing_chains".{toml,trace.csv} >"$work/first" || exit 1
 
-# Each allocation of a call in turn, at most so many, every so manieth.
+# Each allocation of a call in turn, at most so many, every so manieth. The words after `schedule` go to its own program.
 try() {
   local most=$1 step=$2 status size n got sent wanting=0 without=0
   shift 2
-  "$program" "$@" >"$work/whole"
+  local call=("$program" "$@")
+  [ "$1" != schedule ] || call=("$schedule" "${@:2}")
+  "${call[@]}" >"$work/whole"
   status=$?
   size=$(stat -c %s "$work/whole")
   for ((n = 0; n < most * step; n += step)); do
-    REFUSED=$n LD_PRELOAD=$work/refuse.so "$program" "$@" >"$work/part"
+    REFUSED=$n LD_PRELOAD=$work/refuse.so "${call[@]}" >"$work/part"
     got=$?
     sent=$(stat -c %s "$work/part")
     if ((sent > size)) || ! cmp -s -n "$sent" "$work/whole" "$work/part"; then
@@ -144,6 +148,8 @@ try 100000 1 buffers two_tasks.toml "$work/trace.csv"
 try 100000 1 buffers car_network.toml car_network.trace.csv --workers 2
 try 100000 1 audit two_tasks.toml "$work/trace.csv" "$work/schedule.csv"
 try 100000 1 audit crossing_chains.toml crossing_chains.trace.csv crossing_chains.schedule.csv
+try 100000 1 schedule two_tasks.toml "$work/trace.csv"
+try 100000 1 schedule crossing_chains.toml crossing_chains.trace.csv
 try 100000 1 analyse two_activators.toml
 try 100000 1 analyse two_activators.toml --workers 2
 try 100000 1 session two_activators.toml "$work/lists.txt"
@@ -153,6 +159,7 @@ try 100000 1 assign two_activators.toml cpu
 try 100000 1 slack two_activators.toml n --workers 2
 try 100000 1 buffers two_activators.toml two_activators.trace.csv
 try 100000 1 audit two_activators.toml two_activators.trace.csv "$work/lists.csv"
+try 100000 1 schedule two_activators.toml two_activators.trace.csv
 try 1000 7 slack car_network.toml sense0
 try 1000 7 generate 1 128
 try 1000 7 load 1 128
