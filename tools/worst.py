@@ -18,6 +18,7 @@ as do to show all that was seen: FOLDER/NAME.worst1.csv and so on for NAME.toml.
 """
 import argparse
 import concurrent.futures
+import itertools
 import os
 import random
 import re
@@ -214,9 +215,10 @@ def known_plans(system, target, bounds):
     return plans + [together, Plan(together.start, long={name: 1 for name in system.tasks})]
 
 
-def path_plan(system, links, bounds, busy, which):
+def path_plan(system, links, bounds, busy, which, late):
     """A plan in which the passage of a path finds those tasks of it that are busy at their worst: their rivals come with it, and
-    a frame of lower priority a tick before. What is already bound to come elsewhere stays there."""
+    a frame of lower priority a tick before; or the rivals come late, just before that frame has ended. What is already bound to
+    come elsewhere stays there."""
     source, way = system.streams(links[0])[0]
     start, at, ways = {source: -travel_of(system, bounds, way, "worst")}, 0, set(way)
     for name in links:
@@ -226,7 +228,8 @@ def path_plan(system, links, bounds, busy, which):
             continue
         higher, lower = system.rivals(name)
         lower = sorted((one for one in lower if all(source not in start for source, _ in system.streams(one))), key=lambda one: -system.tasks[one]["worst"])
-        for rival, ahead in [(one, 0) for one in higher] + [(one, 1) for one in lower[:1]]:
+        later = max(0, system.tasks[lower[0]]["worst"] - 2) if late and lower else 0
+        for rival, ahead in [(one, 1) for one in lower[:1]] + [(one, -later) for one in higher]:
             for source, way in system.streams(rival):
                 start.setdefault(source, at - ahead - travel_of(system, bounds, way, which))
                 ways.update(way)
@@ -239,8 +242,8 @@ def path_plans(system, links, bounds):
     some = [{links[k] for k in range(len(links)) if number >> k & 1} for number in range(1, 2 ** len(links))] if len(links) <= 4 else [set(links), *({name} for name in links)]
     plans = []
     for busy in some:
-        for which in ("worst", "best", "bound"):
-            start, ways = path_plan(system, links, bounds, busy, which)
+        for which, late in itertools.product(("worst", "best", "bound"), (False, True)):
+            start, ways = path_plan(system, links, bounds, busy, which, late)
             plans += [Plan(start), Plan(start, long={one: 1 for one in ways})]
     return plans
 
