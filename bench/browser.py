@@ -30,7 +30,7 @@ class Browser:
         self.process = subprocess.Popen([name, *words, "about:blank"], stdout=subprocess.DEVNULL, stderr=subprocess.DEVNULL)
         try:
             self.number, self.events, self.session = 0, [], None
-            self.socket = websocket.create_connection(self.address(os.path.join(profile, "DevToolsActivePort")), timeout=60, suppress_origin=True)
+            self.socket = websocket.create_connection(self.address(os.path.join(profile, "DevToolsActivePort")), timeout=300, suppress_origin=True)
             target = self.ask("Target.createTarget", url="about:blank")["targetId"]
             self.session = self.ask("Target.attachToTarget", targetId=target, flatten=True)["sessionId"]
             for part in ("Page", "Runtime", "Log", "Network"):
