@@ -1,18 +1,17 @@
 -- What plans answer.
-use Rattle.std.proofs.Common.{◌≡◌, ℕ, Bool, List, Option, Some, None, Ok, Err, OnOk, IfOk, refl, sym, ap, ◌∙◌, subst}
-use Rattle.std.specs.Prelude.{Result}
-use Rattle.cpa_io.specs.Causes.{grown, SentPart}
+use Rattle.std.proofs.Common.{◌≡◌, ℕ, List, Option, Some, None, refl, sym, ap, ◌∙◌, subst}
+use Rattle.cpa_io.specs.Causes.{SentPart}
 use Rattle.cpa_call.specs.declared.ended.Reply.{Reply}
 use Rattle.cpa_call.specs.declared.ended.Ended.{Ended}
-use Rattle.cpa_call.specs.declared.ended.Ended.TheVariants.{Refused, Unread}
+use Rattle.cpa_call.specs.declared.ended.Ended.TheVariants.{Refused}
 use Rattle.cpa_call.specs.declared.loading.Traced.{Traced}
 use Rattle.cpa_call.specs.Answers.{reply, SendsPart}
 use Rattle.cpa_call.specs.Ends.{IsEndOf}
-use Rattle.cpa_call.specs.Lines.{words_refused, cannot_read}
+use Rattle.cpa_call.specs.Lines.{words_refused}
 use Rattle.cpa_call.specs.Plans.{Held, Do, Refuse, traced_in}
 use Rattle.cpa_call.proofs.SendLaws.{sent-nothing, part-reply}
 use Rattle.cpa_audit.specs.Segments.{segments}
-use Rattle.cpa_schedule.specs.Calls.{Asked, accepted, plan_of, answer_to, IsOutput, IsUnread, IsUnreadCall}
+use Rattle.cpa_schedule.specs.Calls.{Asked, accepted, plan_of, answer_to, IsOutput}
 use Rattle.cpa_schedule.specs.Rows.{schedule_text}
 
 pub plan-some : (words : List (List ℕ)) (held : Held) (it : Asked) → Some it ≡ accepted words → plan_of words held ≡ traced_in held it.file it.trace
@@ -36,21 +35,6 @@ refused-answer words held e r text end is same =
 -- nothing was sent
 pub nothing-yet : (words : List (List ℕ)) (held : Held) (sent : Option (List ℕ)) → SendsPart (IsOutput words held) sent sent
 nothing-yet words held sent = record { answer = answer_to (plan_of words held); is_output = refl; part = sent-nothing sent _ }
-
--- the line of a file that couldn't be read is sent
-pub unread-text : (words : List (List ℕ)) (told : Bool) (held : Held) (before now : ℕ) (last : List ℕ) (e : Ended) (line : _) → IsUnreadCall words told held before now last e → e ≡ Unread line → line.items ≡ cannot_read last
-unread-text words told held before now last e line h is = (subst (IsUnreadCall words told held before now last) is h).1
-
--- or a part of it
-pub unread-part : (words : List (List ℕ)) (told : Bool) (held : Held) (before now : ℕ) (last : List ℕ) (e : Ended) (line : _) (text : List ℕ) (first sent : Option (List ℕ)) → IsUnreadCall words told held before now last e → e ≡ Unread line → text ≡ line.items
-    → SentPart first sent text → IsUnread words told held before now last × SentPart first sent (cannot_read last)
-unread-part words told held before now last e line text first sent h is same part =
-    let call = subst (IsUnreadCall words told held before now last) is h in
-    (call.0, subst (SentPart first sent) (same ∙ call.1) part)
-
-pub unread-sent : {E : Type 0} (r : Result ℕ E) (before now : Option (List ℕ)) (text line : List ℕ) → OnOk r (now ≡ grown before text) → text ≡ line → IfOk r (λ status. status ≡ 11 → now ≡ grown before line)
-unread-sent (Ok status) before now text line sent same = λ eleven. sent ∙ ap (grown before) same
-unread-sent (Err e) before now text line sent same = sent
 
 -- a part of the line of a refusal
 pub refused-part : (words : List (List ℕ)) (held : Held) (e : Ended) (r : Reply) (text : List ℕ) (before now : Option (List ℕ)) → IsEndOf (plan_of words held) e → e ≡ Refused r → text ≡ r.text.items

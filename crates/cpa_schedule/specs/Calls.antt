@@ -3,10 +3,10 @@ use Rattle.std.specs.Prelude.{◌≡◌, ℕ, Bool, false, ◌==◌, not, ◌&&�
 use Rattle.cpa_io.specs.Causes.{Rose}
 use Rattle.cpa_audit.specs.Segments.{segments}
 use Rattle.cpa_call.specs.declared.ended.Ended.{Ended}
-use Rattle.cpa_call.specs.declared.ended.Ended.TheVariants.{Unread}
 use Rattle.cpa_call.specs.declared.loading.Traced.{Traced}
 use Rattle.cpa_call.specs.Answers.{Answer, reply}
-use Rattle.cpa_call.specs.Lines.{words_refused, cannot_read}
+use Rattle.cpa_call.specs.Ends.{IsUnreadLine}
+use Rattle.cpa_call.specs.Lines.{words_refused}
 use Rattle.cpa_call.specs.Plans.{Held, Plan, Do, Refuse, Missing, traced_in, IsSecond}
 use Rattle.cpa_schedule.specs.declared.words.Named.{Named}
 use Rattle.cpa_schedule.specs.Rows.{schedule_text}
@@ -58,7 +58,6 @@ pub record IsUnread (words : List (List ℕ)) (told : Bool) (held : Held) (befor
   pub named : IsSecond told held asked.file asked.trace last
   pub rose : Rose before now
 
--- of a whole call: the words name the file
+-- why a call ends before its work: where a file couldn't be loaded, its line tells its name
 abbrev pub IsUnreadCall : List (List ℕ) → Bool → Held → ℕ → ℕ → List ℕ → Ended → Type 0
-IsUnreadCall words told held before now last (Unread line) = IsUnread words told held before now last × (line.items ≡ cannot_read last)
-IsUnreadCall words told held before now last _ = Unit {0}
+IsUnreadCall words told held before now last = IsUnreadLine (IsUnread words told held before now last) last

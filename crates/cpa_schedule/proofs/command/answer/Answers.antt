@@ -2,9 +2,9 @@ use Rattle.std.proofs.Common.{◌≡◌, ◌∙◌, ap, map, string_bytes, inl, 
 use Rattle.std.proofs.lemmas.Result.{IfOk-weaker, on_err_weaker}
 use Rattle.cpa_call.specs.declared.ended.Reply.{Reply}
 use Rattle.cpa_call.specs.Lines.{cannot_read}
-use Rattle.cpa_call.proofs.SendLaws.{sends-by}
-use Rattle.cpa_schedule.specs.Calls.{IsOutput}
-use Rattle.cpa_schedule.proofs.PlanLaws.{nothing-yet, refused-answer, refused-part, unread-text, unread-part, unread-sent}
+use Rattle.cpa_call.proofs.SendLaws.{sends-by, unread-text, unread-part, unread-sent}
+use Rattle.cpa_schedule.specs.Calls.{IsOutput, IsUnread}
+use Rattle.cpa_schedule.proofs.PlanLaws.{nothing-yet, refused-answer, refused-part}
 use Rattle.cpa_schedule.proofs.command.answer.Goals as goal
 
 pub returns-in-Err-Refused-clause-answered : goal.returns-in-Err-Refused-clause-answered
@@ -35,7 +35,7 @@ pub returns-in-Err-Unread-clause-unread_line : goal.returns-in-Err-Unread-clause
 returns-in-Err-Unread-clause-unread_line g c =
     let value = c.as_slice-in-Err-Unread.ensures.value in
     let line = c.in-Err-Unread.line-is in
-    let told = unread-text _ _ _ _ _ (g.F.Files.last_failed c.plan.new.files) c.in-Err-Unread.field-0 c.in-Err-Unread.line c.in-Err-Unread.ensures.unread c.in-Err-Unread.field-0-is in
+    let told = unread-text (IsUnread (map string_bytes c.args.words.now) (g.F.Files.told c.args.files.now) (g.F.Files.held c.args.files.now) (g.F.Files.faults c.args.files.now) (g.F.Files.faults c.plan.new.files) (g.F.Files.last_failed c.plan.new.files)) (g.F.Files.last_failed c.plan.new.files) c.in-Err-Unread.field-0 c.in-Err-Unread.line c.in-Err-Unread.ensures.unread c.in-Err-Unread.field-0-is in
     let text : c.as_slice-in-Err-Unread.result.now ≡ c.in-Err-Unread.line.items = cc in
     unread-sent c.send-in-Err-Unread.result (g.K.Sink.sent c.args.sink.now) (g.K.Sink.sent c.send-in-Err-Unread.new.sink) c.as_slice-in-Err-Unread.result.now (cannot_read (g.F.Files.last_failed c.plan.new.files))
     c.send-in-Err-Unread.ensures.sent (text ∙ told)
@@ -50,7 +50,7 @@ returns-in-Err-Unread-clause-part g c = λ told.
     let line = c.in-Err-Unread.line-is in
     let text : c.as_slice-in-Err-Unread.result.now ≡ c.in-Err-Unread.line.items = cc in
     on_err_weaker c.send-in-Err-Unread.result
-    (λ part. inr (unread-part (map string_bytes c.args.words.now) (g.F.Files.told c.args.files.now) (g.F.Files.held c.args.files.now) (g.F.Files.faults c.args.files.now) (g.F.Files.faults c.plan.new.files)
+    (λ part. inr (unread-part (IsUnread (map string_bytes c.args.words.now) (g.F.Files.told c.args.files.now) (g.F.Files.held c.args.files.now) (g.F.Files.faults c.args.files.now) (g.F.Files.faults c.plan.new.files) (g.F.Files.last_failed c.plan.new.files))
     (g.F.Files.last_failed c.plan.new.files) c.in-Err-Unread.field-0 c.in-Err-Unread.line c.as_slice-in-Err-Unread.result.now (g.K.Sink.sent c.args.sink.now) (g.K.Sink.sent c.send-in-Err-Unread.new.sink)
     c.in-Err-Unread.ensures.unread c.in-Err-Unread.field-0-is text part))
     c.send-in-Err-Unread.ensures.part
