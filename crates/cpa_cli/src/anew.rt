@@ -108,6 +108,20 @@ fn edit_beside<H: Threads + Sync>(
     Ok((made, !are_equal(&fresh.bounds, session.bounds())))
 }
 
+/// The session of a system that is read.
+pub fn start<H: Threads + Sync>(rt: &H, alloc: Global, text: &str) -> Result<Session, Fail> {
+    let system = read_system(alloc, text.as_bytes())?;
+    let mut trail = Trail::with_room(alloc, 512)?;
+    let session = Session::start(rt, alloc, system, &mut OneByOne, &mut trail)?;
+    Ok(session)
+}
+
+/// An edit that gives a task these executions.
+pub fn exec(alloc: Global, task: &[u8], best: u64, worst: u64) -> Result<Edit, Fail> {
+    let task = Name::read(alloc, task)?;
+    Ok(Edit::Exec { task, best, worst })
+}
+
 /// 280 edits.
 fn script_of(alloc: Global, trial: &Trial) -> Result<Script, Fail> {
     let mut text = String::new(alloc);
@@ -124,9 +138,7 @@ fn edits_beside<H: Threads + Sync>(
     trial: &Trial,
 ) -> Result<(u64, u64), Fail> {
     let script = script_of(alloc, trial)?;
-    let system = read_system(alloc, trial.system.as_bytes())?;
-    let mut trail = Trail::with_room(alloc, 512)?;
-    let mut session = Session::start(rt, alloc, system, &mut OneByOne, &mut trail)?;
+    let mut session = start(rt, alloc, trial.system)?;
     let (mut edits, mut others) = (0u64, 0u64);
     for k in 0..script.len() {
         if let Step::Change(edit) = script.step(k) {
@@ -169,14 +181,9 @@ fn marks_of<H: Threads + Sync>(
 #[test]
 fn marks_everywhere(rt: HostRuntime) -> Result<(), Fail> {
     let alloc = rt.alloc();
-    let system = read_system(alloc, CAR_NETWORK.as_bytes())?;
-    let mut trail = Trail::with_room(alloc, 512)?;
-    let mut session = Session::start(&rt, alloc, system, &mut OneByOne, &mut trail)?;
-    let edit = Edit::Exec {
-        task: Name::read(alloc, b"act0")?,
-        best: 100,
-        worst: 250,
-    };
-    assert_eq!(rt; marks_of(&rt, alloc, &mut session, &edit)?, 90);
+    let mut session = start(&rt, alloc, CAR_NETWORK)?;
+    let edit = exec(alloc, b"act0", 100, 250)?;
+    let marks = marks_of(&rt, alloc, &mut session, &edit)?;
+    assert_eq!(rt; marks, 90);
     Ok(())
 }

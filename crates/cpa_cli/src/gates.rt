@@ -1,14 +1,11 @@
 //! What workers pass, and what a gate sees of them: that analyses run beside each other, and which there are.
 
+use crate::anew::{exec, start};
 use crate::cases::{CROSSING_CHAINS, CROSSING_CHAINS_REPORT, ENDLESS_JITTER};
-use cpa_edit::{Edit, EditFault};
-use cpa_file::read_system;
-use cpa_fix::OneByOne;
 use cpa_io::{MemoryFiles, MemorySink};
 use cpa_local::Trail;
 use cpa_run::run_with;
-use cpa_session::Session;
-use cpa_units::{Name, ResId};
+use cpa_units::ResId;
 use cpa_workers::{Gate, Shared};
 use std::alloc::Global;
 use std::sync::Arc;
@@ -130,22 +127,22 @@ fn two_analyses_meet(rt: HostRuntime) -> Result<(), Fail> {
     Ok(())
 }
 
+/// Makes an edit of the crossing chains by two workers, through a gate.
+fn edit_through<H: Threads + Sync>(rt: &H, alloc: Global, gate: Box<dyn Gate>) -> Result<(), Fail> {
+    let mut round: Shared<Box<dyn Gate>> = Shared::new(2, gate);
+    let mut session = start(rt, alloc, CROSSING_CHAINS)?;
+    let edit = exec(alloc, b"a1", 6, 10)?;
+    let mut trail = Trail::with_room(alloc, 512)?;
+    session.edit(rt, alloc, &edit, &mut round, &mut trail)?;
+    Ok(())
+}
+
 /// An edit's analyses are those of the round that it is handed.
 #[test]
 fn edit_meets(rt: HostRuntime) -> Result<(), Fail> {
-    let alloc = rt.alloc();
-    let system = read_system(alloc, CROSSING_CHAINS.as_bytes())?;
-    let mut trail = Trail::with_room(alloc, 512)?;
-    let mut session = Session::start(&rt, alloc, system, &mut OneByOne, &mut trail)?;
-    let (gate, meetings) = meeting(alloc)?;
-    let mut round: Shared<Box<dyn Gate>> = Shared::new(2, gate);
-    let edit = Edit::Exec {
-        task: Name::read(alloc, b"a1")?,
-        best: 6,
-        worst: 10,
-    };
-    let made: Result<(), EditFault> = session.edit(&rt, alloc, &edit, &mut round, &mut trail);
-    assert!(rt; have_met(&meetings) && made.is_ok());
+    let (gate, meetings) = meeting(rt.alloc())?;
+    edit_through(&rt, rt.alloc(), gate)?;
+    assert!(rt; have_met(&meetings));
     Ok(())
 }
 
