@@ -4,6 +4,7 @@ ghost use Rattle.std.specs.Prelude.{◌≤◌};
 
 use cpa_io::{MemoryFiles, MemorySink};
 use cpa_run::run;
+use std::alloc::{AllocError, Global};
 use std::process::Abort;
 use std::test::Fail;
 use std::thread::Threads;
@@ -23,6 +24,28 @@ pub const NO_FAULTS: Faults<'static> = Faults {
     puts: &[],
 };
 
+/// Files that are held under these names.
+pub fn held_files(
+    alloc: Global,
+    named: &[(&str, &[u8])],
+) -> Result<Vec<(String, Vec<u8>)>, AllocError> {
+    let mut held = Vec::new(alloc);
+    for (name, bytes) in named {
+        let name = String::from_str(alloc, name)?;
+        held.push((name, Vec::from_slice(alloc, bytes)?))?;
+    }
+    Ok(held)
+}
+
+/// Words as a call takes them.
+pub fn given_words(alloc: Global, words: &[&str]) -> Result<Vec<String>, AllocError> {
+    let mut given = Vec::new(alloc);
+    for word in words {
+        given.push(String::from_str(alloc, word)?)?;
+    }
+    Ok(given)
+}
+
 /// The status and the bytes sent of a call over files that are held under these names.
 pub fn call_over<R: AllocGlobal + Threads + Sync>(
     rt: &R,
@@ -31,19 +54,10 @@ pub fn call_over<R: AllocGlobal + Threads + Sync>(
     faults: &Faults,
 ) -> Result<(u8, Vec<u8>), Fail> {
     let alloc = rt.alloc();
-    let mut held = Vec::new(alloc);
-    for (name, bytes) in named {
-        held.push((
-            String::from_str(alloc, name)?,
-            Vec::from_slice(alloc, bytes)?,
-        ))?;
-    }
+    let given = given_words(alloc, words)?;
+    let held = held_files(alloc, named)?;
     let mut files = MemoryFiles::new(alloc, held, Vec::from_slice(alloc, faults.loads)?);
     let mut sink = MemorySink::new(alloc, faults.piece, Vec::from_slice(alloc, faults.puts)?);
-    let mut given = Vec::new(alloc);
-    for word in words {
-        given.push(String::from_str(alloc, word)?)?;
-    }
     let status = run(rt, alloc, given.as_slice(), &mut files, &mut sink);
     Ok((status, Vec::from_slice(alloc, sink.sent())?))
 }

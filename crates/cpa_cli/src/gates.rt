@@ -1,6 +1,7 @@
 //! What workers pass, and what a gate sees of them: that analyses run beside each other, and which there are.
 
 use crate::anew::{exec, start};
+use crate::calls::{given_words, held_files};
 use crate::cases::{CROSSING_CHAINS, CROSSING_CHAINS_REPORT, ENDLESS_JITTER};
 use cpa_io::{MemoryFiles, MemorySink};
 use cpa_local::Trail;
@@ -80,19 +81,11 @@ fn call_with<R: AllocGlobal + Threads + Sync>(
     gate: Box<dyn Gate>,
 ) -> Result<(u8, Vec<u8>), Fail> {
     let alloc = rt.alloc();
-    let mut held = Vec::new(alloc);
-    for (name, text) in [("sys", system), ("scr", script)] {
-        held.push((
-            String::from_str(alloc, name)?,
-            Vec::from_slice(alloc, text.as_bytes())?,
-        ))?;
-    }
+    let given = given_words(alloc, words)?;
+    let named: [(&str, &[u8]); 2] = [("sys", system.as_bytes()), ("scr", script.as_bytes())];
+    let held = held_files(alloc, &named)?;
     let mut files = MemoryFiles::new(alloc, held, Vec::new(alloc));
     let mut sink = MemorySink::new(alloc, 4096, Vec::new(alloc));
-    let mut given = Vec::new(alloc);
-    for word in words {
-        given.push(String::from_str(alloc, word)?)?;
-    }
     let status = run_with(rt, alloc, given.as_slice(), &mut files, &mut sink, gate);
     Ok((status, Vec::from_slice(alloc, sink.sent())?))
 }

@@ -2,7 +2,7 @@
 
 ghost use Rattle.std.specs.Prelude.{false, None, string_bytes};
 
-use crate::calls::{Faults, NO_FAULTS, call_over};
+use crate::calls::{Faults, NO_FAULTS, call_over, given_words};
 use crate::cases::{LONG_WINDOW, TWO_TASKS};
 use cpa_io::{Files, LoadFault, Sink, SinkFault};
 use cpa_run::run;
@@ -284,10 +284,7 @@ fn counts_after<R: AllocGlobal + Threads + Sync>(
     put: bool,
 ) -> Result<(u8, u64, u64), Fail> {
     let alloc = rt.alloc();
-    let mut words = Vec::new(alloc);
-    for word in ["analyse", "sys"] {
-        words.push(String::from_str(alloc, word)?)?;
-    }
+    let words = given_words(alloc, &["analyse", "sys"])?;
     let mut files = FailingFiles {
         faults: count,
         last: String::new(alloc),
