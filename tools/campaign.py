@@ -336,6 +336,20 @@ def cluster(words, at_end):
     return client
 
 
+def gone(words):
+    """What is said where the scheduler has ended."""
+    return Failed(f"the scheduler{f' at {words.scheduler}' if words.scheduler else ''} is gone: start it anew")
+
+
+@contextlib.contextmanager
+def telling_gone(words):
+    """Says so too where the library meets a connection that the scheduler has closed, whatever it was asked."""
+    try:
+        yield
+    except distributed.comm.core.CommClosedError:
+        raise gone(words) from None
+
+
 class Engine:
     """The calls of a campaign that are under way."""
 
@@ -390,7 +404,7 @@ class Engine:
             if isinstance(fault, distributed.scheduler.KilledWorker):
                 where, fault = fault.last_worker.address, "the worker died, and those before it under the same call"
         else:
-            raise Failed(f"the scheduler{f' at {self.words.scheduler}' if self.words.scheduler else ''} is gone: start it anew")
+            raise gone(self.words)
         future.release()
         yield from (it for it in zip(units, answers) if it[1][0] < 10)
         if answers and answers[-1][0] >= 10:
@@ -416,7 +430,7 @@ def run(words, what, units, kept, look=lambda key, answer: False, together=1):
         return
     whole = sum(it[1] for it in units)
     progress = Progress(what, whole, whole - sum(it[1] for it in left))
-    with contextlib.ExitStack() as at_end:
+    with contextlib.ExitStack() as at_end, telling_gone(words):
         engine = None
         if left:
             engine = Engine(cluster(words, at_end), words, left, together)

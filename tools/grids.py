@@ -148,9 +148,9 @@ def row_of(status, text, script):
     found, refused = {}, ""
     for line in text.splitlines():
         if it := TASK.fullmatch(line):
-            found["task." + it[1]] = it[4]
+            found["task." + it["name"]] = it["worst"]
         elif it := PATH.fullmatch(line):
-            found["path." + it[1]] = it[3]
+            found["path." + it["name"]] = it["worst"]
         elif it := re.fullmatch(r"line (\d+) refused (\d)", line):
             edit = " ".join(script.split("\n")[int(it[1]) - 1].split())
             refused = refused or f"{edit}: {it[2]}"

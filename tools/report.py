@@ -2,8 +2,8 @@
 import re
 import sys
 
-TASK = re.compile(r"task (\S+) (\S+) (?:period (\d+) jitter (\d+|overload) distance (\d+|overload)|streams (\d+)) best (\d+) worst (\d+|overload)")
-PATH = re.compile(r"path (\S+) best (\d+) worst (\d+|overload) deadline (\d+|-) (met|missed|unknown|none)")
+TASK = re.compile(r"task (?P<name>\S+) (?P<on>\S+) (?:period (?P<period>\d+) jitter (?P<jitter>\d+|overload) distance (?P<distance>\d+|overload)|streams (?P<streams>\d+)) best (?P<best>\d+) worst (?P<worst>\d+|overload)")
+PATH = re.compile(r"path (?P<name>\S+) best (?P<best>\d+) worst (?P<worst>\d+|overload) deadline (?P<deadline>\d+|-) (?P<verdict>met|missed|unknown|none)")
 SUMMARY = re.compile(r"summary tasks \d+ overload \d+ missed \d+")
 REFUSED = re.compile(r"line (\d+) refused (\d)")
 SEEN_TASK = re.compile(r"task (\S+) jobs (\d+) done (\d+) worst (\d+|none)")
@@ -18,8 +18,9 @@ def number(word):
 
 def task_in(it):
     """What a task's line says. Where it has several streams, it has no period, no jitter and no distance."""
-    period, jitter, distance = (word and number(word) for word in it.group(3, 4, 5))
-    return {"on": it[2], "period": period, "jitter": jitter, "distance": distance, "streams": int(it[6] or 1), "best": int(it[7]), "worst": number(it[8])}
+    period, jitter, distance = (word and number(word) for word in it.group("period", "jitter", "distance"))
+    streams = int(it["streams"] or 1)
+    return {"on": it["on"], "period": period, "jitter": jitter, "distance": distance, "streams": streams, "best": int(it["best"]), "worst": number(it["worst"])}
 
 
 def reports_in(lines, file):
@@ -28,9 +29,9 @@ def reports_in(lines, file):
     found, tasks, paths, refused = [], {}, {}, {}
     for place, line in enumerate(lines, 1):
         if it := TASK.fullmatch(line):
-            tasks[it[1]] = task_in(it)
+            tasks[it["name"]] = task_in(it)
         elif it := PATH.fullmatch(line):
-            paths[it[1]] = {"best": int(it[2]), "worst": number(it[3]), "deadline": number(it[4]), "verdict": it[5]}
+            paths[it["name"]] = {"best": int(it["best"]), "worst": number(it["worst"]), "deadline": number(it["deadline"]), "verdict": it["verdict"]}
         elif SUMMARY.fullmatch(line):
             found.append((tasks, paths, refused))
             tasks, paths, refused = {}, {}, {}
