@@ -46,6 +46,7 @@ impl<'a> BusyWindow for PreemptiveJobs<'a> {
 
     ghost some = { λ b. b.execution.some };
 
+    #[inline(always)]
     fn at(&self, jobs: u64, window: u64) -> u128 {
         u128::from(jobs * self.worst) + work_in(self.rivals, window)
     }

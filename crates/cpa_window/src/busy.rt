@@ -67,6 +67,7 @@ impl<'a, B: BusyWindow> Demand for OfJobs<'a, B> {
 
     ghost monotone = { λ d v w h le. B.monotone d.busy.now d.jobs v w h };
 
+    #[inline(always)]
     fn at(&self, window: u64) -> u128 {
         self.busy.at(self.jobs, window)
     }

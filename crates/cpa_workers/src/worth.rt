@@ -8,7 +8,7 @@ use cpa_model::System;
 use cpa_units::{Bound, ResId, ResSet, Vector};
 
 /// For so many looks at a task a worker more pays: what starting it takes, and its own bounds and readings, is as long.
-const LOOKS: u64 = 10_000;
+const LOOKS: u64 = 20_000;
 
 /// The greatest executions of a resource's tasks together, in ticks.
 fn work_on(system: &System, res: ResId) -> u64
@@ -21,23 +21,35 @@ fn work_on(system: &System, res: ResId) -> u64
     work
 }
 
-/// How often the analysis of a resource looks at a task, by a rough guess: each window that it tries for a job looks at
-/// all tasks of the resource, and a task has as many jobs to try as its bound has room for all tasks in turn.
+/// How many windows an analysis tries for a task, by a rough guess from how often its bound has room for the work of all
+/// tasks of its resource. Where that is once or twice, its busy window ends with its first jobs. The less time the tasks
+/// leave, the longer bounds get, and busy windows much sooner, which hold more jobs of all of them.
+fn windows(bound: Bound, work: u64) -> u64
+    requires { 1 ≤ work }
+{
+    let times = match bound {
+        Bound::Within(ticks) => ticks / work,
+        Bound::Overload => 0,
+    };
+    times
+        .saturating_mul(times)
+        .saturating_mul(times)
+        .saturating_add(1)
+}
+
+/// How often the analysis of a resource looks at a task, by the same guess: each window that it tries looks at all tasks
+/// of the resource.
 fn looks(system: &System, x: &Vector, res: ResId) -> u64
     requires there { res.0 < length system.now.resources }
     requires vector { IsVector system.now x.now }
 {
     let work = work_on(system, res).max(1);
     let tasks = system.tasks_on(res);
-    let mut jobs: u64 = 0;
+    let mut tried: u64 = 0;
     for task in tasks {
-        let bound = match x.get(*task) {
-            Bound::Within(ticks) => ticks,
-            Bound::Overload => 0,
-        };
-        jobs = jobs.saturating_add(1 + bound / work);
+        tried = tried.saturating_add(windows(x.get(*task), work));
     }
-    jobs.saturating_mul(tasks.len() as u64)
+    tried.saturating_mul(tasks.len() as u64)
 }
 
 /// How many workers at most pay in a round of analyses of these resources, by the bounds so far.
