@@ -235,14 +235,14 @@ interrupted() {
   exit $((128 + $(kill -l "$1")))
 }
 
-# Runs rt with some words in the program's crate, and shows how far it is; its status. It has a group of its own, so that an
-# interrupt of the terminal comes to this script alone, which ends all of it. With `libraries` it ends once all below the summit
-# are proved, or one has failed.
+# Runs rt with some words in a crate, and shows how far it is; its status. It has a group of its own, so that an interrupt of
+# the terminal comes to this script alone, which ends all of it. With `libraries` it ends once all below the summit are proved,
+# or one has failed.
 watch() {
-  local until=$1 status
-  shift
+  local until=$1 crate=$2 status
+  shift 2
   set -m
-  (cd "$here/crates/$top" && LOKWURMI_BUILD=$mark exec rt "$@") >>"$log" 2>&1 </dev/null &
+  (cd "$here/crates/$crate" && LOKWURMI_BUILD=$mark exec rt "$@") >>"$log" 2>&1 </dev/null &
   running=$!
   set +m
   while kill -0 "$running" 2>/dev/null; do
@@ -272,11 +272,12 @@ are_libraries_done() {
 }
 
 # Proves the libraries several at a time, and then the summit with all processors, or all one after the other. rt lets only one
-# of its runs work in a crate and those below it, so that several at a time are its own affair.
+# of its runs work in a crate and those below it, so that several at a time are its own affair. Where a library is lacking, rt
+# reads all sources below once before it begins; so those of the summit are built each for itself.
 run_rt() {
-  local why
+  local it why
   if ((jobs > 1)) && ! are_libraries_done; then
-    if ! watch libraries all check --jobs "$jobs"; then
+    if ! watch libraries "$top" all check --jobs "$jobs"; then
       why=$(tell_no_failure) || return
       wipe
       echo "lokwurmi: $why: they go on one at a time" >&2
@@ -284,7 +285,12 @@ run_rt() {
       guess
     fi
   fi
-  watch all run -- "${first[@]}" && [ -x "$program" ]
+  if are_libraries_done; then
+    for it in "${order[@]:${#order[@]}-summit:summit-1}"; do
+      [[ -v is_done[$it] ]] || watch all "$it" lib || return
+    done
+  fi
+  watch all "$top" run -- "${first[@]}" && [ -x "$program" ]
 }
 
 # What rt said of the crate that failed; where they went one after the other, of the last that it began with.
