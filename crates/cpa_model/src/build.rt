@@ -307,6 +307,28 @@ fn build_task_lists(
     }
 }
 
+/// The system of a draft that isn't refused.
+fn build_judged(alloc: Global, draft: &Draft, tables: &Tables) -> Result<System, BuildFault>
+    requires tables { AreTables draft.now tables.now.resources tables.now.activities }
+    requires refusal { first_refusal draft.now ≡ None }
+    requires executions { All (λ t. has_executions t ≡ true) draft.now.tasks }
+    ensures ok { IfOk result (λ s. s ≡ system_of draft.now) }
+    ensures err { IfErr result (λ e. e ≡ Memory) }
+{
+    let resources = build_resources(alloc, draft.resource_entries())?;
+    let sources = build_sources(alloc, draft.source_entries())?;
+    let tasks = build_tasks(alloc, draft, tables, draft.task_entries())?;
+    let paths = build_paths(alloc, draft, tables, draft.path_entries())?;
+    let task_lists = build_task_lists(alloc, resources.as_slice(), tasks.as_slice())?;
+    Ok(System {
+        resources,
+        sources,
+        tasks,
+        paths,
+        task_lists,
+    })
+}
+
 impl System {
     /// The system that a draft stands for. It is refused exactly where one of reasons 2 to 12 and 14 applies, with
     /// the first of them and its first place.
@@ -316,18 +338,7 @@ impl System {
         ensures ok { IfOk result (λ s. s ≡ system_of draft) }
     {
         let tables = judge(alloc, &draft)?;
-        let resources = build_resources(alloc, draft.resource_entries())?;
-        let sources = build_sources(alloc, draft.source_entries())?;
-        let tasks = build_tasks(alloc, &draft, &tables, draft.task_entries())?;
-        let paths = build_paths(alloc, &draft, &tables, draft.path_entries())?;
-        let task_lists = build_task_lists(alloc, resources.as_slice(), tasks.as_slice())?;
-        Ok(System {
-            resources,
-            sources,
-            tasks,
-            paths,
-            task_lists,
-        })
+        build_judged(alloc, &draft, &tables)
     }
 }
 
