@@ -69,9 +69,13 @@ fn only_task(tasks: &[Task], task: usize) -> Option<TaskId>
     ensures alone { ForSome result (λ j. slice_index_or (activators tasks.now) task [] ≡ ByTask j ∷ []) }
     ensures none { result ≡ None → (j : TaskId) → slice_index_or (activators tasks.now) task [] ≢ ByTask j ∷ [] }
 {
-    match activators_of(tasks, task) {
-        [Activator::Task(next)] => Some(*next),
-        _ => None,
+    let after = activators_of(tasks, task);
+    if after.len() != 1 {
+        return None;
+    }
+    match after[0] {
+        Activator::Task(next) => Some(next),
+        Activator::Source(_) => None,
     }
 }
 
