@@ -1,8 +1,10 @@
 -- Following activators over a list of them.
-use Rattle.std.proofs.Common.{◌≡◌, ℕ, suc, ◌+◌, ◌-◌, ◌<◌, ◌≤◌, List, [], ◌∷◌, length, take, get_or, Option, Some, None, slice_index_or, slice_get, refl, sym, ap, ◌∙◌, arith}
+use Rattle.std.proofs.Common.{◌≡◌, ℕ, suc, ◌+◌, ◌-◌, ◌<◌, ◌≤◌, List, [], ◌∷◌, length, take, get_or, Option, Some, None, option_map, slice_index_or, slice_get, refl, sym, ap, ◌∙◌, arith}
+use Rattle.std.specs.Option.{IfSome}
 use Rattle.std.specs.List.{flat_map}
 use Rattle.std.proofs.lemmas.List.{take_all}
 use Rattle.std.proofs.lemmas.Option.{slice_get-get_or, slice_get_within, get_or_from_slice_get}
+use Rattle.std.proofs.lemmas.List.Sums.{fold_more}
 use Rattle.std.proofs.lemmas.List.Concat.{get_or-flat_map}
 use Rattle.std.proofs.lemmas.List.Folds.{length-flat_map-take}
 use Rattle.cpa_units.specs.declared.places.SourceId.{SourceId}
@@ -10,7 +12,8 @@ use Rattle.cpa_units.specs.declared.places.TaskId.{TaskId}
 use Rattle.cpa_model.specs.declared.entries.Activator.TheVariants.{Task}
 use Rattle.std.proofs.lemmas.List.{append-nil}
 use Rattle.cpa_model.specs.declared.entries.Activator.{Activator}
-use Rattle.cpa_model.specs.Chains.{chain_steps, depth_within, streams_step, streams_within}
+use Rattle.cpa_draft.specs.Chains.{longer}
+use Rattle.cpa_model.specs.Chains.{chain_step, chain_steps, depth_within, streams_step, streams_within}
 
 abbrev pub Links : Type 0
 Links = List (List Activator)
@@ -47,6 +50,25 @@ streams-only links most less i j next only =
 
 pub streams_within-step : (links : Links) (most i : ℕ) → 0 < most → streams_within links most i ≡ flat_map (streams_by links (most - 1)) (slice_index_or links i [])
 streams_within-step links most i some = streams_within-next links most (most - 1) i (omega arith)
+
+-- a chain with a task more is as short
+pub one_more-few : (depth : Option ℕ) (most : ℕ) → 0 < most → IfSome depth (λ d. d ≤ most - 1) → IfSome (option_map suc depth) (λ d. d ≤ most)
+one_more-few None most some few = few
+one_more-few (Some d) most some few = omega arith
+
+-- the longer of two chains is as short as both
+pub longer-few : (first second : Option ℕ) (most : ℕ) → IfSome first (λ d. d ≤ most) → IfSome second (λ d. d ≤ most) → IfSome (longer first second) (λ d. d ≤ most)
+longer-few None second most few _ = few
+longer-few (Some d) None most _ few = few
+longer-few (Some d) (Some e) most few fewer = omega arith
+
+-- one activator more is gone over
+pub depth-more : (links : Links) (less k : ℕ) (items : List Activator) (a d : Activator) (longest depth now : Option ℕ) → k < length items → get_or items k d ≡ a → depth ≡ chain_step a (depth_within links less)
+    → longest ≡ chain_steps (take k items) (depth_within links less) → now ≡ longer longest depth → now ≡ chain_steps (take (k + 1) items) (depth_within links less)
+depth-more links less k items a d longest depth now there at step so e =
+    e ∙ ap (λ x. longer x depth) so
+    ∙ ap (longer (chain_steps (take k items) (depth_within links less))) (step ∙ ap (λ b. chain_step b (depth_within links less)) (sym at))
+    ∙ sym (fold_more (λ l b. longer l (chain_step b (depth_within links less))) (Some 1) items k d there)
 
 -- all activators were gone over
 pub depth-all : (links : Links) (most i count : ℕ) (items : List Activator) (longest : Option ℕ) → 0 < most → items ≡ slice_index_or links i [] → length items ≤ count
