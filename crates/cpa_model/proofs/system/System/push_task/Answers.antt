@@ -1,4 +1,5 @@
 use Rattle.std.proofs.Common.{◌++◌, ◌∷◌, [], refl, ap, ◌∙◌, arith}
+use Rattle.std.proofs.lemmas.Result.{IfOk-from_err}
 use Rattle.cpa_model.specs.Changes.{with_task}
 use Rattle.cpa_model.proofs.ResourceTaskLaws.{task_lists-push, task_lists-by}
 use Rattle.cpa_model.proofs.ChangedLaws.{pushed-placed}
@@ -21,3 +22,27 @@ invariant_of-self-2 c =
 pub returns-clause-ok : goal.returns-clause-ok
 unfolding with_task
 returns-clause-ok c = rw (← c.self.view_is, c.in_ok-push.ensures.items, c.in_ok-reserve.ensures.items) refl
+
+pub returns-in_err-reserve-clause-ok : goal.returns-in_err-reserve-clause-ok
+returns-in_err-reserve-clause-ok c = IfOk-from_err _ _ c.from_residual.ensures.0
+
+pub returns-in_err-reserve-clause-place : goal.returns-in_err-reserve-clause-place
+returns-in_err-reserve-clause-place c = IfOk-from_err _ _ c.from_residual.ensures.0
+
+pub returns-in_err-list_task-clause-ok : goal.returns-in_err-list_task-clause-ok
+returns-in_err-list_task-clause-ok c = IfOk-from_err _ _ c.from_residual-in_err-list_task.ensures.0
+
+pub returns-in_err-list_task-clause-place : goal.returns-in_err-list_task-clause-place
+returns-in_err-list_task-clause-place c = IfOk-from_err _ _ c.from_residual-in_err-list_task.ensures.0
+
+pub returns-in_err-push-clause-ok : goal.returns-in_err-push-clause-ok
+returns-in_err-push-clause-ok c = IfOk-from_err _ _ c.from_residual-in_err-push.ensures.0
+
+pub returns-in_err-push-clause-place : goal.returns-in_err-push-clause-place
+returns-in_err-push-clause-place c = IfOk-from_err _ _ c.from_residual-in_err-push.ensures.0
+
+pub invariant_of-self : goal.invariant_of-self
+invariant_of-self c = rw c.in_err-reserve.ensures.items c.self.invariant
+
+pub invariant_of-self-in_err-list_task : goal.invariant_of-self-in_err-list_task
+invariant_of-self-in_err-list_task c = rw (c.in_ok-reserve.ensures.items, c.in_err-list_task.ensures.err) c.self.invariant
