@@ -1,13 +1,6 @@
 //! Writes the schedule of the run of a system under a trace: which task gets the ticks of its resource, from when to when.
 #![tactic(auto)]
 
-mod command;
-mod following;
-#[cfg(test)]
-mod tests;
-mod words;
-mod writing;
-
 use cpa_io::{RealFiles, RealSink};
 use std::alloc::Global;
 use std::process::ExitCode;
@@ -35,5 +28,5 @@ fn main(rt: HostRuntime) -> ExitCode {
     };
     let mut sink = RealSink::new(io::writer(&rt));
     let mut files = RealFiles::new(&rt, alloc);
-    ExitCode::from(command::write_schedule(alloc, words.as_slice(), &mut files, &mut sink))
+    ExitCode::from(cpa_segments::write_schedule(alloc, words.as_slice(), &mut files, &mut sink))
 }

@@ -1,5 +1,5 @@
 //! Tests of crates by their public calls: drafts, systems, cones, edits, system files, traces, step rules, runs, audits of
-//! schedules, and the words of the program.
+//! schedules, calls that write schedules, and the words of the program.
 //!
 //! They stand here, above those crates, so that what they try isn't proved once more with them.
 #![tactic(auto)]
@@ -20,6 +20,8 @@ mod made;
 mod models;
 #[cfg(test)]
 mod runs;
+#[cfg(test)]
+mod schedules;
 #[cfg(test)]
 mod steps;
 #[cfg(test)]

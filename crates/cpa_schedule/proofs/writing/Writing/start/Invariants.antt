@@ -1,9 +1,0 @@
-use Rattle.std.proofs.Common.{◌≡◌, length}
-use Rattle.cpa_schedule.specs.Following.{AreFollowing}
-use Rattle.cpa_schedule.proofs.writing.Writing.start.Given as goal
-
-abbrev pub invariant-loop-k : goal.invariant-loop-k
-invariant-loop-k l = record {
-  long : length l.followers.items ≡ l.k;
-  following : AreFollowing l.system l.trace 0 0 0 l.followers.items;
-}
