@@ -1,9 +1,8 @@
 //! The rows of a schedule, written along a run and sent in pieces. Times are in ticks.
 
-ghost use Rattle.std.specs.Prelude.{◌≡◌, ◌<◌, ◌≤◌, ◌++◌, ℕ, [], length, Err, IfOk, OnOk, OnErr};
+ghost use Rattle.std.specs.Prelude.{◌≡◌, ◌<◌, ◌≤◌, ◌++◌, [], length, Err, IfOk, OnOk, OnErr};
 ghost use Rattle.std.specs.Option.{ForSome, option_to_list};
 ghost use Rattle.cpa_io.specs.Causes.{Rose, SentPart, grown};
-ghost use Rattle.cpa_model.specs.Rules.{IsSystem};
 ghost use Rattle.cpa_sim.specs.Outcome.{CanReplay, end_of};
 ghost use Rattle.cpa_audit.specs.Segments.{starting, started, segments};
 ghost use Rattle.cpa_call.specs.declared.ended.Stopped.TheVariants as stopped;
