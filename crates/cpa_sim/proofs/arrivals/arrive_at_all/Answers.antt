@@ -1,10 +1,20 @@
-use Rattle.std.proofs.Common.{◌≡◌, ◌∙◌, ◌+◌, ◌++◌, false, take, [], cond, eqb, ap, arith}
+use Rattle.std.proofs.Common.{◌≡◌, ◌∙◌, ◌+◌, ◌++◌, Bool, true, false, take, List, [], cond, eqb, refl, sym, ap, arith}
+use Rattle.std.specs.List.{range_with_len}
+use Rattle.std.proofs.lemmas.Bool.{false≢true}
+use Rattle.std.proofs.lemmas.List.{take_all}
+use Rattle.cpa_sim.specs.declared.jobs.Cause.{Cause}
+use Rattle.cpa_sim.specs.Run.{causes_by}
 use Rattle.cpa_sim.specs.Lines.{LineCounts, causes_of, with_arrivals}
 use Rattle.cpa_sim.specs.Simulation.{line_at}
 use Rattle.cpa_sim.specs.Arrivals.{is_among}
 use Rattle.cpa_sim.proofs.FollowerLaws.{placed}
 use Rattle.cpa_sim.proofs.ArrivalLaws.{arrivals-none, given-none, given-same, given-then, given-one, place_in, listed-there, not-yet, listed-among, listed-more}
+use Rattle.cpa_sim.proofs.KeptLaws.{arrived-kept}
 use Rattle.cpa_sim.proofs.arrivals.arrive_at_all.Goals as goal
+
+no-matter : (b : Bool) (new : List Cause) → new ≡ [] → [] ≡ cond b new []
+no-matter true new none = sym none
+no-matter false new none = refl
 
 pub arrive_at-requires-clause-there : goal.arrive_at-requires-clause-there
 arrive_at-requires-clause-there c = listed-there c.args.system.now c.args.tasks.now c.requires.tasks c.loop-task.task-index c.loop-task-test.true
@@ -44,3 +54,38 @@ loop-task-preserved c =
     let both = given-then s c.args.places.now.items now (placed s c.has_rules.ensures) (λ i. cond (is_among (take m tasks) i) new []) (λ i. cond (eqb (place_in tasks m) i) new []) l0 d0 l1 d1 l2 d2 c.loop-task.invariant one in
     given-same s c.args.places.now.items now (λ i. cond (is_among (take m tasks) i) new [] ++ cond (eqb (place_in tasks m) i) new []) (λ i. cond (is_among (take (m + 1) tasks) i) new []) l0 d0 l2 d2 both
     (λ i less. listed-more s tasks c.requires.tasks new m c.loop-task-test.true i)
+
+-- a task that got none has none that are kept
+pub returns-in_err-arrive_at-clause-memory : goal.returns-in_err-arrive_at-clause-memory
+returns-in_err-arrive_at-clause-memory c = λ unkept.
+    let tasks = c.args.tasks.now in
+    let m = c.loop-task.task-index in
+    let t = place_in tasks m in
+    let l0 = c.args.lines.now.items in
+    let there = listed-there c.args.system.now tasks c.requires.tasks m c.loop-task-test.true in
+    let same = c.loop-task.invariant.arrived t there in
+    let none = arrived-kept c.args.now (cond (is_among (take m tasks) t) (causes_of c.args.causes) []) (line_at l0 t) (unkept t there) in
+    absurd (false≢true (c.in_err-arrive_at.ensures.memory (ap (λ (l : LineCounts). l.kept) same ∙ none)))
+
+-- all of them had their turn
+pub returns-after-loop-task-clause-given : goal.returns-after-loop-task-clause-given
+returns-after-loop-task-clause-given c =
+    let tasks = c.args.tasks.now in
+    let m = c.loop-task.task-index in
+    let new = causes_of c.args.causes in
+    given-same c.args.system.now c.args.places.now.items c.args.now (λ i. cond (is_among (take m tasks) i) new []) (λ i. cond (is_among tasks i) new []) c.args.lines.now.items c.args.dispatches.now.items c.loop-task.lines.items c.loop-task.dispatches.items
+    c.loop-task.invariant
+    (λ i less. ap (λ ts. cond (is_among ts i) new []) (take_all m tasks c.loop-task-test.false))
+
+-- no job comes
+pub returns-else-causes-gt0-clause-given : goal.returns-else-causes-gt0-clause-given
+returns-else-causes-gt0-clause-given c =
+    let s = c.args.system.now in
+    let tasks = c.args.tasks.now in
+    let new = causes_of c.args.causes in
+    let l0 = c.args.lines.now.items in
+    let d0 = c.args.dispatches.now.items in
+    let count : c.args.causes.count ≡ 0 = omega (arith, c.if-causes-gt0.false) in
+    let none : new ≡ [] = ap (λ n. causes_by c.args.causes.by (range_with_len c.args.causes.first n)) count in
+    given-same s c.args.places.now.items c.args.now (λ i. []) (λ i. cond (is_among tasks i) new []) l0 d0 l0 d0 (given-none s c.args.places.now.items c.args.now l0 d0 c.requires.lines c.requires.dispatches)
+    (λ i less. no-matter (is_among tasks i) new none)
