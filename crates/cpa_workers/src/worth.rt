@@ -8,7 +8,7 @@ use cpa_model::System;
 use cpa_units::{Bound, ResId, ResSet, Vector};
 
 /// For so many looks at a task a worker more pays: what starting it takes, and its own bounds and readings, is as long.
-const LOOKS: u64 = 20_000;
+const LOOKS: u64 = 10_000;
 
 /// The greatest executions of a resource's tasks together, in ticks.
 fn work_on(system: &System, res: ResId) -> u64
@@ -22,8 +22,8 @@ fn work_on(system: &System, res: ResId) -> u64
 }
 
 /// How many windows an analysis tries for a task, by a rough guess from how often its bound has room for the work of all
-/// tasks of its resource. Where that is once or twice, its busy window ends with its first jobs. The less time the tasks
-/// leave, the longer bounds get, and busy windows much sooner, which hold more jobs of all of them.
+/// tasks of its resource. Where that is once at most, its busy window ends with its first job. The less time the tasks
+/// leave, the longer bounds get, and the longer busy windows are, which hold more jobs of all of them: so by the square.
 fn windows(bound: Bound, work: u64) -> u64
     requires { 1 ≤ work }
 {
@@ -31,10 +31,7 @@ fn windows(bound: Bound, work: u64) -> u64
         Bound::Within(ticks) => ticks / work,
         Bound::Overload => 0,
     };
-    times
-        .saturating_mul(times)
-        .saturating_mul(times)
-        .saturating_add(1)
+    times.saturating_mul(times).saturating_add(1)
 }
 
 /// How often the analysis of a resource looks at a task, by the same guess: each window that it tries looks at all tasks
