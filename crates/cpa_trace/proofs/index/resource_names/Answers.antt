@@ -1,4 +1,4 @@
-use Rattle.std.proofs.Common.{◌≡◌, ◌≤◌, ◌∙◌, ℕ, arith, map, length}
+use Rattle.std.proofs.Common.{◌≤◌, ◌∙◌, arith, map, length}
 use Rattle.std.proofs.lemmas.List.{length-map, take_all}
 use Rattle.cpa_model.specs.SystemLists.{no_resource}
 use Rattle.cpa_model.specs.declared.entries.Resource.{Resource}
