@@ -1,15 +1,19 @@
-use Rattle.std.proofs.Common.{◌∙◌, ◌+◌, ◌++◌, ◌<◌, ◌≤◌, length, refl, sym, ap, arith}
-use Rattle.std.proofs.lemmas.List.{length-set}
+use Rattle.std.proofs.Common.{◌≡◌, ℕ, ◌∙◌, ◌+◌, ◌++◌, ◌<◌, ◌≤◌, List, length, refl, sym, ap, subst, arith}
+use Rattle.std.proofs.lemmas.Bool.{false≢true}
+use Rattle.std.proofs.lemmas.List.{get_or_read, length-set}
 use Rattle.cpa_units.proofs.PlaceLaws.{flat_map-places_more}
 use Rattle.cpa_trace.specs.Trace.{times_of}
 use Rattle.cpa_sim.specs.declared.feeds.Feed.{Feed}
-use Rattle.cpa_sim.specs.Run.{by_source}
+use Rattle.cpa_sim.specs.declared.jobs.Cause.{Cause}
+use Rattle.cpa_sim.specs.Run.{by_source, by_sources}
 use Rattle.cpa_sim.specs.Feeds.{no_feed, IsPassed, IsAhead}
 use Rattle.cpa_sim.specs.Lines.{LineCounts}
+use Rattle.cpa_sim.specs.Simulation.{line_at, feed_at}
 use Rattle.cpa_sim.proofs.PlaceLaws.{below-more, above-same}
 use Rattle.cpa_sim.proofs.RangeLaws.{part-le}
 use Rattle.cpa_sim.proofs.ArrivalLaws.{fed_below, length-fed, given-none, given-same, given-then}
 use Rattle.cpa_sim.proofs.FollowerLaws.{placed}
+use Rattle.cpa_sim.proofs.KeptLaws.{arrived-kept}
 use Rattle.cpa_sim.proofs.arrivals.take_all_events.Goals as goal
 
 -- what has arrived so far and arrives now is part of what arrives in all
@@ -58,4 +62,68 @@ loop-k-preserved c =
       ahead = below-more (λ i (x : Feed). IsAhead (times_of tr i) x.time x.next) feeds k feed no_feed there inv.ahead c.in_ok-feed.ensures.ahead;
       passed = below-more (λ i (x : Feed). IsPassed (times_of tr i) now x.next) feeds k feed no_feed there inv.passed c.in_ok-feed.ensures.passed;
       same = above-same old feeds k feed no_feed inv.same;
+    }
+
+pub take_event-requires-clause-soon : goal.take_event-requires-clause-soon
+take_event-requires-clause-soon c =
+    let k = c.loop-k.k in
+    let feeds = c.loop-k.feeds.items in
+    let low : k < length c.args.setting.now.system.now.sources = omega (arith, c.sources-k-end.ensures.count) in
+    let there : k < length feeds = omega (arith, low, c.loop-k.invariant.count) in
+    let same : c.index-feed.result.now ≡ feed_at c.args.feeds.now.items k = get_or_read feeds k c.index-feed.result.now there c.index-feed.ensures no_feed ∙ c.loop-k.invariant.same k (omega arith) in
+    subst (λ (x : Feed). c.args.now ≤ x.time) (sym same) (c.requires.soon k low)
+
+pub take_event-requires-clause-ahead : goal.take_event-requires-clause-ahead
+take_event-requires-clause-ahead c =
+    let k = c.loop-k.k in
+    let feeds = c.loop-k.feeds.items in
+    let low : k < length c.args.setting.now.system.now.sources = omega (arith, c.sources-k-end.ensures.count) in
+    let there : k < length feeds = omega (arith, low, c.loop-k.invariant.count) in
+    let same : c.index-feed.result.now ≡ feed_at c.args.feeds.now.items k = get_or_read feeds k c.index-feed.result.now there c.index-feed.ensures no_feed ∙ c.loop-k.invariant.same k (omega arith) in
+    subst (λ (x : Feed). IsAhead (times_of c.args.setting.now.trace.now k) x.time x.next) (sym same) (c.requires.ahead k low)
+
+pub take_event-requires-clause-passed : goal.take_event-requires-clause-passed
+take_event-requires-clause-passed c =
+    let k = c.loop-k.k in
+    let feeds = c.loop-k.feeds.items in
+    let low : k < length c.args.setting.now.system.now.sources = omega (arith, c.sources-k-end.ensures.count) in
+    let there : k < length feeds = omega (arith, low, c.loop-k.invariant.count) in
+    let same : c.index-feed.result.now ≡ feed_at c.args.feeds.now.items k = get_or_read feeds k c.index-feed.result.now there c.index-feed.ensures no_feed ∙ c.loop-k.invariant.same k (omega arith) in
+    subst (λ (x : Feed). c.args.now < x.time → IsPassed (times_of c.args.setting.now.trace.now k) c.args.now x.next) (sym same) (c.requires.passed k low)
+
+pub take_event-requires-clause-silent : goal.take_event-requires-clause-silent
+take_event-requires-clause-silent c = λ later.
+    let k = c.loop-k.k in
+    let feeds = c.loop-k.feeds.items in
+    let low : k < length c.args.setting.now.system.now.sources = omega (arith, c.sources-k-end.ensures.count) in
+    let there : k < length feeds = omega (arith, low, c.loop-k.invariant.count) in
+    let same : c.index-feed.result.now ≡ feed_at c.args.feeds.now.items k = get_or_read feeds k c.index-feed.result.now there c.index-feed.ensures no_feed ∙ c.loop-k.invariant.same k (omega arith) in
+    c.requires.silent k low (subst (λ (x : Feed). c.args.now < x.time) same later)
+
+pub returns-in_err-feed-clause-memory : goal.returns-in_err-feed-clause-memory
+returns-in_err-feed-clause-memory c = λ unkept.
+    let l0 = c.args.lines.now.items in
+    let new : ℕ → List Cause = λ i. fed_below c.args.setting.now.system.now c.args.setting.now.trace.now c.args.now i c.loop-k.k in
+    absurd (false≢true (c.in_err-feed.ensures.memory (λ i less. ap (λ (l : LineCounts). l.kept) (c.loop-k.invariant.given.arrived i less) ∙ arrived-kept c.args.now (new i) (line_at l0 i) (unkept i less))))
+
+pub returns-clause-given : goal.returns-clause-given
+returns-clause-given c =
+    let s = c.args.setting.now.system.now in
+    let tr = c.args.setting.now.trace.now in
+    let now = c.args.now in
+    let k = c.loop-k.k in
+    let all : k ≡ length s.sources = omega (arith, c.loop-k-test.false, c.sources-k-end.ensures.count) in
+    given-same s c.args.setting.now.places.now.items now (λ i. fed_below s tr now i k) (by_sources s tr now) c.args.lines.now.items c.args.dispatches.now.items c.loop-k.lines.items c.loop-k.dispatches.items c.loop-k.invariant.given
+    (λ i less. ap (fed_below s tr now i) all)
+
+pub returns-clause-passed : goal.returns-clause-passed
+returns-clause-passed c = λ i less. c.loop-k.invariant.passed i (omega (arith, less, c.loop-k-test.false, c.sources-k-end.ensures.count))
+
+pub returns-clause-soon : goal.returns-clause-soon
+returns-clause-soon c =
+    let inv = c.loop-k.invariant in
+    record {
+      later = inv.later;
+      soonest = λ i less. inv.soonest i (omega (arith, less, c.loop-k-test.false, c.sources-k-end.ensures.count));
+      ahead = λ i less. inv.ahead i (omega (arith, less, c.loop-k-test.false, c.sources-k-end.ensures.count));
     }
