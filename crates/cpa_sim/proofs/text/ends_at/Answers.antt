@@ -1,7 +1,6 @@
 use Rattle.std.proofs.Common.{◌≡◌, ◌∙◌, ◌+◌, ◌++◌, ◌<◌, ◌∷◌, [], length, map, take, sym, ap, arith, add-one}
 use Rattle.std.proofs.lemmas.List.{take_all, map-append}
 use Rattle.std.proofs.Math.Seq.{take-suc}
-use Rattle.cpa_sim.specs.declared.jobs.Job.{Job}
 use Rattle.cpa_sim.specs.Outcome.{no_job_seen, jobs_seen, job_at}
 use Rattle.cpa_sim.specs.PassageEnds.{job_end}
 use Rattle.cpa_sim.proofs.text.ends_at.Goals as goal
