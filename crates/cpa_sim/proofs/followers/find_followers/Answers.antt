@@ -1,4 +1,4 @@
-use Rattle.std.proofs.Common.{◌≡◌, ◌∙◌, length, map, replicate, List, [], ap, arith}
+use Rattle.std.proofs.Common.{◌≡◌, ◌∙◌, length, replicate, List, [], ap}
 use Rattle.std.proofs.lemmas.List.{get_or-replicate, length-replicate}
 use Rattle.cpa_units.specs.declared.places.TaskId.{TaskId}
 use Rattle.cpa_model.specs.SystemLists.{SystemLists, places_of}
