@@ -4,13 +4,15 @@
 Runs `rt ci` in the repository's top folder, on as many processors as are asked for, looks every second at the provers that
 run, and prints a row a crate as docs/MAP.md has them: seconds of one processor for the proofs, the tests and all edits. What an
 earlier run on this machine has proved takes no time and has no row: `--anew` has everything proved.
-The last line has the time by the clock and that of all processors.
+With `--edits` a line for each edit follows, the dearest first: what one costs is what it takes to read the crate, and to search
+for what it makes false. The last line has the time by the clock and that of all processors.
 
     python3 bench/time_gate.py --processors 2 --anew
-    python3 bench/time_gate.py --log gate.log cpa_units cpa_io
+    python3 bench/time_gate.py --log gate.log --edits cpa_units cpa_io
 """
 import argparse
 import collections
+import glob
 import os
 import subprocess
 import sys
@@ -43,15 +45,49 @@ def is_prover(words):
     return os.path.basename(words[0]) == "rattle" and "--crate-name" in words
 
 
-def kind_of(pid, words):
-    """What part of the gate a prover works at."""
+def texts_with(edit, crate):
+    """The texts of a crate's files that an edit changes, with it."""
+    texts, file = {}, ""
+    with open(edit, encoding="utf-8") as lines:
+        for line in lines.read().split("\n"):
+            word, _, text = line.partition(": ")
+            if word == "file":
+                file = text.strip()
+            elif word == "old":
+                old = text
+            elif line.startswith("new:") and file:
+                if file not in texts:
+                    with open(os.path.join(TOP, "crates", crate, file), encoding="utf-8") as source:
+                        texts[file] = source.read()
+                texts[file] = texts[file].replace(old, text)
+    return texts
+
+
+def edit_in(folder, crate):
+    """Which edit a copy of a crate has; none in the copy that all begin with."""
+    for edit in sorted(glob.glob(os.path.join(TOP, "crates", crate, "must-fail", "*.edit"))):
+        try:
+            texts = texts_with(edit, crate)
+            for file, text in texts.items():
+                with open(os.path.join(folder, file), encoding="utf-8") as source:
+                    if source.read() != text:
+                        break
+            else:
+                return os.path.splitext(os.path.basename(edit))[0]
+        except OSError:
+            continue
+    return ""
+
+
+def kind_of(pid, words, name):
+    """What part of the gate a prover works at, and which edit it tries."""
     try:
         folder = os.readlink(f"/proc/{pid}/cwd")
     except OSError:
         folder = ""
     if os.path.basename(folder).startswith("rt-edit-"):
-        return "edits"
-    return "tests" if "--test" in words else "proofs"
+        return "edits", edit_in(folder, name)
+    return "tests" if "--test" in words else "proofs", ""
 
 
 def look(root, parts):
@@ -73,8 +109,8 @@ def look(root, parts):
         spent = own + waited + sum(found[child][2] + found[child][3] for child in below(pid))
         name = words[words.index("--crate-name") + 1]
         key = (pid, begun)
-        kind = parts[key][1] if key in parts else kind_of(pid, words)
-        parts[key] = (name, kind, max(spent, parts[key][2] if key in parts else 0))
+        kind, edit = parts[key][1:3] if key in parts else kind_of(pid, words, name)
+        parts[key] = (name, kind, edit, max(spent, parts[key][3] if key in parts else 0))
 
 
 def main():
@@ -82,6 +118,7 @@ def main():
     parser.add_argument("crates", nargs="*", help="the crates to prove, with those below them; all without")
     parser.add_argument("--processors", type=int, default=os.cpu_count(), help="on how many processors")
     parser.add_argument("--anew", action="store_true", help="prove all, also what an earlier run on this machine has proved")
+    parser.add_argument("--edits", action="store_true", help="tell each edit's time too")
     parser.add_argument("--log", default="gate.log", help="where the words of `rt ci` go (gate.log)")
     chosen = parser.parse_args()
     words = ["taskset", "-c", f"0-{chosen.processors - 1}", "rt", "ci", *(["--anew"] if chosen.anew else []), *chosen.crates]
@@ -95,12 +132,17 @@ def main():
             time.sleep(1)
     clock = time.monotonic() - begun
     spent, counts = collections.Counter(), collections.Counter()
-    for name, kind, ticks in parts.values():
+    each = collections.Counter()
+    for name, kind, edit, ticks in parts.values():
         spent[name, kind] += ticks / TICKS
         counts[name, kind] += 1
+        if edit:
+            each[f"{name}/{edit}"] += ticks / TICKS
     for name in sorted({name for name, _ in spent}):
         cells = [f"{spent[name, kind]:.0f}" if counts[name, kind] else "none" for kind in KINDS]
         print(f"| `{name}` | " + " | ".join(cells) + " |")
+    for edit, seconds in each.most_common() if chosen.edits else []:
+        print(f"{seconds:6.0f} {edit}")
     print(f"{clock / 60:.1f} minutes by the clock on {chosen.processors} processors, {sum(spent.values()) / 60:.1f} of one processor, status {gate.returncode}")
     return gate.returncode
 
