@@ -10,11 +10,18 @@ use cpa_trace::{Breach, TraceFault};
 use cpa_units::NoMemory;
 use std::alloc::Global;
 
+/// A line that is given whole.
+fn whole_line(alloc: Global, words: &[u8]) -> Result<Vec<u8>, NoMemory>
+    ensures { IfOk result (λ v. v.items ≡ words.now) }
+{
+    Ok(Vec::from_slice(alloc, words)?)
+}
+
 /// The line of words that aren't accepted.
 pub fn words_line(alloc: Global) -> Result<Vec<u8>, NoMemory>
     ensures { IfOk result (λ v. v.items ≡ words_refused) }
 {
-    Ok(Vec::from_slice(alloc, b"words refused\n")?)
+    whole_line(alloc, b"words refused\n")
 }
 
 /// The line of a refusal that names a file.
@@ -70,7 +77,7 @@ pub fn trace_line(alloc: Global, fault: TraceFault) -> Result<Vec<u8>, NoMemory>
         TraceFault::BadRow(row) => row_line(alloc, row, b" malformed\n"),
         TraceFault::UnknownName(row) => row_line(alloc, row, b" name\n"),
         TraceFault::OutOfRange(row) => row_line(alloc, row, b" range\n"),
-        TraceFault::TooMany => Ok(Vec::from_slice(alloc, b"trace refused too many\n")?),
+        TraceFault::TooMany => whole_line(alloc, b"trace refused too many\n"),
         TraceFault::Memory => Ok(Vec::new(alloc)),
     }
 }

@@ -2,10 +2,11 @@
 
 ghost use Rattle.std.specs.Prelude.{◌≡◌, ◌≤◌, true, length, Some, Ok, IfOk, IfErr};
 ghost use Rattle.cpa_units.specs.declared.limits.TheConstants.{MAX_TRACE_FILE};
-ghost use Rattle.cpa_file.specs.Reading.{reading_of};
+ghost use Rattle.cpa_file.specs.Reading.{Reading, reading_of, IsReadFault};
 ghost use Rattle.cpa_trace.specs.Reading.{trace_of};
 ghost use Rattle.cpa_sim.specs.Outcome.{CanReplay};
-ghost use Rattle.cpa_call.specs.Plans.{Do, content_in, system_by, system_in, trace_by, trace_in, traced_in, IsSecond};
+ghost use Rattle.cpa_call.specs.Plans.{Do, Refuse, content_in, system_by, system_in, trace_by, trace_in, traced_in, IsSecond};
+ghost use Rattle.cpa_call.specs.Answers.{IsOfOutput};
 ghost use Rattle.cpa_call.specs.Ends.{IsEndOf, HasStatus, IsUnreadFile, IsNoUnread};
 
 use crate::ended::{Ended, Reply};
@@ -14,6 +15,7 @@ use cpa_file::{FileRefusal, read_system};
 use cpa_io::{Files, LoadFault};
 use cpa_model::System;
 use cpa_trace::{Trace, TraceFault, obeys, read_trace};
+use cpa_units::NoMemory;
 use cpa_units::limits::{MAX_SYSTEM_FILE, MAX_TRACE_FILE};
 use std::alloc::Global;
 
@@ -51,6 +53,36 @@ pub fn load_file<F: Files>(
     }
 }
 
+/// The reply where a file stands for no system; want of memory has none.
+fn refuse_system(alloc: Global, file: &str, refusal: FileRefusal) -> Result<Reply, NoMemory>
+    ensures reply { IfOk result (λ reply. (reading : Reading) → IsReadFault refusal reading → system_by file.now reading ≡ Refuse reply.status reply.text.items) }
+    ensures status { IfOk result (λ reply. IsOfOutput reply.status) }
+{
+    match refusal {
+        FileRefusal::NotToml => Ok(Reply {
+            status: 13,
+            text: file_line(alloc, b"not TOML ", file)?,
+        }),
+        FileRefusal::Refused(refusal) => Ok(Reply {
+            status: 14,
+            text: refusal_line(alloc, refusal)?,
+        }),
+        FileRefusal::Memory => Err(NoMemory),
+    }
+}
+
+/// How a call ends where a file stands for no system.
+fn end_system(alloc: Global, file: &str, refusal: FileRefusal) -> Ended
+    ensures ended { (reading : Reading) → IsReadFault refusal reading → IsEndOf (system_by file.now reading) result }
+    ensures status { HasStatus result }
+    ensures unread { IsNoUnread result }
+{
+    match refuse_system(alloc, file, refusal) {
+        Ok(reply) => Ended::Refused(reply),
+        Err(NoMemory) => Ended::Memory,
+    }
+}
+
 /// The system that the bytes of a file stand for.
 fn read_system_file(alloc: Global, file: &str, bytes: &[u8]) -> Result<System, Ended>
     ensures planned { IfOk result (λ s. system_by file.now (reading_of bytes.now) ≡ Do s) }
@@ -60,17 +92,7 @@ fn read_system_file(alloc: Global, file: &str, bytes: &[u8]) -> Result<System, E
 {
     match read_system(alloc, bytes) {
         Ok(system) => Ok(system),
-        Err(FileRefusal::NotToml) => Err(Ended::Refused(Reply {
-            status: 13,
-            text: file_line(alloc, b"not TOML ", file)?,
-        })),
-        Err(FileRefusal::Refused(refusal)) => {
-            Err(Ended::Refused(Reply {
-                status: 14,
-                text: refusal_line(alloc, refusal)?,
-            }))
-        }
-        Err(FileRefusal::Memory) => Err(Ended::Memory),
+        Err(refusal) => Err(end_system(alloc, file, refusal)),
     }
 }
 
