@@ -114,6 +114,39 @@ fn read_rows(
     Ok(())
 }
 
+/// The rows in the bytes of a file are read, unless one is refused.
+fn read_bytes(
+    alloc: Global,
+    system: &System,
+    index: &Index,
+    schedule: &mut Schedule,
+    bytes: &[u8],
+) -> Result<(), ScheduleFault>
+    requires index { IsIndex system.now index.now }
+    requires empty { schedule.old ≡ [] }
+    ensures ok { OnOk result (schedule_of system.now bytes.now ≡ Ok schedule.new) }
+    ensures err { IfErr result (λ f. IsFaultOf f (schedule_of system.now bytes.now)) }
+{
+    let mut reader = rows_of(alloc, bytes);
+    let mut fields = ByteRecord::new(alloc);
+    read_rows(system, index, schedule, &mut reader, &mut fields)
+}
+
+/// The rows in the bytes of a file are read by the names of the system, unless one is refused.
+fn read_file(
+    alloc: Global,
+    system: &System,
+    schedule: &mut Schedule,
+    bytes: &[u8],
+) -> Result<(), ScheduleFault>
+    requires { schedule.old ≡ [] }
+    ensures ok { OnOk result (schedule_of system.now bytes.now ≡ Ok schedule.new) }
+    ensures err { IfErr result (λ f. IsFaultOf f (schedule_of system.now bytes.now)) }
+{
+    let index = Index::of(alloc, system)?;
+    read_bytes(alloc, system, &index, schedule, bytes)
+}
+
 /// The schedule that the bytes of a file stand for. The first refusal is told, in the order of the rows.
 pub fn read_schedule(
     alloc: Global,
@@ -123,10 +156,7 @@ pub fn read_schedule(
     ensures ok { IfOk result (λ schedule. schedule_of system.now bytes.now ≡ Ok schedule) }
     ensures err { IfErr result (λ f. IsFaultOf f (schedule_of system.now bytes.now)) }
 {
-    let index = Index::of(alloc, system)?;
     let mut schedule = Schedule::empty(alloc);
-    let mut reader = rows_of(alloc, bytes);
-    let mut fields = ByteRecord::new(alloc);
-    read_rows(system, &index, &mut schedule, &mut reader, &mut fields)?;
+    read_file(alloc, system, &mut schedule, bytes)?;
     Ok(schedule)
 }
