@@ -2,7 +2,7 @@
 use Rattle.std.proofs.Common.{◌≡◌, ℕ, ◌+◌, ◌<◌, ◌≤◌, ◌++◌, length, List, [], ◌∷◌, map, take, get_or, slice_get, Result, Ok, Err, Some, cond, refl, sym, ◌∙◌, ap, arith, subst, length-append}
 use Rattle.std.specs.Prelude.{sum_by, IfOk}
 use Rattle.std.specs.List.{AllByRecursion, flat_map}
-use Rattle.std.proofs.lemmas.List.{append-nil, take_all, take_more, get_or-map, length-map}
+use Rattle.std.proofs.lemmas.List.{append-nil, append_assoc, take_all, take_more, get_or-map, length-map}
 use Rattle.std.proofs.lemmas.List.Sums.{sum_by-cons, sum_by-append}
 use Rattle.std.proofs.lemmas.Grind.{flat_map-append}
 use Rattle.std.proofs.lemmas.List.Concat.{flat_map-cons}
@@ -124,3 +124,11 @@ if_ok P Q (Err e) f h = tt
 
 pub peaks-more : (f : ℕ → ℕ) (k peak : ℕ) (before after : List ℕ) → before ≡ map f (places k) → peak ≡ f k → after ≡ before ++ peak ∷ [] → after ≡ map f (places (k + 1))
 peaks-more f k peak before after so_far here more = more ∙ (rw (so_far, here) (sym (map-places_more f k)))
+
+-- a text has grown by some words, and grows by one more
+pub grows : (old words word mid new : List ℕ) → mid ≡ old ++ words → new ≡ mid ++ word → new ≡ old ++ (words ++ word)
+grows old words word mid new before e = e ∙ (ap (λ x. x ++ word) before ∙ append_assoc old words word)
+
+-- or by two
+pub grows-twice : (old words one two mid new : List ℕ) → mid ≡ old ++ words → new ≡ mid ++ one ++ two → new ≡ old ++ (words ++ one ++ two)
+grows-twice old words one two mid new before e = grows old (words ++ one) two (mid ++ one) new (grows old words one mid (mid ++ one) before refl) e
