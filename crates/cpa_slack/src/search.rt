@@ -1,6 +1,6 @@
 //! The search for the most ticks by which a task may grow.
 
-ghost use Rattle.std.specs.Prelude.{◌≡◌, ◌<◌, ◌≤◌, ◌+◌, ◌↔◌, IsTrue, length, IfOk};
+ghost use Rattle.std.specs.Prelude.{◌≡◌, ◌<◌, ◌≤◌, ◌+◌, ◌↔◌, IsTrue, length, IfOk, if◌then◌else◌};
 ghost use Rattle.cpa_units.specs.declared.limits.TheConstants.{MAX_TASKS, MAX_EXECUTION};
 ghost use Rattle.cpa_units.specs.Bounds.{IsNowhereAbove};
 ghost use Rattle.cpa_model.specs.SystemLists.{task_at, path_at};
@@ -100,8 +100,7 @@ pub fn find_slack<H: Threads + Sync, R: Round>(
     })
 }
 
-/// The most ticks up to `most` with which all holds, where it does without any. Each search begins at
-/// the least solution with the most ticks that are known to hold by then, at first that without any.
+/// The most ticks up to `most` with which all holds, where it does without any.
 fn most_ticks<H: Threads + Sync, R: Round>(
     rt: &H,
     alloc: Global,
@@ -121,24 +120,94 @@ fn most_ticks<H: Threads + Sync, R: Round>(
     ensures kept { IsKept trail.old trail.new }
     ensures fresh { NewMarksAre trail.old trail.new (λ i. i < length system.now.tasks) }
 {
-    system.has_rules();
     let mut tried = system.copy(alloc)?;
     let mut least_held = bounds;
+    halve(
+        rt,
+        alloc,
+        system,
+        task,
+        most,
+        &mut tried,
+        &mut least_held,
+        round,
+        trail,
+    )
+}
+
+/// The same by a copy of the system and its least solution. Each search begins at the least solution
+/// with the most ticks that are known to hold by then, at first that without any.
+fn halve<H: Threads + Sync, R: Round>(
+    rt: &H,
+    alloc: Global,
+    system: &System,
+    task: TaskId,
+    most: u64,
+    tried: &mut System,
+    least_held: &mut Vector,
+    round: &mut R,
+    trail: &mut Trail,
+) -> Result<u64, NoMemory>
+    requires there { task.0 < length system.now.tasks }
+    requires holds { Holds system.now }
+    requires in_range { (task_at system.now task.0).worst + most ≤ MAX_EXECUTION }
+    requires tried { IsLonger system.now task.0 tried.old }
+    requires least_held { least_held.old ≡ least_of system.now }
+    requires room { MAX_TASKS ≤ trail.old.room }
+    ensures found { IfOk result (IsMostUpTo system.now task.0 most) }
+    ensures kept { IsKept trail.old trail.new }
+    ensures fresh { NewMarksAre trail.old trail.new (λ i. i < length system.now.tasks) }
+{
+    system.has_rules();
     let mut holding = 0;
     let mut past = most + 1;
     while past - holding > 1 {
         let middle = holding + (past - holding) / 2;
-        lengthen(&mut tried, system, task, middle);
-        let start = least_held.copy(alloc)?;
-        let found = least(rt, alloc, &tried, start, round, trail)?;
-        if all_hold(&tried, &found) {
+        if holds_with(
+            rt, alloc, system, task, middle, tried, least_held, round, trail,
+        )? {
             holding = middle;
-            least_held = found;
         } else {
             past = middle;
         }
     }
     Ok(holding)
+}
+
+/// Whether all holds with so many ticks more. If so, a vector from which the search may begin becomes
+/// the least solution with them, else it stays.
+fn holds_with<H: Threads + Sync, R: Round>(
+    rt: &H,
+    alloc: Global,
+    system: &System,
+    task: TaskId,
+    ticks: u64,
+    tried: &mut System,
+    least_held: &mut Vector,
+    round: &mut R,
+    trail: &mut Trail,
+) -> Result<bool, NoMemory>
+    requires there { task.0 < length system.now.tasks }
+    requires in_range { (task_at system.now task.0).worst + ticks ≤ MAX_EXECUTION }
+    requires tried { IsLonger system.now task.0 tried.old }
+    requires vector { IsVector (longer system.now task.0 ticks) least_held.old }
+    requires below { IsNowhereAbove least_held.old (least_of (longer system.now task.0 ticks)) }
+    requires room { MAX_TASKS ≤ trail.old.room }
+    ensures tried { IsLonger system.now task.0 tried.new }
+    ensures holds { IfOk result (λ holds. IsTrue holds ↔ Holds (longer system.now task.0 ticks)) }
+    ensures held { IfOk result (λ holds. least_held.new ≡ (if holds then least_of (longer system.now task.0 ticks) else least_held.old)) }
+    ensures kept { IsKept trail.old trail.new }
+    ensures fresh { NewMarksAre trail.old trail.new (λ i. i < length system.now.tasks) }
+{
+    lengthen(tried, system, task, ticks);
+    let start = least_held.copy(alloc)?;
+    let found = least(rt, alloc, tried, start, round, trail)?;
+    if all_hold(tried, &found) {
+        *least_held = found;
+        Ok(true)
+    } else {
+        Ok(false)
+    }
 }
 
 /// Lets a task of a copy, which may have another greatest execution there already, take so many ticks

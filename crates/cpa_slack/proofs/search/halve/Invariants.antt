@@ -3,7 +3,7 @@ use Rattle.cpa_units.specs.declared.limits.TheConstants.{MAX_TASKS}
 use Rattle.cpa_local.specs.Solution.{least_of}
 use Rattle.cpa_local.specs.Trails.{IsKept, NewMarksAre}
 use Rattle.cpa_slack.specs.Slack.{longer, IsLonger, Holds}
-use Rattle.cpa_slack.proofs.search.most_ticks.Given as goal
+use Rattle.cpa_slack.proofs.search.halve.Given as goal
 
 abbrev pub invariant-loop-past : goal.invariant-loop-past
 invariant-loop-past g l = record {
