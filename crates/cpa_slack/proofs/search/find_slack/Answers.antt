@@ -1,7 +1,6 @@
-use Rattle.std.proofs.Common.{◌≡◌, ℕ, ◌+◌, ◌-◌, refl, ap, arith}
-use Rattle.cpa_units.specs.declared.limits.TheConstants.{MAX_EXECUTION}
+use Rattle.std.proofs.Common.{refl, ap, arith}
 use Rattle.cpa_model.specs.declared.entries.Task.{Task}
-use Rattle.cpa_model.specs.SystemLists.{SystemLists, task_at}
+use Rattle.cpa_model.specs.SystemLists.{SystemLists}
 use Rattle.cpa_slack.proofs.SlackLaws.{judged, most-of_all}
 use Rattle.cpa_slack.proofs.search.find_slack.Goals as goal
 
