@@ -153,9 +153,6 @@ starts s i k more rules less le in_range = (
 pub judged : (s t : SystemLists) (x : List Bound) → s ≡ t → x ≡ least_of s → HoldsAt s x → Holds t
 judged s t x same is holds = subst Holds same (subst (HoldsAt s) is holds)
 
-pub judged-back : (s t : SystemLists) (x : List Bound) → s ≡ t → x ≡ least_of s → Holds t → HoldsAt s x
-judged-back s t x same is holds = subst (HoldsAt s) (sym is) (subst Holds (sym same) holds)
-
 -- the marks of a search over a longer system are of the same tasks
 pub fresh_longer : (s t : SystemLists) (i m : ℕ) → t ≡ longer s i m → (a b c : Marks)
     → NewMarksAre a b (λ j. j < length s.tasks) → NewMarksAre b c (λ j. j < length t.tasks) → NewMarksAre a c (λ j. j < length s.tasks)
