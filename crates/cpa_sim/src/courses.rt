@@ -90,7 +90,13 @@ impl Course {
     pub(crate) fn goes_on(&self) -> bool
         ensures { (s : SystemLists) (tr : TraceLists) → IsCourse s tr self.now → result ≡ nat_lt self.now.time (end_of s tr) }
     {
-        goes_on(self.sim.time, self.quiet, self.sim.lines.as_slice())
+        let sim = &self.sim;
+        goes_on(
+            sim.time,
+            self.quiet,
+            sim.lines.as_slice(),
+            sim.dispatches.as_slice(),
+        )
     }
 
     /// Follows the run to the next moment at which something can change. On each resource the same job

@@ -251,10 +251,11 @@ pub(crate) fn foresee_all(
     ensures most { result ≤ most }
     ensures fits { (r : ℕ) → r < length system.now.resources → (dispatch_at dispatches.new.items r).gone + result ≤ (dispatch_at dispatches.new.items r).ticks }
 {
+    system.has_rules();
     let mut ticks = most;
-    for k in 0..system.resources() {
-        let dispatch = &mut dispatches[k as usize];
-        foresee_more(system, trace, lines, orders, dispatch, ResId(k), now);
+    for (k, dispatch) in dispatches.iter_mut().enumerate() {
+        let res = ResId(k as u32);
+        foresee_more(system, trace, lines, orders, dispatch, res, now);
         ticks = ticks.min(dispatch.ticks - dispatch.gone);
     }
     ticks
@@ -348,11 +349,12 @@ pub(crate) fn serve_all(
     ensures served { (r : ℕ) → r < length system.now.resources → IsServed system.now r lines.old.items ticks (dispatch_at dispatches.old.items r) (dispatch_at dispatches.new.items r) }
     ensures ended { AreEnding dispatches.new.items result }
 {
+    system.has_rules();
     let mut ended = ResSet::none();
-    for k in 0..system.resources() {
-        let dispatch = &mut dispatches[k as usize];
-        let ends = serve(system, trace, lines, dispatch, ResId(k), ticks, now);
-        ended = with_if(ended, ResId(k), ends);
+    for (k, dispatch) in dispatches.iter_mut().enumerate() {
+        let res = ResId(k as u32);
+        let ends = serve(system, trace, lines, dispatch, res, ticks, now);
+        ended = with_if(ended, res, ends);
     }
     ended
 }

@@ -1,26 +1,79 @@
-use Rattle.std.proofs.Common.{◌∙◌, ◌+◌, ◌<◌, ◌≤◌, length, map, sym, subst, arith}
-use Rattle.std.proofs.lemmas.List.{get_or_read, length-set}
+use Rattle.std.proofs.Common.{◌∙◌, ◌+◌, ◌<◌, ◌≤◌, ℕ, List, length, map, sym, ap, subst, arith}
 use Rattle.cpa_model.specs.SystemLists.{places_of}
 use Rattle.cpa_sched.specs.Reaches.{HasReach}
+use Rattle.cpa_sched.specs.States.{Belongs, FrameWaits}
 use Rattle.cpa_sim.specs.Arrivals.{listed}
 use Rattle.cpa_trace.specs.Trace.{phase_of}
 use Rattle.cpa_sched.specs.Steps.{kind_of}
 use Rattle.cpa_sim.specs.declared.dispatches.Dispatch.{Dispatch}
 use Rattle.cpa_sim.specs.Simulation.{dispatch_at, no_dispatch, waiting, state_now, Foresees, HasEnough}
-use Rattle.cpa_sim.proofs.PlaceLaws.{below-more, above-same}
+use Rattle.cpa_sim.proofs.PlaceLaws.{below-more, above-same, came-back}
 use Rattle.cpa_sim.proofs.dispatches.foresee_all.Goals as goal
+
+pub loop-k-init : goal.loop-k-init
+loop-k-init c = record {
+  some = c.requires.some;
+  most = omega arith;
+  foresees = λ r less. absurd (omega arith);
+  enough = λ r less. absurd (omega arith);
+  reached = λ r less. absurd (omega arith);
+  fits = λ r less. absurd (omega arith);
+  same = λ r more. ap (λ (xs : List Dispatch). dispatch_at xs r) c.deref_mut-dispatch-items.ensures.value;
+}
+
+pub overflow_cast-res : goal.overflow_cast-res
+overflow_cast-res c =
+    let count = ap length c.deref_mut-dispatch-items.ensures.value ∙ c.requires.dispatches in
+    omega (arith, c.loop-k-test.true, count, c.has_rules.ensures.few_resources)
+
+pub foresee_more-requires-clause-reach : goal.foresee_more-requires-clause-reach
+foresee_more-requires-clause-reach c =
+    let k = c.loop-k.k in
+    let count = ap length c.deref_mut-dispatch-items.ensures.value ∙ c.requires.dispatches in
+    let less : k < length c.args.system.now.resources = omega (arith, c.loop-k-test.true, count) in
+    subst (λ (x : Dispatch). HasReach (places_of (listed (map (λ v. v.items) c.args.orders.now.items) k)) (waiting c.args.lines.now) x.reach) (sym (c.loop-k.invariant.same k (omega arith))) (c.requires.reached k less)
+
+pub foresee_more-requires-clause-belongs : goal.foresee_more-requires-clause-belongs
+foresee_more-requires-clause-belongs c =
+    let s = c.args.system.now in
+    let k = c.loop-k.k in
+    let count = ap length c.deref_mut-dispatch-items.ensures.value ∙ c.requires.dispatches in
+    let less : k < length s.resources = omega (arith, c.loop-k-test.true, count) in
+    subst (λ (x : Dispatch). Belongs s k (state_now (kind_of s k) x)) (sym (c.loop-k.invariant.same k (omega arith))) (c.requires.belongs k less)
+
+pub foresee_more-requires-clause-frame : goal.foresee_more-requires-clause-frame
+foresee_more-requires-clause-frame c =
+    let s = c.args.system.now in
+    let k = c.loop-k.k in
+    let count = ap length c.deref_mut-dispatch-items.ensures.value ∙ c.requires.dispatches in
+    let less : k < length s.resources = omega (arith, c.loop-k-test.true, count) in
+    subst (λ (x : Dispatch). FrameWaits (kind_of s k) (state_now (kind_of s k) x) (waiting c.args.lines.now)) (sym (c.loop-k.invariant.same k (omega arith))) (c.requires.frames k less)
+
+pub foresee_more-requires-clause-foresees : goal.foresee_more-requires-clause-foresees
+foresee_more-requires-clause-foresees c =
+    let s = c.args.system.now in
+    let k = c.loop-k.k in
+    let count = ap length c.deref_mut-dispatch-items.ensures.value ∙ c.requires.dispatches in
+    let less : k < length s.resources = omega (arith, c.loop-k-test.true, count) in
+    subst (λ (x : Dispatch). Foresees s k (state_now (kind_of s k) x) (waiting c.args.lines.now) c.args.now (phase_of c.args.trace.now k) x) (sym (c.loop-k.invariant.same k (omega arith))) (c.requires.foresees k less)
+
+pub foresee_more-requires-clause-enough : goal.foresee_more-requires-clause-enough
+foresee_more-requires-clause-enough c =
+    let k = c.loop-k.k in
+    let count = ap length c.deref_mut-dispatch-items.ensures.value ∙ c.requires.dispatches in
+    let less : k < length c.args.system.now.resources = omega (arith, c.loop-k-test.true, count) in
+    subst (λ (x : Dispatch). HasEnough c.args.lines.now x) (sym (c.loop-k.invariant.same k (omega arith))) (c.requires.enough k less)
 
 pub loop-k-preserved : goal.loop-k-preserved
 loop-k-preserved c =
     let s = c.args.system.now in
     let k = c.loop-k.k in
-    let dispatches = c.loop-k.dispatches.items in
+    let dispatches = c.loop-k.dispatch-items in
     let old = c.args.dispatches.now.items in
     let dispatch = c.foresee_more.new.dispatch in
-    let there : k < length dispatches = omega (arith, c.loop-k.invariant.count, c.resources-k-end.ensures.count) in
-    let here = get_or_read dispatches k c.index_mut-dispatch.result.now there c.index_mut-dispatch.ensures.value no_dispatch ∙ c.loop-k.invariant.same k (omega arith) in
+    let there : k < length dispatches = omega (arith, c.loop-k-test.true) in
+    let here = c.loop-k.invariant.same k (omega arith) in
     record {
-      count = length-set dispatches k dispatch ∙ c.loop-k.invariant.count;
       some = omega (arith, c.loop-k.invariant.some, c.foresee_more.ensures.some, c.min-ticks.ensures);
       most = omega (arith, c.loop-k.invariant.most, c.min-ticks.ensures);
       foresees = below-more (λ r (x : Dispatch). Foresees s r (state_now (kind_of s r) (dispatch_at old r)) (waiting c.args.lines.now) c.args.now (phase_of c.args.trace.now r) x) dispatches k dispatch no_dispatch there c.loop-k.invariant.foresees
@@ -31,14 +84,29 @@ loop-k-preserved c =
       same = above-same old dispatches k dispatch no_dispatch c.loop-k.invariant.same;
     }
 
-pub foresee_more-requires-clause-reach : goal.foresee_more-requires-clause-reach
-foresee_more-requires-clause-reach c =
-    let k = c.loop-k.k in
-    let dispatches = c.loop-k.dispatches.items in
-    let less : k < length c.args.system.now.resources = omega (arith, c.resources-k-end.ensures.count) in
-    let there : k < length dispatches = omega (arith, c.loop-k.invariant.count, less) in
-    let here = get_or_read dispatches k c.index_mut-dispatch.result.now there c.index_mut-dispatch.ensures.value no_dispatch ∙ c.loop-k.invariant.same k (omega arith) in
-    subst (λ (x : Dispatch). HasReach (places_of (listed (map (λ v. v.items) c.args.orders.now.items) k)) (waiting c.args.lines.now) x.reach) (sym here) (c.requires.reached k less)
-
-pub returns-clause-reached : goal.returns-clause-reached
-returns-clause-reached c = λ r less. c.loop-k.invariant.reached r (omega (arith, less, c.loop-k-test.false, c.resources-k-end.ensures.count))
+pub returns-whole : goal.returns-whole
+returns-whole c =
+    let s = c.args.system.now in
+    let items = c.loop-k.dispatch-items in
+    let count = ap length c.deref_mut-dispatch-items.ensures.value ∙ c.requires.dispatches in
+    let whole = came-back c.args.dispatches.now.len items c.args.dispatches.now.items (c.loop-k.auto.dispatch-items ∙ c.deref_mut-dispatch-items.ensures.len) in
+    let all : (r : ℕ) → r < length s.resources → r < c.loop-k.k = λ r less. omega (arith, less, c.loop-k-test.false, count) in
+    rw (whole) (
+      c.loop-k.auto.dispatch-items ∙ count,
+      (
+        (λ r less. c.loop-k.invariant.foresees r (all r less)),
+        (
+          (λ r less. c.loop-k.invariant.enough r (all r less)),
+          (
+            (λ r less. c.loop-k.invariant.reached r (all r less)),
+            (
+              c.loop-k.invariant.some,
+              (
+                c.loop-k.invariant.most,
+                (λ r less. c.loop-k.invariant.fits r (all r less)),
+              ),
+            ),
+          ),
+        ),
+      ),
+    )

@@ -1,4 +1,4 @@
-use Rattle.std.proofs.Common.{◌≡◌, ℕ, ◌+◌, ◌<◌, ◌≤◌, length, map}
+use Rattle.std.proofs.Common.{◌≡◌, ℕ, ◌+◌, ◌<◌, ◌≤◌, map}
 use Rattle.cpa_trace.specs.Trace.{phase_of}
 use Rattle.cpa_model.specs.SystemLists.{places_of}
 use Rattle.cpa_sched.specs.Steps.{kind_of}
@@ -9,12 +9,11 @@ use Rattle.cpa_sim.proofs.dispatches.foresee_all.Given as goal
 
 abbrev pub invariant-loop-k : goal.invariant-loop-k
 invariant-loop-k l = record {
-  count : length l.dispatches.items ≡ length l.system.resources;
   some : 1 ≤ l.ticks;
   most : l.ticks ≤ l.most;
-  foresees : (r : ℕ) → r < l.k → Foresees l.system r (state_now (kind_of l.system r) (dispatch_at l.initial.dispatches.items r)) (waiting l.lines) l.now (phase_of l.trace r) (dispatch_at l.dispatches.items r);
-  enough : (r : ℕ) → r < l.k → HasEnough l.lines (dispatch_at l.dispatches.items r);
-  reached : (r : ℕ) → r < l.k → HasReach (places_of (listed (map (λ v. v.items) l.orders.items) r)) (waiting l.lines) (dispatch_at l.dispatches.items r).reach;
-  fits : (r : ℕ) → r < l.k → (dispatch_at l.dispatches.items r).gone + l.ticks ≤ (dispatch_at l.dispatches.items r).ticks;
-  same : (r : ℕ) → l.k ≤ r → dispatch_at l.dispatches.items r ≡ dispatch_at l.initial.dispatches.items r;
+  foresees : (r : ℕ) → r < l.k → Foresees l.system r (state_now (kind_of l.system r) (dispatch_at l.fn.dispatches.items r)) (waiting l.lines) l.now (phase_of l.trace r) (dispatch_at l.dispatch-items r);
+  enough : (r : ℕ) → r < l.k → HasEnough l.lines (dispatch_at l.dispatch-items r);
+  reached : (r : ℕ) → r < l.k → HasReach (places_of (listed (map (λ v. v.items) l.orders.items) r)) (waiting l.lines) (dispatch_at l.dispatch-items r).reach;
+  fits : (r : ℕ) → r < l.k → (dispatch_at l.dispatch-items r).gone + l.ticks ≤ (dispatch_at l.dispatch-items r).ticks;
+  same : (r : ℕ) → l.k ≤ r → dispatch_at l.dispatch-items r ≡ dispatch_at l.fn.dispatches.items r;
 }

@@ -9,11 +9,10 @@ use Rattle.cpa_sim.proofs.dispatches.serve_all.Given as goal
 abbrev pub invariant-loop-k : goal.invariant-loop-k
 invariant-loop-k l = record {
   count : length l.lines.items ≡ length l.system.tasks;
-  count_dispatches : length l.dispatches.items ≡ length l.system.resources;
-  ran : (i : ℕ) → i < length l.system.tasks → (task_at l.system i).res.0 < l.k → line_at l.lines.items i ≡ served_line (need l.system l.trace i) (runs_at (dispatch_at l.initial.dispatches.items (task_at l.system i).res.0) i) l.ticks l.now (line_at l.initial.lines.items i);
+  ran : (i : ℕ) → i < length l.system.tasks → (task_at l.system i).res.0 < l.k → line_at l.lines.items i ≡ served_line (need l.system l.trace i) (runs_at (dispatch_at l.fn.dispatches.items (task_at l.system i).res.0) i) l.ticks l.now (line_at l.initial.lines.items i);
   still : (i : ℕ) → i < length l.system.tasks → l.k ≤ (task_at l.system i).res.0 → line_at l.lines.items i ≡ line_at l.initial.lines.items i;
-  served : (r : ℕ) → r < l.k → IsServed l.system r l.initial.lines.items l.ticks (dispatch_at l.initial.dispatches.items r) (dispatch_at l.dispatches.items r);
-  ended : (r : ℕ) → r < l.k → holds l.ended r ≡ (dispatch_at l.dispatches.items r).ends;
+  served : (r : ℕ) → r < l.k → IsServed l.system r l.initial.lines.items l.ticks (dispatch_at l.fn.dispatches.items r) (dispatch_at l.dispatch-items r);
+  ended : (r : ℕ) → r < l.k → holds l.ended r ≡ (dispatch_at l.dispatch-items r).ends;
   past : (r : ℕ) → l.k ≤ r → holds l.ended r ≡ false;
-  same : (r : ℕ) → l.k ≤ r → dispatch_at l.dispatches.items r ≡ dispatch_at l.initial.dispatches.items r;
+  same : (r : ℕ) → l.k ≤ r → dispatch_at l.dispatch-items r ≡ dispatch_at l.fn.dispatches.items r;
 }
