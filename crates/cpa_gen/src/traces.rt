@@ -57,9 +57,10 @@ fn worst_times(alloc: Global, source: &Source) -> Result<Vec<u64>, NoMemory>
     requires { IsSource source.now }
     ensures { IfOk result (λ v. v.items ≡ times_made source.now (late_first source.now)) }
 {
-    let mut times = Vec::new(alloc);
+    let events = events_made(source);
+    let mut times = Vec::with_capacity(alloc, events as usize)?;
     let mut earliest = 0;
-    for m in 0..events_made(source) {
+    for m in 0..events {
         let time = later(earliest, m * source.period + late_first(source, m));
         times.push(time)?;
         earliest = time + source.distance;
@@ -73,9 +74,10 @@ fn drawn_times(alloc: Global, rng: &mut Pcg32, source: &Source) -> Result<Vec<u6
     ensures times { IfOk result (λ v. v.items ≡ times_made source.now (late_drawn rng.old 0 source.now)) }
     ensures taken { OnOk result (rng.new ≡ after_draws rng.old (events_made source.now)) }
 {
-    let mut times = Vec::new(alloc);
+    let events = events_made(source);
+    let mut times = Vec::with_capacity(alloc, events as usize)?;
     let mut earliest = 0;
-    for m in 0..events_made(source) {
+    for m in 0..events {
         let late = draw(rng, source.jitter + 1);
         let time = later(earliest, m * source.period + late);
         times.push(time)?;
@@ -96,7 +98,7 @@ fn drawn_executions(
     ensures executions { IfOk result (λ v. v.items ≡ executions_drawn rng.old 0 task.now jobs) }
     ensures taken { OnOk result (rng.new ≡ after_draws rng.old jobs) }
 {
-    let mut executions = Vec::new(alloc);
+    let mut executions = Vec::with_capacity(alloc, jobs as usize)?;
     for _ in 0..jobs {
         executions.push(task.best + draw(rng, task.worst - task.best + 1))?;
     }
@@ -108,7 +110,7 @@ fn all_worst_times(alloc: Global, system: &System) -> Result<Vec<Vec<u64>>, NoMe
     ensures times { IfOk result (λ v. map (λ w. w.items) v.items ≡ map (λ j. times_made (source_at system.now j) (late_first (source_at system.now j))) (range_with_len 0 (length system.now.sources))) }
     ensures rules { IsSystem system.now }
 {
-    let mut times = Vec::new(alloc);
+    let mut times = Vec::with_capacity(alloc, system.sources() as usize)?;
     for j in 0..system.sources() {
         times.push(worst_times(alloc, system.source(SourceId(j)))?)?;
     }
@@ -119,7 +121,7 @@ fn all_worst_times(alloc: Global, system: &System) -> Result<Vec<Vec<u64>>, NoMe
 fn no_executions(alloc: Global, tasks: u32) -> Result<Vec<Vec<u64>>, NoMemory>
     ensures { IfOk result (λ v. map (λ w. w.items) v.items ≡ replicate tasks []) }
 {
-    let mut executions = Vec::new(alloc);
+    let mut executions = Vec::with_capacity(alloc, tasks as usize)?;
     for _ in 0..tasks {
         executions.push(Vec::new(alloc))?;
     }
@@ -147,7 +149,7 @@ fn draw_all_times(
     ensures taken { OnOk result (rng.new ≡ after_draws rng.old (before_source system.now (length system.now.sources))) }
     ensures rules { IsSystem system.now }
 {
-    let mut times = Vec::new(alloc);
+    let mut times = Vec::with_capacity(alloc, system.sources() as usize)?;
     for j in 0..system.sources() {
         times.push(drawn_times(alloc, rng, system.source(SourceId(j)))?)?;
     }
@@ -175,7 +177,7 @@ fn draw_all_executions(
     ensures executions { (g : Lcg) → rng.old ≡ after_draws g (before_task system.now 0) → IfOk result (λ v. map (λ w. w.items) v.items ≡ map (λ i. executions_drawn g (before_task system.now i) (task_at system.now i) (jobs_made system.now i)) (range_with_len 0 (length system.now.tasks))) }
     ensures taken { (g : Lcg) → rng.old ≡ after_draws g (before_task system.now 0) → OnOk result (rng.new ≡ after_draws g (before_task system.now (length system.now.tasks))) }
 {
-    let mut executions = Vec::new(alloc);
+    let mut executions = Vec::with_capacity(alloc, system.tasks() as usize)?;
     for i in 0..system.tasks() {
         let task = TaskId(i);
         let jobs = jobs_made(system, task);
