@@ -20,7 +20,7 @@ use cpa_units::{NoMemory, ResId};
 use std::alloc::Global;
 
 /// A segment that goes on: its job, its start, and its place among all segments.
-#[derive(Clone, Copy, Debug)]
+#[derive(Clone, Copy)]
 pub(crate) struct Open {
     pub(crate) job: Served,
     pub(crate) start: u64,
@@ -28,7 +28,7 @@ pub(crate) struct Open {
 }
 
 /// A place, counted from 0, at which the schedule hasn't the segment that is expected there.
-#[derive(Clone, Copy, Debug)]
+#[derive(Clone, Copy)]
 pub(crate) struct Difference {
     pub(crate) place: u64,
     pub(crate) expected: Segment,
@@ -36,7 +36,7 @@ pub(crate) struct Difference {
 
 /// How far the run's segments were compared: the one that goes on on each resource, how many have
 /// started, and the first that differs of those that have ended.
-#[derive(Debug, Drop)]
+#[derive(Drop)]
 struct SoFar {
     opens: Vec<Option<Open>>,
     count: u64,

@@ -10,8 +10,6 @@ mod caps;
 mod laws;
 mod rule;
 mod seat;
-#[cfg(test)]
-mod tests;
 
 pub use board::Board;
 pub use caps::Caps;

@@ -24,9 +24,6 @@ use cpa_window::{
     work_in, work_until,
 };
 
-#[cfg(test)]
-mod tests;
-
 /// What keeps the bus busy: one frame of lower priority, and all of the task's own and of higher priority.
 #[derive(Clone, Copy)]
 struct BusyBus<'a> {

@@ -14,7 +14,7 @@ use cpa_units::limits::MAX_CHAIN;
 use std::alloc::{AllocError, Global};
 
 /// What is known of the longest chain up to a task.
-#[derive(Clone, Copy, Debug, PartialEq, Eq)]
+#[derive(Clone, Copy)]
 pub enum Mark {
     New,
     /// The task waits for its activators, above so many others.
@@ -24,7 +24,7 @@ pub enum Mark {
 }
 
 /// A task that waits for its activators.
-#[derive(Clone, Copy, Debug, PartialEq, Eq)]
+#[derive(Clone, Copy)]
 pub struct Visit {
     pub task: usize,
     /// How many of its activators have been looked at.
@@ -34,7 +34,7 @@ pub struct Visit {
 }
 
 /// What the next activator of a task gives.
-#[derive(Clone, Copy, Debug, PartialEq, Eq)]
+#[derive(Clone, Copy)]
 pub enum Next {
     /// There is none.
     Done,

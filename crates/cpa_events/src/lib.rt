@@ -12,8 +12,6 @@ ghost use Rattle.cpa_events.specs.Laws.{EventsFit, LeastTimeHasRoom, OneStreamIs
 mod kept;
 mod model;
 mod stream;
-#[cfg(test)]
-mod tests;
 
 pub use model::Model;
 pub use stream::{MAX_MODEL_JITTER, Stream};

@@ -11,8 +11,6 @@ pub mod memory;
 pub mod real;
 pub mod send;
 pub mod sink;
-#[cfg(test)]
-mod tests;
 
 pub use files::{Files, LoadFault};
 pub use memory::{MemoryFiles, MemorySink};

@@ -2,8 +2,6 @@
 #![tactic(auto)]
 
 mod report;
-#[cfg(test)]
-mod tests;
 
 pub use cpa_text::Text;
 pub use report::{put_bound, put_summary_at, report_text, verdict};

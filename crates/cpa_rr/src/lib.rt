@@ -20,9 +20,6 @@ use cpa_units::Bound;
 use cpa_units::limits::{MAX_EXECUTION, MAX_LIMIT};
 use cpa_window::{BusyWindow, Rival, busy_window_bound, events_until, events_work};
 
-#[cfg(test)]
-mod tests;
-
 /// The jobs of a task, and what the others may do in the rounds that they take.
 #[derive(Clone, Copy)]
 struct RoundRobinJobs<'a> {

@@ -23,7 +23,7 @@ use std::marker::Model;
 
 /// A run of a system under a trace, as far as it was followed. What is seen of its jobs is kept where that
 /// is asked for; all else takes room for the system alone, however many jobs there are.
-#[derive(Debug, Drop)]
+#[derive(Drop)]
 pub(crate) struct Course {
     followers: Followers,
     /// The tasks of each resource by urgency.

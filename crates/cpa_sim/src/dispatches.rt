@@ -27,7 +27,7 @@ use cpa_units::{ResId, ResSet, TaskId};
 
 /// What is dispatched on a resource: as long as the same tasks wait, the same task runs, or nobody does,
 /// for so many ticks.
-#[derive(Clone, Copy, Debug)]
+#[derive(Clone, Copy)]
 pub(crate) struct Dispatch {
     /// The state after the first of these ticks; the state now, where none of them has gone by.
     pub(crate) state: ResState,

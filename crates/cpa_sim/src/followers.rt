@@ -9,7 +9,7 @@ use cpa_units::{NoMemory, TaskId};
 use std::alloc::Global;
 
 /// The tasks that have each source and each task among their activators, in the order of the tasks.
-#[derive(Debug, Drop)]
+#[derive(Drop)]
 pub(crate) struct Followers {
     /// Those of each source.
     pub(crate) by_source: Vec<Vec<TaskId>>,

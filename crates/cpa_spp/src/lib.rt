@@ -23,9 +23,6 @@ use cpa_window::{
     work_until,
 };
 
-#[cfg(test)]
-mod tests;
-
 /// The jobs of a task and the work of higher priority, all of it bounded.
 #[derive(Clone, Copy)]
 struct PreemptiveJobs<'a> {

@@ -19,9 +19,6 @@ use cpa_units::Bound;
 use cpa_units::limits::{MAX_CYCLE, MAX_LIMIT};
 use cpa_window::{BusyWindow, busy_window_bound};
 
-#[cfg(test)]
-mod tests;
-
 /// The jobs of a task, and the part of each cycle that isn't its own.
 #[derive(Clone, Copy)]
 struct TdmaJobs {

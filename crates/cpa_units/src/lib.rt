@@ -10,8 +10,6 @@ pub mod name;
 pub mod numbers;
 pub mod places;
 pub mod res_set;
-#[cfg(test)]
-mod tests;
 pub mod vector;
 
 pub use bound::{Bound, words_have_laws};

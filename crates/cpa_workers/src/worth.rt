@@ -7,7 +7,7 @@ use cpa_model::{Activator, System};
 use cpa_units::{NoMemory, ResId, ResSet, TaskId};
 use std::alloc::Global;
 
-/// For so many looks at a task a worker pays: starting it, and its own bounds and readings, take a little less.
+/// How many looks at a task are worth a worker more: found by timing, so that several take at most 1.1 times as long as one.
 const LOOKS: u64 = 12_000;
 
 /// The ticks in which starts and work are counted.

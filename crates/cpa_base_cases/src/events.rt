@@ -1,8 +1,11 @@
+//! How many events come in windows, and how close together.
+
 ghost use Rattle.std.specs.Prelude.{◌≡◌, ◌+◌, ◌≤◌, ◌++◌, length};
 ghost use Rattle.cpa_events.specs.Streams.{IsStreamInRange};
 ghost use Rattle.cpa_events.specs.Events.{IsModelInRange};
 
-use super::*;
+use crate::told::tell;
+use cpa_events::{MAX_MODEL_JITTER, Model, Stream};
 
 fn stream(period: u64, jitter: u64, distance: u64) -> Stream
     requires some { 1 ≤ period }
@@ -51,6 +54,7 @@ fn one_stream(rt: HostRuntime) {
     let periodic = Model::one(stream(10, 0, 0));
     let burst = Model::one(stream(10, 25, 0));
     let spaced = Model::one(stream(10, 25, 4));
+    let mut wrong = None;
     for (window, plain, bursting, apart) in [
         (0, 0, 0, 0),
         (1, 1, 3, 1),
@@ -67,8 +71,17 @@ fn one_stream(rt: HostRuntime) {
             burst.eta_plus(window),
             spaced.eta_plus(window),
         );
-        assert_eq!(rt; events, (plain, bursting, apart), "at {window}");
+        wrong = tell(wrong, window, events == (plain, bursting, apart));
     }
+    assert!(rt; wrong.is_none(), "at {wrong:?}");
+}
+
+/// When event `n` comes after the first at the earliest and at the latest, and at the earliest where they are kept apart.
+#[test]
+fn times_of_events(rt: HostRuntime) {
+    let burst = Model::one(stream(10, 25, 0));
+    let spaced = Model::one(stream(10, 25, 4));
+    let mut wrong = None;
     for (n, least, most, apart) in [
         (0, 0, 0, 0),
         (1, 0, 0, 0),
@@ -83,21 +96,23 @@ fn one_stream(rt: HostRuntime) {
             burst.delta_plus(n),
             spaced.delta_minus(n),
         );
-        assert_eq!(rt; times, (least, most, apart), "at {n}");
+        wrong = tell(wrong, n, times == (least, most, apart));
     }
+    assert!(rt; wrong.is_none(), "at {wrong:?}");
 }
 
 /// Two streams of periods 10 and 20: their events add up, and their times meet at 20.
 #[test]
 fn two_streams(rt: HostRuntime) {
     let two = both(&Model::one(stream(10, 0, 0)), &Model::one(stream(20, 0, 0)));
-    assert_eq!(rt; two.len(), 2);
+    let mut wrong = None;
     for (window, events) in [(0, 0), (1, 2), (10, 2), (11, 3), (20, 3), (21, 5)] {
-        assert_eq!(rt; two.eta_plus(window), events, "at {window}");
+        wrong = tell(wrong, window, two.eta_plus(window) == events);
     }
     for (n, least) in [(0, 0), (1, 0), (2, 0), (3, 10), (4, 20), (5, 20), (6, 30)] {
-        assert_eq!(rt; two.delta_minus(n), least, "at {n}");
+        wrong = tell(wrong, n, two.delta_minus(n) == least);
     }
+    assert!(rt; wrong.is_none() && two.len() == 2, "at {wrong:?}");
 }
 
 /// Two equal streams, two of which one keeps a distance, and 32, against a plain search upwards.
@@ -110,21 +125,22 @@ fn least_times(rt: HostRuntime) {
     let eight = both(&four, &four);
     let sixteen = both(&eight, &eight);
     let most = both(&sixteen, &sixteen);
-    assert_eq!(rt; most.len(), 32);
-    for n in 0..60 {
-        let times = (two.delta_minus(n), most.delta_minus(n));
-        assert_eq!(rt; times, (searched(&two, n), searched(&most, n)), "at {n}");
-    }
     let equal = both(&spaced, &spaced);
-    for n in 0..30 {
-        assert_eq!(rt; equal.delta_minus(n), searched(&equal, n), "at {n}");
+    let mut wrong = None;
+    for n in 0..60 {
+        let right = two.delta_minus(n) == searched(&two, n)
+            && most.delta_minus(n) == searched(&most, n)
+            && equal.delta_minus(n) == searched(&equal, n);
+        wrong = tell(wrong, n, right);
     }
+    assert!(rt; wrong.is_none() && most.len() == 32, "at {wrong:?}");
 }
 
 /// What a task sends on, from sources whose events are and aren't kept apart, and that of each of
 /// two streams.
 #[test]
 fn responses(rt: HostRuntime) {
+    let mut wrong = None;
     for (distance, best, bound, jitter, sent) in [
         (0, 5, 30, 25, 5),
         (0, 10, 30, 20, 10),
@@ -142,17 +158,15 @@ fn responses(rt: HostRuntime) {
             jitter,
             distance: sent,
         };
-        assert!(rt;
-            answer.len() == 2 && answer.get(1) == last,
-            "from {best} to {bound}"
-        );
+        wrong = tell(wrong, sent, answer.len() == 2 && answer.get(1) == last);
     }
+    assert!(rt; wrong.is_none(), "distance {wrong:?}");
 }
 
 #[test]
 fn largest_numbers(rt: HostRuntime) {
     let model = Model::one(stream(1, MAX_MODEL_JITTER, 0));
-    assert_eq!(rt; model.eta_plus(4_294_967_296), 6_294_967_296);
-    assert_eq!(rt; model.delta_minus(4_294_967_296), 2_294_967_295);
-    assert_eq!(rt; model.delta_plus(4_294_967_296), 6_294_967_295);
+    let n = 4_294_967_296;
+    let numbers = (model.eta_plus(n), model.delta_minus(n), model.delta_plus(n));
+    assert!(rt; numbers == (6_294_967_296, 2_294_967_295, 6_294_967_295));
 }

@@ -1,13 +1,15 @@
+//! Least windows.
+
 ghost use Rattle.std.specs.Prelude.{◌*◌, ◌≤◌};
 ghost use Rattle.std.proofs.Math.Nat.{mul-le-mul_right};
 ghost use Rattle.cpa_units.specs.declared.limits.TheConstants.{MAX_EXECUTION};
 ghost use Rattle.cpa_events.specs.Events.{eta_plus, IsModelInRange};
 ghost use Rattle.cpa_events.proofs.EventLaws.{eta_plus-mono};
 
-use crate::rivals::events_work;
-use crate::windows::{Demand, least_window};
+use crate::told::tell;
 use cpa_events::{Model, Stream};
 use cpa_units::limits::MAX_EXECUTION;
+use cpa_window::{Demand, events_work, least_window};
 
 /// The work of one model's events.
 #[derive(Drop)]
@@ -49,6 +51,7 @@ fn least_windows(rt: HostRuntime) {
     // A flat demand: found, just in the limit and just past it, and met at the first value. Nothing is within a limit of
     // 0 but a window of no length.
     let flat = late_batches(1000, 0, 5);
+    let mut wrong = None;
     for (from, limit, window) in [
         (1, 10, Some(5)),
         (1, 5, Some(5)),
@@ -58,20 +61,19 @@ fn least_windows(rt: HostRuntime) {
         (0, 0, Some(0)),
         (1, 0, None),
     ] {
-        assert_eq!(rt;
-            least_window(&flat, from, limit),
-            window,
-            "{from} to {limit}"
-        );
+        let right = least_window(&flat, from, limit) == window;
+        wrong = tell(wrong, (from, limit), right);
     }
 
     // Four events come at once, and a fifth at 6: the demand jumps from 12 to 15.
     let jump = late_batches(10, 35, 3);
     for (limit, window) in [(15, Some(15)), (14, None), (11, None)] {
-        assert_eq!(rt; least_window(&jump, 1, limit), window, "to {limit}");
+        wrong = tell(wrong, (1, limit), least_window(&jump, 1, limit) == window);
     }
 
     // The next event comes when the last is done, or a tick before.
-    assert_eq!(rt; least_window(&late_batches(10, 0, 10), 1, 10), Some(10));
-    assert_eq!(rt; least_window(&late_batches(10, 0, 11), 1, 10_000_000), None);
+    let done = least_window(&late_batches(10, 0, 10), 1, 10);
+    let late = least_window(&late_batches(10, 0, 11), 1, 10_000_000);
+    assert!(rt; wrong.is_none(), "{wrong:?}");
+    assert!(rt; done == Some(10) && late.is_none());
 }

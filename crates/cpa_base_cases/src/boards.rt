@@ -1,7 +1,8 @@
+//! Boards that one seat raises, and two.
+
 ghost use Rattle.std.specs.Prelude.{◌∷◌, [], ◌≡◌, All, length};
 
-use super::*;
-use std::alloc::{AllocError, Global};
+use cpa_board::{Board, Caps};
 use std::test::Fail;
 
 fn needs_shared<T: Send + Sync>(_value: &T) {}
