@@ -1,662 +1,184 @@
 //! Drafts, and why they are refused.
+//!
+//! An entry is a line of fields, with a bar between each two; an empty one stands for a key that is absent. After the name these are:
+//! of a resource its kind, its limit, its gap and its bit time; of a source its period, its jitter and its distance; of a task its
+//! resource, its executions, its payload, its priority and its slot, and then its activators; of a path its deadline, and then its
+//! tasks.
 
-use cpa_draft::{KindWord, Part};
+use cpa_draft::Part;
 
-#[derive(Clone, Copy)]
-pub(crate) struct Res {
-    pub(crate) name: &'static str,
-    pub(crate) kind: KindWord,
-    pub(crate) limit: Option<i64>,
-    pub(crate) gap: Option<i64>,
-    pub(crate) bit: Option<i64>,
-}
+/// Lines that stand after those with which all drafts of a table begin, and the refusal: the reason, the part and the place.
+pub(crate) type Case = (&'static [&'static str], Option<(u8, Part, u64)>);
 
-#[derive(Clone, Copy)]
-pub(crate) struct Src {
-    pub(crate) name: &'static str,
-    pub(crate) period: i64,
-    pub(crate) jitter: Option<i64>,
-    pub(crate) distance: Option<i64>,
-}
-
-#[derive(Clone, Copy)]
-pub(crate) struct Job {
-    pub(crate) name: &'static str,
-    pub(crate) on: &'static str,
-    pub(crate) after: &'static [&'static str],
-    pub(crate) best: Option<i64>,
-    pub(crate) worst: Option<i64>,
-    pub(crate) payload: Option<i64>,
-    pub(crate) priority: Option<i64>,
-    pub(crate) slot: Option<i64>,
-}
-
-#[derive(Clone, Copy)]
-pub(crate) struct Way {
-    pub(crate) name: &'static str,
-    pub(crate) tasks: &'static [&'static str],
-    pub(crate) deadline: Option<i64>,
-}
-
-/// A draft, and its refusal: the reason, the part and the place.
-#[derive(Clone, Copy)]
-pub(crate) struct Case {
-    pub(crate) resources: &'static [Res],
-    pub(crate) sources: &'static [Src],
-    pub(crate) tasks: &'static [Job],
-    pub(crate) paths: &'static [Way],
-    pub(crate) want: Option<(u8, Part, u64)>,
-}
-
-pub(crate) const CPU: Res = Res {
-    name: "cpu",
-    kind: KindWord::Preemptive,
-    limit: None,
-    gap: None,
-    bit: None,
-};
-
-pub(crate) const BUS: Res = Res {
-    name: "bus",
-    kind: KindWord::Can,
-    ..CPU
-};
-
-pub(crate) const RING: Res = Res {
-    name: "ring",
-    kind: KindWord::RoundRobin,
-    ..CPU
-};
-
-pub(crate) const TABLE: Res = Res {
-    name: "table",
-    kind: KindWord::Tdma,
-    ..CPU
-};
-
-pub(crate) const S: Src = Src {
-    name: "s",
-    period: 10,
-    jitter: None,
-    distance: None,
-};
-
-pub(crate) const A: Job = Job {
-    name: "a",
-    on: "cpu",
-    after: &["s"],
-    best: Some(1),
-    worst: Some(1),
-    payload: None,
-    priority: Some(1),
-    slot: None,
-};
-
-pub(crate) const B: Job = Job {
-    name: "b",
-    after: &["a"],
-    priority: Some(2),
-    ..A
-};
-
-pub(crate) const C: Job = Job {
-    name: "c",
-    priority: Some(3),
-    ..A
-};
-
-pub(crate) const W: Way = Way {
-    name: "w",
-    tasks: &["a"],
-    deadline: None,
-};
-
-/// A system to which no reason applies: one resource of each kind, one source, two tasks and one path.
-pub(crate) const BASE: Case = Case {
-    resources: &[CPU, BUS, RING, TABLE],
-    sources: &[S],
-    tasks: &[A, B],
-    paths: &[W],
-    want: None,
-};
-
-/// Resources that stand after those of the base, with the reason that refuses them; 0 for none.
-pub(crate) const RESOURCES: &[(Res, u8)] = &[
-    (Res { name: "a", ..CPU }, 0),
-    (
-        Res {
-            name: "r",
-            limit: Some(1),
-            ..CPU
-        },
-        0,
-    ),
-    (
-        Res {
-            name: "r",
-            limit: Some(0),
-            ..CPU
-        },
-        2,
-    ),
-    (
-        Res {
-            name: "r",
-            limit: Some(10_000_001),
-            ..CPU
-        },
-        2,
-    ),
-    (
-        Res {
-            name: "r",
-            gap: Some(1_000_000),
-            ..TABLE
-        },
-        0,
-    ),
-    (
-        Res {
-            name: "r",
-            gap: Some(1_000_001),
-            ..BUS
-        },
-        2,
-    ),
-    (
-        Res {
-            name: "r",
-            gap: Some(-1),
-            ..TABLE
-        },
-        2,
-    ),
-    (
-        Res {
-            name: "r",
-            bit: Some(1_000),
-            ..BUS
-        },
-        0,
-    ),
-    (
-        Res {
-            name: "r",
-            bit: Some(0),
-            ..BUS
-        },
-        2,
-    ),
-    (
-        Res {
-            name: "r",
-            bit: Some(1_001),
-            ..CPU
-        },
-        2,
-    ),
-    (Res { name: "", ..CPU }, 3),
-    (Res { name: "c p", ..CPU }, 3),
-    (Res { name: "cpu", ..CPU }, 4),
-    (
-        Res {
-            name: "table",
-            ..CPU
-        },
-        4,
-    ),
-    (
-        Res {
-            name: "r",
-            gap: Some(0),
-            ..CPU
-        },
-        9,
-    ),
-    (
-        Res {
-            name: "r",
-            gap: Some(0),
-            ..BUS
-        },
-        9,
-    ),
-    (
-        Res {
-            name: "r",
-            bit: Some(1),
-            ..TABLE
-        },
-        9,
-    ),
+/// One resource of each kind, and one source.
+pub(crate) const PLACES: &[&str] = &[
+    "resource|cpu|preemptive",
+    "resource|bus|can",
+    "resource|ring|round-robin",
+    "resource|table|tdma",
+    "source|s|10",
 ];
 
-/// Sources that stand after that of the base.
-pub(crate) const SOURCES: &[(Src, u8)] = &[
-    (Src { name: "cpu", ..S }, 0),
-    (
-        Src {
-            name: "w",
-            jitter: Some(1_000_000_000),
-            ..S
-        },
-        0,
-    ),
-    (
-        Src {
-            name: "t",
-            period: 0,
-            ..S
-        },
-        2,
-    ),
-    (
-        Src {
-            name: "t",
-            period: 1_000_000_001,
-            ..S
-        },
-        2,
-    ),
-    (
-        Src {
-            name: "t",
-            jitter: Some(-1),
-            ..S
-        },
-        2,
-    ),
-    (
-        Src {
-            name: "t",
-            jitter: Some(1_000_000_001),
-            ..S
-        },
-        2,
-    ),
-    (
-        Src {
-            name: "t",
-            distance: Some(10),
-            ..S
-        },
-        0,
-    ),
-    (
-        Src {
-            name: "t",
-            distance: Some(11),
-            ..S
-        },
-        2,
-    ),
-    (
-        Src {
-            name: "t",
-            distance: Some(-1),
-            ..S
-        },
-        2,
-    ),
-    (Src { name: "é", ..S }, 3),
-    (Src { name: "s", ..S }, 4),
+/// A system to which no reason applies: the same, with two tasks and one path.
+pub(crate) const BASE: &[&str] = &[
+    "resource|cpu|preemptive",
+    "resource|bus|can",
+    "resource|ring|round-robin",
+    "resource|table|tdma",
+    "source|s|10",
+    "task|a|cpu|1|1||1||s",
+    "task|b|cpu|1|1||2||a",
+    "path|w||a",
 ];
 
-/// Tasks that stand after those of the base.
-pub(crate) const TASKS: &[(Job, u8)] = &[
-    (Job { name: "cpu", ..C }, 0),
-    (Job { best: Some(0), ..C }, 2),
+/// What is told where any one of these lines stands after the base.
+pub(crate) const ADDED: &[(Option<(u8, Part, u64)>, &[&str])] = &[
     (
-        Job {
-            worst: Some(1_000_001),
-            ..C
-        },
-        2,
+        None,
+        &[
+            "resource|a|preemptive",
+            "resource|r|preemptive|1",
+            "resource|r|tdma||1000000",
+            "resource|r|can|||1000",
+        ],
     ),
     (
-        Job {
-            priority: Some(-1),
-            ..C
-        },
-        2,
+        Some((2, Part::Resource, 5)),
+        &[
+            "resource|r|preemptive|0",
+            "resource|r|preemptive|10000001",
+            "resource|r|can||1000001",
+            "resource|r|tdma||-1",
+            "resource|r|can|||0",
+            "resource|r|preemptive|||1001",
+        ],
     ),
     (
-        Job {
-            priority: Some(536_870_911),
-            ..C
-        },
-        0,
+        Some((3, Part::Resource, 5)),
+        &["resource||preemptive", "resource|c p|preemptive"],
     ),
     (
-        Job {
-            priority: Some(536_870_912),
-            ..C
-        },
-        2,
+        Some((4, Part::Resource, 5)),
+        &["resource|cpu|preemptive", "resource|table|preemptive"],
     ),
     (
-        Job {
-            on: "ring",
-            priority: None,
-            slot: Some(0),
-            ..C
-        },
-        2,
+        Some((9, Part::Resource, 5)),
+        &[
+            "resource|r|preemptive||0",
+            "resource|r|can||0",
+            "resource|r|tdma|||1",
+        ],
     ),
     (
-        Job {
-            on: "ring",
-            priority: None,
-            slot: Some(1_000_001),
-            ..C
-        },
-        2,
+        None,
+        &["source|cpu|10", "source|w|10|1000000000", "source|t|10||10"],
     ),
     (
-        Job {
-            on: "bus",
-            best: None,
-            worst: None,
-            payload: Some(8),
-            ..C
-        },
-        0,
+        Some((2, Part::Source, 2)),
+        &[
+            "source|t|0",
+            "source|t|1000000001",
+            "source|t|10|-1",
+            "source|t|10|1000000001",
+            "source|t|10||11",
+            "source|t|10||-1",
+        ],
+    ),
+    (Some((3, Part::Source, 2)), &["source|é|10"]),
+    (Some((4, Part::Source, 2)), &["source|s|10"]),
+    (
+        None,
+        &[
+            "task|cpu|cpu|1|1||3||s",
+            "task|c|cpu|1|1||536870911||s",
+            "task|c|bus|||8|3||s",
+            "task|c|cpu|1|1||3||s|b",
+            "task|c|bus|1|1||1||s",
+            "task|c|ring|1|1|||1|s",
+            "task|c|table|1|1|||1000000|s",
+            "task|c|cpu|2|2||3||s",
+        ],
     ),
     (
-        Job {
-            on: "bus",
-            best: None,
-            worst: None,
-            payload: Some(9),
-            ..C
-        },
-        2,
+        Some((2, Part::Task, 3)),
+        &[
+            "task|c|cpu|0|1||3||s",
+            "task|c|cpu|1|1000001||3||s",
+            "task|c|cpu|1|1||-1||s",
+            "task|c|cpu|1|1||536870912||s",
+            "task|c|ring|1|1|||0|s",
+            "task|c|ring|1|1|||1000001|s",
+            "task|c|bus|||9|3||s",
+            "task|c|cpu|||-1|3||s",
+        ],
+    ),
+    (Some((3, Part::Task, 3)), &["task|c/|cpu|1|1||3||s"]),
+    (
+        Some((4, Part::Task, 3)),
+        &[
+            "task|s|cpu|1|1||3||s",
+            "task|a|cpu|1|1||3||s",
+            "task|b|cpu|1|1||3||s",
+        ],
     ),
     (
-        Job {
-            on: "cpu",
-            best: None,
-            worst: None,
-            payload: Some(-1),
-            ..C
-        },
-        2,
-    ),
-    (Job { name: "c/", ..C }, 3),
-    (Job { name: "s", ..C }, 4),
-    (Job { name: "a", ..C }, 4),
-    (Job { name: "b", ..C }, 4),
-    (Job { on: "a", ..C }, 5),
-    (Job { on: "s", ..C }, 5),
-    (
-        Job {
-            after: &["cpu"],
-            ..C
-        },
-        5,
-    ),
-    (Job { after: &[""], ..C }, 5),
-    (Job { after: &["c"], ..C }, 6),
-    (
-        Job {
-            after: &["s", "b"],
-            ..C
-        },
-        0,
+        Some((5, Part::Task, 3)),
+        &[
+            "task|c|a|1|1||3||s",
+            "task|c|s|1|1||3||s",
+            "task|c|cpu|1|1||3||cpu",
+            "task|c|cpu|1|1||3||",
+            "task|c|cpu|1|1||3||s|zz",
+            "task|c|cpu|1|1||3||s|x y",
+        ],
     ),
     (
-        Job {
-            after: &["s", "zz"],
-            ..C
-        },
-        5,
+        Some((6, Part::Task, 3)),
+        &["task|c|cpu|1|1||3||c", "task|c|cpu|1|1||3||s|a|c"],
     ),
     (
-        Job {
-            after: &["s", "x y"],
-            ..C
-        },
-        5,
+        Some((14, Part::Task, 3)),
+        &["task|c|cpu|1|1||3|", "task|c|cpu|1|1||3||a|s|a"],
     ),
     (
-        Job {
-            after: &["s", "a", "c"],
-            ..C
-        },
-        6,
-    ),
-    (Job { after: &[], ..C }, 14),
-    (
-        Job {
-            after: &["a", "s", "a"],
-            ..C
-        },
-        14,
+        Some((10, Part::Task, 3)),
+        &[
+            "task|c|cpu|2|1||3||s|s",
+            "task|c|cpu|2|1||3||s",
+            "task|c|cpu|1000000|999999||3||s",
+            "task|c|bus|3|2||3||s",
+        ],
     ),
     (
-        Job {
-            after: &["s", "s"],
-            best: Some(2),
-            ..C
-        },
-        10,
+        Some((8, Part::Task, 3)),
+        &["task|c|cpu|1|1||1||s", "task|c|cpu|1|1||2||s"],
     ),
     (
-        Job {
-            priority: Some(1),
-            ..C
-        },
-        8,
+        Some((9, Part::Task, 3)),
+        &[
+            "task|c|cpu|1|1||||s",
+            "task|c|cpu|1|1||3|1|s",
+            "task|c|bus|1|1|||1|s",
+            "task|c|ring|1|1||3||s",
+            "task|c|ring|1|1||1|1|s",
+            "task|c|table|1|1||||s",
+            "task|c|cpu|||0|3||s",
+            "task|c|ring|||8||1|s",
+        ],
+    ),
+    (None, &["path|a||b", "path|v|1000000000|a|b"]),
+    (
+        Some((2, Part::Path, 2)),
+        &["path|v|0|a", "path|v|1000000001|a"],
+    ),
+    (Some((3, Part::Path, 2)), &["path|v\n||a", "path|||a"]),
+    (Some((4, Part::Path, 2)), &["path|w||a"]),
+    (
+        Some((5, Part::Path, 2)),
+        &["path|v||a|s", "path|v||cpu", "path|v||a|b|z"],
     ),
     (
-        Job {
-            priority: Some(2),
-            ..C
-        },
-        8,
-    ),
-    (
-        Job {
-            on: "bus",
-            priority: Some(1),
-            ..C
-        },
-        0,
-    ),
-    (
-        Job {
-            on: "ring",
-            priority: None,
-            slot: Some(1),
-            ..C
-        },
-        0,
-    ),
-    (
-        Job {
-            on: "table",
-            priority: None,
-            slot: Some(1_000_000),
-            ..C
-        },
-        0,
-    ),
-    (
-        Job {
-            priority: None,
-            ..C
-        },
-        9,
-    ),
-    (Job { slot: Some(1), ..C }, 9),
-    (
-        Job {
-            on: "bus",
-            priority: None,
-            slot: Some(1),
-            ..C
-        },
-        9,
-    ),
-    (Job { on: "ring", ..C }, 9),
-    (
-        Job {
-            on: "ring",
-            priority: Some(1),
-            slot: Some(1),
-            ..C
-        },
-        9,
-    ),
-    (
-        Job {
-            on: "table",
-            priority: None,
-            ..C
-        },
-        9,
-    ),
-    (
-        Job {
-            best: None,
-            worst: None,
-            payload: Some(0),
-            ..C
-        },
-        9,
-    ),
-    (
-        Job {
-            on: "ring",
-            best: None,
-            worst: None,
-            payload: Some(8),
-            priority: None,
-            slot: Some(1),
-            ..C
-        },
-        9,
-    ),
-    (Job { best: Some(2), ..C }, 10),
-    (
-        Job {
-            best: Some(1_000_000),
-            worst: Some(999_999),
-            ..C
-        },
-        10,
-    ),
-    (
-        Job {
-            on: "bus",
-            best: Some(3),
-            worst: Some(2),
-            ..C
-        },
-        10,
-    ),
-    (
-        Job {
-            best: Some(2),
-            worst: Some(2),
-            ..C
-        },
-        0,
-    ),
-];
-
-/// Paths that stand after that of the base.
-pub(crate) const PATHS: &[(Way, u8)] = &[
-    (
-        Way {
-            name: "a",
-            tasks: &["b"],
-            ..W
-        },
-        0,
-    ),
-    (
-        Way {
-            name: "v",
-            tasks: &["a", "b"],
-            deadline: Some(1_000_000_000),
-            ..W
-        },
-        0,
-    ),
-    (
-        Way {
-            name: "v",
-            deadline: Some(0),
-            ..W
-        },
-        2,
-    ),
-    (
-        Way {
-            name: "v",
-            deadline: Some(1_000_000_001),
-            ..W
-        },
-        2,
-    ),
-    (Way { name: "v\n", ..W }, 3),
-    (Way { name: "", ..W }, 3),
-    (Way { name: "w", ..W }, 4),
-    (
-        Way {
-            name: "v",
-            tasks: &["a", "s"],
-            ..W
-        },
-        5,
-    ),
-    (
-        Way {
-            name: "v",
-            tasks: &["cpu"],
-            ..W
-        },
-        5,
-    ),
-    (
-        Way {
-            name: "v",
-            tasks: &["a", "b", "z"],
-            ..W
-        },
-        5,
-    ),
-    (
-        Way {
-            name: "v",
-            tasks: &[],
-            ..W
-        },
-        11,
-    ),
-    (
-        Way {
-            name: "v",
-            tasks: &["b", "a"],
-            ..W
-        },
-        11,
-    ),
-    (
-        Way {
-            name: "v",
-            tasks: &["a", "a"],
-            ..W
-        },
-        11,
-    ),
-    (
-        Way {
-            name: "v",
-            tasks: &["a", "b", "b"],
-            ..W
-        },
-        11,
+        Some((11, Part::Path, 2)),
+        &["path|v|", "path|v||b|a", "path|v||a|a", "path|v||a|b|b"],
     ),
 ];
