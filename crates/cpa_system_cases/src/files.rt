@@ -1,4 +1,4 @@
-mod systems;
+pub(crate) mod systems;
 
 use cpa_file::{FileRefusal, print_system, read_system};
 use cpa_model::{Part, Refusal};
@@ -6,19 +6,14 @@ use std::alloc::{AllocError, Global};
 use std::test::Fail;
 use systems::{
     BURST, CROSSING_CHAINS, DAVIS_BUS, ENDLESS_JITTER, FRAME_LENGTHS, LONG_WINDOW, ROUND_ROBIN,
-    ROUND_ROBIN_SHARE, SHARED_SOURCE, TDMA_GAP, TWO_ACTIVATORS, TWO_TASKS,
+    ROUND_ROBIN_SHARE, SHARED_SOURCE, TDMA_GAP, TWO_ACTIVATORS, TWO_TASKS, TWO_TASKS_LATER,
 };
 
-fn refused(reason: u8, part: Part, place: u64) -> Option<FileRefusal> {
-    Some(FileRefusal::Refused(Refusal {
-        reason,
-        part,
-        place,
-    }))
-}
+/// A text, and why a file with it is refused: the reason, the part and the place.
+type Refused = (&'static str, u8, Part, u64);
 
 /// Each way to break the form of a file, at the top and in each kind of entry: the reason, the part and the place.
-const OTHER_FORMS: &[(&str, u8, Part, u64)] = &[
+const OTHER_FORMS: &[Refused] = &[
     ("", 1, Part::File, 0),
     ("format = 1.0", 1, Part::File, 0),
     ("format = \"1\"", 1, Part::File, 0),
@@ -224,114 +219,60 @@ const OTHER_FORMS: &[(&str, u8, Part, u64)] = &[
     ),
 ];
 
-/// Why a file is refused.
-fn refusal_of(alloc: Global, bytes: &[u8]) -> Option<FileRefusal> {
-    read_system(alloc, bytes).err()
-}
+/// Texts of the case *two_activators*, and others that stand in their place.
+const REFUSED: &[(&str, &[Refused])] = &[
+    (TWO_ACTIVATORS, OTHER_FORMS),
+    (
+        "[\"sa\", \"sb\"]",
+        &[
+            ("[\"sa\", \"sa\"]", 14, Part::Task, 1),
+            ("[\"sa\", \"sb\", \"sa\"]", 14, Part::Task, 1),
+            ("[]", 14, Part::Task, 1),
+            ("[\"sa\", \"n\"]", 6, Part::Task, 1),
+            ("[\"sa\", \"x y\"]", 5, Part::Task, 1),
+            ("[\"sa\", [\"sb\"]]", 1, Part::Task, 1),
+            ("{ sa = \"sb\" }", 1, Part::Task, 1),
+        ],
+    ),
+    (
+        "\"m\", best",
+        &[("[\"m\", \"sa\", 2], best", 1, Part::Task, 2)],
+    ),
+    ("[\"m\", \"n\"]", &[("[\"n\", \"m\"]", 11, Part::Path, 1)]),
+    (
+        "format = 2",
+        &[
+            ("format = 1", 1, Part::Task, 1),
+            ("format = 3", 13, Part::File, 0),
+        ],
+    ),
+];
 
-/// The first of these files of which something else is told than is wanted.
-fn wrongly_refused(alloc: Global) -> Option<&'static str> {
-    for (text, reason, part, place) in OTHER_FORMS {
-        if refusal_of(alloc, text.as_bytes()) != refused(*reason, *part, *place) {
-            return Some(*text);
-        }
-    }
-    None
+/// Whether the file with another text in this one's place is refused for its reason.
+fn is_refused(alloc: Global, old: &str, other: &Refused) -> Result<bool, AllocError> {
+    let (new, reason, part, place) = *other;
+    let text = TWO_ACTIVATORS.replace(alloc, old, new)?;
+    let refusal = Refusal {
+        reason,
+        part,
+        place,
+    };
+    Ok(read_system(alloc, text.as_bytes()).err() == Some(FileRefusal::Refused(refusal)))
 }
 
 #[test]
 fn refuses_other_forms(rt: HostRuntime) -> Result<(), Fail> {
-    let wrong = wrongly_refused(rt.alloc());
-    assert!(rt; wrong.is_none(), "{wrong:?}");
-    Ok(())
-}
-
-/// Bytes that are no TOML document.
-#[test]
-fn refuses_other_bytes(rt: HostRuntime) -> Result<(), Fail> {
     let alloc = rt.alloc();
-    for bytes in [
-        "format = 1\nformat = 1".as_bytes(),
-        "format = 9223372036854775808".as_bytes(),
-        "resource = [{ name = \"cp".as_bytes(),
-        &[0xff],
-    ] {
-        assert!(rt; refusal_of(alloc, bytes) == Some(FileRefusal::NotToml));
-    }
-    let mut brackets = Vec::from_slice(alloc, "format = ".as_bytes())?;
-    brackets.extend_from_slice(vec![in alloc; b'['; 10_000]?.as_slice())?;
-    assert!(rt; refusal_of(alloc, brackets.as_slice()) == Some(FileRefusal::NotToml));
-    Ok(())
-}
-
-/// Files, and how many tasks and paths their systems have.
-const READ_BACK: &[(&str, u32, u32)] = &[
-    ("format = 1", 0, 0),
-    ("format = 2", 0, 0),
-    (TWO_TASKS, 2, 0),
-    (TWO_ACTIVATORS, 2, 1),
-    (SHARED_SOURCE, 3, 0),
-    (LONG_WINDOW, 2, 0),
-    (DAVIS_BUS, 3, 1),
-    (FRAME_LENGTHS, 2, 0),
-    (CROSSING_CHAINS, 4, 2),
-    (ENDLESS_JITTER, 5, 1),
-    (TDMA_GAP, 1, 0),
-    (ROUND_ROBIN, 2, 0),
-    (ROUND_ROBIN_SHARE, 2, 0),
-    (BURST, 1, 0),
-];
-
-/// How many tasks and paths the system of a file has, and whether what is printed of it is read again, and printed the
-/// same.
-fn read_back(alloc: Global, text: &str) -> Result<(u32, u32, bool), Fail> {
-    let system = read_system(alloc, text.as_bytes())?;
-    let printed = print_system(alloc, &system)?;
-    let again = read_system(alloc, printed.as_slice())?;
-    let reprinted = print_system(alloc, &again)?;
-    let is_same = reprinted.as_slice() == printed.as_slice();
-    Ok((system.tasks(), system.paths(), is_same))
-}
-
-#[test]
-fn prints_and_reads_back(rt: HostRuntime) -> Result<(), Fail> {
-    let alloc = rt.alloc();
-    for (text, tasks, paths) in READ_BACK {
-        assert_eq!(rt; read_back(alloc, text)?, (*tasks, *paths, true), "{text}");
-    }
-    Ok(())
-}
-
-/// Texts of the case *two_activators*, others in their place, and why the file is refused then.
-const OTHER_LISTS: &[(&str, &str, u8, Part, u64)] = &[
-    ("[\"sa\", \"sb\"]", "[\"sa\", \"sa\"]", 14, Part::Task, 1),
-    (
-        "[\"sa\", \"sb\"]",
-        "[\"sa\", \"sb\", \"sa\"]",
-        14,
-        Part::Task,
-        1,
-    ),
-    ("[\"sa\", \"sb\"]", "[]", 14, Part::Task, 1),
-    ("[\"sa\", \"sb\"]", "[\"sa\", \"n\"]", 6, Part::Task, 1),
-    ("[\"sa\", \"sb\"]", "[\"sa\", \"x y\"]", 5, Part::Task, 1),
-    ("[\"sa\", \"sb\"]", "[\"sa\", [\"sb\"]]", 1, Part::Task, 1),
-    ("[\"sa\", \"sb\"]", "{ sa = \"sb\" }", 1, Part::Task, 1),
-    ("\"m\", best", "[\"m\", \"sa\", 2], best", 1, Part::Task, 2),
-    ("[\"m\", \"n\"]", "[\"n\", \"m\"]", 11, Part::Path, 1),
-    ("format = 2", "format = 1", 1, Part::Task, 1),
-    ("format = 2", "format = 3", 13, Part::File, 0),
-];
-
-/// The first text in whose place another one is told otherwise than is wanted.
-fn wrong_list(alloc: Global) -> Result<Option<&'static str>, AllocError> {
-    for (old, new, reason, part, place) in OTHER_LISTS {
-        let text = TWO_ACTIVATORS.replace(alloc, old, new)?;
-        if refusal_of(alloc, text.as_bytes()) != refused(*reason, *part, *place) {
-            return Ok(Some(*new));
+    let mut wrong = None;
+    for (old, others) in REFUSED {
+        for other in *others {
+            if !is_refused(alloc, old, other)? {
+                wrong = Some(other.0);
+            }
         }
     }
-    Ok(None)
+    assert!(rt; wrong.is_none(), "{wrong:?}");
+    Ok(())
 }
 
 /// The first byte of the list of two activators, and its bytes.
@@ -362,66 +303,124 @@ const SPOILED: &[(u8, [u32; 5])] = &[
     (b' ', [1, 7, 4, 0, 0]),
 ];
 
-fn count(counts: &mut [u32; 5], refusal: Option<FileRefusal>) {
-    let place: usize = if refusal.is_none() {
-        0
-    } else if refusal == Some(FileRefusal::NotToml) {
-        1
-    } else if refusal == refused(5, Part::Task, 1) {
-        2
-    } else if refusal == refused(14, Part::Task, 1) {
-        3
-    } else {
-        4
-    };
-    counts[place] = counts[place].saturating_add(1);
-}
-
-/// What is told of the files with this byte in the list.
-fn spoil(alloc: Global, byte: u8) -> Result<[u32; 5], AllocError> {
-    let mut counts = [0; 5];
-    for place in 0..LIST_BYTES {
-        let mut bytes = Vec::from_slice(alloc, TWO_ACTIVATORS.as_bytes())?;
-        if let Some(at) = bytes.get_mut(LIST + place) {
-            *at = byte;
-        }
-        count(&mut counts, refusal_of(alloc, bytes.as_slice()));
+/// Which of the five is told of the file with this byte at a place of the list.
+fn told_of(alloc: Global, place: usize, byte: u8) -> Result<usize, AllocError> {
+    let mut bytes = Vec::from_slice(alloc, TWO_ACTIVATORS.as_bytes())?;
+    if let Some(at) = bytes.get_mut(place) {
+        *at = byte;
     }
-    Ok(counts)
-}
-
-/// The first byte of which something else is told than is wanted.
-fn wrongly_spoiled(alloc: Global) -> Result<Option<u8>, AllocError> {
-    for (byte, wanted) in SPOILED {
-        if spoil(alloc, *byte)? != *wanted {
-            return Ok(Some(*byte));
-        }
+    match read_system(alloc, bytes.as_slice()) {
+        Ok(_) => Ok(0),
+        Err(FileRefusal::NotToml) => Ok(1),
+        Err(
+            FileRefusal::Refused(
+                Refusal {
+                    reason: 5,
+                    part: Part::Task,
+                    place: 1,
+                },
+            ),
+        ) => Ok(2),
+        Err(
+            FileRefusal::Refused(
+                Refusal {
+                    reason: 14,
+                    part: Part::Task,
+                    place: 1,
+                },
+            ),
+        ) => Ok(3),
+        Err(_) => Ok(4),
     }
-    Ok(None)
 }
 
 #[test]
 fn refuses_other_lists(rt: HostRuntime) -> Result<(), Fail> {
     let alloc = rt.alloc();
-    let list = wrong_list(alloc)?;
-    let byte = wrongly_spoiled(alloc)?;
-    assert!(rt; list.is_none() && byte.is_none(), "{list:?} {byte:?}");
+    let mut wrong = None;
+    for (byte, wanted) in SPOILED {
+        let mut counts = [0u32; 5];
+        for place in LIST..LIST + LIST_BYTES {
+            if let Some(count) = counts.get_mut(told_of(alloc, place, *byte)?) {
+                *count = count.saturating_add(1);
+            }
+        }
+        if counts != *wanted {
+            wrong = Some(*byte);
+        }
+    }
+    assert!(rt; wrong.is_none(), "{wrong:?}");
     Ok(())
 }
 
-/// What is printed has format 1 where each task has one activator.
+/// Bytes that are no TOML document, after which so many brackets come.
+const NO_TOML: &[(&[u8], usize)] = &[
+    (b"format = 1\nformat = 1", 0),
+    (b"format = 9223372036854775808", 0),
+    (b"resource = [{ name = \"cp", 0),
+    (b"\xff", 0),
+    (b"format = ", 10_000),
+];
+
+/// Whether these bytes and brackets are no TOML document.
+fn is_no_toml(alloc: Global, start: &[u8], brackets: usize) -> Result<bool, AllocError> {
+    let mut bytes = Vec::from_slice(alloc, start)?;
+    bytes.extend_from_slice("[".repeat(alloc, brackets)?.as_bytes())?;
+    Ok(read_system(alloc, bytes.as_slice()).err() == Some(FileRefusal::NotToml))
+}
+
 #[test]
-fn prints_the_format(rt: HostRuntime) -> Result<(), Fail> {
+fn refuses_other_bytes(rt: HostRuntime) -> Result<(), Fail> {
     let alloc = rt.alloc();
-    let plain = TWO_TASKS.replace(alloc, "format = 1", "format = 2")?;
-    let seen = [
-        print_system(alloc, &read_system(alloc, plain.as_bytes())?)?.starts_with(
-            "format = 1".as_bytes(),
-        ),
-        print_system(alloc, &read_system(alloc, TWO_ACTIVATORS.as_bytes())?)?.starts_with(
-            "format = 2".as_bytes(),
-        ),
-    ];
-    assert_eq!(rt; seen, [true, true]);
+    let mut right = true;
+    for (start, brackets) in NO_TOML {
+        right &= is_no_toml(alloc, start, *brackets)?;
+    }
+    assert!(rt; right);
+    Ok(())
+}
+
+/// Files, the format in which their systems are printed, which is 1 where each task has one activator, and how many tasks and paths
+/// these have.
+const READ_BACK: &[(&str, &str, u32, u32)] = &[
+    ("format = 1", "format = 1\n", 0, 0),
+    ("format = 2", "format = 1\n", 0, 0),
+    (TWO_TASKS, "format = 1\n", 2, 0),
+    (TWO_TASKS_LATER, "format = 1\n", 2, 0),
+    (TWO_ACTIVATORS, "format = 2\n", 2, 1),
+    (SHARED_SOURCE, "format = 2\n", 3, 0),
+    (LONG_WINDOW, "format = 1\n", 2, 0),
+    (DAVIS_BUS, "format = 1\n", 3, 1),
+    (FRAME_LENGTHS, "format = 1\n", 2, 0),
+    (CROSSING_CHAINS, "format = 1\n", 4, 2),
+    (ENDLESS_JITTER, "format = 1\n", 5, 1),
+    (TDMA_GAP, "format = 1\n", 1, 0),
+    (ROUND_ROBIN, "format = 1\n", 2, 0),
+    (ROUND_ROBIN_SHARE, "format = 1\n", 2, 0),
+    (BURST, "format = 1\n", 1, 0),
+];
+
+/// What is printed of the system of a file, if it has so many tasks and paths, and else nothing.
+fn printed(alloc: Global, file: &[u8], tasks: u32, paths: u32) -> Result<Vec<u8>, Fail> {
+    let system = read_system(alloc, file)?;
+    if system.tasks() != tasks || system.paths() != paths {
+        return Ok(Vec::new(alloc));
+    }
+    Ok(print_system(alloc, &system)?)
+}
+
+/// What is printed is read again, and printed the same.
+#[test]
+fn prints_and_reads_back(rt: HostRuntime) -> Result<(), Fail> {
+    let alloc = rt.alloc();
+    let mut wrong = None;
+    for (text, format, tasks, paths) in READ_BACK {
+        let first = printed(alloc, text.as_bytes(), *tasks, *paths)?;
+        let second = printed(alloc, first.as_slice(), *tasks, *paths)?;
+        if !first.starts_with(format.as_bytes()) || first.as_slice() != second.as_slice() {
+            wrong = Some(*text);
+        }
+    }
+    assert!(rt; wrong.is_none(), "{wrong:?}");
     Ok(())
 }

@@ -9,6 +9,16 @@ task = [
 ]
 ";
 
+/// The same in the later format.
+pub(crate) const TWO_TASKS_LATER: &str = "format = 2
+resource = [{ name = \"cpu\", kind = \"preemptive\" }]
+source = [{ name = \"sa\", period = 10 }, { name = \"sb\", period = 20 }]
+task = [
+  { name = \"a\", on = \"cpu\", after = \"sa\", best = 1, worst = 3, priority = 1 },
+  { name = \"b\", on = \"cpu\", after = \"sb\", best = 2, worst = 7, priority = 2 },
+]
+";
+
 pub(crate) const TWO_ACTIVATORS: &str = "format = 2
 resource = [{ name = \"cpu\", kind = \"preemptive\" }, { name = \"q\", kind = \"preemptive\" }]
 source = [{ name = \"sa\", period = 10 }, { name = \"sb\", period = 20 }]
