@@ -1,15 +1,29 @@
-//! Systems with several activators for one task.
+//! The systems of the tests.
 
-/// A task that two sources start, and one that follows it.
-pub(crate) const TWO_ACTIVATORS: &str = "format = 2
-resource = [{ name = \"cpu\", kind = \"preemptive\" }, { name = \"q\", kind = \"preemptive\" }]
-source = [{ name = \"sa\", period = 10 }, { name = \"sb\", period = 20 }]
+/// A system without anything.
+pub(crate) const EMPTY: &str = "format = 1";
+
+/// Two tasks on a ring, and a TDMA resource without tasks.
+pub(crate) const ROUND_ROBIN: &str = r#"format = 1
+resource = [{ name = "rr", kind = "round-robin" }, { name = "idle", kind = "tdma" }]
+source = [{ name = "sa", period = 20 }, { name = "sb", period = 20 }]
 task = [
-  { name = \"m\", on = \"cpu\", after = [\"sa\", \"sb\"], best = 1, worst = 3, priority = 1 },
-  { name = \"n\", on = \"q\", after = \"m\", best = 2, worst = 2, priority = 1 },
+  { name = "a", on = "rr", after = "sa", best = 3, worst = 3, slot = 2 },
+  { name = "b", on = "rr", after = "sb", best = 1, worst = 1, slot = 4 },
 ]
-path = [{ name = \"p\", tasks = [\"m\", \"n\"], deadline = 10 }]
-";
+"#;
+
+/// A chain from a processor over a bus, beside a frame of lower priority; `lone` feeds nobody.
+pub(crate) const CHAIN: &str = r#"format = 1
+resource = [{ name = "cpu", kind = "preemptive" }, { name = "bus", kind = "can" }]
+source = [{ name = "s", period = 100 }, { name = "lone", period = 100 }]
+task = [
+  { name = "sense", on = "cpu", after = "s", best = 2, worst = 2, priority = 1 },
+  { name = "send", on = "bus", after = "sense", best = 5, worst = 5, priority = 1 },
+  { name = "other", on = "bus", after = "s", best = 9, worst = 9, priority = 2 },
+]
+path = [{ name = "p", tasks = ["sense", "send"] }]
+"#;
 
 /// Two tasks that stand before a third, in the other order on the resources and in its list, beside a source.
 pub(crate) const AT_ONCE: &str = "format = 2
