@@ -2,16 +2,15 @@ mod systems;
 
 ghost use Rattle.cpa_trace.specs.Trace.{FitsSystem};
 
+use crate::edits::needs_shared;
 use crate::edits::systems::LADDER;
-use crate::made::build;
+use cpa_file::read_system;
 use cpa_model::System;
 use cpa_trace::{Breach, Trace, TraceFault, obeys, read_trace};
 use cpa_units::{ResId, SourceId, TaskId};
 use std::alloc::{AllocError, Global};
 use std::test::Fail;
 use systems::{CROWD, THREE_TASKS};
-
-fn needs_shared<T: Send + Sync>(_value: &T) {}
 
 /// The number of events of each source, each with their times.
 fn add_times(numbers: &mut Vec<u64>, system: &System, trace: &Trace) -> Result<(), AllocError>
@@ -56,295 +55,316 @@ fn numbers_of(alloc: Global, system: &System, trace: &Trace) -> Result<Vec<u64>,
 
 /// Files with each check of a row broken alone, and with two at once: what is told is the first in the
 /// order of the checks, and the first row.
-const REFUSALS: &[(&[u8], TraceFault)] = &[
+const REFUSALS: &[(&[u8], Option<TraceFault>)] = &[
     // The form of a row.
-    (b"event", TraceFault::BadRow(1)),
-    (b"event,sa", TraceFault::BadRow(1)),
-    (b"event,sa,0,0", TraceFault::BadRow(1)),
-    (b"events,sa,0", TraceFault::BadRow(1)),
-    (b"Phase,ring,0", TraceFault::BadRow(1)),
-    (b",sa,0", TraceFault::BadRow(1)),
-    (b"event,sa,", TraceFault::BadRow(1)),
-    (b"event,sa,-1", TraceFault::BadRow(1)),
-    (b"exec,a, 1", TraceFault::BadRow(1)),
-    (b"event,sa,00000000000", TraceFault::BadRow(1)),
-    (b"event,sa,0\nevent,sa,7\nevent,sa,x", TraceFault::BadRow(3)),
-    (b"phase,ring,0\nphase,ring,0", TraceFault::BadRow(2)),
+    (b"event", Some(TraceFault::BadRow(1))),
+    (b"event,sa", Some(TraceFault::BadRow(1))),
+    (b"event,sa,0,0", Some(TraceFault::BadRow(1))),
+    (b"events,sa,0", Some(TraceFault::BadRow(1))),
+    (b"Phase,ring,0", Some(TraceFault::BadRow(1))),
+    (b",sa,0", Some(TraceFault::BadRow(1))),
+    (b"event,sa,", Some(TraceFault::BadRow(1))),
+    (b"event,sa,-1", Some(TraceFault::BadRow(1))),
+    (b"exec,a, 1", Some(TraceFault::BadRow(1))),
+    (b"event,sa,00000000000", Some(TraceFault::BadRow(1))),
+    (
+        b"event,sa,0\nevent,sa,7\nevent,sa,x",
+        Some(TraceFault::BadRow(3)),
+    ),
+    (b"phase,ring,0\nphase,ring,0", Some(TraceFault::BadRow(2))),
     // What is named.
-    (b"event,zz,0", TraceFault::UnknownName(1)),
-    (b"event,a,0", TraceFault::UnknownName(1)),
-    (b"event,,0", TraceFault::UnknownName(1)),
-    (b"exec,zz,1", TraceFault::UnknownName(1)),
-    (b"exec,sa,1", TraceFault::UnknownName(1)),
-    (b"phase,zz,0", TraceFault::UnknownName(1)),
-    (b"phase,cpu,0", TraceFault::UnknownName(1)),
+    (b"event,zz,0", Some(TraceFault::UnknownName(1))),
+    (b"event,a,0", Some(TraceFault::UnknownName(1))),
+    (b"event,,0", Some(TraceFault::UnknownName(1))),
+    (b"exec,zz,1", Some(TraceFault::UnknownName(1))),
+    (b"exec,sa,1", Some(TraceFault::UnknownName(1))),
+    (b"phase,zz,0", Some(TraceFault::UnknownName(1))),
+    (b"phase,cpu,0", Some(TraceFault::UnknownName(1))),
     // Numbers out of their range.
-    (b"event,sa,10000001", TraceFault::OutOfRange(1)),
-    (b"event,sa,7\nevent,sa,6", TraceFault::OutOfRange(2)),
-    (b"exec,a,0", TraceFault::OutOfRange(1)),
-    (b"exec,a,1000001", TraceFault::OutOfRange(1)),
-    (b"phase,ring,1000000001", TraceFault::OutOfRange(1)),
+    (b"event,sa,10000001", Some(TraceFault::OutOfRange(1))),
+    (b"event,sa,7\nevent,sa,6", Some(TraceFault::OutOfRange(2))),
+    (b"exec,a,0", Some(TraceFault::OutOfRange(1))),
+    (b"exec,a,1000001", Some(TraceFault::OutOfRange(1))),
+    (b"phase,ring,1000000001", Some(TraceFault::OutOfRange(1))),
     // Two at once.
-    (b"event,zz", TraceFault::BadRow(1)),
-    (b"events,zz,10000001", TraceFault::BadRow(1)),
-    (b"exec,zz,99999999999", TraceFault::BadRow(1)),
+    (b"event,zz", Some(TraceFault::BadRow(1))),
+    (b"events,zz,10000001", Some(TraceFault::BadRow(1))),
+    (b"exec,zz,99999999999", Some(TraceFault::BadRow(1))),
     (
         b"phase,ring,0\nphase,ring,1000000001",
-        TraceFault::BadRow(2),
+        Some(TraceFault::BadRow(2)),
     ),
-    (b"event,zz,10000001", TraceFault::UnknownName(1)),
-    (b"exec,zz,0", TraceFault::UnknownName(1)),
-    (b"phase,cpu,1000000001", TraceFault::UnknownName(1)),
-    (b"event,sa,1\nexec,a,0\nevent", TraceFault::OutOfRange(2)),
+    (b"event,zz,10000001", Some(TraceFault::UnknownName(1))),
+    (b"exec,zz,0", Some(TraceFault::UnknownName(1))),
+    (b"phase,cpu,1000000001", Some(TraceFault::UnknownName(1))),
+    (
+        b"event,sa,1\nexec,a,0\nevent",
+        Some(TraceFault::OutOfRange(2)),
+    ),
     // Bytes that are no UTF-8, a mark that isn't at the start, an empty line, a comma in quotes.
-    (b"event,\xff,0", TraceFault::UnknownName(1)),
-    (b"\xff,sa,0", TraceFault::BadRow(1)),
-    (b"event,sa,0\n\xef\xbb\xbfevent,sa,0", TraceFault::BadRow(2)),
-    (b"event,sa,0\n\n\nevent", TraceFault::BadRow(2)),
-    (b"event,\"s,a\",0", TraceFault::UnknownName(1)),
+    (b"event,\xff,0", Some(TraceFault::UnknownName(1))),
+    (b"\xff,sa,0", Some(TraceFault::BadRow(1))),
+    (
+        b"event,sa,0\n\xef\xbb\xbfevent,sa,0",
+        Some(TraceFault::BadRow(2)),
+    ),
+    (b"event,sa,0\n\n\nevent", Some(TraceFault::BadRow(2))),
+    (b"event,\"s,a\",0", Some(TraceFault::UnknownName(1))),
 ];
 
-/// What is wrong with a file that has so many events at 0 of the source of a ladder: each starts a job for each of the 528 streams.
-fn fault_on_ladder(alloc: Global, events: u32) -> Result<Option<TraceFault>, Fail> {
-    let system = build(alloc, LADDER)?;
-    Ok(fault_after(alloc, &system, "event,sa,0\n", events, "")?)
+/// A system, a row and how often it stands in files, and what comes after it in each, with what is wrong with that file.
+struct Files {
+    system: &'static str,
+    row: &'static str,
+    count: usize,
+    ends: &'static [(&'static [u8], Option<TraceFault>)],
 }
 
-/// What is wrong with a file.
-fn fault_of(alloc: Global, system: &System, bytes: &[u8]) -> Option<TraceFault> {
-    read_trace(alloc, system, bytes).err()
+const ROWS: &[Files] = &[
+    Files {
+        system: THREE_TASKS,
+        row: "",
+        count: 0,
+        ends: REFUSALS,
+    },
+    // Each event on the ladder starts a job for each of the 528 streams.
+    Files {
+        system: LADDER,
+        row: "event,sa,0\n",
+        count: 3_787,
+        ends: &[(b"", None)],
+    },
+    Files {
+        system: LADDER,
+        row: "event,sa,0\n",
+        count: 3_788,
+        ends: &[(b"", Some(TraceFault::TooMany))],
+    },
+    // 200,000 rows are taken, and of a further one only that it is there is seen.
+    Files {
+        system: THREE_TASKS,
+        row: "event,sb,10000000\n",
+        count: 200_000,
+        ends: &[(b"\n\r\n", None), (b"x", Some(TraceFault::TooMany))],
+    },
+    Files {
+        system: THREE_TASKS,
+        row: "event,sb,10000000\n",
+        count: 199_999,
+        ends: &[(b"x", Some(TraceFault::BadRow(200_000)))],
+    },
+];
+
+/// 2,000,000 jobs are taken, and not one more. They are looked at after all rows.
+const JOBS: &[Files] = &[
+    Files {
+        system: CROWD,
+        row: "event,sa,0\n",
+        count: 181_818,
+        ends: &[
+            (b"event,sb,0\nevent,sb,0", None),
+            (
+                b"event,sb,0\nevent,sb,0\nevent,sb,0",
+                Some(TraceFault::TooMany),
+            ),
+        ],
+    },
+    Files {
+        system: CROWD,
+        row: "event,sa,0\n",
+        count: 181_819,
+        ends: &[(b"event,sb", Some(TraceFault::BadRow(181_820)))],
+    },
+];
+
+/// What is wrong with one of these files.
+fn fault_of(alloc: Global, files: &Files, end: &[u8]) -> Result<Option<TraceFault>, Fail> {
+    let mut bytes = files.row.repeat(alloc, files.count)?.into_bytes();
+    bytes.extend_from_slice(end)?;
+    let system = read_system(alloc, files.system.as_bytes())?;
+    Ok(read_trace(alloc, &system, bytes.as_slice()).err())
+}
+
+/// The end of a file of which something else is told than is wanted.
+fn wrong_end(alloc: Global, all: &[Files]) -> Result<Option<&'static [u8]>, Fail> {
+    let mut wrong = None;
+    for files in all {
+        for (end, fault) in files.ends {
+            if fault_of(alloc, files, end)? != *fault {
+                wrong = Some(*end);
+            }
+        }
+    }
+    Ok(wrong)
 }
 
 #[test]
 fn refuses_the_first_row(rt: HostRuntime) -> Result<(), Fail> {
-    let alloc = rt.alloc();
-    let system = build(alloc, THREE_TASKS)?;
-    for (bytes, fault) in REFUSALS {
-        assert!(rt;
-            fault_of(alloc, &system, bytes) == Some(*fault),
-            "{bytes:?}"
-        );
-    }
-    let told = [
-        fault_on_ladder(alloc, 3_787)?,
-        fault_on_ladder(alloc, 3_788)?,
-    ];
-    assert!(rt; told == [None, Some(TraceFault::TooMany)]);
+    let wrong = wrong_end(rt.alloc(), ROWS)?;
+    assert!(rt; wrong.is_none(), "{wrong:?}");
     Ok(())
 }
 
-/// Files with rows of each sort at the ends of their ranges, a mark of the byte order, quotes, an empty
-/// line and either end of a row, and all numbers of their traces.
-const TRACES: &[(&[u8], &[u64])] = &[
-    (b"", &[0, 0, 0, 0, 0, 0, 0, 0]),
-    (b"\xef\xbb\xbf", &[0, 0, 0, 0, 0, 0, 0, 0]),
+#[test]
+fn counts_jobs(rt: HostRuntime) -> Result<(), Fail> {
+    let wrong = wrong_end(rt.alloc(), JOBS)?;
+    assert!(rt; wrong.is_none(), "{wrong:?}");
+    Ok(())
+}
+
+/// What is looked at of a trace: all its numbers, or its first breach.
+enum Seen {
+    Numbers(&'static [u64]),
+    First(Option<Breach>),
+}
+
+/// Files and their traces. Events of `sa` may come 4 ticks apart, and n of them in no less than 10 * (n - 1) - 25 ticks; those of
+/// `sb` 20 ticks apart.
+const TRACES: &[(&[u8], Seen)] = &[
+    // Rows of each sort at the ends of their ranges, a mark of the byte order, quotes, an empty line and either end of a row.
+    (b"", Seen::Numbers(&[0, 0, 0, 0, 0, 0, 0, 0])),
+    (b"\xef\xbb\xbf", Seen::Numbers(&[0, 0, 0, 0, 0, 0, 0, 0])),
     (
         b"event,sa,4\r\n\"event\",\"sb\",\"0000000005\"\n\nexec,a,3\nphase,ring,39\nevent,sa,4\nexec,a,2",
-        &[2, 4, 4, 1, 5, 2, 3, 2, 0, 0, 0, 39, 0],
+        Seen::Numbers(&[2, 4, 4, 1, 5, 2, 3, 2, 0, 0, 0, 39, 0]),
     ),
     (
         b"\xef\xbb\xbfevent,sb,10000000\r\nexec,x,1000000\r\nphase,idle,1000000000\r\nexec,b,1\r\n",
-        &[0, 1, 10_000_000, 0, 1, 1, 1, 1_000_000, 0, 0, 1_000_000_000],
+        Seen::Numbers(&[0, 1, 10_000_000, 0, 1, 1, 1, 1_000_000, 0, 0, 1_000_000_000]),
+    ),
+    (b"", Seen::First(None)),
+    (
+        b"event,sa,0\nevent,sa,4\nevent,sa,8\nevent,sa,12",
+        Seen::First(None),
+    ),
+    // By distance alone, where an earlier event is too close, and where none is.
+    (
+        b"event,sa,0\nevent,sa,3",
+        Seen::First(Some(Breach::Close {
+            source: SourceId(0),
+            first: 0,
+            second: 3,
+        })),
+    ),
+    (
+        b"event,sa,0\nevent,sa,4\nevent,sa,7",
+        Seen::First(Some(Breach::Close {
+            source: SourceId(0),
+            first: 0,
+            second: 7,
+        })),
+    ),
+    (
+        b"event,sa,0\nevent,sa,5\nevent,sa,8",
+        Seen::First(Some(Breach::Close {
+            source: SourceId(0),
+            first: 5,
+            second: 8,
+        })),
+    ),
+    // By period and jitter alone, though each is far enough from the one before.
+    (
+        b"event,sa,0\nevent,sa,4\nevent,sa,8\nevent,sa,12\nevent,sa,16\nevent,sa,20",
+        Seen::First(Some(Breach::Close {
+            source: SourceId(0),
+            first: 0,
+            second: 20,
+        })),
+    ),
+    // By both, at different events.
+    (
+        b"event,sa,0\nevent,sa,4\nevent,sa,8\nevent,sa,12\nevent,sa,16\nevent,sa,20\nevent,sa,20",
+        Seen::First(Some(Breach::Close {
+            source: SourceId(0),
+            first: 0,
+            second: 20,
+        })),
+    ),
+    (
+        b"event,sa,0\nevent,sa,9\nevent,sa,9\nevent,sa,13\nevent,sa,17\nevent,sa,21\nevent,sa,25",
+        Seen::First(Some(Breach::Close {
+            source: SourceId(0),
+            first: 9,
+            second: 9,
+        })),
+    ),
+    // In the second source.
+    (
+        b"event,sa,0\nevent,sb,0\nevent,sb,20\nevent,sb,39",
+        Seen::First(Some(Breach::Close {
+            source: SourceId(1),
+            first: 0,
+            second: 39,
+        })),
+    ),
+    (
+        b"event,sb,5\nevent,sb,5",
+        Seen::First(Some(Breach::Close {
+            source: SourceId(1),
+            first: 5,
+            second: 5,
+        })),
+    ),
+    // Executions, also of a job that never arrives.
+    (
+        b"exec,b,7\nexec,b,8\nexec,a,1",
+        Seen::First(Some(Breach::Exec {
+            task: TaskId(0),
+            job: 1,
+        })),
+    ),
+    (
+        b"exec,b,7\nexec,b,8",
+        Seen::First(Some(Breach::Exec {
+            task: TaskId(1),
+            job: 2,
+        })),
+    ),
+    (b"event,sa,0\nexec,a,2\nexec,a,7", Seen::First(None)),
+    // Phases.
+    (b"phase,ring,39\nphase,idle,1000000000", Seen::First(None)),
+    (
+        b"phase,idle,5\nphase,ring,40",
+        Seen::First(Some(Breach::Phase { res: ResId(1) })),
+    ),
+    // Sources before tasks before resources.
+    (
+        b"phase,ring,40\nexec,a,1",
+        Seen::First(Some(Breach::Exec {
+            task: TaskId(0),
+            job: 1,
+        })),
+    ),
+    (
+        b"phase,ring,40\nexec,a,1\nevent,sb,1\nevent,sb,1",
+        Seen::First(Some(Breach::Close {
+            source: SourceId(1),
+            first: 1,
+            second: 1,
+        })),
     ),
 ];
 
-/// All numbers of the trace of a file.
-fn numbers_read(alloc: Global, system: &System, bytes: &[u8]) -> Result<Vec<u64>, Fail> {
-    let trace = read_trace(alloc, system, bytes)?;
-    needs_shared(&trace);
-    Ok(numbers_of(alloc, system, &trace)?)
+/// Whether this is seen of the trace of a file.
+fn is_seen(alloc: Global, bytes: &[u8], seen: &Seen) -> Result<bool, Fail> {
+    let system = read_system(alloc, THREE_TASKS.as_bytes())?;
+    let trace = read_trace(alloc, &system, bytes)?;
+    match seen {
+        Seen::Numbers(numbers) => { Ok(numbers_of(alloc, &system, &trace)?.as_slice() == *numbers) }
+        Seen::First(breach) => Ok(obeys(&system, &trace) == *breach),
+    }
 }
 
 #[test]
 fn reads_a_trace(rt: HostRuntime) -> Result<(), Fail> {
     let alloc = rt.alloc();
-    let system = build(alloc, THREE_TASKS)?;
-    for (bytes, numbers) in TRACES {
-        let read = numbers_read(alloc, &system, bytes)?;
-        assert!(rt; read.as_slice() == *numbers, "{bytes:?}");
+    let mut wrong = None;
+    for (bytes, seen) in TRACES {
+        if !is_seen(alloc, bytes, seen)? {
+            wrong = Some(*bytes);
+        }
     }
-    Ok(())
-}
-
-/// As many copies of a row.
-fn rows(alloc: Global, row: &str, count: u32) -> Result<Vec<u8>, AllocError> {
-    let mut bytes = Vec::new(alloc);
-    for _ in 0..count {
-        bytes.extend_from_slice(row.as_bytes())?;
-    }
-    Ok(bytes)
-}
-
-/// What is wrong with a file that has as many copies of a row, and then a last one.
-fn fault_after(
-    alloc: Global,
-    system: &System,
-    row: &str,
-    count: u32,
-    last: &str,
-) -> Result<Option<TraceFault>, AllocError> {
-    let mut bytes = rows(alloc, row, count)?;
-    bytes.extend_from_slice(last.as_bytes())?;
-    Ok(fault_of(alloc, system, bytes.as_slice()))
-}
-
-/// 200,000 rows are taken, and of a further one only that it is there is seen.
-#[test]
-fn counts_rows(rt: HostRuntime) -> Result<(), Fail> {
-    let alloc = rt.alloc();
-    let system = build(alloc, THREE_TASKS)?;
-    for (count, last, fault) in [
-        (200_000, "\n\r\n", None),
-        (199_999, "x", Some(TraceFault::BadRow(200_000))),
-        (200_000, "x", Some(TraceFault::TooMany)),
-    ] {
-        let told = fault_after(alloc, &system, "event,sb,10000000\n", count, last)?;
-        assert!(rt; told == fault, "{count}");
-    }
-    Ok(())
-}
-
-/// 2,000,000 jobs are taken, and not one more. They are looked at after all rows.
-#[test]
-fn counts_jobs(rt: HostRuntime) -> Result<(), Fail> {
-    let alloc = rt.alloc();
-    let system = build(alloc, CROWD)?;
-    for (count, last, fault) in [
-        (181_818, "event,sb,0\nevent,sb,0", None),
-        (
-            181_818,
-            "event,sb,0\nevent,sb,0\nevent,sb,0",
-            Some(TraceFault::TooMany),
-        ),
-        (181_819, "event,sb", Some(TraceFault::BadRow(181_820))),
-    ] {
-        let told = fault_after(alloc, &system, "event,sa,0\n", count, last)?;
-        assert!(rt; told == fault, "{last}");
-    }
-    Ok(())
-}
-
-/// Traces and their first breach. Events of `sa` may come 4 ticks apart, and n of them in no less than
-/// 10 * (n - 1) - 25 ticks; those of `sb` 20 ticks apart.
-const BREACHES: &[(&str, Option<Breach>)] = &[
-    ("", None),
-    ("event,sa,0\nevent,sa,4\nevent,sa,8\nevent,sa,12", None),
-    // By distance alone, where an earlier event is too close, and where none is.
-    (
-        "event,sa,0\nevent,sa,3",
-        Some(Breach::Close {
-            source: SourceId(0),
-            first: 0,
-            second: 3,
-        }),
-    ),
-    (
-        "event,sa,0\nevent,sa,4\nevent,sa,7",
-        Some(Breach::Close {
-            source: SourceId(0),
-            first: 0,
-            second: 7,
-        }),
-    ),
-    (
-        "event,sa,0\nevent,sa,5\nevent,sa,8",
-        Some(Breach::Close {
-            source: SourceId(0),
-            first: 5,
-            second: 8,
-        }),
-    ),
-    // By period and jitter alone, though each is far enough from the one before.
-    (
-        "event,sa,0\nevent,sa,4\nevent,sa,8\nevent,sa,12\nevent,sa,16\nevent,sa,20",
-        Some(Breach::Close {
-            source: SourceId(0),
-            first: 0,
-            second: 20,
-        }),
-    ),
-    // By both, at different events.
-    (
-        "event,sa,0\nevent,sa,4\nevent,sa,8\nevent,sa,12\nevent,sa,16\nevent,sa,20\nevent,sa,20",
-        Some(Breach::Close {
-            source: SourceId(0),
-            first: 0,
-            second: 20,
-        }),
-    ),
-    (
-        "event,sa,0\nevent,sa,9\nevent,sa,9\nevent,sa,13\nevent,sa,17\nevent,sa,21\nevent,sa,25",
-        Some(Breach::Close {
-            source: SourceId(0),
-            first: 9,
-            second: 9,
-        }),
-    ),
-    // In the second source.
-    (
-        "event,sa,0\nevent,sb,0\nevent,sb,20\nevent,sb,39",
-        Some(Breach::Close {
-            source: SourceId(1),
-            first: 0,
-            second: 39,
-        }),
-    ),
-    (
-        "event,sb,5\nevent,sb,5",
-        Some(Breach::Close {
-            source: SourceId(1),
-            first: 5,
-            second: 5,
-        }),
-    ),
-    // Executions, also of a job that never arrives.
-    (
-        "exec,b,7\nexec,b,8\nexec,a,1",
-        Some(Breach::Exec {
-            task: TaskId(0),
-            job: 1,
-        }),
-    ),
-    (
-        "exec,b,7\nexec,b,8",
-        Some(Breach::Exec {
-            task: TaskId(1),
-            job: 2,
-        }),
-    ),
-    ("event,sa,0\nexec,a,2\nexec,a,7", None),
-    // Phases.
-    ("phase,ring,39\nphase,idle,1000000000", None),
-    (
-        "phase,idle,5\nphase,ring,40",
-        Some(Breach::Phase { res: ResId(1) }),
-    ),
-    // Sources before tasks before resources.
-    (
-        "phase,ring,40\nexec,a,1",
-        Some(Breach::Exec {
-            task: TaskId(0),
-            job: 1,
-        }),
-    ),
-    (
-        "phase,ring,40\nexec,a,1\nevent,sb,1\nevent,sb,1",
-        Some(Breach::Close {
-            source: SourceId(1),
-            first: 1,
-            second: 1,
-        }),
-    ),
-];
-
-#[test]
-fn tells_the_first_breach(rt: HostRuntime) -> Result<(), Fail> {
-    let alloc = rt.alloc();
-    let system = build(alloc, THREE_TASKS)?;
-    for (text, breach) in BREACHES {
-        let trace = read_trace(alloc, &system, text.as_bytes())?;
-        assert_eq!(rt; obeys(&system, &trace), *breach, "{text}");
-    }
+    assert!(rt; wrong.is_none(), "{wrong:?}");
     Ok(())
 }
 
@@ -352,18 +372,17 @@ fn tells_the_first_breach(rt: HostRuntime) -> Result<(), Fail> {
 #[test]
 fn builds_a_trace(rt: HostRuntime) -> Result<(), Fail> {
     let alloc = rt.alloc();
-    let system = build(alloc, THREE_TASKS)?;
-    assert_eq!(rt;
-        (system.sources(), system.tasks(), system.resources()),
-        (2, 3, 3)
-    );
+    let system = read_system(alloc, THREE_TASKS.as_bytes())?;
+    assert!(rt; (system.sources(), system.tasks(), system.resources()) == (2, 3, 3));
     let mut trace = Trace::empty(alloc, &system)?;
+    needs_shared(&trace);
     trace.add_event(SourceId(0), 5)?;
     trace.add_exec(TaskId(0), 7)?;
     trace.set_phase(ResId(2), 99);
+    let numbers = numbers_of(alloc, &system, &trace)?;
     assert!(rt;
-        numbers_of(alloc, &system, &trace)?.as_slice() == [1, 5, 0, 1, 7, 0, 0, 0, 0, 99].as_slice()
+        numbers.as_slice() == [1, 5, 0, 1, 7, 0, 0, 0, 0, 99].as_slice()
+            && obeys(&system, &trace).is_none()
     );
-    assert_eq!(rt; obeys(&system, &trace), None);
     Ok(())
 }

@@ -1,101 +1,99 @@
 //! The systems of the tests.
 
-use crate::made::{Made, ResourceRow};
-use cpa_model::KindWord;
-
-/// A resource of each kind.
-const FOUR_KINDS: &[ResourceRow] = &[
-    ("cpu", KindWord::Preemptive, Some(1000), None),
-    ("bus", KindWord::Can, Some(1000), None),
-    ("ring", KindWord::RoundRobin, Some(1000), None),
-    ("table", KindWord::Tdma, Some(1000), None),
-];
-
 /// The system of *two_tasks* with a third task `k`, a frame `f` after it, and a path from `k` to `f`.
 /// There is a resource of each kind.
-pub(crate) const WORKS: &Made = &Made {
-    resources: FOUR_KINDS,
-    sources: &[("sa", 10, None, None), ("sb", 20, None, None)],
-    tasks: &[
-        (["a", "cpu", "sa"], (1, 3), (Some(1), None)),
-        (["b", "cpu", "sb"], (2, 7), (Some(2), None)),
-        (["k", "cpu", "sb"], (1, 2), (Some(8), None)),
-        (["f", "bus", "k"], (1, 2), (Some(9), None)),
-    ],
-    paths: &[("p", &["k", "f"])],
-};
+pub(crate) const WORKS: &str = r#"format = 1
+resource = [
+  { name = "cpu", kind = "preemptive", limit = 1000 },
+  { name = "bus", kind = "can", limit = 1000 },
+  { name = "ring", kind = "round-robin", limit = 1000 },
+  { name = "table", kind = "tdma", limit = 1000 },
+]
+source = [{ name = "sa", period = 10 }, { name = "sb", period = 20 }]
+task = [
+  { name = "a", on = "cpu", after = "sa", best = 1, worst = 3, priority = 1 },
+  { name = "b", on = "cpu", after = "sb", best = 2, worst = 7, priority = 2 },
+  { name = "k", on = "cpu", after = "sb", best = 1, worst = 2, priority = 8 },
+  { name = "f", on = "bus", after = "k", best = 1, worst = 2, priority = 9 },
+]
+path = [{ name = "p", tasks = ["k", "f"] }]
+"#;
 
 /// Two chains that cross: each processor has the first task of one and the second of the other.
-pub(crate) const CROSSING_CHAINS: &Made = &Made {
-    resources: &[
-        ("p", KindWord::Preemptive, Some(1000), None),
-        ("q", KindWord::Preemptive, Some(1000), None),
-    ],
-    sources: &[("sa", 100, None, None), ("sb", 100, None, None)],
-    tasks: &[
-        (["a1", "p", "sa"], (1, 20), (Some(2), None)),
-        (["a2", "q", "a1"], (10, 30), (Some(1), None)),
-        (["b1", "q", "sb"], (1, 20), (Some(2), None)),
-        (["b2", "p", "b1"], (10, 30), (Some(1), None)),
-    ],
-    paths: &[],
-};
+pub(crate) const CROSSING_CHAINS: &str = r#"format = 1
+resource = [
+  { name = "p", kind = "preemptive", limit = 1000 },
+  { name = "q", kind = "preemptive", limit = 1000 },
+]
+source = [{ name = "sa", period = 100 }, { name = "sb", period = 100 }]
+task = [
+  { name = "a1", on = "p", after = "sa", best = 1, worst = 20, priority = 2 },
+  { name = "a2", on = "q", after = "a1", best = 10, worst = 30, priority = 1 },
+  { name = "b1", on = "q", after = "sb", best = 1, worst = 20, priority = 2 },
+  { name = "b2", on = "p", after = "b1", best = 10, worst = 30, priority = 1 },
+]
+"#;
 
 /// Tasks after several sources and tasks: `k` after three tasks and a source. Nothing comes after `z`.
-pub(crate) const JOINED: &Made = &Made {
-    resources: FOUR_KINDS,
-    sources: &[
-        ("sa", 10, None, None),
-        ("sb", 20, None, None),
-        ("sc", 40, None, None),
-    ],
-    tasks: &[
-        (["z", "cpu", "sc"], (1, 1), (Some(9), None)),
-        (["x", "cpu", "sc"], (1, 2), (Some(7), None)),
-        (["m", "cpu", "sa sb"], (1, 3), (Some(1), None)),
-        (["n", "bus", "m sc"], (1, 2), (Some(1), None)),
-        (["k", "table", "x sa m n"], (1, 2), (None, Some(3))),
-    ],
-    paths: &[("p", &["m", "n", "k"])],
-};
+pub(crate) const JOINED: &str = r#"format = 2
+resource = [
+  { name = "cpu", kind = "preemptive", limit = 1000 },
+  { name = "bus", kind = "can", limit = 1000 },
+  { name = "ring", kind = "round-robin", limit = 1000 },
+  { name = "table", kind = "tdma", limit = 1000 },
+]
+source = [{ name = "sa", period = 10 }, { name = "sb", period = 20 }, { name = "sc", period = 40 }]
+task = [
+  { name = "z", on = "cpu", after = "sc", best = 1, worst = 1, priority = 9 },
+  { name = "x", on = "cpu", after = "sc", best = 1, worst = 2, priority = 7 },
+  { name = "m", on = "cpu", after = ["sa", "sb"], best = 1, worst = 3, priority = 1 },
+  { name = "n", on = "bus", after = ["m", "sc"], best = 1, worst = 2, priority = 1 },
+  { name = "k", on = "table", after = ["x", "sa", "m", "n"], best = 1, worst = 2, slot = 3 },
+]
+path = [{ name = "p", tasks = ["m", "n", "k"] }]
+"#;
 
 /// A chain of 32 tasks, each of which a source starts as well, so that the last has 32 streams.
-pub(crate) const LADDER: &Made = &Made {
-    resources: FOUR_KINDS,
-    sources: &[("sa", 10, None, None)],
-    tasks: &[
-        (["t0", "ring", "sa"], (1, 1), (None, Some(1))),
-        (["t1", "ring", "sa t0"], (1, 1), (None, Some(1))),
-        (["t2", "ring", "sa t1"], (1, 1), (None, Some(1))),
-        (["t3", "ring", "sa t2"], (1, 1), (None, Some(1))),
-        (["t4", "ring", "sa t3"], (1, 1), (None, Some(1))),
-        (["t5", "ring", "sa t4"], (1, 1), (None, Some(1))),
-        (["t6", "ring", "sa t5"], (1, 1), (None, Some(1))),
-        (["t7", "ring", "sa t6"], (1, 1), (None, Some(1))),
-        (["t8", "ring", "sa t7"], (1, 1), (None, Some(1))),
-        (["t9", "ring", "sa t8"], (1, 1), (None, Some(1))),
-        (["t10", "ring", "sa t9"], (1, 1), (None, Some(1))),
-        (["t11", "ring", "sa t10"], (1, 1), (None, Some(1))),
-        (["t12", "ring", "sa t11"], (1, 1), (None, Some(1))),
-        (["t13", "ring", "sa t12"], (1, 1), (None, Some(1))),
-        (["t14", "ring", "sa t13"], (1, 1), (None, Some(1))),
-        (["t15", "ring", "sa t14"], (1, 1), (None, Some(1))),
-        (["t16", "ring", "sa t15"], (1, 1), (None, Some(1))),
-        (["t17", "ring", "sa t16"], (1, 1), (None, Some(1))),
-        (["t18", "ring", "sa t17"], (1, 1), (None, Some(1))),
-        (["t19", "ring", "sa t18"], (1, 1), (None, Some(1))),
-        (["t20", "ring", "sa t19"], (1, 1), (None, Some(1))),
-        (["t21", "ring", "sa t20"], (1, 1), (None, Some(1))),
-        (["t22", "ring", "sa t21"], (1, 1), (None, Some(1))),
-        (["t23", "ring", "sa t22"], (1, 1), (None, Some(1))),
-        (["t24", "ring", "sa t23"], (1, 1), (None, Some(1))),
-        (["t25", "ring", "sa t24"], (1, 1), (None, Some(1))),
-        (["t26", "ring", "sa t25"], (1, 1), (None, Some(1))),
-        (["t27", "ring", "sa t26"], (1, 1), (None, Some(1))),
-        (["t28", "ring", "sa t27"], (1, 1), (None, Some(1))),
-        (["t29", "ring", "sa t28"], (1, 1), (None, Some(1))),
-        (["t30", "ring", "sa t29"], (1, 1), (None, Some(1))),
-        (["t31", "ring", "sa t30"], (1, 1), (None, Some(1))),
-    ],
-    paths: &[],
-};
+pub(crate) const LADDER: &str = r#"format = 2
+resource = [
+  { name = "cpu", kind = "preemptive", limit = 1000 },
+  { name = "bus", kind = "can", limit = 1000 },
+  { name = "ring", kind = "round-robin", limit = 1000 },
+  { name = "table", kind = "tdma", limit = 1000 },
+]
+source = [{ name = "sa", period = 10 }]
+task = [
+  { name = "t0", on = "ring", after = "sa", best = 1, worst = 1, slot = 1 },
+  { name = "t1", on = "ring", after = ["sa", "t0"], best = 1, worst = 1, slot = 1 },
+  { name = "t2", on = "ring", after = ["sa", "t1"], best = 1, worst = 1, slot = 1 },
+  { name = "t3", on = "ring", after = ["sa", "t2"], best = 1, worst = 1, slot = 1 },
+  { name = "t4", on = "ring", after = ["sa", "t3"], best = 1, worst = 1, slot = 1 },
+  { name = "t5", on = "ring", after = ["sa", "t4"], best = 1, worst = 1, slot = 1 },
+  { name = "t6", on = "ring", after = ["sa", "t5"], best = 1, worst = 1, slot = 1 },
+  { name = "t7", on = "ring", after = ["sa", "t6"], best = 1, worst = 1, slot = 1 },
+  { name = "t8", on = "ring", after = ["sa", "t7"], best = 1, worst = 1, slot = 1 },
+  { name = "t9", on = "ring", after = ["sa", "t8"], best = 1, worst = 1, slot = 1 },
+  { name = "t10", on = "ring", after = ["sa", "t9"], best = 1, worst = 1, slot = 1 },
+  { name = "t11", on = "ring", after = ["sa", "t10"], best = 1, worst = 1, slot = 1 },
+  { name = "t12", on = "ring", after = ["sa", "t11"], best = 1, worst = 1, slot = 1 },
+  { name = "t13", on = "ring", after = ["sa", "t12"], best = 1, worst = 1, slot = 1 },
+  { name = "t14", on = "ring", after = ["sa", "t13"], best = 1, worst = 1, slot = 1 },
+  { name = "t15", on = "ring", after = ["sa", "t14"], best = 1, worst = 1, slot = 1 },
+  { name = "t16", on = "ring", after = ["sa", "t15"], best = 1, worst = 1, slot = 1 },
+  { name = "t17", on = "ring", after = ["sa", "t16"], best = 1, worst = 1, slot = 1 },
+  { name = "t18", on = "ring", after = ["sa", "t17"], best = 1, worst = 1, slot = 1 },
+  { name = "t19", on = "ring", after = ["sa", "t18"], best = 1, worst = 1, slot = 1 },
+  { name = "t20", on = "ring", after = ["sa", "t19"], best = 1, worst = 1, slot = 1 },
+  { name = "t21", on = "ring", after = ["sa", "t20"], best = 1, worst = 1, slot = 1 },
+  { name = "t22", on = "ring", after = ["sa", "t21"], best = 1, worst = 1, slot = 1 },
+  { name = "t23", on = "ring", after = ["sa", "t22"], best = 1, worst = 1, slot = 1 },
+  { name = "t24", on = "ring", after = ["sa", "t23"], best = 1, worst = 1, slot = 1 },
+  { name = "t25", on = "ring", after = ["sa", "t24"], best = 1, worst = 1, slot = 1 },
+  { name = "t26", on = "ring", after = ["sa", "t25"], best = 1, worst = 1, slot = 1 },
+  { name = "t27", on = "ring", after = ["sa", "t26"], best = 1, worst = 1, slot = 1 },
+  { name = "t28", on = "ring", after = ["sa", "t27"], best = 1, worst = 1, slot = 1 },
+  { name = "t29", on = "ring", after = ["sa", "t28"], best = 1, worst = 1, slot = 1 },
+  { name = "t30", on = "ring", after = ["sa", "t29"], best = 1, worst = 1, slot = 1 },
+  { name = "t31", on = "ring", after = ["sa", "t30"], best = 1, worst = 1, slot = 1 },
+]
+"#;

@@ -1,42 +1,43 @@
 //! The systems of the tests.
 
-use crate::made::Made;
-use cpa_model::KindWord;
-
 /// Two tasks on a processor, the second after the first, and one on a TDMA bus, whose cycle is 40.
 /// Another such bus has no task.
-pub(crate) const THREE_TASKS: &Made = &Made {
-    resources: &[
-        ("cpu", KindWord::Preemptive, None, None),
-        ("ring", KindWord::Tdma, None, Some(10)),
-        ("idle", KindWord::Tdma, None, None),
-    ],
-    sources: &[("sa", 10, Some(25), Some(4)), ("sb", 20, Some(0), Some(0))],
-    tasks: &[
-        (["a", "cpu", "sa"], (2, 7), (Some(1), None)),
-        (["b", "cpu", "a"], (2, 7), (Some(2), None)),
-        (["x", "ring", "sb"], (2, 7), (None, Some(30))),
-    ],
-    paths: &[],
-};
+pub(crate) const THREE_TASKS: &str = r#"format = 1
+resource = [
+  { name = "cpu", kind = "preemptive" },
+  { name = "ring", kind = "tdma", gap = 10 },
+  { name = "idle", kind = "tdma" },
+]
+source = [
+  { name = "sa", period = 10, jitter = 25, distance = 4 },
+  { name = "sb", period = 20, jitter = 0, distance = 0 },
+]
+task = [
+  { name = "a", on = "cpu", after = "sa", best = 2, worst = 7, priority = 1 },
+  { name = "b", on = "cpu", after = "a", best = 2, worst = 7, priority = 2 },
+  { name = "x", on = "ring", after = "sb", best = 2, worst = 7, slot = 30 },
+]
+"#;
 
 /// A processor with eleven tasks after one source and one after another.
-pub(crate) const CROWD: &Made = &Made {
-    resources: &[("cpu", KindWord::Preemptive, None, None)],
-    sources: &[("sa", 1, Some(0), Some(0)), ("sb", 1, Some(0), Some(0))],
-    tasks: &[
-        (["t", "cpu", "sb"], (2, 7), (Some(0), None)),
-        (["t1", "cpu", "sa"], (2, 7), (Some(1), None)),
-        (["t2", "cpu", "sa"], (2, 7), (Some(2), None)),
-        (["t3", "cpu", "sa"], (2, 7), (Some(3), None)),
-        (["t4", "cpu", "sa"], (2, 7), (Some(4), None)),
-        (["t5", "cpu", "sa"], (2, 7), (Some(5), None)),
-        (["t6", "cpu", "sa"], (2, 7), (Some(6), None)),
-        (["t7", "cpu", "sa"], (2, 7), (Some(7), None)),
-        (["t8", "cpu", "sa"], (2, 7), (Some(8), None)),
-        (["t9", "cpu", "sa"], (2, 7), (Some(9), None)),
-        (["t10", "cpu", "sa"], (2, 7), (Some(10), None)),
-        (["t11", "cpu", "sa"], (2, 7), (Some(11), None)),
-    ],
-    paths: &[],
-};
+pub(crate) const CROWD: &str = r#"format = 1
+resource = [{ name = "cpu", kind = "preemptive" }]
+source = [
+  { name = "sa", period = 1, jitter = 0, distance = 0 },
+  { name = "sb", period = 1, jitter = 0, distance = 0 },
+]
+task = [
+  { name = "t", on = "cpu", after = "sb", best = 2, worst = 7, priority = 0 },
+  { name = "t1", on = "cpu", after = "sa", best = 2, worst = 7, priority = 1 },
+  { name = "t2", on = "cpu", after = "sa", best = 2, worst = 7, priority = 2 },
+  { name = "t3", on = "cpu", after = "sa", best = 2, worst = 7, priority = 3 },
+  { name = "t4", on = "cpu", after = "sa", best = 2, worst = 7, priority = 4 },
+  { name = "t5", on = "cpu", after = "sa", best = 2, worst = 7, priority = 5 },
+  { name = "t6", on = "cpu", after = "sa", best = 2, worst = 7, priority = 6 },
+  { name = "t7", on = "cpu", after = "sa", best = 2, worst = 7, priority = 7 },
+  { name = "t8", on = "cpu", after = "sa", best = 2, worst = 7, priority = 8 },
+  { name = "t9", on = "cpu", after = "sa", best = 2, worst = 7, priority = 9 },
+  { name = "t10", on = "cpu", after = "sa", best = 2, worst = 7, priority = 10 },
+  { name = "t11", on = "cpu", after = "sa", best = 2, worst = 7, priority = 11 },
+]
+"#;
