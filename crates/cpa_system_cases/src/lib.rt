@@ -15,8 +15,6 @@ mod edits;
 #[cfg(test)]
 mod files;
 #[cfg(test)]
-mod made;
-#[cfg(test)]
 mod models;
 #[cfg(test)]
 mod runs;
