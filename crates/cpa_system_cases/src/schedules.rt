@@ -1,10 +1,9 @@
 //! Calls of `schedule` over files in memory.
 
-ghost use Rattle.std.specs.Prelude.{◌≤◌};
-
 use cpa_io::{MemoryFiles, MemorySink};
 use cpa_segments::write_schedule;
 use cpa_units::limits::MAX_SYSTEM_FILE;
+use std::alloc::{AllocError, Global};
 use std::test::Fail;
 
 /// All four kinds of resource: `high` preempts `low`; `m1` waits for the frame of `m2`, and its second job follows the first;
@@ -79,44 +78,48 @@ const HELD: &[(&str, &str)] = &[
     ("empty", ""),
 ];
 
-/// Words, the status and the text.
-const CALLS: &[(&[&str], u8, &str)] = &[
-    (&["sys", "tr"], 0, FOUR_KINDS_RUN),
-    (&["late", "late_tr"], 0, LATE_RUN),
-    (&["two", "two_tr"], 0, "m,0,3\nm,3,6\nn,3,5\nn,6,8\n"),
-    (&["sys", "empty"], 0, ""),
-    (&["none", "empty"], 0, ""),
-    (&[], 10, "words refused\n"),
-    (&["sys"], 10, "words refused\n"),
-    (&["sys", "-tr"], 10, "words refused\n"),
-    (&["", "tr"], 10, "words refused\n"),
-    (&["sys", "tr", "tr"], 10, "words refused\n"),
-    (&["schedule", "sys", "tr"], 10, "words refused\n"),
-    (&["zz", "tr"], 11, "cannot read zz\n"),
-    (&["sys", "zz"], 11, "cannot read zz\n"),
-    (&["long", "zz"], 12, "too long long\n"),
-    (&["bad", "zz"], 13, "not TOML bad\n"),
-    (&["other", "zz"], 14, "system refused reason 13 file 0\n"),
-    (&["sys", "bad"], 16, "trace refused row 1 malformed\n"),
+/// The numbers of the loads that fail, how many bytes the sink takes at once, and the numbers of the puts that fail.
+type Faults = (&'static [u64], usize, &'static [u64]);
+
+const NONE: Faults = (&[], 4096, &[]);
+
+/// The faults of a call, its words, the status and the text.
+const CALLS: &[(Faults, &[&str], u8, &str)] = &[
+    (NONE, &["sys", "tr"], 0, FOUR_KINDS_RUN),
+    (NONE, &["late", "late_tr"], 0, LATE_RUN),
+    (NONE, &["two", "two_tr"], 0, "m,0,3\nm,3,6\nn,3,5\nn,6,8\n"),
+    (NONE, &["sys", "empty"], 0, ""),
+    (NONE, &["none", "empty"], 0, ""),
+    (NONE, &[], 10, "words refused\n"),
+    (NONE, &["sys"], 10, "words refused\n"),
+    (NONE, &["sys", "-tr"], 10, "words refused\n"),
+    (NONE, &["", "tr"], 10, "words refused\n"),
+    (NONE, &["sys", "tr", "tr"], 10, "words refused\n"),
+    (NONE, &["schedule", "sys", "tr"], 10, "words refused\n"),
+    (NONE, &["zz", "tr"], 11, "cannot read zz\n"),
+    (NONE, &["sys", "zz"], 11, "cannot read zz\n"),
+    (NONE, &["long", "zz"], 12, "too long long\n"),
+    (NONE, &["bad", "zz"], 13, "not TOML bad\n"),
     (
+        NONE,
+        &["other", "zz"],
+        14,
+        "system refused reason 13 file 0\n",
+    ),
+    (NONE, &["sys", "bad"], 16, "trace refused row 1 malformed\n"),
+    (
+        NONE,
         &["sys", "late_tr"],
         17,
         "trace disobeys source s times 10000000 10000000\n",
     ),
+    ((&[1], 4096, &[]), &["sys", "tr"], 11, "cannot read tr\n"),
+    // The first seven bytes are sent, and then the sink fails.
+    ((&[], 7, &[1]), &["sys", "tr"], 20, "low,0,2"),
 ];
 
-/// How the files and the sink behave: which calls fail, and how many bytes the sink takes at once.
-#[derive(Clone, Copy)]
-struct Faults<'a> {
-    loads: &'a [u64],
-    piece: usize,
-    puts: &'a [u64],
-    ghost some_piece: { 1 ≤ piece },
-}
-
-/// The status and the bytes sent of a call.
-fn call<R: AllocGlobal>(rt: &R, words: &[&str], faults: &Faults) -> Result<(u8, Vec<u8>), Fail> {
-    let alloc = rt.alloc();
+/// The files.
+fn held(alloc: Global) -> Result<Vec<(String, Vec<u8>)>, AllocError> {
     let mut held = Vec::new(alloc);
     for (name, text) in HELD {
         held.push((
@@ -126,70 +129,32 @@ fn call<R: AllocGlobal>(rt: &R, words: &[&str], faults: &Faults) -> Result<(u8, 
     }
     let long = vec![in alloc; b'#'; MAX_SYSTEM_FILE as usize + 1]?;
     held.push((String::from_str(alloc, "long")?, long))?;
-    let mut files = MemoryFiles::new(alloc, held, Vec::from_slice(alloc, faults.loads)?);
-    let mut sink = MemorySink::new(alloc, faults.piece, Vec::from_slice(alloc, faults.puts)?);
+    Ok(held)
+}
+
+/// The status and the bytes sent of a call.
+fn call(alloc: Global, words: &[&str], faults: &Faults) -> Result<(u8, MemorySink), AllocError> {
+    let (loads, piece, puts) = *faults;
     let mut given = Vec::new(alloc);
     for word in words {
         given.push(String::from_str(alloc, word)?)?;
     }
+    let mut files = MemoryFiles::new(alloc, held(alloc)?, Vec::from_slice(alloc, loads)?);
+    let mut sink = MemorySink::new(alloc, piece.max(1), Vec::from_slice(alloc, puts)?);
     let status = write_schedule(alloc, given.as_slice(), &mut files, &mut sink);
-    Ok((status, Vec::from_slice(alloc, sink.sent())?))
-}
-
-/// Whether a call gives this status and this text.
-fn answers<R: AllocGlobal>(
-    rt: &R,
-    words: &[&str],
-    faults: &Faults,
-    status: u8,
-    text: &str,
-) -> Result<bool, Fail> {
-    let answer = call(rt, words, faults)?;
-    Ok(answer.0 == status && answer.1.as_slice() == text.as_bytes())
-}
-
-/// The place of the first call that has another answer.
-fn wrong_call<R: AllocGlobal>(rt: &R) -> Result<Option<usize>, Fail> {
-    let faults = Faults {
-        loads: &[],
-        piece: 4096,
-        puts: &[],
-    };
-    for (k, (words, status, text)) in CALLS.iter().enumerate() {
-        if !answers(rt, words, &faults, *status, text)? {
-            return Ok(Some(k));
-        }
-    }
-    Ok(None)
+    Ok((status, sink))
 }
 
 #[test]
 fn answers_calls(rt: HostRuntime) -> Result<(), Fail> {
-    assert_eq!(rt; wrong_call(&rt)?, None);
-    Ok(())
-}
-
-#[test]
-fn tells_a_load_that_failed(rt: HostRuntime) -> Result<(), Fail> {
-    let faults = Faults {
-        loads: &[1],
-        piece: 4096,
-        puts: &[],
-    };
-    let right = answers(&rt, &["sys", "tr"], &faults, 11, "cannot read tr\n")?;
-    assert!(rt; right);
-    Ok(())
-}
-
-/// The first seven bytes are sent, and then the sink fails.
-#[test]
-fn tells_a_put_that_failed(rt: HostRuntime) -> Result<(), Fail> {
-    let faults = Faults {
-        loads: &[],
-        piece: 7,
-        puts: &[1],
-    };
-    let right = answers(&rt, &["sys", "tr"], &faults, 20, "low,0,2")?;
-    assert!(rt; right);
+    let alloc = rt.alloc();
+    let mut wrong = None;
+    for (k, (faults, words, status, text)) in CALLS.iter().enumerate() {
+        let (answer, sink) = call(alloc, words, faults)?;
+        if answer != *status || sink.sent() != text.as_bytes() {
+            wrong = Some(k);
+        }
+    }
+    assert!(rt; wrong.is_none(), "{wrong:?}");
     Ok(())
 }
