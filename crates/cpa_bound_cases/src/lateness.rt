@@ -1,101 +1,59 @@
-ghost use Rattle.std.specs.Prelude.{◌≡◌, IfOk, length};
-ghost use Rattle.cpa_sim.specs.Outcome.{outcome_of, CanReplay};
-
-use crate::systems::{Made, PLAIN, ResourceRow, build};
-use cpa_model::{KindWord, System};
-use cpa_sim::{Outcome, replay};
+use crate::systems::vector;
+use cpa_file::read_system;
+use cpa_sim::replay;
 use cpa_sound::beyond;
-use cpa_trace::{Trace, read_trace};
+use cpa_trace::read_trace;
+use cpa_units::Bound;
 use cpa_units::Bound::{Overload, Within};
-use cpa_units::{Bound, NoMemory, TaskId, Vector};
 use std::alloc::Global;
 use std::test::Fail;
 
-/// Two processors.
-const PROCESSORS: &[ResourceRow] = &[
-    ("p", KindWord::Preemptive, PLAIN),
-    ("q", KindWord::Preemptive, PLAIN),
-];
-
-const RINGS: &[ResourceRow] = &[
-    ("p", KindWord::RoundRobin, PLAIN),
-    ("q", KindWord::RoundRobin, PLAIN),
-];
-
-/// Two tasks, of which the second has jobs that wait for one another.
-const LONG_WINDOW: &Made = &Made {
-    resources: PROCESSORS,
-    sources: &[("sa", 70, None, None), ("sb", 100, None, None)],
-    tasks: &[
-        (["a", "p", "sa"], (26, 26), (Some(1), None)),
-        (["b", "p", "sb"], (62, 62), (Some(2), None)),
-    ],
-};
+/// Two tasks, of which the second has jobs that wait for one another, and an idle processor.
+const LONG_WINDOW: &str = r#"format = 1
+resource = [{ name = "p", kind = "preemptive" }, { name = "q", kind = "preemptive" }]
+source = [{ name = "sa", period = 70 }, { name = "sb", period = 100 }]
+task = [
+  { name = "a", on = "p", after = "sa", best = 26, worst = 26, priority = 1 },
+  { name = "b", on = "p", after = "sb", best = 62, worst = 62, priority = 2 },
+]
+"#;
 
 /// Two tasks on a ring.
-const RING: &Made = &Made {
-    resources: RINGS,
-    sources: &[("sa", 20, None, None), ("sb", 20, None, None)],
-    tasks: &[
-        (["a", "p", "sa"], (3, 3), (None, Some(2))),
-        (["b", "p", "sb"], (1, 1), (None, Some(4))),
-    ],
-};
+const RING: &str = r#"format = 1
+resource = [{ name = "p", kind = "round-robin" }, { name = "q", kind = "round-robin" }]
+source = [{ name = "sa", period = 20 }, { name = "sb", period = 20 }]
+task = [
+  { name = "a", on = "p", after = "sa", best = 3, worst = 3, slot = 2 },
+  { name = "b", on = "p", after = "sb", best = 1, worst = 1, slot = 4 },
+]
+"#;
 
 /// The same, where the second is activated more often than it can be done.
-const FULL_RING: &Made = &Made {
-    resources: RINGS,
-    sources: &[("sa", 20, None, None), ("sb", 5, None, None)],
-    tasks: &[
-        (["a", "p", "sa"], (3, 3), (None, Some(2))),
-        (["b", "p", "sb"], (10, 10), (None, Some(4))),
-    ],
-};
+const FULL_RING: &str = r#"format = 1
+resource = [{ name = "p", kind = "round-robin" }, { name = "q", kind = "round-robin" }]
+source = [{ name = "sa", period = 20 }, { name = "sb", period = 5 }]
+task = [
+  { name = "a", on = "p", after = "sa", best = 3, worst = 3, slot = 2 },
+  { name = "b", on = "p", after = "sb", best = 10, worst = 10, slot = 4 },
+]
+"#;
 
 /// Two chains that cross.
-const CROSSING_CHAINS: &Made = &Made {
-    resources: PROCESSORS,
-    sources: &[("sa", 100, None, None), ("sb", 100, None, None)],
-    tasks: &[
-        (["a1", "p", "sa"], (5, 10), (Some(2), None)),
-        (["a2", "q", "a1"], (5, 10), (Some(1), None)),
-        (["b1", "q", "sb"], (10, 20), (Some(2), None)),
-        (["b2", "p", "b1"], (10, 20), (Some(1), None)),
-    ],
-};
-
-/// A vector of these bounds.
-fn vector(alloc: Global, len: u32, bounds: &[Bound]) -> Result<Vector, NoMemory>
-    ensures { IfOk result (λ x. length x ≡ len) }
-{
-    let mut x = Vector::filled(alloc, len, Overload)?;
-    for k in 0..len {
-        if let Some(&bound) = bounds.get(k as usize) {
-            x.set(TaskId(k), bound);
-        }
-    }
-    Ok(x)
-}
-
-/// How many jobs of a run are beyond these bounds.
-fn count(
-    alloc: Global,
-    system: &System,
-    trace: &Trace,
-    outcome: &Outcome,
-    bounds: &[Bound],
-) -> Result<u64, NoMemory>
-    requires replayed { CanReplay system.now trace.now }
-    requires run { outcome.now ≡ outcome_of system.now trace.now }
-{
-    let x = vector(alloc, system.tasks(), bounds)?;
-    Ok(beyond(system, &x, trace, outcome))
-}
+const CROSSING_CHAINS: &str = r#"format = 1
+resource = [{ name = "p", kind = "preemptive" }, { name = "q", kind = "preemptive" }]
+source = [{ name = "sa", period = 100 }, { name = "sb", period = 100 }]
+task = [
+  { name = "a1", on = "p", after = "sa", best = 5, worst = 10, priority = 2 },
+  { name = "a2", on = "q", after = "a1", best = 5, worst = 10, priority = 1 },
+  { name = "b1", on = "q", after = "sb", best = 10, worst = 20, priority = 2 },
+  { name = "b2", on = "p", after = "b1", best = 10, worst = 20, priority = 1 },
+]
+"#;
 
 /// A case by its name: a trace of a system, two lists of bounds, and how many jobs are beyond each.
 struct Case {
     name: &'static str,
-    system: &'static Made,
+    system: &'static str,
     rows: &'static str,
     bounds: &'static [Bound],
     closer: &'static [Bound],
@@ -151,19 +109,21 @@ const CASES: &[Case] = &[
 
 /// How many jobs of a case's run are beyond each list of bounds.
 fn counts(alloc: Global, case: &Case) -> Result<[u64; 2], Fail> {
-    let system = build(alloc, case.system, &[])?;
+    let system = read_system(alloc, case.system.as_bytes())?;
     let trace = read_trace(alloc, &system, case.rows.as_bytes())?;
     let outcome = replay(alloc, &system, &trace)?;
-    let here = count(alloc, &system, &trace, &outcome, case.bounds)?;
-    let there = count(alloc, &system, &trace, &outcome, case.closer)?;
-    Ok([here, there])
+    let bounds = vector(alloc, system.tasks(), case.bounds)?;
+    let closer = vector(alloc, system.tasks(), case.closer)?;
+    Ok([
+        beyond(&system, &bounds, &trace, &outcome),
+        beyond(&system, &closer, &trace, &outcome),
+    ])
 }
 
 #[test]
 fn counts_jobs_beyond(rt: HostRuntime) -> Result<(), Fail> {
-    let alloc = rt.alloc();
     for case in CASES {
-        let seen = counts(alloc, case)?;
+        let seen = counts(rt.alloc(), case)?;
         assert!(rt; seen == case.beyond, "{}", case.name);
     }
     Ok(())

@@ -1,73 +1,29 @@
-mod systems;
-
-ghost use Rattle.std.specs.Prelude.{◌≡◌, ◌≤◌, IfOk, length};
+ghost use Rattle.std.specs.Prelude.{◌≤◌};
 ghost use Rattle.cpa_sim.specs.Outcome.{CanReplay};
 
-use crate::systems::build;
+use crate::systems::{LONG_WINDOW, vector};
+use cpa_file::{print_system, read_system};
 use cpa_gen::{hammer, hammer_text, load_text, make_system, make_trace};
 use cpa_local::floor;
-use cpa_model::{Activator, System, Turn};
-use cpa_text::Text;
+use cpa_model::System;
 use cpa_trace::Trace;
-use cpa_units::{Bound, NoMemory, PathId, ResId, SourceId, TaskId, Vector};
+use cpa_units::Bound::Within;
+use cpa_units::{Bound, NoMemory, ResId, SourceId, TaskId};
 use std::alloc::{AllocError, Global};
 use std::test::Fail;
 use std::thread::Threads;
-use systems::{LONG_WINDOW, TWO_BUSES};
-
-fn put_names(text: &mut Text, system: &System) -> Result<(), NoMemory> {
-    for r in 0..system.resources() {
-        text.put(system.resource(ResId(r)).name.bytes())?;
-        text.put(b"\n")?;
-    }
-    Ok(())
-}
-
-fn put_sources(text: &mut Text, system: &System) -> Result<(), NoMemory> {
-    for k in 0..system.sources() {
-        let source = system.source(SourceId(k));
-        text.put(source.name.bytes())?;
-        text.put_count(b" period ", source.period)?;
-        text.put_count(b" jitter ", source.jitter)?;
-        text.put_count(b" distance ", source.distance)?;
-        text.put(b"\n")?;
-    }
-    Ok(())
-}
-
-fn put_tasks(text: &mut Text, system: &System) -> Result<(), NoMemory> {
-    for i in 0..system.tasks() {
-        let task = system.task(TaskId(i));
-        text.put(task.name.bytes())?;
-        text.put_count(b" on ", u64::from(task.res.0))?;
-        match task.after.get(0) {
-            Activator::Source(source) => text.put_count(b" after source ", u64::from(source.0))?,
-            Activator::Task(before) => text.put_count(b" after task ", u64::from(before.0))?,
-        }
-        match task.turn {
-            Turn::Priority(number) => text.put_count(b" priority ", u64::from(number))?,
-            Turn::Slot(ticks) => text.put_count(b" slot ", u64::from(ticks))?,
-        }
-        text.put_count(b" best ", task.best)?;
-        text.put_count(b" worst ", task.worst)?;
-        text.put(b"\n")?;
-    }
-    Ok(())
-}
-
-fn put_paths(text: &mut Text, system: &System) -> Result<(), NoMemory> {
-    for k in 0..system.paths() {
-        let path = system.path(PathId(k));
-        text.put(path.name.bytes())?;
-        text.put_count(b" deadline ", path.deadline.unwrap_or(0))?;
-        text.put(b"\n")?;
-    }
-    Ok(())
-}
 
 /// The system of number 42 and size 1. Its draws are 3, 97, 224, 7, 155 and 0.
-const EXAMPLE: &str =
-    "p0\nb0\ns0 period 100000 jitter 97 distance 0\nt0a on 0 after source 0 priority 0 best 162 worst 324\nt0f on 1 after task 0 priority 0 best 206 worst 250\nt0b on 0 after task 1 priority 1 best 127 worst 255\nc0 deadline 100000\n";
+const EXAMPLE: &str = r#"format = 1
+resource = [{ name = "p0", kind = "preemptive" }, { name = "b0", kind = "can", bit = 2 }]
+source = [{ name = "s0", period = 100000, jitter = 97 }]
+task = [
+  { name = "t0a", on = "p0", after = "s0", best = 162, worst = 324, priority = 0 },
+  { name = "t0f", on = "b0", after = "t0a", best = 206, worst = 250, priority = 0 },
+  { name = "t0b", on = "p0", after = "t0f", best = 127, worst = 255, priority = 1 },
+]
+path = [{ name = "c0", tasks = ["t0a", "t0f", "t0b"], deadline = 100000 }]
+"#;
 
 /// How many resources, sources, tasks and paths a made system has.
 fn counts_of(alloc: Global, size: u32) -> Result<[u32; 4], NoMemory>
@@ -85,32 +41,19 @@ fn counts_of(alloc: Global, size: u32) -> Result<[u32; 4], NoMemory>
 #[test]
 fn makes_systems(rt: HostRuntime) -> Result<(), Fail> {
     let alloc = rt.alloc();
-    let system = make_system(alloc, 42, 1)?;
-    let mut text = Text::new(alloc);
-    put_names(&mut text, &system)?;
-    put_sources(&mut text, &system)?;
-    put_tasks(&mut text, &system)?;
-    put_paths(&mut text, &system)?;
-    let written = text.into_bytes();
-    assert!(rt; written.as_slice() == EXAMPLE.as_bytes());
     let counts = [
         counts_of(alloc, 0)?,
         counts_of(alloc, 9)?,
         counts_of(alloc, 128)?,
     ];
-    assert!(rt; counts == [[0, 0, 0, 0], [5, 9, 27, 9], [48, 128, 384, 128]]);
-    Ok(())
-}
-
-#[test]
-fn writes_the_load(rt: HostRuntime) -> Result<(), Fail> {
-    let alloc = rt.alloc();
     let system = make_system(alloc, 42, 1)?;
     let x = floor(alloc, &system)?;
+    let file = print_system(alloc, &system)?;
+    let wanted = print_system(alloc, &read_system(alloc, EXAMPLE.as_bytes())?)?;
     let text = load_text(alloc, 42, 1, &system, &x)?;
-    let expected =
-        "load number 42 size 1 bounds 495\nsummary tasks 3 overload 0 missed 0\n".as_bytes();
-    assert!(rt; text.as_slice() == expected);
+    let load = "load number 42 size 1 bounds 495\nsummary tasks 3 overload 0 missed 0\n";
+    assert!(rt; counts == [[0, 0, 0, 0], [5, 9, 27, 9], [48, 128, 384, 128]]);
+    assert!(rt; file.as_slice() == wanted.as_slice() && text.as_slice() == load.as_bytes());
     Ok(())
 }
 
@@ -165,10 +108,27 @@ const DRAWN: &[u64] = &[
     5, 5, 5, 2, 7, 9, 0, 2, 0,
 ];
 
+/// A processor and a TDMA bus, whose cycle is 5. Another such bus has no task. Events of the first source are as far
+/// apart as its period; the jitter of the second is past the last time of a trace.
+const TWO_BUSES: &str = r#"format = 1
+resource = [{ name = "cpu", kind = "preemptive" }, { name = "ring", kind = "tdma", gap = 3 }, { name = "idle", kind = "tdma" }]
+source = [
+  { name = "sa", period = 3000000, jitter = 1000000, distance = 3000000 },
+  { name = "sb", period = 1000, jitter = 10000001 },
+  { name = "sc", period = 4000000, jitter = 3000000, distance = 500000 },
+]
+task = [
+  { name = "a", on = "ring", after = "sa", best = 1, worst = 2, slot = 2 },
+  { name = "b", on = "cpu", after = "sb", best = 9, worst = 9, priority = 1 },
+  { name = "c", on = "cpu", after = "a", best = 5, worst = 5, priority = 2 },
+  { name = "d", on = "cpu", after = "sc", best = 7, worst = 9, priority = 3 },
+]
+"#;
+
 #[test]
 fn makes_traces(rt: HostRuntime) -> Result<(), Fail> {
     let alloc = rt.alloc();
-    let system = build(alloc, TWO_BUSES, &[])?;
+    let system = read_system(alloc, TWO_BUSES.as_bytes())?;
     let worst = numbers_of(alloc, &system, 25, 0)?;
     let drawn = numbers_of(alloc, &system, 25, 1)?;
     assert!(rt;
@@ -178,54 +138,49 @@ fn makes_traces(rt: HostRuntime) -> Result<(), Fail> {
     Ok(())
 }
 
-/// A vector of these bounds, and overloads after them.
-fn vector(alloc: Global, len: u32, bounds: &[u64]) -> Result<Vector, NoMemory>
-    ensures { IfOk result (λ x. length x ≡ len) }
-{
-    let mut x = Vector::filled(alloc, len, Bound::Overload)?;
-    for k in 0..len {
-        if let Some(&ticks) = bounds.get(k as usize) {
-            x.set(TaskId(k), Bound::Within(ticks));
-        }
+/// A system, bounds of its tasks, a number of traces, and the text of so many traces beside these bounds.
+struct Hammered {
+    system: &'static str,
+    bounds: &'static [Bound],
+    traces: u8,
+    text: &'static str,
+}
+
+/// A bound that is reached, one too small, and no task.
+const HAMMERED: &[Hammered] = &[
+    Hammered {
+        system: LONG_WINDOW,
+        bounds: &[Within(26), Within(118)],
+        traces: 1,
+        text: "task a jobs 100 worst 26 bound 26\ntask b jobs 100 worst 118 bound 118\nsummary traces 1 jobs 200 beyond 0\n",
+    },
+    Hammered {
+        system: LONG_WINDOW,
+        bounds: &[Within(25)],
+        traces: 130,
+        text: "task a jobs 13000 worst 26 bound 25\ntask b jobs 13000 worst 118 bound overload\nsummary traces 130 jobs 26000 beyond 13000\n",
+    },
+    Hammered {
+        system: "format = 1",
+        bounds: &[],
+        traces: 3,
+        text: "summary traces 3 jobs 0 beyond 0\n",
+    },
+];
+
+/// What is written of a system under made traces.
+fn written<H: Threads + Sync>(rt: &H, alloc: Global, case: &Hammered) -> Result<Vec<u8>, Fail> {
+    let system = read_system(alloc, case.system.as_bytes())?;
+    let x = vector(alloc, system.tasks(), case.bounds)?;
+    let seen = hammer(rt, alloc, &system, &x, 1, u64::from(case.traces))?;
+    Ok(hammer_text(alloc, &system, &x, &seen)?)
+}
+
+#[test]
+fn hammers(rt: HostRuntime) -> Result<(), Fail> {
+    for case in HAMMERED {
+        let text = written(&rt, rt.alloc(), case)?;
+        assert!(rt; text.as_slice() == case.text.as_bytes(), "{}", case.text);
     }
-    Ok(x)
-}
-
-/// The text of so many traces of a system beside these bounds.
-fn hammered<R: Threads + Sync>(
-    rt: &R,
-    alloc: Global,
-    system: &System,
-    bounds: &[u64],
-    traces: u64,
-) -> Result<Vec<u8>, NoMemory>
-    requires { traces ≤ 10000 }
-{
-    let x = vector(alloc, system.tasks(), bounds)?;
-    let seen = hammer(rt, alloc, system, &x, 1, traces)?;
-    hammer_text(alloc, system, &x, &seen)
-}
-
-/// A bound that is reached, and one too small.
-#[test]
-fn hammer_long_window(rt: HostRuntime) -> Result<(), Fail> {
-    let alloc = rt.alloc();
-    let system = build(alloc, LONG_WINDOW, &[])?;
-    let first = hammered(&rt, alloc, &system, &[26, 118], 1)?;
-    let reached =
-        "task a jobs 100 worst 26 bound 26\ntask b jobs 100 worst 118 bound 118\nsummary traces 1 jobs 200 beyond 0\n";
-    let more = hammered(&rt, alloc, &system, &[25], 130)?;
-    let beyond =
-        "task a jobs 13000 worst 26 bound 25\ntask b jobs 13000 worst 118 bound overload\nsummary traces 130 jobs 26000 beyond 13000\n";
-    assert!(rt; first.as_slice() == reached.as_bytes() && more.as_slice() == beyond.as_bytes());
-    Ok(())
-}
-
-#[test]
-fn hammers_without_jobs(rt: HostRuntime) -> Result<(), Fail> {
-    let alloc = rt.alloc();
-    let empty = make_system(alloc, 7, 0)?;
-    let text = hammered(&rt, alloc, &empty, &[], 3)?;
-    assert!(rt; text.as_slice() == b"summary traces 3 jobs 0 beyond 0\n".as_slice());
     Ok(())
 }

@@ -1,117 +1,111 @@
-use crate::systems::{Made, PLAIN, PathRow, build};
-use cpa_assign::{assign, assign_text, has_priorities, is_fed_by_sources};
-use cpa_model::KindWord;
+use cpa_assign::{Order, assign, assign_text, has_priorities, is_fed_by_sources};
+use cpa_file::read_system;
 use cpa_units::ResId;
 use std::alloc::Global;
 use std::test::Fail;
 
-/// A resource of the system, paths of single tasks with their deadlines, and what is written.
+/// The bus of Davis et al., a processor without tasks, one whose tasks have slots, and one whose task comes after a frame.
+const DAVIS_BUS: &str = r#"format = 1
+resource = [
+  { name = "bus", kind = "can", bit = 1 },
+  { name = "p", kind = "preemptive" },
+  { name = "q", kind = "round-robin" },
+  { name = "r", kind = "preemptive" },
+]
+source = [{ name = "s1", period = 250 }, { name = "s2", period = 350 }, { name = "s3", period = 350 }]
+task = [
+  { name = "m1", on = "bus", after = "s1", best = 100, worst = 100, priority = 1 },
+  { name = "m2", on = "bus", after = "s2", best = 100, worst = 100, priority = 4 },
+  { name = "m3", on = "bus", after = "s3", best = 100, worst = 100, priority = 9 },
+  { name = "c", on = "r", after = "m3", best = 100, worst = 100, priority = 1 },
+]
+"#;
+
+/// Paths of the bus, a resource, what is written of it, and the places of its tasks in the order, highest first.
 struct Case {
+    paths: &'static str,
     res: u32,
-    paths: &'static [PathRow],
     text: &'static str,
+    order: &'static [u32],
 }
 
 const CASES: &[Case] = &[
-    // The bus of Davis et al., where the last of its frames is late by the priorities that it has.
+    // The last of the frames is late by the priorities that it has.
     Case {
+        paths: "path = [{ name = 'm3', tasks = ['m3'], deadline = 325 }]",
         res: 0,
-        paths: &[("m3", &["m3"], Some(325))],
         text: "priority m3 1\npriority m2 4\npriority m1 9\nassigned bus tasks 3\n",
+        order: &[2, 1, 0],
     },
     // At the lowest place each takes at least 300.
     Case {
+        paths: "path = [{ name = 'm1', tasks = ['m1'], deadline = 250 }, { name = 'm2', tasks = ['m2'], deadline = 250 }, { name = 'm3', tasks = ['m3'], deadline = 250 }]",
         res: 0,
-        paths: &[
-            ("m1", &["m1"], Some(250)),
-            ("m2", &["m2"], Some(250)),
-            ("m3", &["m3"], Some(250)),
-        ],
         text: "none bus\n",
+        order: &[],
     },
     // The first would be late at the lowest place, and at the next.
     Case {
+        paths: "path = [{ name = 'm1', tasks = ['m1'], deadline = 200 }, { name = 'm3', tasks = ['m3'], deadline = 325 }]",
         res: 0,
-        paths: &[("m1", &["m1"], Some(200)), ("m3", &["m3"], Some(325))],
         text: "priority m1 1\npriority m3 4\npriority m2 9\nassigned bus tasks 3\n",
+        order: &[0, 2, 1],
     },
     Case {
+        paths: "",
         res: 1,
-        paths: &[],
         text: "assigned p tasks 0\n",
+        order: &[],
     },
     Case {
+        paths: "",
         res: 2,
-        paths: &[],
         text: "no priorities\n",
+        order: &[],
     },
     Case {
+        paths: "",
         res: 3,
-        paths: &[],
         text: "fed by a task\n",
+        order: &[],
     },
 ];
 
-/// The bus of Davis et al., a processor without tasks, one whose tasks have slots, and one whose task
-/// comes after a frame.
-const DAVIS_BUS: &Made = &Made {
-    resources: &[
-        ("bus", KindWord::Can, (None, None, Some(1))),
-        ("p", KindWord::Preemptive, PLAIN),
-        ("q", KindWord::RoundRobin, PLAIN),
-        ("r", KindWord::Preemptive, PLAIN),
-    ],
-    sources: &[
-        ("s1", 250, None, None),
-        ("s2", 350, None, None),
-        ("s3", 350, None, None),
-    ],
-    tasks: &[
-        (["m1", "bus", "s1"], (100, 100), (Some(1), None)),
-        (["m2", "bus", "s2"], (100, 100), (Some(4), None)),
-        (["m3", "bus", "s3"], (100, 100), (Some(9), None)),
-        (["c", "r", "m3"], (100, 100), (Some(1), None)),
-    ],
-};
+/// Whether an order has these places, or there is none.
+fn has_places(order: &Option<Order>, places: &[u32]) -> bool {
+    let Some(order) = order else {
+        return places.is_empty();
+    };
+    for k in 0..order.len() {
+        if places.get(k as usize) != Some(&order.task(k).0) {
+            return false;
+        }
+    }
+    places.len() == order.len() as usize
+}
 
-/// What is written of a resource of a system.
-fn written(alloc: Global, case: &Case) -> Result<Vec<u8>, Fail> {
-    let system = build(alloc, DAVIS_BUS, case.paths)?;
+/// Whether a case is answered so.
+fn is_met(alloc: Global, case: &Case) -> Result<bool, Fail> {
+    let system = read_system(
+        alloc,
+        format!(in alloc; "{DAVIS_BUS}{}", case.paths)?.as_bytes(),
+    )?;
     let res = ResId(case.res);
     if res.0 >= system.resources() || !has_priorities(&system, res) {
-        return Ok(Vec::from_slice(alloc, b"no priorities\n")?);
+        return Ok(case.text == "no priorities\n");
     }
     if !is_fed_by_sources(&system, res) {
-        return Ok(Vec::from_slice(alloc, b"fed by a task\n")?);
+        return Ok(case.text == "fed by a task\n");
     }
     let order = assign(alloc, &system, res)?;
-    Ok(assign_text(alloc, &system, res, &order)?)
+    let text = assign_text(alloc, &system, res, &order)?;
+    Ok(text.as_slice() == case.text.as_bytes() && has_places(&order, case.order))
 }
 
 #[test]
 fn orders(rt: HostRuntime) -> Result<(), Fail> {
-    let alloc = rt.alloc();
     for case in CASES {
-        let text = written(alloc, case)?;
-        assert!(rt; text.as_slice() == case.text.as_bytes(), "{}", case.text);
+        assert!(rt; is_met(rt.alloc(), case)?, "{}", case.text);
     }
-    Ok(())
-}
-
-/// An order tells its tasks, highest first.
-#[test]
-fn tells_its_tasks(rt: HostRuntime) -> Result<(), Fail> {
-    let alloc = rt.alloc();
-    let system = build(alloc, DAVIS_BUS, &[("m3", &["m3"], Some(325))])?;
-    let res = ResId(0);
-    let mut places = Vec::new(alloc);
-    if system.resources() > 0 && has_priorities(&system, res) && is_fed_by_sources(&system, res) {
-        if let Some(order) = assign(alloc, &system, res)? {
-            for k in 0..order.len() {
-                places.push(order.task(k).0)?;
-            }
-        }
-    }
-    assert!(rt; places.as_slice() == [2u32, 1, 0].as_slice());
     Ok(())
 }

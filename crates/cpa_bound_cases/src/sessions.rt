@@ -1,19 +1,53 @@
-use crate::systems::{ENDLESS_JITTER, JOINED, Made, NARROW, PLAIN, build};
+use crate::systems::{ENDLESS_JITTER, TWO_TASKS};
 use cpa_edit::{Edit, EditFault, EditRefusal, Step, read_script};
-use cpa_file::print_system;
+use cpa_file::{print_system, read_system};
 use cpa_fix::OneByOne;
 use cpa_local::Trail;
-use cpa_model::KindWord;
 use cpa_session::Session;
 use cpa_units::Bound::{Overload, Within};
-use cpa_units::{Bound, TaskId};
+use cpa_units::{Bound, TaskId, Vector};
 use std::alloc::{AllocError, Global};
 use std::test::Fail;
 use std::thread::Threads;
 
+/// Two chains that cross on `p` and `q` and meet two fixed points, and a task alone on `r`.
+const NARROW: &str = r#"format = 1
+resource = [
+  { name = "p", kind = "preemptive", limit = 1000 },
+  { name = "q", kind = "preemptive", limit = 1000 },
+  { name = "r", kind = "preemptive", limit = 1000 },
+]
+source = [{ name = "sa", period = 100 }, { name = "sb", period = 100 }, { name = "sc", period = 50, jitter = 5 }]
+task = [
+  { name = "a1", on = "p", after = "sa", best = 1, worst = 20, priority = 2 },
+  { name = "a2", on = "q", after = "a1", best = 10, worst = 30, priority = 1 },
+  { name = "b1", on = "q", after = "sb", best = 1, worst = 20, priority = 2 },
+  { name = "b2", on = "p", after = "b1", best = 10, worst = 30, priority = 1 },
+  { name = "c", on = "r", after = "sc", best = 2, worst = 4, priority = 1 },
+]
+"#;
+
+/// Resources of all four kinds. `a` comes after two sources, `b` after `a` and a source, and `c` after a source and `b`.
+const JOINED: &str = r#"format = 2
+resource = [
+  { name = "p", kind = "preemptive", limit = 1000 },
+  { name = "q", kind = "can", limit = 1000 },
+  { name = "r", kind = "round-robin", limit = 1000 },
+  { name = "t", kind = "tdma", limit = 1000 },
+]
+source = [{ name = "sa", period = 100 }, { name = "sb", period = 100 }, { name = "sc", period = 50, jitter = 5 }]
+task = [
+  { name = "a", on = "p", after = ["sa", "sb"], best = 1, worst = 10, priority = 1 },
+  { name = "b", on = "q", after = ["a", "sc"], best = 2, worst = 4, priority = 1 },
+  { name = "c", on = "r", after = ["sc", "b"], best = 1, worst = 3, slot = 2 },
+  { name = "d", on = "t", after = "sb", best = 1, worst = 2, slot = 2 },
+  { name = "e", on = "r", after = "sa", best = 1, worst = 3, slot = 3 },
+]
+"#;
+
 /// Edits in turn from the same system, and what is seen after the last.
 struct Case {
-    system: &'static Made,
+    system: &'static str,
     script: &'static str,
     /// The rule that the last edit breaks, 0 where it is made.
     broken: u8,
@@ -252,134 +286,106 @@ const CASES: &[Case] = &[
     },
 ];
 
-/// A session on a system, and the tasks that its start marks.
+/// A session on a system, whose tasks it marks.
 fn start<H: Threads + Sync>(
     rt: &H,
     alloc: Global,
-    made: &Made,
-) -> Result<(Session, Vec<u32>), Fail> {
-    let system = build(alloc, made, &[])?;
-    let mut trail = Trail::with_room(alloc, 512)?;
-    let session = Session::start(rt, alloc, system, &mut OneByOne, &mut trail)?;
-    Ok((session, marked(alloc, &trail)?))
+    text: &str,
+    trail: &mut Trail,
+) -> Result<Session, Fail> {
+    let system = read_system(alloc, text.as_bytes())?;
+    Ok(Session::start(rt, alloc, system, &mut OneByOne, trail)?)
 }
 
-/// Makes an edit. Answers the rule that it breaks, else 0, and the tasks that it marks.
+/// Makes an edit, and answers the rule that it breaks, else 0. The trail is left with the marks of the edit.
 fn make<H: Threads + Sync>(
     rt: &H,
     alloc: Global,
     session: &mut Session,
     edit: &Edit,
-) -> Result<(u8, Vec<u32>), Fail> {
-    let mut trail = Trail::with_room(alloc, 512)?;
-    let broken = match session.edit(rt, alloc, edit, &mut OneByOne, &mut trail) {
-        Ok(()) => 0,
-        Err(EditFault::Refused(EditRefusal(number))) => number,
-        Err(EditFault::Memory) => return Err(Fail::from(AllocError)),
-    };
-    Ok((broken, marked(alloc, &trail)?))
+    trail: &mut Trail,
+) -> Result<u8, Fail> {
+    *trail = Trail::with_room(alloc, 512)?;
+    match session.edit(rt, alloc, edit, &mut OneByOne, trail) {
+        Ok(()) => Ok(0),
+        Err(EditFault::Refused(EditRefusal(number))) => Ok(number),
+        Err(EditFault::Memory) => Err(Fail::from(AllocError)),
+    }
 }
 
-/// The places of the tasks that are marked.
-fn marked(alloc: Global, trail: &Trail) -> Result<Vec<u32>, AllocError> {
-    let mut places = Vec::new(alloc);
+/// Whether a trail marks these tasks and no other.
+fn has_marks(trail: &Trail, marks: &[u32]) -> bool {
     for place in 0..512 {
-        if trail.marked(TaskId(place)) {
-            places.push(place)?;
+        if trail.marked(TaskId(place)) != marks.contains(&place) {
+            return false;
         }
     }
-    Ok(places)
+    true
 }
 
-/// The greatest execution and the bound of each task.
-fn tasks_of(alloc: Global, session: &Session) -> Result<Vec<(u64, Bound)>, AllocError> {
+/// Whether the tasks of a session have these executions and bounds.
+fn has_tasks(session: &Session, tasks: &[(u64, Bound)]) -> bool {
     let system = session.system();
     let bounds = session.bounds();
-    let mut tasks = Vec::new(alloc);
     for place in 0..system.tasks().min(bounds.len()) {
         let task = TaskId(place);
-        tasks.push((system.task(task).worst, bounds.get(task)))?;
+        if tasks.get(place as usize) != Some(&(system.task(task).worst, bounds.get(task))) {
+            return false;
+        }
     }
-    Ok(tasks)
+    system.tasks() == bounds.len() && tasks.len() == bounds.len() as usize
 }
 
 fn is_met<H: Threads + Sync>(rt: &H, alloc: Global, case: &Case) -> Result<bool, Fail> {
     let script = read_script(alloc, case.script.as_bytes())?;
-    let (mut session, mut marks) = start(rt, alloc, case.system)?;
+    let mut trail = Trail::with_room(alloc, 512)?;
+    let mut session = start(rt, alloc, case.system, &mut trail)?;
     let mut broken = 0;
     for k in 0..script.len() {
         if let Step::Change(edit) = script.step(k) {
-            (broken, marks) = make(rt, alloc, &mut session, edit)?;
+            broken = make(rt, alloc, &mut session, edit, &mut trail)?;
         }
     }
-    let tasks = tasks_of(alloc, &session)?;
-    Ok(broken == case.broken && marks.as_slice() == case.marks && tasks.as_slice() == case.tasks)
+    Ok(broken == case.broken
+        && has_marks(&trail, case.marks)
+        && has_tasks(&session, case.tasks))
 }
 
 #[test]
 fn edits(rt: HostRuntime) -> Result<(), Fail> {
-    let alloc = rt.alloc();
     for case in CASES {
-        assert!(rt; is_met(&rt, alloc, case)?, "{}", case.script);
+        assert!(rt; is_met(&rt, rt.alloc(), case)?, "{}", case.script);
     }
     Ok(())
 }
 
-/// Two tasks on a processor.
-const TWO_TASKS: &Made = &Made {
-    resources: &[("cpu", KindWord::Preemptive, PLAIN)],
-    sources: &[("sa", 10, None, None), ("sb", 20, None, None)],
-    tasks: &[
-        (["a", "cpu", "sa"], (1, 3), (Some(1), None)),
-        (["b", "cpu", "sb"], (2, 7), (Some(2), None)),
-    ],
-};
-
 const SESSION_REPORTS: &str = "report\nexec b 2 8\nreport\nexec b 2 7\n";
 
-/// What a session holds: the file of its system, which stands for all four lists of it, and all bounds.
-#[derive(Drop)]
-struct Held {
-    file: Vec<u8>,
-    bounds: Vec<Bound>,
-}
-
-fn bounds_of(alloc: Global, session: &Session) -> Result<Vec<Bound>, AllocError> {
-    let bounds = session.bounds();
-    let mut all = Vec::new(alloc);
-    for place in 0..bounds.len() {
-        all.push(bounds.get(TaskId(place)))?;
+fn are_equal(first: &Vector, second: &Vector) -> bool {
+    for place in 0..first.len().min(second.len()) {
+        if first.get(TaskId(place)) != second.get(TaskId(place)) {
+            return false;
+        }
     }
-    Ok(all)
+    first.len() == second.len()
 }
 
-fn held_by(alloc: Global, session: &Session) -> Result<Held, Fail> {
-    Ok(Held {
-        file: print_system(alloc, session.system())?,
-        bounds: bounds_of(alloc, session)?,
-    })
-}
-
-/// Whether a session is as it was.
-fn is_held(alloc: Global, session: &Session, before: &Held) -> Result<bool, Fail> {
-    let now = held_by(alloc, session)?;
-    Ok(
-        now.file.as_slice() == before.file.as_slice()
-            && now.bounds.as_slice() == before.bounds.as_slice(),
-    )
-}
-
-/// Makes an edit. Where it meets want of memory, tells whether the session is as before.
+/// Makes an edit. Where it meets want of memory, tells whether the session is as before: the file of its system, which stands
+/// for all four lists of it, and all bounds.
 fn edits_or_keeps<H: Threads + Sync>(
     rt: &H,
     alloc: Global,
     session: &mut Session,
     edit: &Edit,
 ) -> Result<bool, Fail> {
-    let before = held_by(alloc, session)?;
+    let bounds = session.bounds().copy(alloc)?;
+    let file = print_system(alloc, session.system())?;
     let mut trail = Trail::with_room(alloc, 512)?;
     match session.edit(rt, alloc, edit, &mut OneByOne, &mut trail) {
-        Err(EditFault::Memory) => is_held(alloc, session, &before),
+        Err(EditFault::Memory) => {
+            let now = print_system(alloc, session.system())?;
+            Ok(now.as_slice() == file.as_slice() && are_equal(session.bounds(), &bounds))
+        }
         Err(EditFault::Refused(_)) => Ok(false),
         Ok(()) => Ok(true),
     }
@@ -391,7 +397,8 @@ fn edits_or_keeps<H: Threads + Sync>(
 fn edit_without_memory(rt: HostRuntime) -> Result<(), Fail> {
     let alloc = rt.alloc();
     let script = read_script(alloc, SESSION_REPORTS.as_bytes())?;
-    let (mut session, _marks) = start(&rt, alloc, TWO_TASKS)?;
+    let mut trail = Trail::with_room(alloc, 512)?;
+    let mut session = start(&rt, alloc, TWO_TASKS, &mut trail)?;
     let mut right = true;
     for k in 0..script.len() {
         if let Step::Change(edit) = script.step(k) {

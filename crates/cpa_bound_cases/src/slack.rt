@@ -1,6 +1,5 @@
-mod systems;
-
-use crate::systems::{Made, PathRow, build};
+use crate::systems::TWO_TASKS;
+use cpa_file::read_system;
 use cpa_fix::OneByOne;
 use cpa_local::Trail;
 use cpa_slack::{find_slack, slack_text};
@@ -8,62 +7,68 @@ use cpa_units::TaskId;
 use std::alloc::Global;
 use std::test::Fail;
 use std::thread::Threads;
-use systems::{DAVIS_BUS, ENDLESS, TWO_TASKS};
 
-/// A system with paths, and the line of one of its tasks.
-struct Case {
-    system: &'static Made,
-    paths: &'static [PathRow],
-    task: u32,
-    line: &'static str,
-}
+/// The example of Davis et al.
+const DAVIS_BUS: &str = r#"format = 1
+resource = [{ name = "bus", kind = "can", bit = 1 }]
+source = [{ name = "s1", period = 250 }, { name = "s2", period = 350 }, { name = "s3", period = 350 }]
+task = [
+  { name = "m1", on = "bus", after = "s1", best = 100, worst = 100, priority = 1 },
+  { name = "m2", on = "bus", after = "s2", best = 100, worst = 100, priority = 2 },
+  { name = "m3", on = "bus", after = "s3", best = 100, worst = 100, priority = 3 },
+]
+"#;
 
-const CASES: &[Case] = &[
+/// Two chains whose jitters feed each other without end, and a task alone.
+const ENDLESS: &str = r#"format = 1
+resource = [
+  { name = "p", kind = "preemptive", limit = 1000 },
+  { name = "q", kind = "preemptive", limit = 1000 },
+  { name = "r", kind = "preemptive" },
+]
+source = [{ name = "sa", period = 100 }, { name = "sb", period = 100 }, { name = "sc", period = 50, jitter = 5 }]
+task = [
+  { name = "a1", on = "p", after = "sa", best = 1, worst = 30, priority = 2 },
+  { name = "a2", on = "q", after = "a1", best = 1, worst = 60, priority = 1 },
+  { name = "b1", on = "q", after = "sb", best = 1, worst = 30, priority = 2 },
+  { name = "b2", on = "p", after = "b1", best = 1, worst = 60, priority = 1 },
+  { name = "c", on = "r", after = "sc", best = 2, worst = 4, priority = 1 },
+]
+"#;
+
+/// A system, its paths, one of its tasks, and the line of that task.
+const CASES: &[(&str, &str, u32, &str)] = &[
     // The bounds are 14 and then 15.
-    Case {
-        system: TWO_TASKS,
-        paths: &[("d", &["b"], Some(14))],
-        task: 1,
-        line: "slack b 1 next missed\n",
-    },
+    (TWO_TASKS, B_BY_14, 1, "slack b 1 next missed\n"),
     // A tick more of the first task comes twice before the second is done.
-    Case {
-        system: TWO_TASKS,
-        paths: &[("d", &["b"], Some(14))],
-        task: 0,
-        line: "slack a 0 next missed\n",
-    },
-    Case {
-        system: TWO_TASKS,
-        paths: &[],
-        task: 1,
-        line: "slack b 999993 next limit\n",
-    },
-    Case {
-        system: DAVIS_BUS,
-        paths: &[("d", &["m3"], Some(325))],
-        task: 0,
-        line: "slack m1 none\n",
-    },
+    (TWO_TASKS, B_BY_14, 0, "slack a 0 next missed\n"),
+    (TWO_TASKS, "", 1, "slack b 999993 next limit\n"),
+    (
+        DAVIS_BUS,
+        "path = [{ name = 'd', tasks = ['m3'], deadline = 325 }]",
+        0,
+        "slack m1 none\n",
+    ),
     // Four tasks are overloaded, and there is no deadline.
-    Case {
-        system: ENDLESS,
-        paths: &[],
-        task: 4,
-        line: "slack c 999996 next limit\n",
-    },
-    Case {
-        system: ENDLESS,
-        paths: &[("d", &["a1", "a2"], Some(500))],
-        task: 4,
-        line: "slack c none\n",
-    },
+    (ENDLESS, "", 4, "slack c 999996 next limit\n"),
+    (
+        ENDLESS,
+        "path = [{ name = 'd', tasks = ['a1', 'a2'], deadline = 500 }]",
+        4,
+        "slack c none\n",
+    ),
 ];
 
-/// The line of a case's task; nothing where there is no such task.
-fn line<H: Threads + Sync>(rt: &H, alloc: Global, case: &Case) -> Result<Vec<u8>, Fail> {
-    let system = build(alloc, case.system, case.paths)?;
-    let task = TaskId(case.task);
+const B_BY_14: &str = "path = [{ name = 'd', tasks = ['b'], deadline = 14 }]";
+
+/// The line of a task; nothing where there is no such task.
+fn line<H: Threads + Sync>(
+    rt: &H,
+    alloc: Global,
+    (system, paths, task, _): &(&str, &str, u32, &str),
+) -> Result<Vec<u8>, Fail> {
+    let system = read_system(alloc, format!(in alloc; "{system}{paths}")?.as_bytes())?;
+    let task = TaskId(*task);
     if task.0 >= system.tasks() {
         return Ok(Vec::new(alloc));
     }
@@ -74,10 +79,9 @@ fn line<H: Threads + Sync>(rt: &H, alloc: Global, case: &Case) -> Result<Vec<u8>
 
 #[test]
 fn tells_what_comes_next(rt: HostRuntime) -> Result<(), Fail> {
-    let alloc = rt.alloc();
     for case in CASES {
-        let text = line(&rt, alloc, case)?;
-        assert!(rt; text.as_slice() == case.line.as_bytes(), "{}", case.line);
+        let text = line(&rt, rt.alloc(), case)?;
+        assert!(rt; text.as_slice() == case.3.as_bytes(), "{}", case.3);
     }
     Ok(())
 }

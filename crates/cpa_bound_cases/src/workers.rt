@@ -1,40 +1,38 @@
 mod gates;
 
-use crate::systems::{ENDLESS_JITTER, build};
+use crate::systems::{ENDLESS_JITTER, needs_shared};
+use cpa_file::read_system;
 use cpa_fix::{OneByOne, Readings, Round, solve};
 use cpa_local::{Trail, floor};
 use cpa_model::System;
 use cpa_units::Bound::{Overload, Within};
 use cpa_units::{Bound, ResId, ResSet, TaskId};
 use cpa_workers::{Gate, NoGate, Shared};
-use gates::{InTurn, Meet};
+use gates::{IN_TURN, MEET, held};
 use std::alloc::Global;
-use std::sync::Arc;
-use std::sync::atomic::AtomicU64;
 use std::sync::atomic::Ordering::SeqCst;
 use std::test::Fail;
 use std::thread::Threads;
 
-fn needs_shared<T: Send + Sync>(_value: &T) {}
+/// The bounds of the tasks.
+const BOUNDS: [Bound; 5] = [Overload, Overload, Overload, Overload, Within(4)];
 
-/// The bounds of the five tasks by a search.
-fn bounds<H: Threads + Sync, R: Round>(
+/// Whether a search by these rounds finds the bounds of the tasks.
+fn finds_bounds<H: Threads + Sync, R: Round>(
     rt: &H,
     alloc: Global,
     system: &System,
     round: &mut R,
-) -> Result<[Option<Bound>; 5], Fail> {
+) -> Result<bool, Fail> {
     let mut trail = Trail::with_room(alloc, system.tasks())?;
     let start = floor(alloc, system)?;
     let kept = Readings::none(alloc, system)?;
     let found = solve(rt, alloc, system, start, kept, round, &mut trail)?;
-    let mut bounds = [None; 5];
-    for place in 0..5 {
-        if place < found.bounds.len() {
-            bounds[place as usize] = Some(found.bounds.get(TaskId(place)));
-        }
+    let mut right = found.bounds.len() == 5;
+    for place in 0..found.bounds.len() {
+        right = right && BOUNDS.get(place as usize) == Some(&found.bounds.get(TaskId(place)));
     }
-    Ok(bounds)
+    Ok(right)
 }
 
 /// The bound of the first task in the reading of the second resource, after a round over all.
@@ -62,12 +60,11 @@ fn seen_by_second<H: Threads + Sync, R: Round>(
 #[test]
 fn raise_is_seen(rt: HostRuntime) -> Result<(), Fail> {
     let alloc = rt.alloc();
-    let system = build(alloc, ENDLESS_JITTER, &[])?;
-    let missed = Arc::new(alloc, AtomicU64::new(0))?;
-    let gate = InTurn::new(Arc::try_clone(&missed)?);
-    let mut round: Shared<Box<dyn Gate>> = Shared::new(2, Box::new(alloc, gate)?);
+    let system = read_system(alloc, ENDLESS_JITTER.as_bytes())?;
+    let (gate, meetings) = held(alloc, IN_TURN)?;
+    let mut round: Shared<Box<dyn Gate>> = Shared::new(2, gate);
     let seen = seen_by_second(&rt, alloc, &system, &mut round)?;
-    assert!(rt; missed.load(SeqCst) == 0 && seen == Some(Within(90)));
+    assert!(rt; meetings.missed.load(SeqCst) == 0 && seen == Some(Within(90)));
     Ok(())
 }
 
@@ -75,13 +72,11 @@ fn raise_is_seen(rt: HostRuntime) -> Result<(), Fail> {
 #[test]
 fn analyses_meet(rt: HostRuntime) -> Result<(), Fail> {
     let alloc = rt.alloc();
-    let system = build(alloc, ENDLESS_JITTER, &[])?;
-    let met = Arc::new(alloc, AtomicU64::new(0))?;
-    let missed = Arc::new(alloc, AtomicU64::new(0))?;
-    let gate = Meet::new(Arc::try_clone(&met)?, Arc::try_clone(&missed)?);
-    let mut round: Shared<Box<dyn Gate>> = Shared::new(2, Box::new(alloc, gate)?);
-    bounds(&rt, alloc, &system, &mut round)?;
-    assert!(rt; met.load(SeqCst) >= 2 && missed.load(SeqCst) == 0);
+    let system = read_system(alloc, ENDLESS_JITTER.as_bytes())?;
+    let (gate, meetings) = held(alloc, MEET)?;
+    let mut round: Shared<Box<dyn Gate>> = Shared::new(2, gate);
+    let right = finds_bounds(&rt, alloc, &system, &mut round)?;
+    assert!(rt; right && meetings.met.load(SeqCst) >= 2 && meetings.missed.load(SeqCst) == 0);
     Ok(())
 }
 
@@ -89,26 +84,13 @@ fn analyses_meet(rt: HostRuntime) -> Result<(), Fail> {
 #[test]
 fn workers_agree(rt: HostRuntime) -> Result<(), Fail> {
     let alloc = rt.alloc();
-    let system = build(alloc, ENDLESS_JITTER, &[])?;
-    let alone = bounds(&rt, alloc, &system, &mut OneByOne)?;
-    let mut found = Shared::new(64, NoGate);
-    needs_shared(&found);
-    let found = [
-        bounds(&rt, alloc, &system, &mut Shared::new(1, NoGate))?,
-        bounds(&rt, alloc, &system, &mut Shared::new(2, NoGate))?,
-        bounds(&rt, alloc, &system, &mut Shared::new(3, NoGate))?,
-        bounds(&rt, alloc, &system, &mut found)?,
-    ];
-    assert!(rt;
-        alone
-            == [
-                Some(Overload),
-                Some(Overload),
-                Some(Overload),
-                Some(Overload),
-                Some(Within(4))
-            ]
-    );
-    assert!(rt; found == [alone; 4]);
+    let system = read_system(alloc, ENDLESS_JITTER.as_bytes())?;
+    let mut right = finds_bounds(&rt, alloc, &system, &mut OneByOne)?;
+    for workers in [1, 2, 3, 64] {
+        let mut round = Shared::new(workers, NoGate);
+        needs_shared(&round);
+        right = right && finds_bounds(&rt, alloc, &system, &mut round)?;
+    }
+    assert!(rt; right);
     Ok(())
 }

@@ -1,10 +1,12 @@
-//! Gates that hold workers until others are under way.
+//! A gate that holds workers until others are under way.
 
 use cpa_units::ResId;
 use cpa_workers::Gate;
+use std::alloc::Global;
 use std::sync::Arc;
 use std::sync::atomic::AtomicU64;
 use std::sync::atomic::Ordering::SeqCst;
+use std::test::Fail;
 
 /// How often a gate looks for what it waits for.
 const MOST_TURNS: u64 = 100_000_000;
@@ -19,76 +21,58 @@ fn await_one(count: &AtomicU64) -> bool {
     false
 }
 
-/// Holds the first resource until the second was entered, and the second until the third was. It
-/// counts those that were held too long.
+/// How many went on, and how many were held too long.
 #[derive(Drop)]
-pub(crate) struct InTurn {
-    second: AtomicU64,
-    third: AtomicU64,
-    missed: Arc<AtomicU64>,
+pub(crate) struct Meetings {
+    pub(crate) met: AtomicU64,
+    pub(crate) missed: AtomicU64,
 }
 
-impl InTurn {
-    pub(crate) fn new(missed: Arc<AtomicU64>) -> InTurn {
-        InTurn {
-            second: AtomicU64::new(0),
-            third: AtomicU64::new(0),
-            missed,
-        }
-    }
-}
+/// For the first resource, the second, and all others: the place that an analysis enters, and the place that another must
+/// have entered before it goes on.
+pub(crate) type Places = [(usize, usize); 3];
 
-impl Gate for InTurn {
-    fn enter(&self, res: ResId) {
-        let came = match res.0 {
-            0 => await_one(&self.second),
-            1 => {
-                self.second.store(1, SeqCst);
-                await_one(&self.third)
-            }
-            _ => {
-                self.third.store(1, SeqCst);
-                true
-            }
-        };
-        if !came {
-            self.missed.fetch_add(1, SeqCst);
-        }
-    }
-}
+/// Holds the first resource until the second was entered, and the second until the third was.
+pub(crate) const IN_TURN: Places = [(0, 1), (1, 2), (2, 2)];
 
-/// Holds each analysis until that of another resource has begun. The first resource is one side, all
-/// others are the other. It counts those that met another and those that were held too long: on one
-/// thread the first is.
+/// Holds each analysis until that of another resource has begun. The first resource is one side, all others are the other. On
+/// one thread the first is held too long.
+pub(crate) const MEET: Places = [(0, 1), (1, 0), (1, 0)];
+
+/// Holds analyses until others have begun.
 #[derive(Drop)]
-pub(crate) struct Meet {
-    first: AtomicU64,
-    others: AtomicU64,
-    met: Arc<AtomicU64>,
-    missed: Arc<AtomicU64>,
+struct Holding {
+    places: Places,
+    entered: [AtomicU64; 3],
+    meetings: Arc<Meetings>,
 }
 
-impl Meet {
-    pub(crate) fn new(met: Arc<AtomicU64>, missed: Arc<AtomicU64>) -> Meet {
-        Meet {
-            first: AtomicU64::new(0),
-            others: AtomicU64::new(0),
-            met,
-            missed,
-        }
-    }
-}
-
-impl Gate for Meet {
+impl Gate for Holding {
     fn enter(&self, res: ResId) {
-        let came = if res.0 == 0 {
-            self.first.store(1, SeqCst);
-            await_one(&self.others)
+        let (own, other) = self.places[res.0.min(2) as usize];
+        if own < 3 {
+            self.entered[own].store(1, SeqCst);
+        }
+        let count = if other < 3 && await_one(&self.entered[other]) {
+            &self.meetings.met
         } else {
-            self.others.store(1, SeqCst);
-            await_one(&self.first)
+            &self.meetings.missed
         };
-        let count = if came { &self.met } else { &self.missed };
         count.fetch_add(1, SeqCst);
     }
+}
+
+/// A gate with these places, and what it counts.
+pub(crate) fn held(alloc: Global, places: Places) -> Result<(Box<dyn Gate>, Arc<Meetings>), Fail> {
+    let none = Meetings {
+        met: AtomicU64::new(0),
+        missed: AtomicU64::new(0),
+    };
+    let meetings = Arc::new(alloc, none)?;
+    let gate = Holding {
+        places,
+        entered: [AtomicU64::new(0), AtomicU64::new(0), AtomicU64::new(0)],
+        meetings: Arc::try_clone(&meetings)?,
+    };
+    Ok((Box::new(alloc, gate)?, meetings))
 }

@@ -1,6 +1,0 @@
-use Rattle.std.specs.Prelude.{◌≡◌, All, true}
-use Rattle.cpa_model.specs.Built.{has_executions}
-use Rattle.cpa_bound_cases.proofs.systems.tasks.Given as goal
-
-abbrev pub invariant-loop-row : goal.invariant-loop-row
-invariant-loop-row l = All (λ t. has_executions t ≡ true) l.tasks.items
