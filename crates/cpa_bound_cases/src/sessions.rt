@@ -1,3 +1,5 @@
+ghost use Rattle.std.specs.Prelude.{◌≤◌};
+
 use crate::systems::{ENDLESS_JITTER, TWO_TASKS};
 use cpa_edit::{Edit, EditFault, EditRefusal, Step, read_script};
 use cpa_file::{print_system, read_system};
@@ -286,13 +288,15 @@ const CASES: &[Case] = &[
     },
 ];
 
-/// A session on a system, whose tasks it marks.
+/// A session on a system, whose tasks it marks. The trail has room for 512 tasks.
 fn start<H: Threads + Sync>(
     rt: &H,
     alloc: Global,
     text: &str,
     trail: &mut Trail,
-) -> Result<Session, Fail> {
+) -> Result<Session, Fail>
+    requires { 512 ≤ trail.old.room }
+{
     let system = read_system(alloc, text.as_bytes())?;
     Ok(Session::start(rt, alloc, system, &mut OneByOne, trail)?)
 }
@@ -346,9 +350,7 @@ fn is_met<H: Threads + Sync>(rt: &H, alloc: Global, case: &Case) -> Result<bool,
             broken = make(rt, alloc, &mut session, edit, &mut trail)?;
         }
     }
-    Ok(broken == case.broken
-        && has_marks(&trail, case.marks)
-        && has_tasks(&session, case.tasks))
+    Ok(broken == case.broken && has_marks(&trail, case.marks) && has_tasks(&session, case.tasks))
 }
 
 #[test]
@@ -397,8 +399,7 @@ fn edits_or_keeps<H: Threads + Sync>(
 fn edit_without_memory(rt: HostRuntime) -> Result<(), Fail> {
     let alloc = rt.alloc();
     let script = read_script(alloc, SESSION_REPORTS.as_bytes())?;
-    let mut trail = Trail::with_room(alloc, 512)?;
-    let mut session = start(&rt, alloc, TWO_TASKS, &mut trail)?;
+    let mut session = start(&rt, alloc, TWO_TASKS, &mut Trail::with_room(alloc, 512)?)?;
     let mut right = true;
     for k in 0..script.len() {
         if let Step::Change(edit) = script.step(k) {
