@@ -5,10 +5,10 @@ use crate::cases::JOINED_KINDS;
 use crate::rounds::search;
 use cpa_edit::{Edit, EditFault, Script, Step, read_script};
 use cpa_file::read_system;
-use cpa_fix::OneByOne;
+use cpa_fix::{OneByOne, Round};
 use cpa_local::Trail;
 use cpa_session::Session;
-use cpa_units::{Name, TaskId, Vector};
+use cpa_units::{TaskId, Vector};
 use std::alloc::{AllocError, Global};
 use std::test::Fail;
 use std::thread::Threads;
@@ -109,17 +109,11 @@ fn edit_beside<H: Threads + Sync>(
 }
 
 /// The session of a system that is read.
-pub fn start<H: Threads + Sync>(rt: &H, alloc: Global, text: &str) -> Result<Session, Fail> {
+fn start<H: Threads + Sync>(rt: &H, alloc: Global, text: &str) -> Result<Session, Fail> {
     let system = read_system(alloc, text.as_bytes())?;
     let mut trail = Trail::with_room(alloc, 512)?;
     let session = Session::start(rt, alloc, system, &mut OneByOne, &mut trail)?;
     Ok(session)
-}
-
-/// An edit that gives a task these executions.
-pub fn exec(alloc: Global, task: &[u8], best: u64, worst: u64) -> Result<Edit, Fail> {
-    let task = Name::read(alloc, task)?;
-    Ok(Edit::Exec { task, best, worst })
 }
 
 /// 280 edits.
@@ -153,37 +147,40 @@ fn edits_beside<H: Threads + Sync>(
 #[test]
 fn bounds_are_those_of_fresh_analyses(rt: HostRuntime) -> Result<(), Fail> {
     let alloc = rt.alloc();
-    let told = [
-        edits_beside(&rt, alloc, &TRIALS[0])?,
-        edits_beside(&rt, alloc, &TRIALS[1])?,
-    ];
-    assert_eq!(rt; told, [(259, 0); 2]);
+    let first = edits_beside(&rt, alloc, &TRIALS[0])?;
+    let second = edits_beside(&rt, alloc, &TRIALS[1])?;
+    assert!(rt; first == (259, 0) && second == (259, 0));
     Ok(())
 }
 
-/// Makes an edit, and counts the tasks that it marks.
-fn marks_of<H: Threads + Sync>(
+/// Makes the first edit of a script in a session of its own, by rounds of this kind, and answers the trail with its marks.
+pub fn edit_once<H: Threads + Sync, R: Round>(
     rt: &H,
     alloc: Global,
-    session: &mut Session,
-    edit: &Edit,
-) -> Result<u64, Fail> {
+    system: &str,
+    script: &str,
+    round: &mut R,
+) -> Result<Trail, Fail> {
+    let script = read_script(alloc, script.as_bytes())?;
     let mut trail = Trail::with_room(alloc, 512)?;
-    session.edit(rt, alloc, edit, &mut OneByOne, &mut trail)?;
-    let mut marks = 0u64;
-    for place in 0..512 {
-        marks = marks.saturating_add(u64::from(trail.marked(TaskId(place))));
+    let mut session = start(rt, alloc, system)?;
+    if script.len() > 0 {
+        if let Step::Change(edit) = script.step(0) {
+            session.edit(rt, alloc, edit, round, &mut trail)?;
+        }
     }
-    Ok(marks)
+    Ok(trail)
 }
 
 /// Each resource of the network of a car reads `ecu3`, directly or through others.
 #[test]
 fn marks_everywhere(rt: HostRuntime) -> Result<(), Fail> {
-    let alloc = rt.alloc();
-    let mut session = start(&rt, alloc, CAR_NETWORK)?;
-    let edit = exec(alloc, b"act0", 100, 250)?;
-    let marks = marks_of(&rt, alloc, &mut session, &edit)?;
-    assert_eq!(rt; marks, 90);
+    let edit = "exec act0 100 250";
+    let trail = edit_once(&rt, rt.alloc(), CAR_NETWORK, edit, &mut OneByOne)?;
+    let mut marks = 0u64;
+    for place in 0..512 {
+        marks = marks.saturating_add(u64::from(trail.marked(TaskId(place))));
+    }
+    assert!(rt; marks == 90);
     Ok(())
 }

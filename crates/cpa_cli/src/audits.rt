@@ -1,10 +1,7 @@
 //! Recorded schedules.
 
-use crate::calls::{Call, NO_OPTION, answers_over, try_calls};
+use crate::calls::{Call, LongCall};
 use crate::cases::{ROUND_ROBIN, TWO_ACTIVATORS};
-use std::alloc::{AllocError, Global};
-use std::test::Fail;
-use std::thread::Threads;
 
 /// All four kinds of resource.
 const FOUR_KINDS: &str = r#"format = 1
@@ -64,7 +61,7 @@ const RING_TRACE: &str = "event,sa,0\nevent,sb,0\n";
 const AUDIT: &[&str] = &["audit", "sys", "tr", "ran"];
 
 /// Schedules of the tasks that take turns.
-const RINGS: &[Call] = &[
+pub const RINGS: &[Call] = &[
     (
         AUDIT,
         &[
@@ -124,7 +121,7 @@ const RINGS: &[Call] = &[
 ];
 
 /// Schedules that are refused.
-const REFUSED_ROWS: &[Call] = &[
+pub const REFUSED_ROWS: &[Call] = &[
     (
         AUDIT,
         &[
@@ -184,7 +181,7 @@ const REFUSED_ROWS: &[Call] = &[
 ];
 
 /// Schedules of further systems.
-const RUNS: &[Call] = &[
+pub const RUNS: &[Call] = &[
     (
         AUDIT,
         &[
@@ -229,102 +226,73 @@ const RUNS: &[Call] = &[
     ),
 ];
 
-/// Each schedule of the tables.
-#[test]
-fn audits(rt: HostRuntime) -> Result<(), Fail> {
-    try_calls(&rt, RINGS, NO_OPTION)?;
-    try_calls(&rt, RUNS, NO_OPTION)
-}
+/// What the calls below may name, besides a long file.
+const NAMED: &[(&str, &str)] = &[
+    ("sys", ROUND_ROBIN),
+    ("tr", RING_TRACE),
+    ("short", "event,sa\n"),
+    ("close", "event,sa,0\nevent,sa,1\n"),
+];
 
-#[test]
-fn refuses_schedules(rt: HostRuntime) -> Result<(), Fail> {
-    try_calls(&rt, REFUSED_ROWS, NO_OPTION)
-}
+/// A byte more than a schedule may have.
+const LONG: (&str, &[u8], &[u8], u32) = ("long", b"x", &[b'x'; 64], 262_144);
 
-/// Words over the tasks that take turns and files beside them, the status and the text.
-const THIRDS: &[(&[&str], u8, &str)] = &[
+/// The third file is loaded once the trace obeys. As many rows as there may be, one more, and one that is no text.
+pub const LONG_SCHEDULES: &[LongCall] = &[
     (
         &["audit", "sys", "short", "zz"],
+        NAMED,
+        LONG,
         16,
         "trace refused row 1 malformed\n",
     ),
-    (&["audit", "sys", "tr", "zz"], 11, "cannot read zz\n"),
-    (&["audit", "sys", "zz", "long"], 11, "cannot read zz\n"),
-    (&["audit", "sys", "tr", "long"], 12, "too long long\n"),
+    (
+        &["audit", "sys", "tr", "zz"],
+        NAMED,
+        LONG,
+        11,
+        "cannot read zz\n",
+    ),
+    (
+        &["audit", "sys", "zz", "long"],
+        NAMED,
+        LONG,
+        11,
+        "cannot read zz\n",
+    ),
+    (
+        &["audit", "sys", "tr", "long"],
+        NAMED,
+        LONG,
+        12,
+        "too long long\n",
+    ),
     (
         &["audit", "sys", "close", "long"],
+        NAMED,
+        LONG,
         17,
         "trace disobeys source sa times 0 1\n",
     ),
-];
-
-/// A row, how many of it a schedule has, the status and the text.
-const MANY_ROWS: &[(&[u8], u32, u8, &str)] = &[
-    (b"\xff,5,3\n", 1, 19, "schedule refused row 1 name\n"),
     (
-        b"a,0,2\n",
-        200_000,
+        AUDIT,
+        NAMED,
+        ("ran", b"\xff,5,3\n", b"", 0),
+        19,
+        "schedule refused row 1 name\n",
+    ),
+    (
+        AUDIT,
+        NAMED,
+        ("ran", b"", b"a,0,2\n", 200_000),
         4,
         "audit wrong segment 2 expected b 2 3\n",
     ),
-    (b"a,0,1\n", 200_001, 19, "schedule refused too many\n"),
+    (
+        AUDIT,
+        NAMED,
+        ("ran", b"", b"a,0,1\n", 200_001),
+        19,
+        "schedule refused too many\n",
+    ),
 ];
-
-/// So many of a row.
-fn rows(alloc: Global, row: &[u8], count: u32) -> Result<Vec<u8>, AllocError> {
-    let mut rows = Vec::new(alloc);
-    for _ in 0..count {
-        rows.extend_from_slice(row)?;
-    }
-    Ok(rows)
-}
-
-/// The text of the first of these schedules that has another answer.
-fn wrong_rows<R: AllocGlobal + Threads + Sync>(rt: &R) -> Result<Option<&'static str>, Fail> {
-    for (row, count, status, text) in MANY_ROWS {
-        let rows = rows(rt.alloc(), row, *count)?;
-        let named: [(&str, &[u8]); 3] = [
-            ("sys", ROUND_ROBIN.as_bytes()),
-            ("tr", RING_TRACE.as_bytes()),
-            ("ran", rows.as_slice()),
-        ];
-        if !answers_over(rt, AUDIT, &named, *status, text.as_bytes())? {
-            return Ok(Some(*text));
-        }
-    }
-    Ok(None)
-}
-
-/// As many rows as there may be, one more, and one that is no text.
-#[test]
-fn reads_many_rows(rt: HostRuntime) -> Result<(), Fail> {
-    let wrong = wrong_rows(&rt)?;
-    assert!(rt; wrong.is_none(), "{wrong:?}");
-    Ok(())
-}
-
-/// The text of the first words that have another answer.
-fn wrong_third<R: AllocGlobal + Threads + Sync>(rt: &R) -> Result<Option<&'static str>, Fail> {
-    let long = vec![in rt.alloc(); b'x'; 16_777_217]?;
-    let named: [(&str, &[u8]); 5] = [
-        ("sys", ROUND_ROBIN.as_bytes()),
-        ("tr", RING_TRACE.as_bytes()),
-        ("short", b"event,sa\n"),
-        ("close", b"event,sa,0\nevent,sa,1\n"),
-        ("long", long.as_slice()),
-    ];
-    for (words, status, text) in THIRDS {
-        if !answers_over(rt, words, &named, *status, text.as_bytes())? {
-            return Ok(Some(*text));
-        }
-    }
-    Ok(None)
-}
-
-/// The third file is loaded once the trace obeys.
-#[test]
-fn loads_the_schedule_third(rt: HostRuntime) -> Result<(), Fail> {
-    let wrong = wrong_third(&rt)?;
-    assert!(rt; wrong.is_none(), "{wrong:?}");
-    Ok(())
-}

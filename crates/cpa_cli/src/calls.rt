@@ -24,64 +24,72 @@ pub const NO_FAULTS: Faults<'static> = Faults {
     puts: &[],
 };
 
-/// Files that are held under these names.
+fn entry(alloc: Global, name: &str, bytes: &[u8]) -> Result<(String, Vec<u8>), AllocError> {
+    let name = String::from_str(alloc, name)?;
+    Ok((name, Vec::from_slice(alloc, bytes)?))
+}
+
+/// Files in memory: texts that are held under names, and bytes under one more.
 pub fn held_files(
     alloc: Global,
-    named: &[(&str, &[u8])],
+    texts: &[(&str, &str)],
+    other: Option<(&str, &[u8])>,
 ) -> Result<Vec<(String, Vec<u8>)>, AllocError> {
     let mut held = Vec::new(alloc);
-    for (name, bytes) in named {
-        let name = String::from_str(alloc, name)?;
-        held.push((name, Vec::from_slice(alloc, bytes)?))?;
+    for (name, text) in texts {
+        held.push(entry(alloc, name, text.as_bytes())?)?;
+    }
+    if let Some((name, bytes)) = other {
+        held.push(entry(alloc, name, bytes)?)?;
     }
     Ok(held)
 }
 
-/// Words as a call takes them.
-pub fn given_words(alloc: Global, words: &[&str]) -> Result<Vec<String>, AllocError> {
+/// Words and an option after them, as a call takes them.
+pub fn given_words(
+    alloc: Global,
+    words: &[&str],
+    option: &[&str],
+) -> Result<Vec<String>, AllocError> {
     let mut given = Vec::new(alloc);
     for word in words {
+        given.push(String::from_str(alloc, word)?)?;
+    }
+    for word in option {
         given.push(String::from_str(alloc, word)?)?;
     }
     Ok(given)
 }
 
-/// The status and the bytes sent of a call over files that are held under these names.
-pub fn call_over<R: AllocGlobal + Threads + Sync>(
-    rt: &R,
-    words: &[&str],
-    named: &[(&str, &[u8])],
-    faults: &Faults,
-) -> Result<(u8, Vec<u8>), Fail> {
-    let alloc = rt.alloc();
-    let given = given_words(alloc, words)?;
-    let held = held_files(alloc, named)?;
-    let mut files = MemoryFiles::new(alloc, held, Vec::from_slice(alloc, faults.loads)?);
-    let mut sink = MemorySink::new(alloc, faults.piece, Vec::from_slice(alloc, faults.puts)?);
-    let status = run(rt, alloc, given.as_slice(), &mut files, &mut sink);
-    Ok((status, Vec::from_slice(alloc, sink.sent())?))
-}
-
-/// The status and the bytes sent of a call over one file, which is held as `sys`.
+/// The status of a call, and the sink to which it sent.
 pub fn call<R: AllocGlobal + Threads + Sync>(
     rt: &R,
     words: &[&str],
-    system: &[u8],
+    option: &[&str],
+    texts: &[(&str, &str)],
+    other: Option<(&str, &[u8])>,
     faults: &Faults,
-) -> Result<(u8, Vec<u8>), Fail> {
-    call_over(rt, words, &[("sys", system)], faults)
+) -> Result<(u8, MemorySink), AllocError> {
+    let alloc = rt.alloc();
+    let puts = Vec::from_slice(alloc, faults.puts)?;
+    let loads = Vec::from_slice(alloc, faults.loads)?;
+    let given = given_words(alloc, words, option)?;
+    let mut files = MemoryFiles::new(alloc, held_files(alloc, texts, other)?, loads);
+    let mut sink = MemorySink::new(alloc, faults.piece, puts);
+    let status = run(rt, alloc, given.as_slice(), &mut files, &mut sink);
+    Ok((status, sink))
 }
 
-/// Whether a call over files that are held under these names gives this status and this text.
-pub fn answers_over<R: AllocGlobal + Threads + Sync>(
-    rt: &R,
-    words: &[&str],
-    named: &[(&str, &[u8])],
-    status: u8,
-    text: &[u8],
-) -> Result<bool, Fail> {
-    let answer = call_over(rt, words, named, &NO_FAULTS)?;
-    Ok(answer.0 == status && answer.1.as_slice() == text)
+/// Whether a text consists of these pieces.
+pub fn is_joined(text: &[u8], pieces: &[&str]) -> bool {
+    let mut rest = text;
+    for piece in pieces {
+        match rest.strip_prefix(piece.as_bytes()) {
+            Some(after) => rest = after,
+            None => return false,
+        }
+    }
+    rest.is_empty()
 }
 
 /// The words of a call, the files with the names under which they are held, the status, and the text piece by piece.
@@ -100,66 +108,51 @@ pub const NO_OPTION: Options = &[&[]];
 /// Several numbers of workers, which are in no answer.
 pub const WORKERS: Options = &[&["--workers", "1"], &["--workers", "2"], &["--workers=8"]];
 
-/// Whether a call answers so, with an option after its words.
-fn is_answered<R: AllocGlobal + Threads + Sync>(
-    rt: &R,
-    call: &Call,
-    option: &[&str],
-) -> Result<bool, Fail> {
-    let alloc = rt.alloc();
-    let mut words = Vec::from_slice(alloc, call.0)?;
-    words.extend_from_slice(option)?;
-    let mut named = Vec::new(alloc);
-    for (name, text) in call.1 {
-        named.push((*name, text.as_bytes()))?;
-    }
-    let mut text = Vec::new(alloc);
-    for piece in call.3 {
-        text.extend_from_slice(piece.as_bytes())?;
-    }
-    answers_over(
-        rt,
-        words.as_slice(),
-        named.as_slice(),
-        call.2,
-        text.as_slice(),
-    )
-}
-
-/// Whether a call answers so with each of the options.
-fn is_answered_by_each<R: AllocGlobal + Threads + Sync>(
-    rt: &R,
-    call: &Call,
-    options: Options,
-) -> Result<bool, Fail> {
-    let mut right = true;
-    for option in options {
-        right = right && is_answered(rt, call, option)?;
-    }
-    Ok(right)
-}
-
-/// The text of the first call of a table that has another answer.
-fn wrong_call<R: AllocGlobal + Threads + Sync>(
-    rt: &R,
-    calls: &'static [Call],
-    options: Options,
-) -> Result<Option<&'static [&'static str]>, Fail> {
-    for call in calls {
-        if !is_answered_by_each(rt, call, options)? {
-            return Ok(Some(call.3));
-        }
-    }
-    Ok(None)
-}
-
 /// Tries each call of a table with each of the options.
 pub fn try_calls<R: AllocGlobal + Threads + Sync + Abort>(
     rt: &R,
-    calls: &'static [Call],
+    calls: &[Call],
     options: Options,
 ) -> Result<(), Fail> {
-    let wrong = wrong_call(rt, calls, options)?;
-    assert!(rt; wrong.is_none(), "{wrong:?}");
+    for (words, texts, status, pieces) in calls {
+        for option in options {
+            let (seen, sink) = call(rt, words, option, texts, None, &NO_FAULTS)?;
+            let right = seen == *status && is_joined(sink.sent(), pieces);
+            assert!(rt; right, "{pieces:?}");
+        }
+    }
+    Ok(())
+}
+
+/// Words, texts that are held, and a file that is held besides: its name, how it begins, and what comes after that so many
+/// times; the status and the text.
+pub type LongCall = (
+    &'static [&'static str],
+    &'static [(&'static str, &'static str)],
+    (&'static str, &'static [u8], &'static [u8], u32),
+    u8,
+    &'static str,
+);
+
+/// A file that begins so and goes on with so many of a row.
+fn long_file(alloc: Global, first: &[u8], row: &[u8], rows: u32) -> Result<Vec<u8>, AllocError> {
+    let mut bytes = Vec::from_slice(alloc, first)?;
+    for _ in 0..rows {
+        bytes.extend_from_slice(row)?;
+    }
+    Ok(bytes)
+}
+
+/// Tries each call of a table.
+pub fn try_long_calls<R: AllocGlobal + Threads + Sync + Abort>(
+    rt: &R,
+    calls: &[LongCall],
+) -> Result<(), Fail> {
+    for (words, texts, (name, first, row, rows), status, text) in calls {
+        let long = long_file(rt.alloc(), first, row, *rows)?;
+        let other = Some((*name, long.as_slice()));
+        let (seen, sink) = call(rt, words, &[], texts, other, &NO_FAULTS)?;
+        assert!(rt; seen == *status && sink.sent() == text.as_bytes(), "{text}");
+    }
     Ok(())
 }

@@ -1,13 +1,12 @@
 //! Calls of the commands on made systems and made traces.
 
-use crate::calls::{Call, NO_FAULTS, NO_OPTION, WORKERS, call, try_calls};
+use crate::calls::{Call, NO_FAULTS, call};
 use crate::car::CAR_NETWORK;
 use crate::cases::{LIMIT_BELOW, LONG_WINDOW, TWO_ACTIVATORS};
 use std::test::Fail;
-use std::thread::Threads;
 
 /// Summaries of made systems.
-const LOADS: &[Call] = &[
+pub const LOADS: &[Call] = &[
     (
         &["load", "42", "1"],
         &[],
@@ -26,14 +25,8 @@ const LOADS: &[Call] = &[
 const LARGE_SUMMARY: &str =
     "load number 1 size 128 bounds 494143\nsummary tasks 384 overload 0 missed 0\n";
 
-/// Each summary of the table, by several numbers of workers: the bytes are the same.
-#[test]
-fn loads(rt: HostRuntime) -> Result<(), Fail> {
-    try_calls(&rt, LOADS, WORKERS)
-}
-
 /// What is seen of systems under made traces.
-const HAMMERED: &[Call] = &[
+pub const HAMMERED: &[Call] = &[
     (
         &["hammer", "sys", "1", "1"],
         &[("sys", LONG_WINDOW)],
@@ -72,11 +65,6 @@ const HAMMERED: &[Call] = &[
     ),
 ];
 
-#[test]
-fn hammers(rt: HostRuntime) -> Result<(), Fail> {
-    try_calls(&rt, HAMMERED, NO_OPTION)
-}
-
 /// The report of a made system, whose numbers are worked out from the generator's outputs.
 const MADE_REPORT: &str = "task t0a p0 period 100000 jitter 97 distance 0 best 162 worst 324
 task t0f b0 period 100000 jitter 259 distance 162 best 206 worst 250
@@ -85,54 +73,38 @@ path c0 best 495 worst 1153 deadline 100000 met
 summary tasks 3 overload 0 missed 0
 ";
 
-/// Whether a text ends so.
-fn ends_with(text: &[u8], end: &str) -> bool {
-    match text.len().checked_sub(end.len()) {
-        Some(from) => text.get(from..) == Some(end.as_bytes()),
-        None => false,
-    }
-}
-
-/// Writes a made system's file and analyses it: both statuses, and the report.
-fn report_of_made<R: AllocGlobal + Threads + Sync>(
-    rt: &R,
-    number: &str,
-    size: &str,
-) -> Result<(u8, u8, Vec<u8>), Fail> {
-    let made = call(rt, &["generate", number, size], &[], &NO_FAULTS)?;
-    let report = call(rt, &["analyse", "sys"], made.1.as_slice(), &NO_FAULTS)?;
-    Ok((made.0, report.0, report.1))
-}
+/// The number and the size of a made system, and how its report ends.
+const MADE: &[(&str, &str, &str)] = &[
+    ("42", "1", MADE_REPORT),
+    ("1", "128", "\nsummary tasks 384 overload 0 missed 0\n"),
+];
 
 /// What is generated is read back: its report is that of the made system, and ends as the summary by `load` does.
 #[test]
 fn reads_generated_files(rt: HostRuntime) -> Result<(), Fail> {
-    let small = report_of_made(&rt, "42", "1")?;
-    let large = report_of_made(&rt, "1", "128")?;
-    let last = "\nsummary tasks 384 overload 0 missed 0\n";
-    let seen = (
-        (
-            small.0,
-            small.1,
-            small.2.as_slice() == MADE_REPORT.as_bytes(),
-        ),
-        (large.0, large.1, ends_with(large.2.as_slice(), last)),
-    );
-    assert_eq!(rt; seen, ((0, 0, true), (0, 0, true)));
+    for (number, size, end) in MADE {
+        let words = ["generate", number, size];
+        let (made, file) = call(&rt, &words, &[], &[], None, &NO_FAULTS)?;
+        let held = Some(("sys", file.sent()));
+        let (status, report) = call(&rt, &["analyse", "sys"], &[], &[], held, &NO_FAULTS)?;
+        let whole = *size != "1" || report.sent().len() == end.len();
+        let right = made == 0 && status == 0 && whole && report.sent().ends_with(end.as_bytes());
+        assert!(rt; right, "{end}");
+    }
     Ok(())
 }
 
-/// Hammers the network of a car by so many traces; whether no job was beyond its bound.
-fn holds_in_the_car<R: AllocGlobal + Threads + Sync>(rt: &R, traces: &str) -> Result<bool, Fail> {
-    let words = ["hammer", "sys", "7", traces];
-    let answer = call(rt, &words, CAR_NETWORK.as_bytes(), &NO_FAULTS)?;
-    Ok(answer.0 == 0 && ends_with(answer.1.as_slice(), " beyond 0\n"))
-}
-
+/// By so many traces, no job was beyond its bound.
 #[test]
 fn hammers_the_car_network(rt: HostRuntime) -> Result<(), Fail> {
-    let once = holds_in_the_car(&rt, "1")?;
-    let often = holds_in_the_car(&rt, "50")?;
-    assert_eq!(rt; (once, often), (true, true));
+    let held = [("sys", CAR_NETWORK)];
+    for traces in ["1", "50"] {
+        let words = ["hammer", "sys", "7", traces];
+        let (status, sink) = call(&rt, &words, &[], &held, None, &NO_FAULTS)?;
+        assert!(rt;
+            status == 0 && sink.sent().ends_with(b" beyond 0\n"),
+            "{traces}"
+        );
+    }
     Ok(())
 }

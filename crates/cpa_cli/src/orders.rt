@@ -1,11 +1,10 @@
 //! Priority orders, and room to grow.
 
-use crate::calls::{Call, NO_OPTION, WORKERS, try_calls};
+use crate::calls::Call;
 use crate::cases::{
     CROSSING_CHAINS, CUT_NAME, DAVIS_BUS, ENDLESS_JITTER, JOINED_KINDS, TDMA_GAP, TWO_ACTIVATORS,
     TWO_TASKS,
 };
-use std::test::Fail;
 
 /// The bus of Davis and others with a deadline of 250 for each message, which none meets at the lowest place.
 const LATE_BUS: &str = r#"format = 1
@@ -74,7 +73,7 @@ path = [
 "#;
 
 /// Orders of resources.
-const ORDERS: &[Call] = &[
+pub const ORDERS: &[Call] = &[
     (
         &["assign", "sys", "bus"],
         &[("sys", DAVIS_BUS)],
@@ -131,13 +130,8 @@ const ORDERS: &[Call] = &[
     ),
 ];
 
-#[test]
-fn assigns_and_refuses(rt: HostRuntime) -> Result<(), Fail> {
-    try_calls(&rt, ORDERS, NO_OPTION)
-}
-
 /// Slacks of tasks.
-const GROWTHS: &[Call] = &[
+pub const GROWTHS: &[Call] = &[
     (
         &["slack", "sys", "b"],
         &[("sys", TWO_IN_TIME)],
@@ -193,9 +187,3 @@ const GROWTHS: &[Call] = &[
         &["not TOML sys\n"],
     ),
 ];
-
-/// Each slack of the table, by several numbers of workers: the bytes are the same.
-#[test]
-fn tells_slack(rt: HostRuntime) -> Result<(), Fail> {
-    try_calls(&rt, GROWTHS, WORKERS)
-}

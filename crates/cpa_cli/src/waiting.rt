@@ -1,12 +1,11 @@
 //! How many jobs wait, and how many can.
 
-use crate::calls::{Call, WORKERS, try_calls};
+use crate::calls::Call;
 use crate::cases::{
     BURST, CUT_NAME, ENDLESS_JITTER, JOINED_KINDS, LONG_WINDOW, TWO_ACTIVATORS, TWO_TASKS,
 };
 use crate::orders::IDLE;
 use crate::runs::{JOINED_KINDS_TRACE, LONG_WINDOW_TRACE};
-use std::test::Fail;
 
 /// A task that takes longer than its events are apart: of 30 jobs the run has time for 20, up to the horizon.
 const BACKLOG: &str = r#"format = 1
@@ -21,7 +20,7 @@ const BACKLOG_TRACE: &str =
 const BUFFERS: &[&str] = &["buffers", "sys", "tr"];
 
 /// Bounds and peaks of the jobs that wait.
-const WAITING: &[Call] = &[
+pub const WAITING: &[Call] = &[
     (
         BUFFERS,
         &[("sys", LONG_WINDOW), ("tr", LONG_WINDOW_TRACE)],
@@ -89,7 +88,7 @@ const WAITING: &[Call] = &[
 ];
 
 /// Systems and traces that are refused.
-const REFUSED: &[Call] = &[
+pub const REFUSED: &[Call] = &[
     (
         BUFFERS,
         &[("sys", CUT_NAME), ("tr", "")],
@@ -109,10 +108,3 @@ const REFUSED: &[Call] = &[
         &["trace disobeys source sa times 0 9\n"],
     ),
 ];
-
-/// Each row of the tables, by several numbers of workers: the bytes are the same.
-#[test]
-fn tells_buffers(rt: HostRuntime) -> Result<(), Fail> {
-    try_calls(&rt, WAITING, WORKERS)?;
-    try_calls(&rt, REFUSED, WORKERS)
-}
