@@ -7,7 +7,8 @@ use cpa_model::{Activator, System};
 use cpa_units::{NoMemory, ResId, ResSet, TaskId};
 use std::alloc::Global;
 
-/// How many looks at a task are worth a worker more: found by timing, so that several take at most 1.1 times as long as one.
+/// How many looks at a task are worth a worker more: found by timing searches with one worker and with two. How long they
+/// take depends on the machine too, and is bounded nowhere.
 const LOOKS: u64 = 12_000;
 
 /// The ticks in which starts and work are counted.
