@@ -30,7 +30,7 @@ fn wrong_load<F: Files>(files: &mut F, alloc: Global, loads: &[Load]) -> Option<
     wrong
 }
 
-const REAL_LOADS: &[Load] = &[
+const REAL_LOADS: [Load; 3] = [
     ("as long as may be", "four", 4, Ok("abcd")),
     ("too long", "four", 3, Err(LoadFault::TooLong)),
     ("no file", "none", 4, Err(LoadFault::Failed)),
@@ -40,7 +40,7 @@ const REAL_LOADS: &[Load] = &[
 fn loads_real_files_of_the_size(rt: HostRuntime) -> Result<(), Fail> {
     fs::write(&rt, "four", "abcd")?;
     let mut files = RealFiles::new(&rt, rt.alloc());
-    let wrong = wrong_load(&mut files, rt.alloc(), REAL_LOADS);
+    let wrong = wrong_load(&mut files, rt.alloc(), &REAL_LOADS);
     assert!(rt; wrong.is_none(), "{wrong:?}");
     Ok(())
 }
@@ -55,7 +55,7 @@ fn sends_to_standard_output(rt: HostRuntime) -> Result<(), Fail> {
 }
 
 /// The files are `a`, `b` and `a` once more; loads 2 and 3 fail.
-const MEMORY_LOADS: &[Load] = &[
+const MEMORY_LOADS: [Load; 7] = [
     ("the first of a name", "a", 9, Ok("one")),
     ("as long as may be", "b", 4, Ok("abcd")),
     ("load 2", "a", 9, Err(LoadFault::Failed)),
@@ -74,7 +74,7 @@ fn loads_files_in_memory(rt: HostRuntime) -> Result<(), Fail> {
         held.push((String::from_str(alloc, name)?, bytes))?;
     }
     let mut files = MemoryFiles::new(alloc, held, vec![in alloc; 2, 3]?);
-    let wrong = wrong_load(&mut files, alloc, MEMORY_LOADS);
+    let wrong = wrong_load(&mut files, alloc, &MEMORY_LOADS);
     assert!(rt; wrong.is_none(), "{wrong:?}");
     Ok(())
 }

@@ -34,7 +34,7 @@ task = [
 "#;
 
 /// A system, the rows of a trace, and the peaks of the tasks and then those of the resources.
-const RUNS: &[(&str, &str, &[u64])] = &[
+const RUNS: [(&str, &str, &[u64]); 5] = [
     (NO_TASKS, "", &[0]),
     // No event; a backlog of the second task; bursts of both tasks at different times, so that the peak of the processor is
     // less than the sum.
@@ -83,7 +83,7 @@ fn peaks_of(alloc: Global, system: &str, rows: &str) -> Result<Vec<u64>, Fail> {
 
 #[test]
 fn finds_peaks(rt: HostRuntime) -> Result<(), Fail> {
-    for (system, rows, wanted) in RUNS {
+    for (system, rows, wanted) in &RUNS {
         let peaks = peaks_of(rt.alloc(), system, rows)?;
         assert!(rt; peaks.as_slice() == *wanted, "{wanted:?}");
     }

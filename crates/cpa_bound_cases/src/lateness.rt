@@ -60,7 +60,7 @@ struct Case {
     beyond: [u64; 2],
 }
 
-const CASES: &[Case] = &[
+const CASES: [Case; 5] = [
     // The slowest job ends exactly at its bound.
     Case {
         name: "beyond_long_window",
@@ -122,7 +122,7 @@ fn counts(alloc: Global, case: &Case) -> Result<[u64; 2], Fail> {
 
 #[test]
 fn counts_jobs_beyond(rt: HostRuntime) -> Result<(), Fail> {
-    for case in CASES {
+    for case in &CASES {
         let seen = counts(rt.alloc(), case)?;
         assert!(rt; seen == case.beyond, "{}", case.name);
     }

@@ -147,7 +147,7 @@ struct Hammered {
 }
 
 /// A bound that is reached, one too small, and no task.
-const HAMMERED: &[Hammered] = &[
+const HAMMERED: [Hammered; 3] = [
     Hammered {
         system: LONG_WINDOW,
         bounds: &[Within(26), Within(118)],
@@ -178,7 +178,7 @@ fn written<H: Threads + Sync>(rt: &H, alloc: Global, case: &Hammered) -> Result<
 
 #[test]
 fn hammers(rt: HostRuntime) -> Result<(), Fail> {
-    for case in HAMMERED {
+    for case in &HAMMERED {
         let text = written(&rt, rt.alloc(), case)?;
         assert!(rt; text.as_slice() == case.text.as_bytes(), "{}", case.text);
     }

@@ -29,7 +29,7 @@ struct Case {
     order: &'static [u32],
 }
 
-const CASES: &[Case] = &[
+const CASES: [Case; 6] = [
     // The last of the frames is late by the priorities that it has.
     Case {
         paths: "path = [{ name = 'm3', tasks = ['m3'], deadline = 325 }]",
@@ -104,7 +104,7 @@ fn is_met(alloc: Global, case: &Case) -> Result<bool, Fail> {
 
 #[test]
 fn orders(rt: HostRuntime) -> Result<(), Fail> {
-    for case in CASES {
+    for case in &CASES {
         assert!(rt; is_met(rt.alloc(), case)?, "{}", case.text);
     }
     Ok(())

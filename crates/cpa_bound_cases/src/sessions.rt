@@ -77,7 +77,7 @@ const RAISED: &[(u64, Bound)] = &[
     (4, Within(4)),
 ];
 
-const CASES: &[Case] = &[
+const CASES: [Case; 17] = [
     Case {
         system: NARROW,
         script: "",
@@ -355,7 +355,7 @@ fn is_met<H: Threads + Sync>(rt: &H, alloc: Global, case: &Case) -> Result<bool,
 
 #[test]
 fn edits(rt: HostRuntime) -> Result<(), Fail> {
-    for case in CASES {
+    for case in &CASES {
         assert!(rt; is_met(&rt, rt.alloc(), case)?, "{}", case.script);
     }
     Ok(())

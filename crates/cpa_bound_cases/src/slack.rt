@@ -37,7 +37,7 @@ task = [
 "#;
 
 /// A system, its paths, one of its tasks, and the line of that task.
-const CASES: &[(&str, &str, u32, &str)] = &[
+const CASES: [(&str, &str, u32, &str); 6] = [
     // The bounds are 14 and then 15.
     (TWO_TASKS, B_BY_14, 1, "slack b 1 next missed\n"),
     // A tick more of the first task comes twice before the second is done.
@@ -79,7 +79,7 @@ fn line<H: Threads + Sync>(
 
 #[test]
 fn tells_what_comes_next(rt: HostRuntime) -> Result<(), Fail> {
-    for case in CASES {
+    for case in &CASES {
         let text = line(&rt, rt.alloc(), case)?;
         assert!(rt; text.as_slice() == case.3.as_bytes(), "{}", case.3);
     }

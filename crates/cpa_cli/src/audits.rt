@@ -61,7 +61,7 @@ const RING_TRACE: &str = "event,sa,0\nevent,sb,0\n";
 const AUDIT: &[&str] = &["audit", "sys", "tr", "ran"];
 
 /// Schedules of the tasks that take turns.
-pub const RINGS: &[Call] = &[
+pub const RINGS: [Call; 6] = [
     (
         AUDIT,
         &[
@@ -121,7 +121,7 @@ pub const RINGS: &[Call] = &[
 ];
 
 /// Schedules that are refused.
-pub const REFUSED_ROWS: &[Call] = &[
+pub const REFUSED_ROWS: [Call; 6] = [
     (
         AUDIT,
         &[
@@ -181,7 +181,7 @@ pub const REFUSED_ROWS: &[Call] = &[
 ];
 
 /// Schedules of further systems.
-pub const RUNS: &[Call] = &[
+pub const RUNS: [Call; 5] = [
     (
         AUDIT,
         &[
@@ -238,7 +238,7 @@ const NAMED: &[(&str, &str)] = &[
 const LONG: (&str, &[u8], &[u8], u32) = ("long", b"x", &[b'x'; 64], 262_144);
 
 /// The third file is loaded once the trace obeys. As many rows as there may be, one more, and one that is no text.
-pub const LONG_SCHEDULES: &[LongCall] = &[
+pub const LONG_SCHEDULES: [LongCall; 8] = [
     (
         &["audit", "sys", "short", "zz"],
         NAMED,

@@ -18,7 +18,7 @@ const SCHEDULE: &str = "a,0,3\na,12,15\nb,20,22\n";
 
 /// The words of each command, the files that it loads, one after the other, and its status; and words that are refused, by which
 /// no file is loaded.
-const COMMANDS: &[(&[&str], &[&str], u8)] = &[
+const COMMANDS: [(&[&str], &[&str], u8); 11] = [
     (&["analyse", "sys"], &["sys"], 0),
     (&["session", "sys", "scr"], &["sys", "scr"], 0),
     (&["simulate", "sys", "tr"], &["sys", "tr"], 0),
@@ -69,7 +69,7 @@ fn names_each_file<R: AllocGlobal + Threads + Sync>(
 /// Each command over files that fail at each of its loads.
 #[test]
 fn reads_failing_files(rt: HostRuntime) -> Result<(), Fail> {
-    for (words, names, status) in COMMANDS {
+    for (words, names, status) in &COMMANDS {
         let right = names_each_file(&rt, words, names, *status)?;
         assert!(rt; right, "{words:?}");
     }
@@ -128,7 +128,7 @@ fn sends_bytes<R: AllocGlobal + Threads + Sync>(rt: &R, words: &[&str]) -> Resul
 /// of the files can be read.
 #[test]
 fn sends_pieces(rt: HostRuntime) -> Result<(), Fail> {
-    for (words, names, _) in COMMANDS {
+    for (words, names, _) in &COMMANDS {
         let mut right = sends_bytes(&rt, words)?;
         for loads in LOADS.iter().take(names.len() + 1) {
             right = right && sends_prefixes(&rt, words, loads)?;
@@ -199,7 +199,7 @@ impl Sink for FailingSink {
 
 /// The count of both faults before a call, whether loads fail and whether puts do; the status and both counts after it. Where
 /// both fail, the sink is the last to.
-const LAST_COUNTS: &[(u64, bool, bool, (u8, u64, u64))] = &[
+const LAST_COUNTS: [(u64, bool, bool, (u8, u64, u64)); 8] = [
     (BEFORE_LAST, false, false, (0, BEFORE_LAST, BEFORE_LAST)),
     (BEFORE_LAST, true, false, (11, u64::MAX, BEFORE_LAST)),
     (BEFORE_LAST, false, true, (20, BEFORE_LAST, u64::MAX)),
@@ -217,7 +217,7 @@ const BEFORE_LAST: u64 = u64::MAX - 1;
 fn tells_faults_at_last_count(rt: HostRuntime) -> Result<(), Fail> {
     let alloc = rt.alloc();
     let words = given_words(alloc, &["analyse", "sys"], &[])?;
-    for (count, load, put, wanted) in LAST_COUNTS {
+    for (count, load, put, wanted) in &LAST_COUNTS {
         let mut files = FailingFiles {
             faults: *count,
             last: String::new(alloc),
@@ -259,7 +259,7 @@ fn count(counts: &mut Counts, status: u8) {
 /// The script is one where a cut leaves whole lines, or `remove z`; with the third task the processor is overloaded until
 /// the first is removed. The trace is one where a cut leaves whole rows or a shorter number at the end of one: 7 comes too
 /// soon after 0, 6 isn't an execution of the task, and 1 and 10 are times as good as 100.
-const CUT: &[(&str, &str, Counts)] = &[
+const CUT: [(&str, &str, Counts); 2] = [
     ("session", SCRIPT, [3, 0, 7, 0, 0, 36, 0, 0, 0]),
     (
         "simulate",
@@ -270,7 +270,7 @@ const CUT: &[(&str, &str, Counts)] = &[
 
 #[test]
 fn reads_cut_scripts_and_traces(rt: HostRuntime) -> Result<(), Fail> {
-    for (command, second, wanted) in CUT {
+    for (command, second, wanted) in &CUT {
         let mut counts = [0; 9];
         for cut in 0..=second.len() {
             let words = [command, "sys", "cut"];
@@ -288,7 +288,7 @@ fn reads_cut_scripts_and_traces(rt: HostRuntime) -> Result<(), Fail> {
 /// 0 and 255 are never TOML. A quote is where there was one: 20 times. A line feed is where there was one
 /// or a space that may be one (35 times) or the last comma of the tasks. It makes a period of 1 of 10 and of 20 a period of
 /// 2, so that the processor is overloaded, and in place of the first letter of a key it leaves a key that is none: 22 times.
-const SPOILED: &[(u8, Counts)] = &[
+const SPOILED: [(u8, Counts); 4] = [
     (0, [0, 0, 0, 301, 0, 0, 0, 0, 0]),
     (255, [0, 0, 0, 301, 0, 0, 0, 0, 0]),
     (b'"', [20, 0, 0, 281, 0, 0, 0, 0, 0]),
@@ -297,7 +297,7 @@ const SPOILED: &[(u8, Counts)] = &[
 
 #[test]
 fn reads_spoiled_files(rt: HostRuntime) -> Result<(), Fail> {
-    for (byte, wanted) in SPOILED {
+    for (byte, wanted) in &SPOILED {
         let mut counts = [0; 9];
         for place in 0..TWO_TASKS.len() {
             let mut bytes = Vec::from_slice(rt.alloc(), TWO_TASKS.as_bytes())?;

@@ -6,7 +6,7 @@ use crate::cases::{LIMIT_BELOW, LONG_WINDOW, TWO_ACTIVATORS};
 use std::test::Fail;
 
 /// Summaries of made systems.
-pub const LOADS: &[Call] = &[
+pub const LOADS: [Call; 3] = [
     (
         &["load", "42", "1"],
         &[],
@@ -26,7 +26,7 @@ const LARGE_SUMMARY: &str =
     "load number 1 size 128 bounds 494143\nsummary tasks 384 overload 0 missed 0\n";
 
 /// What is seen of systems under made traces.
-pub const HAMMERED: &[Call] = &[
+pub const HAMMERED: [Call; 5] = [
     (
         &["hammer", "sys", "1", "1"],
         &[("sys", LONG_WINDOW)],

@@ -73,7 +73,7 @@ path = [
 "#;
 
 /// Orders of resources.
-pub const ORDERS: &[Call] = &[
+pub const ORDERS: [Call; 9] = [
     (
         &["assign", "sys", "bus"],
         &[("sys", DAVIS_BUS)],
@@ -131,7 +131,7 @@ pub const ORDERS: &[Call] = &[
 ];
 
 /// Slacks of tasks.
-pub const GROWTHS: &[Call] = &[
+pub const GROWTHS: [Call; 9] = [
     (
         &["slack", "sys", "b"],
         &[("sys", TWO_IN_TIME)],

@@ -24,7 +24,7 @@ pub const JOINED_KINDS_TRACE: &str =
     "event,sa,0\nevent,sb,0\nevent,sc,0\nevent,sb,790\nevent,sa,640\nevent,sc,900\nexec,a1,20\nexec,a1,5\nexec,a3,5\nexec,b2,9\nexec,b2,20\nphase,ring,11\n";
 
 /// Runs of systems of one resource, or none.
-pub const RUNS: &[Call] = &[
+pub const RUNS: [Call; 8] = [
     (
         SIMULATE,
         &[("sys", LONG_WINDOW), ("tr", LONG_WINDOW_TRACE)],
@@ -92,7 +92,7 @@ pub const RUNS: &[Call] = &[
 ];
 
 /// Runs of systems with tasks after tasks.
-pub const RUNS_OF_SEVERAL: &[Call] = &[
+pub const RUNS_OF_SEVERAL: [Call; 4] = [
     (
         SIMULATE,
         &[
@@ -131,7 +131,7 @@ pub const RUNS_OF_SEVERAL: &[Call] = &[
 ];
 
 /// Traces that are refused, or that don't obey.
-pub const REFUSED_TRACES: &[Call] = &[
+pub const REFUSED_TRACES: [Call; 7] = [
     (
         SIMULATE,
         &[

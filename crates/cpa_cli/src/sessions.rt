@@ -9,7 +9,7 @@ const SESSION: &[&str] = &["session", "sys", "scr"];
 pub const SESSION_REPORTS: &str = "report\nexec b 2 8\nreport\nexec b 2 7\n";
 
 /// Scripts whose edits are made, most of them.
-pub const EDITS: &[Call] = &[
+pub const EDITS: [Call; 11] = [
     (
         SESSION,
         &[("sys", TWO_TASKS), ("scr", SESSION_REPORTS)],
@@ -144,7 +144,7 @@ pub const EDITS: &[Call] = &[
 ];
 
 /// An edit for each refusal, and files that are refused.
-pub const REFUSED_EDITS: &[Call] = &[
+pub const REFUSED_EDITS: [Call; 8] = [
     (
         SESSION,
         &[("sys", TWO_TASKS), ("scr", "exec b 9 3")],

@@ -20,7 +20,7 @@ const BACKLOG_TRACE: &str =
 const BUFFERS: &[&str] = &["buffers", "sys", "tr"];
 
 /// Bounds and peaks of the jobs that wait.
-pub const WAITING: &[Call] = &[
+pub const WAITING: [Call; 8] = [
     (
         BUFFERS,
         &[("sys", LONG_WINDOW), ("tr", LONG_WINDOW_TRACE)],
@@ -88,7 +88,7 @@ pub const WAITING: &[Call] = &[
 ];
 
 /// Systems and traces that are refused.
-pub const REFUSED: &[Call] = &[
+pub const REFUSED: [Call; 3] = [
     (
         BUFFERS,
         &[("sys", CUT_NAME), ("tr", "")],

@@ -44,7 +44,7 @@ struct Case {
 
 const BOTH: &str = "event,sa,0\nevent,sb,0";
 
-const CASES: &[Case] = &[
+const CASES: [Case; 10] = [
     Case {
         system: ROUND_ROBIN,
         trace: BOTH,
@@ -126,7 +126,7 @@ fn line_of(alloc: Global, case: &Case) -> Result<Vec<u8>, Fail> {
 fn audits_schedules(rt: HostRuntime) -> Result<(), Fail> {
     let alloc = rt.alloc();
     let mut wrong = None;
-    for case in CASES {
+    for case in &CASES {
         if line_of(alloc, case)?.as_slice() != case.line.as_bytes() {
             wrong = Some(case.line);
         }
@@ -136,7 +136,7 @@ fn audits_schedules(rt: HostRuntime) -> Result<(), Fail> {
 }
 
 /// Schedules that are refused.
-const REFUSALS: &[(&[u8], ScheduleFault)] = &[
+const REFUSALS: [(&[u8], ScheduleFault); 8] = [
     (b"a,0,2\nb,3,3", ScheduleFault::OutOfRange(2)),
     (b"zz,5,3", ScheduleFault::UnknownName(1)),
     (b"zz,x,3", ScheduleFault::BadRow(1)),
@@ -152,7 +152,7 @@ fn refuses_schedules(rt: HostRuntime) -> Result<(), Fail> {
     let alloc = rt.alloc();
     let system = read_system(alloc, ROUND_ROBIN.as_bytes())?;
     let mut told = true;
-    for (bytes, fault) in REFUSALS {
+    for (bytes, fault) in &REFUSALS {
         told &= read_schedule(alloc, &system, bytes).err() == Some(*fault);
     }
     assert!(rt; told);

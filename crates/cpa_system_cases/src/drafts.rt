@@ -158,9 +158,9 @@ fn wrong_run(alloc: Global) -> Result<Option<usize>, AllocError> {
 
 /// The first line after the base of which something else is told than is wanted.
 fn wrong_line(alloc: Global) -> Result<Option<&'static str>, AllocError> {
-    for (want, lines) in ADDED {
+    for (want, lines) in &ADDED {
         for line in *lines {
-            if told(alloc, BASE, slice::from_ref(line), &[])? != *want {
+            if told(alloc, &BASE, slice::from_ref(line), &[])? != *want {
                 return Ok(Some(*line));
             }
         }
@@ -173,8 +173,8 @@ fn refuses_the_first(rt: HostRuntime) -> Result<(), Fail> {
     let alloc = rt.alloc();
     let line = wrong_line(alloc)?;
     let wrong = [
-        wrong_case(alloc, &[], WHOLES)?,
-        wrong_case(alloc, PLACES, TASKS)?,
+        wrong_case(alloc, &[], &WHOLES)?,
+        wrong_case(alloc, PLACES, &TASKS)?,
         wrong_run(alloc)?,
     ];
     assert!(rt; line.is_none() && wrong == [None; 3], "{line:?} {wrong:?}");

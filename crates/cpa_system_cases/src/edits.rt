@@ -14,7 +14,7 @@ pub(crate) fn needs_shared<T: Send + Sync>(_value: &T) {}
 /// The lines of the steps of each text, with a bar between each two, or why they are no scripts.
 type Text = (Result<&'static [u32], ScriptFault>, &'static str);
 
-const TEXTS: &[Text] = &[
+const TEXTS: [Text; 8] = [
     (Ok(&[]), "|\r| \t \n# exec\n \t #\n\r\n\t# exec a 1\r\n"),
     (
         Ok(&[1]),
@@ -44,8 +44,8 @@ const TEXTS: &[Text] = &[
 ];
 
 /// Numbers of line feeds, and texts after them.
-const FEEDS: &[(usize, &[Text])] = &[
-    (0, TEXTS),
+const FEEDS: [(usize, &[Text]); 4] = [
+    (0, &TEXTS),
     (
         9_999,
         &[
@@ -86,7 +86,7 @@ fn reads_as(
 #[test]
 fn reads_lines(rt: HostRuntime) -> Result<(), Fail> {
     let alloc = rt.alloc();
-    for (feeds, rows) in FEEDS {
+    for (feeds, rows) in &FEEDS {
         for (wanted, texts) in *rows {
             for text in texts.split('|') {
                 assert!(rt; reads_as(alloc, *feeds, text, *wanted)?, "{text}");
@@ -138,7 +138,7 @@ const CPU_AND_TABLE: [bool; 4] = [true, false, false, true];
 type Row = (Result<[bool; 4], u8>, &'static str);
 
 /// Scripts over the system of all kinds, each from the same.
-const OUTCOMES: &[Row] = &[
+const OUTCOMES: [Row; 18] = [
     (Ok(NONE), "report"),
     (
         Ok(CPU),
@@ -189,7 +189,7 @@ const OUTCOMES: &[Row] = &[
 ];
 
 /// The same over the system with several activators.
-const JOINED_OUTCOMES: &[Row] = &[
+const JOINED_OUTCOMES: [Row; 5] = [
     (Ok(CPU_AND_TABLE), "source sa 10 1 0"),
     (Ok(CPU), "source sb 20 5 20|remove z"),
     (Ok(BUS_AND_CPU), "source sc 40 5 0"),
@@ -202,7 +202,7 @@ const JOINED_OUTCOMES: &[Row] = &[
 ];
 
 /// And over the longest chain, whose last task has as many streams as there may be.
-const LADDER_OUTCOMES: &[Row] = &[
+const LADDER_OUTCOMES: [Row; 5] = [
     (Ok(TABLE), "add u table t30 1 1 1"),
     (Ok(RING), "remove t31"),
     (Err(9), "add u table t31 1 1 1"),
@@ -228,9 +228,9 @@ fn wrongly_judged(alloc: Global, system: &System, row: &Row) -> Result<Option<&'
 fn accepts_and_refuses(rt: HostRuntime) -> Result<(), Fail> {
     let alloc = rt.alloc();
     for (file, rows) in [
-        (WORKS, OUTCOMES),
-        (JOINED, JOINED_OUTCOMES),
-        (LADDER, LADDER_OUTCOMES),
+        (WORKS, &OUTCOMES),
+        (JOINED, &JOINED_OUTCOMES),
+        (LADDER, &LADDER_OUTCOMES),
         (CROSSING_CHAINS, CROSSING_OUTCOMES),
     ] {
         let system = read_system(alloc, file.as_bytes())?;
@@ -259,7 +259,7 @@ const BEFORE: &[u64] = &[
 
 /// Scripts, each from the same system, and the numbers afterwards.
 #[rattlefmt::skip]
-const CHANGES: &[Change] = &[
+const CHANGES: [Change; 12] = [
     ("", BEFORE),
     ("swap a a\npriority b 2\nexec a 1 3\nsource sb 20 0 0\nswap f f", BEFORE),
     ("exec b 9 3\nexec a 2 1000001\npriority a 2\nremove k\nremove f\nadd a cpu sa 1 1 9", BEFORE),
@@ -346,7 +346,7 @@ const JOINED_BEFORE: &[u64] = &[
 ];
 
 #[rattlefmt::skip]
-const JOINED_CHANGES: &[Change] = &[
+const JOINED_CHANGES: [Change; 4] = [
     ("", JOINED_BEFORE),
     ("remove x\nremove m\nremove n\nremove k", JOINED_BEFORE),
     // Whoever stood behind `z` has moved up, in each place of each list.
@@ -373,7 +373,7 @@ const JOINED_CHANGES: &[Change] = &[
 
 /// Scripts over the system with two fixed points, where `a1` takes up to 22 ticks, and where it takes 20 again.
 #[rattlefmt::skip]
-const CROSSING: &[Change] = &[
+const CROSSING: [Change; 2] = [
     ("exec a1 1 22", &[
         100, 0, 0, 100, 0, 0,
         0, 0, 0, 1, 22, 2, 0,
@@ -463,9 +463,9 @@ fn changes_to(alloc: Global, system: &System, change: &Change) -> Result<bool, F
 fn changes_what_is_named(rt: HostRuntime) -> Result<(), Fail> {
     let alloc = rt.alloc();
     for (file, changes) in [
-        (WORKS, CHANGES),
-        (JOINED, JOINED_CHANGES),
-        (CROSSING_CHAINS, CROSSING),
+        (WORKS, &CHANGES),
+        (JOINED, &JOINED_CHANGES),
+        (CROSSING_CHAINS, &CROSSING),
     ] {
         let system = read_system(alloc, file.as_bytes())?;
         for change in changes {
@@ -476,7 +476,7 @@ fn changes_what_is_named(rt: HostRuntime) -> Result<(), Fail> {
 }
 
 /// A chain of 32 tasks, and one task more.
-const CHAIN: &[Row] = &[
+const CHAIN: [Row; 2] = [
     (
         Ok(RING),
         "add c0 ring sa 1 1 1|add c1 ring c0 1 1 1|add c2 ring c1 1 1 1|add c3 ring c2 1 1 1|add c4 ring c3 1 1 1|add c5 ring c4 1 1 1|add c6 ring c5 1 1 1|add c7 ring c6 1 1 1|add c8 ring c7 1 1 1|add c9 ring c8 1 1 1|add c10 ring c9 1 1 1|add c11 ring c10 1 1 1|add c12 ring c11 1 1 1|add c13 ring c12 1 1 1|add c14 ring c13 1 1 1|add c15 ring c14 1 1 1|add c16 ring c15 1 1 1|add c17 ring c16 1 1 1|add c18 ring c17 1 1 1|add c19 ring c18 1 1 1|add c20 ring c19 1 1 1|add c21 ring c20 1 1 1|add c22 ring c21 1 1 1|add c23 ring c22 1 1 1|add c24 ring c23 1 1 1|add c25 ring c24 1 1 1|add c26 ring c25 1 1 1|add c27 ring c26 1 1 1|add c28 ring c27 1 1 1|add c29 ring c28 1 1 1|add c30 ring c29 1 1 1|add c31 ring c30 1 1 1",
@@ -485,7 +485,7 @@ const CHAIN: &[Row] = &[
 ];
 
 /// Edits of a system with a chain of 32 tasks, and with 512 tasks, in turn.
-const FULL: &[Row] = &[
+const FULL: [Row; 8] = [
     (Err(8), "add u table sa 1 1 1|add u table c31 1 1 1"),
     (Err(7), "add a table c31 1 1 1"),
     (Err(1), "add u table zz 1 1 1"),
@@ -529,9 +529,9 @@ fn add_many(alloc: Global, system: &mut System) -> Result<u32, Fail> {
 fn keeps_to_the_limits(rt: HostRuntime) -> Result<(), Fail> {
     let alloc = rt.alloc();
     let mut system = read_system(alloc, WORKS.as_bytes())?;
-    let chain = wrongly_ended(alloc, &mut system, CHAIN)?;
+    let chain = wrongly_ended(alloc, &mut system, &CHAIN)?;
     let taken = (add_many(alloc, &mut system)?, system.tasks());
-    let full = wrongly_ended(alloc, &mut system, FULL)?;
+    let full = wrongly_ended(alloc, &mut system, &FULL)?;
     assert!(rt;
         chain.is_none() && taken == (476, 512) && full.is_none(),
         "{chain:?} {taken:?} {full:?}"

@@ -13,7 +13,7 @@ use systems::{
 type Refused = (&'static str, u8, Part, u64);
 
 /// Each way to break the form of a file, at the top and in each kind of entry: the reason, the part and the place.
-const OTHER_FORMS: &[Refused] = &[
+const OTHER_FORMS: [Refused; 47] = [
     ("", 1, Part::File, 0),
     ("format = 1.0", 1, Part::File, 0),
     ("format = \"1\"", 1, Part::File, 0),
@@ -220,8 +220,8 @@ const OTHER_FORMS: &[Refused] = &[
 ];
 
 /// Texts of the case *two_activators*, and others that stand in their place.
-const REFUSED: &[(&str, &[Refused])] = &[
-    (TWO_ACTIVATORS, OTHER_FORMS),
+const REFUSED: [(&str, &[Refused]); 5] = [
+    (TWO_ACTIVATORS, &OTHER_FORMS),
     (
         "[\"sa\", \"sb\"]",
         &[
@@ -264,7 +264,7 @@ fn is_refused(alloc: Global, old: &str, other: &Refused) -> Result<bool, AllocEr
 fn refuses_other_forms(rt: HostRuntime) -> Result<(), Fail> {
     let alloc = rt.alloc();
     let mut wrong = None;
-    for (old, others) in REFUSED {
+    for (old, others) in &REFUSED {
         for other in *others {
             if !is_refused(alloc, old, other)? {
                 wrong = Some(other.0);
@@ -282,7 +282,7 @@ const LIST_BYTES: usize = 12;
 
 /// A byte, and how many files are read where it stands in place of one byte of the list after the other: systems, no TOML, a name
 /// of nothing, a name twice, and any other.
-const SPOILED: &[(u8, [u32; 5])] = &[
+const SPOILED: [(u8, [u32; 5]); 18] = [
     (0, [0, 12, 0, 0, 0]),
     (255, [0, 12, 0, 0, 0]),
     (b'"', [4, 8, 0, 0, 0]),
@@ -338,7 +338,7 @@ fn told_of(alloc: Global, place: usize, byte: u8) -> Result<usize, AllocError> {
 fn refuses_other_lists(rt: HostRuntime) -> Result<(), Fail> {
     let alloc = rt.alloc();
     let mut wrong = None;
-    for (byte, wanted) in SPOILED {
+    for (byte, wanted) in &SPOILED {
         let mut counts = [0u32; 5];
         for place in LIST..LIST + LIST_BYTES {
             if let Some(count) = counts.get_mut(told_of(alloc, place, *byte)?) {
@@ -354,7 +354,7 @@ fn refuses_other_lists(rt: HostRuntime) -> Result<(), Fail> {
 }
 
 /// Bytes that are no TOML document, after which so many brackets come.
-const NO_TOML: &[(&[u8], usize)] = &[
+const NO_TOML: [(&[u8], usize); 5] = [
     (b"format = 1\nformat = 1", 0),
     (b"format = 9223372036854775808", 0),
     (b"resource = [{ name = \"cp", 0),
@@ -373,7 +373,7 @@ fn is_no_toml(alloc: Global, start: &[u8], brackets: usize) -> Result<bool, Allo
 fn refuses_other_bytes(rt: HostRuntime) -> Result<(), Fail> {
     let alloc = rt.alloc();
     let mut right = true;
-    for (start, brackets) in NO_TOML {
+    for (start, brackets) in &NO_TOML {
         right &= is_no_toml(alloc, start, *brackets)?;
     }
     assert!(rt; right);
@@ -382,7 +382,7 @@ fn refuses_other_bytes(rt: HostRuntime) -> Result<(), Fail> {
 
 /// Files, the format in which their systems are printed, which is 1 where each task has one activator, and how many tasks and paths
 /// these have.
-const READ_BACK: &[(&str, &str, u32, u32)] = &[
+const READ_BACK: [(&str, &str, u32, u32); 15] = [
     ("format = 1", "format = 1\n", 0, 0),
     ("format = 2", "format = 1\n", 0, 0),
     (TWO_TASKS, "format = 1\n", 2, 0),
@@ -414,7 +414,7 @@ fn printed(alloc: Global, file: &[u8], tasks: u32, paths: u32) -> Result<Vec<u8>
 fn prints_and_reads_back(rt: HostRuntime) -> Result<(), Fail> {
     let alloc = rt.alloc();
     let mut wrong = None;
-    for (text, format, tasks, paths) in READ_BACK {
+    for (text, format, tasks, paths) in &READ_BACK {
         let first = printed(alloc, text.as_bytes(), *tasks, *paths)?;
         let second = printed(alloc, first.as_slice(), *tasks, *paths)?;
         if !first.starts_with(format.as_bytes()) || first.as_slice() != second.as_slice() {

@@ -32,7 +32,7 @@ type Run = (
     &'static [Jobs],
 );
 
-const RUNS: &[Run] = &[
+const RUNS: [Run; 21] = [
     // No event; a long window; two jobs that interrupt another, both pending at once; jobs that the horizon cuts off.
     (
         LONG_WINDOW,
@@ -250,7 +250,7 @@ fn is_seen(alloc: Global, run: &Run) -> Result<bool, Fail> {
 fn replays(rt: HostRuntime) -> Result<(), Fail> {
     let alloc = rt.alloc();
     let mut wrong = None;
-    for run in RUNS {
+    for run in &RUNS {
         if !is_seen(alloc, run)? {
             wrong = Some(run.3);
         }

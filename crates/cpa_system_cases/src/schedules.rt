@@ -65,7 +65,7 @@ task = [
 "#;
 
 /// The files that all calls are made over, and beside them `long`, which is a byte too long for a system.
-const HELD: &[(&str, &str)] = &[
+const HELD: [(&str, &str); 10] = [
     ("sys", FOUR_KINDS),
     ("tr", FOUR_KINDS_TRACE),
     ("late", LATE_JOBS),
@@ -84,7 +84,7 @@ type Faults = (&'static [u64], usize, &'static [u64]);
 const NONE: Faults = (&[], 4096, &[]);
 
 /// The faults of a call, its words, the status and the text.
-const CALLS: &[(Faults, &[&str], u8, &str)] = &[
+const CALLS: [(Faults, &[&str], u8, &str); 20] = [
     (NONE, &["sys", "tr"], 0, FOUR_KINDS_RUN),
     (NONE, &["late", "late_tr"], 0, LATE_RUN),
     (NONE, &["two", "two_tr"], 0, "m,0,3\nm,3,6\nn,3,5\nn,6,8\n"),
@@ -121,7 +121,7 @@ const CALLS: &[(Faults, &[&str], u8, &str)] = &[
 /// The files.
 fn held(alloc: Global) -> Result<Vec<(String, Vec<u8>)>, AllocError> {
     let mut held = Vec::new(alloc);
-    for (name, text) in HELD {
+    for (name, text) in &HELD {
         held.push((
             String::from_str(alloc, name)?,
             Vec::from_slice(alloc, text.as_bytes())?,

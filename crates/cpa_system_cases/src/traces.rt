@@ -55,7 +55,7 @@ fn numbers_of(alloc: Global, system: &System, trace: &Trace) -> Result<Vec<u64>,
 
 /// Files with each check of a row broken alone, and with two at once: what is told is the first in the
 /// order of the checks, and the first row.
-const REFUSALS: &[(&[u8], Option<TraceFault>)] = &[
+const REFUSALS: [(&[u8], Option<TraceFault>); 37] = [
     // The form of a row.
     (b"event", Some(TraceFault::BadRow(1))),
     (b"event,sa", Some(TraceFault::BadRow(1))),
@@ -120,12 +120,12 @@ struct Files {
     ends: &'static [(&'static [u8], Option<TraceFault>)],
 }
 
-const ROWS: &[Files] = &[
+const ROWS: [Files; 5] = [
     Files {
         system: THREE_TASKS,
         row: "",
         count: 0,
-        ends: REFUSALS,
+        ends: &REFUSALS,
     },
     // Each event on the ladder starts a job for each of the 528 streams.
     Files {
@@ -156,7 +156,7 @@ const ROWS: &[Files] = &[
 ];
 
 /// 2,000,000 jobs are taken, and not one more. They are looked at after all rows.
-const JOBS: &[Files] = &[
+const JOBS: [Files; 2] = [
     Files {
         system: CROWD,
         row: "event,sa,0\n",
@@ -200,14 +200,14 @@ fn wrong_end(alloc: Global, all: &[Files]) -> Result<Option<&'static [u8]>, Fail
 
 #[test]
 fn refuses_the_first_row(rt: HostRuntime) -> Result<(), Fail> {
-    let wrong = wrong_end(rt.alloc(), ROWS)?;
+    let wrong = wrong_end(rt.alloc(), &ROWS)?;
     assert!(rt; wrong.is_none(), "{wrong:?}");
     Ok(())
 }
 
 #[test]
 fn counts_jobs(rt: HostRuntime) -> Result<(), Fail> {
-    let wrong = wrong_end(rt.alloc(), JOBS)?;
+    let wrong = wrong_end(rt.alloc(), &JOBS)?;
     assert!(rt; wrong.is_none(), "{wrong:?}");
     Ok(())
 }
@@ -220,7 +220,7 @@ enum Seen {
 
 /// Files and their traces. Events of `sa` may come 4 ticks apart, and n of them in no less than 10 * (n - 1) - 25 ticks; those of
 /// `sb` 20 ticks apart.
-const TRACES: &[(&[u8], Seen)] = &[
+const TRACES: [(&[u8], Seen); 21] = [
     // Rows of each sort at the ends of their ranges, a mark of the byte order, quotes, an empty line and either end of a row.
     (b"", Seen::Numbers(&[0, 0, 0, 0, 0, 0, 0, 0])),
     (b"\xef\xbb\xbf", Seen::Numbers(&[0, 0, 0, 0, 0, 0, 0, 0])),
@@ -359,7 +359,7 @@ fn is_seen(alloc: Global, bytes: &[u8], seen: &Seen) -> Result<bool, Fail> {
 fn reads_a_trace(rt: HostRuntime) -> Result<(), Fail> {
     let alloc = rt.alloc();
     let mut wrong = None;
-    for (bytes, seen) in TRACES {
+    for (bytes, seen) in &TRACES {
         if !is_seen(alloc, bytes, seen)? {
             wrong = Some(*bytes);
         }

@@ -6,7 +6,7 @@ use std::alloc::Global;
 use std::test::Fail;
 
 /// Words with a blank between each two, and what they ask for.
-const ACCEPTED: &[(&str, Command<'static>)] = &[
+const ACCEPTED: [(&str, Command<'static>); 20] = [
     (
         "analyse sys",
         Command::Analyse {
@@ -157,7 +157,7 @@ const ACCEPTED: &[(&str, Command<'static>)] = &[
 ];
 
 /// Words with a blank between each two that ask for nothing.
-const REFUSED: &[&str] = &[
+const REFUSED: [&str; 123] = [
     // No command.
     "",
     "help",
@@ -303,12 +303,12 @@ fn asks_for(alloc: Global, text: &str, wanted: Option<Command>) -> Result<bool, 
 fn accepts_by_the_rule(rt: HostRuntime) -> Result<(), Fail> {
     let alloc = rt.alloc();
     let mut wrong = None;
-    for (text, command) in ACCEPTED {
+    for (text, command) in &ACCEPTED {
         if !asks_for(alloc, text, Some(*command))? {
             wrong = Some(*text);
         }
     }
-    for text in REFUSED {
+    for text in &REFUSED {
         if !asks_for(alloc, text, None)? {
             wrong = Some(*text);
         }

@@ -20,7 +20,7 @@ pub(crate) const PLACES: &[&str] = &[
 ];
 
 /// A system to which no reason applies: the same, with two tasks and one path.
-pub(crate) const BASE: &[&str] = &[
+pub(crate) const BASE: [&str; 8] = [
     "resource|cpu|preemptive",
     "resource|bus|can",
     "resource|ring|round-robin",
@@ -32,7 +32,7 @@ pub(crate) const BASE: &[&str] = &[
 ];
 
 /// What is told where any one of these lines stands after the base.
-pub(crate) const ADDED: &[(Option<(u8, Part, u64)>, &[&str])] = &[
+pub(crate) const ADDED: [(Option<(u8, Part, u64)>, &[&str]); 25] = [
     (
         None,
         &[

@@ -4,7 +4,7 @@ use crate::drafts::cases::{BASE, Case};
 use cpa_draft::Part;
 
 /// Drafts with more than one fault, and faults of several entries.
-pub(crate) const WHOLES: &[Case] = &[
+pub(crate) const WHOLES: [Case; 5] = [
     (BASE, None),
     (&[], None),
     // A resource comes before a source, whatever the place.
@@ -49,7 +49,7 @@ pub(crate) const WHOLES: &[Case] = &[
 ];
 
 /// Such tasks and paths, after the resources and the source of the base.
-pub(crate) const TASKS: &[Case] = &[
+pub(crate) const TASKS: [Case; 12] = [
     // An unknown name at the third task comes before a ring of the first two, and the ring before a priority.
     (
         &[
@@ -150,7 +150,7 @@ pub(crate) const TASKS: &[Case] = &[
 pub(crate) type Run = (&'static str, u32, u32, u32);
 
 /// Entries with numbers, after the resources and the source of the base.
-pub(crate) const RUNS: &[(&[Run], Option<(u8, Part, u64)>)] = &[
+pub(crate) const RUNS: [(&[Run], Option<(u8, Part, u64)>); 15] = [
     // Chains.
     (&[(FIRST, 0, 1, 0), (LATER, 1, 32, 1)], None),
     (
