@@ -227,12 +227,13 @@ fn wrongly_judged(alloc: Global, system: &System, row: &Row) -> Result<Option<&'
 #[test]
 fn accepts_and_refuses(rt: HostRuntime) -> Result<(), Fail> {
     let alloc = rt.alloc();
-    for (file, rows) in [
+    let tables: [(&str, &[Row]); 4] = [
         (WORKS, &OUTCOMES),
         (JOINED, &JOINED_OUTCOMES),
         (LADDER, &LADDER_OUTCOMES),
         (CROSSING_CHAINS, CROSSING_OUTCOMES),
-    ] {
+    ];
+    for (file, rows) in tables {
         let system = read_system(alloc, file.as_bytes())?;
         for row in rows {
             let wrong = wrongly_judged(alloc, &system, row)?;
@@ -462,11 +463,12 @@ fn changes_to(alloc: Global, system: &System, change: &Change) -> Result<bool, F
 #[test]
 fn changes_what_is_named(rt: HostRuntime) -> Result<(), Fail> {
     let alloc = rt.alloc();
-    for (file, changes) in [
+    let tables: [(&str, &[Change]); 3] = [
         (WORKS, &CHANGES),
         (JOINED, &JOINED_CHANGES),
         (CROSSING_CHAINS, &CROSSING),
-    ] {
+    ];
+    for (file, changes) in tables {
         let system = read_system(alloc, file.as_bytes())?;
         for change in changes {
             assert!(rt; changes_to(alloc, &system, change)?, "{}", change.0);

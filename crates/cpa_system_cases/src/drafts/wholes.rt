@@ -5,7 +5,7 @@ use cpa_draft::Part;
 
 /// Drafts with more than one fault, and faults of several entries.
 pub(crate) const WHOLES: [Case; 5] = [
-    (BASE, None),
+    (&BASE, None),
     (&[], None),
     // A resource comes before a source, whatever the place.
     (
