@@ -5,7 +5,9 @@ Runs `rt ci` in the repository's top folder, on as many processors as are asked 
 run, and prints a row a crate as docs/MAP.md has them: seconds of one processor for the proofs, the tests and all edits. What an
 earlier run on this machine has proved takes no time and has no row: `--anew` has everything proved.
 With `--edits` a line for each edit follows, the dearest first: what one costs is what it takes to read the crate, and to search
-for what it makes false. The last line has the time by the clock and that of all processors.
+for what it makes false. The last lines have the time by the clock and that of all processors, and how fast the machine was: the
+seconds that a short loop took one processor before, every five minutes on one that isn't measured, where there is one, and after.
+Times of two runs can be compared only as far as these are alike.
 
     python3 bench/time_gate.py --processors 2 --anew
     python3 bench/time_gate.py --log gate.log --edits cpa_units cpa_io
@@ -21,6 +23,23 @@ import time
 TOP = os.path.join(os.path.dirname(os.path.abspath(__file__)), "..")
 TICKS = os.sysconf("SC_CLK_TCK")
 KINDS = ("proofs", "tests", "edits")
+LOOP = """
+import time
+begun, total = time.perf_counter(), 0
+for step in range(15_000_000): total += step * step % 7
+print(time.perf_counter() - begun)
+"""
+
+
+def start_loop(processor):
+    """Begins the loop by whose time machines are compared."""
+    words = ["taskset", "-c", str(processor), sys.executable, "-c", LOOP]
+    return subprocess.Popen(words, stdout=subprocess.PIPE, text=True)
+
+
+def seconds_of(loops):
+    """The seconds that each of these loops took, as text."""
+    return ", ".join(f"{float(loop.communicate()[0] or 'nan'):.1f}" for loop in loops) or "none"
 
 
 def processes():
@@ -122,13 +141,17 @@ def main():
     parser.add_argument("--log", default="gate.log", help="where the words of `rt ci` go (gate.log)")
     chosen = parser.parse_args()
     words = ["taskset", "-c", f"0-{chosen.processors - 1}", "rt", "ci", *(["--anew"] if chosen.anew else []), *chosen.crates]
-    parts, begun, shown = {}, time.monotonic(), 0
+    before = seconds_of([start_loop(0)])
+    parts, begun, shown, looped, beside = {}, time.monotonic(), 0, time.monotonic(), []
     with open(chosen.log, "w", encoding="utf-8") as log, subprocess.Popen(words, cwd=TOP, stdout=log, stderr=log) as gate:
         while gate.poll() is None:
             look(gate.pid, parts)
             if time.monotonic() - shown > 60:
                 shown = time.monotonic()
                 print(f"{(shown - begun) / 60:.0f} minutes so far", file=sys.stderr, flush=True)
+            if chosen.processors < os.cpu_count() and time.monotonic() - looped > 300:
+                looped = time.monotonic()
+                beside.append(start_loop(os.cpu_count() - 1))
             time.sleep(1)
     clock = time.monotonic() - begun
     spent, counts = collections.Counter(), collections.Counter()
@@ -144,6 +167,7 @@ def main():
     for edit, seconds in each.most_common() if chosen.edits else []:
         print(f"{seconds:6.0f} {edit}")
     print(f"{clock / 60:.1f} minutes by the clock on {chosen.processors} processors, {sum(spent.values()) / 60:.1f} of one processor, status {gate.returncode}")
+    print(f"a short loop took {before} s before, {seconds_of(beside)} beside the run, {seconds_of([start_loop(0)])} after it")
     return gate.returncode
 
 
