@@ -3,7 +3,8 @@
 
 Runs `rt ci` in the repository's top folder, on as many processors as are asked for, looks every second at the provers that
 run, and prints a row a crate as docs/MAP.md has them: seconds of one processor for the proofs, the tests and all edits. What an
-earlier run on this machine has proved takes no time and has no row: `--anew` has everything proved.
+earlier run on this machine has proved takes no time and has no row: `--anew` has everything proved. Where `rt ci` has no such
+word, as that of rattle-kit-13b, it proves everything each time, and takes no names of crates either.
 With `--edits` a line for each edit follows, the dearest first: what one costs is what it takes to read the crate, and to search
 for what it makes false. The last lines have the time by the clock and that of all processors, and how fast the machine was: the
 seconds that a short loop took one processor before, every five minutes on one that isn't measured, where there is one, and after.
@@ -132,6 +133,18 @@ def look(root, parts):
         parts[key] = (name, kind, edit, max(spent, parts[key][3] if key in parts else 0))
 
 
+def words_of_gate(anew, crates):
+    """The words that start the gate: by the help of `rt` it is seen whether its `ci` takes any of its own."""
+    told = subprocess.run(["rt", "help"], stdout=subprocess.PIPE, stderr=subprocess.STDOUT, text=True, check=False).stdout
+    if "--anew" in told:
+        return ["rt", "ci", *(["--anew"] if anew else []), *crates]
+    if crates:
+        sys.exit("time_gate.py: `rt ci` of this toolchain takes no names: leave them out, and the whole gate is timed")
+    if anew:
+        print("`rt ci` of this toolchain proves all from nothing each time: --anew is left out", file=sys.stderr)
+    return ["rt", "ci"]
+
+
 def main():
     parser = argparse.ArgumentParser(description=__doc__, formatter_class=argparse.RawDescriptionHelpFormatter)
     parser.add_argument("crates", nargs="*", help="the crates to prove, with those below them; all without")
@@ -140,7 +153,7 @@ def main():
     parser.add_argument("--edits", action="store_true", help="tell each edit's time too")
     parser.add_argument("--log", default="gate.log", help="where the words of `rt ci` go (gate.log)")
     chosen = parser.parse_args()
-    words = ["taskset", "-c", f"0-{chosen.processors - 1}", "rt", "ci", *(["--anew"] if chosen.anew else []), *chosen.crates]
+    words = ["taskset", "-c", f"0-{chosen.processors - 1}", *words_of_gate(chosen.anew, chosen.crates)]
     before = seconds_of([start_loop(0)])
     parts, begun, shown, looped, beside = {}, time.monotonic(), 0, time.monotonic(), []
     with open(chosen.log, "w", encoding="utf-8") as log, subprocess.Popen(words, cwd=TOP, stdout=log, stderr=log) as gate:

@@ -191,7 +191,7 @@ for command in $commands; do
 done
 call --version
 hold "--version: the version" said '^lokwurmi [0-9]' "$room/text"
-hold "--version: the toolchain of README.md" said "^toolchain $(grep -o 'rattle-kit-[0-9a-z]*' "$top/README.md" | head -n 1)\$" "$room/text"
+hold "--version: the toolchain of README.md" said "^toolchain $(grep -o 'rattle-kit-[0-9a-z]*. or .rattle-kit-[0-9a-z]*' "$top/README.md" | tr -d '\140' | sort -u)\$" "$room/text"
 hold "--version: no commit where there is none" unsaid '^commit' "$room/text"
 git -C "$room" init -q && git -C "$room" -c user.name=a -c user.email=a@b commit -q --allow-empty -m a
 call --version
@@ -275,7 +275,7 @@ touch "$work/crates/cpa_fix/src/lib.rt"
 RT_IDENTITY=rattle-kit-14a call analyse missing.toml
 hold "a source is newer: it is built again" said 'crates/cpa_fix/src/lib.rt is newer than the program'
 hold "a source is newer: what is kept" said '5 crates, of which 3 are proved already'
-hold "another toolchain is told" said 'note: rt is of rattle-kit-14a, and the proofs are for rattle-kit-13f'
+hold "another toolchain is told" said 'note: rt is of rattle-kit-14a, and the proofs are for rattle-kit-13b or rattle-kit-13f'
 hold "a file that isn't there is told" said "note: 'missing.toml' can't be read"
 rm "$work/crates/cpa_fix/src/lib.rt"
 call analyse two.toml

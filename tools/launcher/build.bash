@@ -1,6 +1,6 @@
 # shellcheck shell=bash disable=SC2154
 # Proves and builds the program for `lokwurmi`, and shows how far it is. `lokwurmi` sets here, top, first, program, and the
-# graph of the crates: order, each after those that it uses, and what each uses; words.bash sets kit.
+# graph of the crates: order, each after those that it uses, and what each uses; words.bash sets kits.
 
 # ---- what is done, and what is left
 
@@ -345,11 +345,11 @@ at_a_time() {
 need_rt() {
   local identity
   if ! command -v rt >/dev/null; then
-    echo "lokwurmi: $1; to build it, the command rt of the toolchain $kit has to be in the search path (PATH)" >&2
+    echo "lokwurmi: $1; to build it, the command rt of the toolchain $(list_kits) has to be in the search path (PATH)" >&2
     exit 70
   fi
   read -r identity _ < <(rt version 2>/dev/null)
-  [ "$identity" = "$kit" ] || echo "lokwurmi: note: rt is of ${identity:-another toolchain}, and the proofs are for $kit" >&2
+  [[ " ${kits[*]} " == *" $identity "* && $identity ]] || echo "lokwurmi: note: rt is of ${identity:-another toolchain}, and the proofs are for $(list_kits)" >&2
 }
 
 # Has one call at a time build, whichever program it wants; whether another has built it meanwhile.

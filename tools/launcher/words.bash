@@ -1,7 +1,8 @@
 # shellcheck shell=bash disable=SC2154
 # The words of `lokwurmi`, help, and the version. `here` is the folder of the repository.
 version=1.0
-kit=rattle-kit-13f
+# the toolchains that have proved the whole repository
+kits=(rattle-kit-13b rattle-kit-13f)
 commands=(analyse session simulate generate load hammer assign slack buffers audit schedule)
 
 # Sets of a command: its words, whether it takes --workers N too, what it writes, what its status tells beside 0, and the words
@@ -115,10 +116,16 @@ help_of() {
   echo "More: $here/docs/FILES.md"
 }
 
+list_kits() {
+  local found
+  printf -v found ' or %s' "${kits[@]}"
+  echo "${found# or }"
+}
+
 tell_version() {
   local commit git=(env -u GIT_DIR -u GIT_WORK_TREE -u GIT_INDEX_FILE git -C "$here")
   echo "lokwurmi $version"
-  echo "toolchain $kit"
+  echo "toolchain $(list_kits)"
   # a repository further up isn't this one
   if [ "$("${git[@]}" rev-parse --show-prefix 2>&1)" = "" ] && commit=$("${git[@]}" rev-parse --short=12 HEAD 2>/dev/null); then
     [ -z "$("${git[@]}" --no-optional-locks status --porcelain 2>/dev/null | head -n 1)" ] || commit+=", and changes since"

@@ -325,7 +325,8 @@ fn print_document(alloc: Global, system: &System) -> Result<Vec<u8>, NoMemory>
 /// The bytes of a file that stands for the system. Executions are printed as `best` and `worst`; the layout is that of
 /// `toml`'s printer.
 pub fn print_system(alloc: Global, system: &System) -> Result<Vec<u8>, NoMemory>
-    ensures { IfOk result (λ v. reading_of v.items ≡ Accepted system.now) }
+    ensures read_back { IfOk result (λ v. reading_of v.items ≡ Accepted system.now) }
+    ensures printed { IfOk result (λ v. IsPrinted system.now v.items) }
 {
     Ok(print_document(alloc, system)?)
 }
