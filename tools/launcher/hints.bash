@@ -6,7 +6,7 @@ hint() {
   local files=$here/docs/FILES.md status=$1
   shift
   case $status in
-  3) echo "lokwurmi: assign: no order of priorities meets the deadlines of the tasks; slack: a deadline is missed already. What to do: $files, \"Statuses\"" ;;
+  3) echo "lokwurmi: assign: no order of priorities meets the deadlines of the tasks; slack: a deadline is missed already, or a path with one has no bound. What to do: $files, \"Statuses\"" ;;
   4) echo "lokwurmi: the recorded schedule isn't that of the run under this trace: the line has the first segment that differs, and what is expected in its place. What it may mean: $files, \"Recorded schedules\"" ;;
   10) tell_words "$@" ;;
   11) echo "lokwurmi: the file couldn't be opened or read: look at its name, its folder and its permissions. More: $files, \"Statuses\"" ;;

@@ -40,7 +40,7 @@ describe() {
     ;;
   slack)
     words="FILE TASK" workers=yes writes="by how much the worst of TASK may grow"
-    example="examples/sae_can.toml m16" statuses="3: a deadline is missed already"
+    example="examples/sae_can.toml m16" statuses="3: a deadline is missed already, or a path with one has no bound"
     ;;
   buffers)
     words="FILE TRACE" workers=yes writes="how many jobs can wait, and how many do"

@@ -1,6 +1,6 @@
 //! The system and the trace in files that a call names.
 
-ghost use Rattle.std.specs.Prelude.{◌≡◌, ◌≤◌, true, length, Some, Ok, IfOk, IfErr};
+ghost use Rattle.std.specs.Prelude.{◌≡◌, ◌≤◌, true, length, vec_len, Some, Ok, IfOk, IfErr};
 ghost use Rattle.cpa_units.specs.declared.limits.TheConstants.{MAX_TRACE_FILE};
 ghost use Rattle.cpa_file.specs.Reading.{Reading, reading_of, IsReadFault};
 ghost use Rattle.cpa_trace.specs.Reading.{trace_of};
@@ -35,6 +35,7 @@ pub fn load_file<F: Files>(
 ) -> Result<Vec<u8>, Ended>
     requires { most ≤ MAX_TRACE_FILE }
     ensures planned { F.told files.old ≡ true → IfOk result (λ v. content_in (F.held files.old) file.now most ≡ Do v.items) }
+    ensures within { IfOk result (λ v. vec_len v ≤ most) }
     ensures ended { F.told files.old ≡ true → IfErr result (IsEndOf (content_in (F.held files.old) file.now most)) }
     ensures status { IfErr result HasStatus }
     ensures unread { IfErr result (IsUnreadFile (λ last. last ≡ file.now) (F.faults files.old) (F.faults files.new) (F.last_failed files.new)) }

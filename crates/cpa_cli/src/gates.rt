@@ -73,7 +73,7 @@ fn new_gate(alloc: Global, holds: bool) -> Result<(Box<dyn Gate>, Arc<Seen>), Al
     Ok((Box::new(alloc, gate)?, seen))
 }
 
-/// The sink of a call over a system held as `sys` and a script held as `scr`.
+/// The sink of a call over a system held as `sys`, and a script or a trace held as `scr`.
 fn call_with<R: AllocGlobal + Threads + Sync>(
     rt: &R,
     words: &[&str],
@@ -131,5 +131,15 @@ fn edit_spares_rest(rt: HostRuntime) -> Result<(), Fail> {
     assert!(rt;
         whole[0] > 0 && edited[0] == whole[0] && edited[1] == whole[1] && edited[2] > whole[2]
     );
+    Ok(())
+}
+
+/// The rounds of the other calls with workers come through the gate that they are handed, too.
+#[test]
+fn other_rounds_are_seen(rt: HostRuntime) -> Result<(), Fail> {
+    let load = count_calls(&rt, &["load", "1", "1", "--workers", "2"], "")?;
+    let slack = count_calls(&rt, &["slack", "sys", "c", "--workers", "2"], "")?;
+    let buffers = count_calls(&rt, &["buffers", "sys", "scr", "--workers", "2"], "")?;
+    assert!(rt; load[0] > 0 && slack[0] > 0 && buffers[0] > 0);
     Ok(())
 }

@@ -1,10 +1,11 @@
 -- A system as a document.
-use Rattle.std.specs.Prelude.{◌≡◌, ◌==◌, ℕ, Bool, if◌then◌else◌, pos, List, [], ◌∷◌, map, length, Option, Some, None, codes}
+use Rattle.std.specs.Prelude.{◌≡◌, ◌==◌, ℕ, Bool, false, if◌then◌else◌, pos, List, [], ◌∷◌, map, length, Option, Some, None, codes}
 use Rattle.std.specs.List.{list_all}
 use Rattle.std.specs.Ordering.{nat_cmp, match_ordering}
 use Rattle.std.specs.Cmp.Lexicographic.{slice_cmp}
 use Rattle.toml.specs.Data.{Data, Members, no_members, member, string, integer, array, table}
 use Rattle.toml.specs.View.{items_of}
+use Rattle.toml.specs.Text.{IsDocumentText}
 use Rattle.cpa_units.specs.declared.places.TaskId.{TaskId}
 use Rattle.cpa_model.specs.declared.entries.Resource.{Resource}
 use Rattle.cpa_model.specs.declared.entries.Source.{Source}
@@ -90,8 +91,9 @@ system_data s =
     table (put (codes "path") (list_data (map (path_data s) s.paths)) (put (codes "task") (list_data (map (task_data s) s.tasks))
     (put (codes "source") (list_data (map source_data s.sources)) (put (codes "resource") (list_data (map resource_data s.resources)) (put (codes "format") (integer (pos (format_of s))) no_members)))))
 
--- the bytes are a document, and it is the system's
+-- the bytes are a document, which is the system's, laid out as `toml` prints one
 pub record IsPrinted (s : SystemLists) (bytes : List ℕ) : Type 0 where
   pub members : Members
   pub document : document_of bytes ≡ Some members
   pub same : table members ≡ system_data s
+  pub layout : IsDocumentText false members bytes

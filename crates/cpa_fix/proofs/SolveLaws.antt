@@ -7,7 +7,7 @@ use Rattle.std.proofs.lemmas.List.Elements.{All-from_get_or}
 use Rattle.cpa_units.specs.declared.bound.Bound.{Bound}
 use Rattle.cpa_units.specs.declared.bound.Bound.TheVariants.{Within}
 use Rattle.cpa_units.specs.Bounds.{IsNowhereAbove, RespectsLimit, bound_of}
-use Rattle.cpa_model.specs.SystemLists.{SystemLists, task_at}
+use Rattle.cpa_model.specs.SystemLists.{SystemLists, task_at, no_task}
 use Rattle.cpa_units.specs.declared.limits.TheConstants.{MAX_LIMIT}
 use Rattle.cpa_local.specs.Solution.{IsVector}
 use Rattle.std.proofs.lemmas.List.{length-replicate, get_or_past}
@@ -18,7 +18,7 @@ use Rattle.cpa_fix.proofs.DependLaws.{clean_is_least}
 use Rattle.cpa_fix.proofs.ReadingLaws.{risen, risen-same, clean_from_still}
 use Rattle.cpa_local.proofs.SolutionLaws.{rank, rank-le}
 use Rattle.cpa_units.specs.Sets.{holds, Members}
-use Rattle.cpa_model.specs.Rules.{IsSystem}
+use Rattle.cpa_model.specs.Rules.{IsSystem, IsTask}
 use Rattle.cpa_local.specs.Trails.{Marks, IsMarked, IsKept, NewMarksAre, AreMarked}
 use Rattle.cpa_local.proofs.TrailLaws.{IsKept_refl, IsKept_trans, NewMarks_trans, NewMarks-weaker}
 use Rattle.cpa_depend.specs.Cone.{InCone, start, reader, IsClosedUnder}
@@ -312,15 +312,26 @@ pub none-beyond : (s : SystemLists) (kept : List (Option Reading)) (x : List Bou
 none-beyond s kept x all is r in_range off =
     absurd (false≢true (sym off ∙ (is r ∙ lt-ltb r (length s.resources) in_range)))
 
+-- ---- where no reading is kept
+
+pub nothing-kept : (n r : ℕ) → reading_of (replicate n None) r ≡ None
+nothing-kept zero r = refl
+nothing-kept (suc n) zero = refl
+nothing-kept (suc n) (suc r) = nothing-kept n r
+
+none-some : (reading : Reading) → None ≡ Some reading → ⊥
+none-some reading e = cc
+
 -- readings of no resource are sound at each vector
 pub none-sound : (s : SystemLists) (x : List Bound) → AreSound s (replicate (length s.resources) None) x
 none-sound s x =
     record {
       long = length-replicate (length s.resources) None;
-      sound = λ r reading e. absurd (let both : None ≡ Some reading = sym (none-at (length s.resources) r) ∙ e in let f : ⊥ = cc in f);
+      sound = λ r reading e. absurd (none-some reading (sym (nothing-kept (length s.resources) r) ∙ e));
     }
-  where
-    none-at : (n r : ℕ) → reading_of (replicate n None) r ≡ None
-    none-at zero r = refl
-    none-at (suc n) zero = refl
-    none-at (suc n) (suc r) = none-at n r
+
+-- and all tasks are on dirty resources
+pub all-dirty : (s : SystemLists) (x : List Bound) (i : ℕ) → IsSystem s → i < length s.tasks → TasksOn s (IsDirty s (replicate (length s.resources) None) x) i
+all-dirty s x i rules less =
+    let entry : IsTask s (task_at s i) = rules.tasks i no_task less in
+    (less, (entry.placed, λ clean. none-some clean.0 (sym (nothing-kept (length s.resources) (task_at s i).res.0) ∙ clean.1)))

@@ -3,5 +3,6 @@
 
 mod report;
 
+pub use cpa_local::{path_best, path_worst};
 pub use cpa_text::Text;
 pub use report::{put_bound, put_summary_at, report_text, verdict};

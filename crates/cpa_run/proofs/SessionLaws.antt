@@ -10,11 +10,11 @@ use Rattle.cpa_edit.specs.declared.edit.Edit.{Edit}
 use Rattle.cpa_edit.specs.declared.edit.EditRefusal.{EditRefusal}
 use Rattle.cpa_edit.specs.declared.script.Step.{Step}
 use Rattle.cpa_edit.specs.declared.script.Step.TheVariants.{Report, Change}
-use Rattle.cpa_edit.specs.Edited.{edited, or_unchanged}
+use Rattle.cpa_edit.specs.Edited.{edited, edited_by, or_unchanged}
 use Rattle.cpa_edit.proofs.EditLaws.{edits-keep_rules}
 use Rattle.cpa_call.specs.Answers.{Answer}
 use Rattle.cpa_run.specs.Answers.{IsReport}
-use Rattle.cpa_run.specs.Session.{led_by, edit_text, system_after, IsStepText, IsSession}
+use Rattle.cpa_run.specs.Session.{led_by, edit_text, edits_of, system_after, with_edit, IsLed, IsStepText, IsSession}
 use Rattle.cpa_run.specs.Steps.{IsWritten, IsWrittenPart, IsUnderWay}
 use Rattle.cpa_edit.specs.Script.{AreNamed, IsNamedChange}
 use Rattle.cpa_call.specs.Answers.{Sends, SendsPart}
@@ -65,6 +65,29 @@ one-session (step ∷ rest) s a b h k =
 
 led-led : (a b : List ℕ) (later : Answer) → led_by a (led_by b later) ≡ led_by (a ++ b) later
 led-led a b later = λ i. record { status = later.status; text = sym (append_assoc a b later.text) i }
+
+-- what comes last
+
+led-more : (text : List ℕ) (rest : Answer → Type 0) (later answer : Answer) → answer ≡ led_by text later → IsLed (λ before. Unit {0}) rest later → IsLed (λ before. Unit {0}) rest answer
+led-more text rest later answer is h = record {
+  text = text ++ h.text;
+  later = h.later;
+  is_text = tt;
+  is_later = h.is_later;
+  answer_is = is ∙ ap (led_by text) h.answer_is ∙ led-led text h.text h.later;
+}
+
+edited-step : (s : SystemLists) (step : Step) (rest : List Edit) → edited_by (system_after s step) rest ≡ edited_by s (with_edit step rest)
+unfolding edited_by
+edited-step s Report rest = refl
+edited-step s (Change e) rest = refl
+
+pub ends-edited : (steps : List (ℕ × Step)) (s : SystemLists) (answer : Answer) → IsSession s steps answer → IsLed (λ before. Unit {0}) (IsReport (edited_by s (edits_of steps))) answer
+unfolding edited_by
+ends-edited [] s answer h = record { text = []; later = answer; is_text = tt; is_later = h; answer_is = refl }
+ends-edited (step ∷ rest) s answer h =
+    led-more h.text (IsReport (edited_by s (edits_of (step ∷ rest)))) h.later answer h.answer_is
+    (subst (λ (t : SystemLists). IsLed (λ before. Unit {0}) (IsReport t) h.later) (edited-step s step.1 (edits_of rest)) (ends-edited rest (system_after s step.1) h.later h.is_later))
 
 drop-at : (steps : List (ℕ × Step)) (k : ℕ) (step : ℕ × Step) → slice_get steps k ≡ Some step → drop k steps ≡ step ∷ drop (k + 1) steps
 drop-at steps k step is =

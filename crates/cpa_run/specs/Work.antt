@@ -6,6 +6,7 @@ use Rattle.cpa_units.specs.declared.places.TaskId.{TaskId}
 use Rattle.cpa_model.specs.SystemLists.{SystemLists}
 use Rattle.cpa_local.specs.Solution.{IsLeast}
 use Rattle.cpa_file.specs.Reading.{Accepted, reading_of}
+use Rattle.cpa_file.specs.Printed.{IsPrinted}
 use Rattle.cpa_edit.specs.Script.{AreNamed}
 use Rattle.cpa_report.specs.Report.{verdict}
 use Rattle.cpa_sim.specs.Outcome.{CanReplay, outcome_of}
@@ -37,10 +38,11 @@ use Rattle.cpa_call.specs.Answers.{Answer, reply}
 use Rattle.cpa_run.specs.Answers.{IsReport}
 use Rattle.cpa_run.specs.Session.{IsSession}
 
--- a file that stands for a system, in any layout
+-- a file that stands for a system: its document, as it is printed
 pub record IsFileOf (s : SystemLists) (answer : Answer) : Type 0 where
   pub status_is : answer.status ≡ Some 0
   pub stands : reading_of answer.text ≡ Accepted s
+  pub printed : IsPrinted s answer.text
 
 -- the summary of a made system, at its least solution
 pub record IsSummary (number size : ℕ) (s : SystemLists) (answer : Answer) : Type 0 where

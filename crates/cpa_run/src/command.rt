@@ -6,6 +6,7 @@ ghost use Rattle.cpa_call.specs.declared.ended.Stopped.TheVariants as stopped;
 ghost use Rattle.cpa_call.specs.Answers.{IsOfOutput, Sends};
 ghost use Rattle.cpa_call.specs.Lines.{cannot_read};
 ghost use Rattle.cpa_run.specs.Plan.{plan_of};
+ghost use Rattle.cpa_run.specs.Session.{SessionsEndEdited};
 ghost use Rattle.cpa_run.specs.Output.{IsOutput, SendsSome, IsUnread, OutputsExist, OutputsAreOne};
 
 use crate::loading::plan;
@@ -113,8 +114,9 @@ where
     }
 }
 
-/// Each call has an output, and one only.
+/// Each call has an output, and one only. A session ends with the report of the system after all edits of its script.
 pub fn outputs_have_laws()
     ensures exist { OutputsExist }
     ensures one { OutputsAreOne }
+    ensures edited { SessionsEndEdited }
 {}

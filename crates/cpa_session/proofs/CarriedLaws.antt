@@ -1,5 +1,5 @@
 -- Why the search may begin where it does, with the readings that are kept, and what is then dirty.
-use Rattle.std.proofs.Common.{◌≡◌, ℕ, ◌<◌, ◌≤◌, ◌||◌, ◌↔◌, length, replicate, Bool, true, false, List, Option, Some, None, refl, sym, ap, ◌∙◌, inl, inr, ◌⊎◌, subst, arith}
+use Rattle.std.proofs.Common.{◌≡◌, ℕ, ◌<◌, ◌≤◌, ◌||◌, ◌↔◌, length, Bool, true, false, List, Option, Some, None, refl, sym, ap, ◌∙◌, inl, inr, ◌⊎◌, subst, arith}
 use Rattle.std.proofs.lemmas.Bool.{cases_lt, cases_Bool, lt-ltb, le-ltb, or_cases, or_left, or_right}
 use Rattle.std.proofs.lemmas.List.{get_or_past}
 use Rattle.std.proofs.lemmas.List.FromFn.{length-map-range_with_len}
@@ -27,7 +27,6 @@ use Rattle.cpa_fix.specs.Rounds.{MayStart}
 use Rattle.cpa_local.specs.Raising.{IsRaising}
 use Rattle.cpa_session.specs.Spared.{place_before, IsSpared, AgreeApart}
 use Rattle.cpa_session.specs.Carried.{IsReached, carried_bound, carried, IsBeginning, carried_reading, AreCarried}
-use Rattle.cpa_session.proofs.KeepingLaws.{nothing-kept}
 use Rattle.cpa_session.proofs.SparedLaws.{IsReach, unread, same_task, leads_before, response_same}
 use Rattle.cpa_local.proofs.RaisedLaws.{least_up}
 use Rattle.cpa_session.proofs.LeastLaws.{least_same}
@@ -320,12 +319,3 @@ module _ (s t : SystemLists) (touched reached : List Bool) (was : ℕ → ℕ) (
   reached_marked last marked i on =
       let entry : IsTask t (task_at t i) = h.rules.tasks i no_task on.0 in
       marked i (on.0, reached-dirty (task_at t i).res.0 entry.placed on.1)
-
--- without readings all tasks are on dirty resources
-pub all-dirty : (s : SystemLists) (x : List Bound) (i : ℕ) → IsSystem s → i < length s.tasks → TasksOn s (IsDirty s (replicate (length s.resources) None) x) i
-all-dirty s x i rules less =
-    let entry : IsTask s (task_at s i) = rules.tasks i no_task less in
-    (less, (entry.placed, λ clean. none clean.0 (sym (nothing-kept (length s.resources) (task_at s i).res.0) ∙ clean.1)))
-  where
-    none : (reading : Reading) → None ≡ Some reading → ⊥
-    none reading e = let f : ⊥ = cc in f

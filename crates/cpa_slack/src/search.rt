@@ -1,11 +1,11 @@
 //! The search for the most ticks by which a task may grow.
 
-ghost use Rattle.std.specs.Prelude.{◌≡◌, ◌<◌, ◌≤◌, ◌+◌, ◌↔◌, IsTrue, length, IfOk, if◌then◌else◌};
+ghost use Rattle.std.specs.Prelude.{◌≡◌, ◌<◌, ◌≤◌, ◌+◌, ◌↔◌, IsTrue, length, IfOk, OnOk, if◌then◌else◌};
 ghost use Rattle.cpa_units.specs.declared.limits.TheConstants.{MAX_TASKS, MAX_EXECUTION};
 ghost use Rattle.cpa_units.specs.Bounds.{IsNowhereAbove};
 ghost use Rattle.cpa_model.specs.SystemLists.{task_at, path_at};
 ghost use Rattle.cpa_local.specs.Solution.{IsVector, least_of};
-ghost use Rattle.cpa_local.specs.Trails.{IsKept, NewMarksAre};
+ghost use Rattle.cpa_local.specs.Trails.{IsKept, NewMarksAre, AreMarked};
 ghost use Rattle.cpa_slack.specs.Slack.{longer, IsLonger, HoldsPath, HoldsAt, Holds, IsMostUpTo, IsSlack};
 
 use crate::slack::Slack;
@@ -45,8 +45,8 @@ fn all_hold(system: &System, x: &Vector) -> bool
     true
 }
 
-/// The least solution of a system, searched for from a vector nowhere above it. Where memory is
-/// refused, too, new marks are of the system's tasks alone.
+/// The least solution of a system, searched for from a vector nowhere above it. The system is analysed
+/// whole: every task of it is marked. Where memory is refused, too, new marks are of its tasks alone.
 fn least<H: Threads + Sync, R: Round>(
     rt: &H,
     alloc: Global,
@@ -62,6 +62,7 @@ fn least<H: Threads + Sync, R: Round>(
     ensures vector { IfOk result (IsVector system.now) }
     ensures kept { IsKept trail.old trail.new }
     ensures fresh { NewMarksAre trail.old trail.new (λ i. i < length system.now.tasks) }
+    ensures marked { OnOk result (AreMarked trail.new (λ i. i < length system.now.tasks)) }
 {
     system.has_rules();
     let kept = Readings::none(alloc, system)?;
@@ -70,8 +71,8 @@ fn least<H: Threads + Sync, R: Round>(
 }
 
 /// By how much the greatest execution of a task may grow, in ticks, while each path with a deadline
-/// takes at most that in the least solution. The trail has room for 512 tasks. Where memory is
-/// refused, too, new marks are of the system's tasks alone.
+/// takes at most that in the least solution. The trail has room for 512 tasks. The system is analysed
+/// whole: every task of it is marked. Where memory is refused, too, new marks are of its tasks alone.
 pub fn find_slack<H: Threads + Sync, R: Round>(
     rt: &H,
     alloc: Global,
@@ -85,6 +86,7 @@ pub fn find_slack<H: Threads + Sync, R: Round>(
     ensures slack { IfOk result (IsSlack system.now task.0) }
     ensures kept { IsKept trail.old trail.new }
     ensures fresh { NewMarksAre trail.old trail.new (λ i. i < length system.now.tasks) }
+    ensures marked { OnOk result (AreMarked trail.new (λ i. i < length system.now.tasks)) }
 {
     system.has_rules();
     let start = floor(alloc, system)?;

@@ -1,5 +1,5 @@
 -- What a worker has found, and what becomes of it.
-use Rattle.std.proofs.Common.{◌≡◌, ℕ, zero, suc, ◌<◌, Bool, length, get_or, set, List, Option, Some, None, refl, sym, ap, ◌∙◌, inl, inr, ◌⊎◌, subst, replicate, arith, get_or-set_same, get_or-set_other, length-set}
+use Rattle.std.proofs.Common.{◌≡◌, ℕ, ◌<◌, Bool, length, get_or, set, List, Option, Some, None, refl, sym, ap, ◌∙◌, inl, inr, ◌⊎◌, subst, replicate, arith, get_or-set_same, get_or-set_other, length-set}
 use Rattle.std.proofs.lemmas.Bool.{cases_eq, cases_lt, false≢true}
 use Rattle.std.proofs.lemmas.List.{get_or_past, length-replicate}
 use Rattle.cpa_units.specs.declared.bound.Bound.{Bound}
@@ -13,6 +13,7 @@ use Rattle.cpa_local.specs.Solution.{IsVector, least_of}
 use Rattle.cpa_local.specs.Trails.{Marks, IsMarked, IsKept, NewMarksAre, AreMarked}
 use Rattle.cpa_fix.specs.declared.readings.Reading.{Reading}
 use Rattle.cpa_fix.specs.Readings.{reading_of, IsSound}
+use Rattle.cpa_fix.proofs.SolveLaws.{nothing-kept}
 use Rattle.cpa_local.specs.Rising.{TasksOn, IsRaised, AgreeOutside}
 use Rattle.cpa_board.specs.Seats.{BoardId, SeatView, IsBetween, has_seen}
 use Rattle.cpa_board.specs.Machine.{greater}
@@ -144,17 +145,12 @@ finding-grows s dirty starts r seen words more up h =
 
 -- ---- all findings of a worker
 
-none-at : (n r : ℕ) → reading_of (replicate n None) r ≡ None
-none-at zero r = refl
-none-at (suc n) zero = refl
-none-at (suc n) (suc r) = none-at n r
-
 none_some : (m : Reading) → None ≡ Some m → ⊥
 none_some m e = cc
 
 pub findings-none : (s : SystemLists) (dirty : List Bool) (starts : List Bound) (found : List (Option Reading)) (words : List ℕ) (trail : Marks) → found ≡ replicate (length s.resources) None → ((i : ℕ) → IsMarked trail i → ⊥) → AreFindings s dirty starts found words trail
 findings-none s dirty starts found words trail none unmarked =
-    let lacks : (r : ℕ) (m : Reading) → reading_of found r ≡ Some m → ⊥ = λ r m e. none_some m (sym (ap (λ (f : List (Option Reading)). reading_of f r) none ∙ none-at (length s.resources) r) ∙ e) in
+    let lacks : (r : ℕ) (m : Reading) → reading_of found r ≡ Some m → ⊥ = λ r m e. none_some m (sym (ap (λ (f : List (Option Reading)). reading_of f r) none ∙ nothing-kept (length s.resources) r) ∙ e) in
     record {
       long = ap length none ∙ length-replicate (length s.resources) None;
       sound = λ r m e. absurd (lacks r m e);

@@ -15,6 +15,7 @@ returns-in-Ok-clause-printed c =
       members = ms;
       document = rw (c.in_ok-from_slice-in-Ok.ensures.items ∙ bytes) (document_of-read (string_bytes c.in-Ok.text) ms utf8 (c.in-Ok.ensures.reads_back (shallow c.args.system.now ms c.in_ok-document.ensures.value)));
       same = c.in_ok-document.ensures.value;
+      layout = rw (c.in_ok-from_slice-in-Ok.ensures.items ∙ bytes) c.in-Ok.ensures.text;
     }
 
 pub unreachable-requires : goal.unreachable-requires
