@@ -125,12 +125,20 @@ sed 's/period = 10 /period = 70 /; s/period = 20 /period = 100 /; s/best = 1, wo
 s/best = 2, worst = 7/best = 62, worst = 62/' two_tasks.toml >"$work/long_window.toml"
 printf 'event,sa,%d\n' 0 70 140 210 280 350 420 490 560 630 >"$work/long_window.csv"
 printf 'event,sb,%d\n' 0 100 200 300 400 500 600 >>"$work/long_window.csv"
+# Two processors that are asked for too much, so that a search by two workers starts the second one.
+printf '%s\n' 'format = 1' 'resource = [{ name = "p", kind = "preemptive" }, { name = "q", kind = "preemptive" }]' \
+  'source = [{ name = "s", period = 10 }]' 'task = [' \
+  '  { name = "a", on = "p", after = "s", best = 1, worst = 6, priority = 1 },' \
+  '  { name = "b", on = "p", after = "s", best = 1, worst = 6, priority = 2 },' \
+  '  { name = "c", on = "q", after = "s", best = 1, worst = 6, priority = 1 },' \
+  '  { name = "d", on = "q", after = "s", best = 1, worst = 6, priority = 2 },' ']' >"$work/too_much.toml"
 # Edits of a system with several activators: some are made, and the first and the last of the removals are refused.
 printf 'remove m\nadd o cpu m 1 2 3\nsource sb 25 0 0\nreport\nexec m 1 2\nadd r q o 1 1 9\nremove r\nremove n\n' >"$work/lists.txt"
 printf 'm,0,3\nm,3,6\nn,3,5\nn,6,8\n' >"$work/lists.csv"
 try 100000 1 analyse two_tasks.toml
 try 100000 1 analyse car_network.toml
 try 100000 1 analyse crossing_chains.toml --workers 2
+try 100000 1 analyse "$work/too_much.toml" --workers 2
 try 100000 1 session two_tasks.toml "$work/reports.txt"
 try 100000 1 session two_tasks.toml "$work/script.txt"
 try 100000 1 session crossing_chains.toml crossing_chains.script.txt

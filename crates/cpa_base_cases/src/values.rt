@@ -39,6 +39,17 @@ fn vectors_are_copied_and_changed(rt: HostRuntime) -> Result<(), Fail> {
     Ok(())
 }
 
+/// Bounds are ordered as numbers, with `Overload` last.
+#[test]
+fn bounds_are_ordered(rt: HostRuntime) {
+    let greatest = Bound::Within(10_000_000);
+    assert!(rt;
+        Bound::Within(1) < Bound::Within(2)
+            && Bound::Within(2) < greatest
+            && greatest < Bound::Overload
+    );
+}
+
 #[test]
 fn frames_have_lengths(rt: HostRuntime) {
     let mut wrong = None;

@@ -8,7 +8,7 @@ use cpa_model::System;
 use cpa_units::Bound::{Overload, Within};
 use cpa_units::{Bound, ResId, ResSet, TaskId};
 use cpa_workers::{Gate, NoGate, Shared};
-use gates::{IN_TURN, MEET, held};
+use gates::{FREE, IN_TURN, MEET, held};
 use std::alloc::Global;
 use std::sync::atomic::Ordering::SeqCst;
 use std::test::Fail;
@@ -80,15 +80,19 @@ fn analyses_meet(rt: HostRuntime) -> Result<(), Fail> {
     Ok(())
 }
 
-/// However many workers there are, the bounds are those of one thread without a board.
+/// However many workers there are, the bounds are those of one thread without a board. Through a gate all of them come; with
+/// none as many as pay, which is one here.
 #[test]
 fn workers_agree(rt: HostRuntime) -> Result<(), Fail> {
     let alloc = rt.alloc();
     let system = read_system(alloc, ENDLESS_JITTER.as_bytes())?;
     let mut right = finds_bounds(&rt, alloc, &system, &mut OneByOne)?;
+    let mut paying = Shared::new(2, NoGate);
+    needs_shared(&paying);
+    right = right && finds_bounds(&rt, alloc, &system, &mut paying)?;
     for workers in [1, 2, 3, 64] {
-        let mut round = Shared::new(workers, NoGate);
-        needs_shared(&round);
+        let (gate, _meetings) = held(alloc, FREE)?;
+        let mut round: Shared<Box<dyn Gate>> = Shared::new(workers, gate);
         right = right && finds_bounds(&rt, alloc, &system, &mut round)?;
     }
     assert!(rt; right);

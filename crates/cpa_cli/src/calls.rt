@@ -3,7 +3,9 @@
 ghost use Rattle.std.specs.Prelude.{◌≤◌};
 
 use cpa_io::{MemoryFiles, MemorySink};
-use cpa_run::run;
+use cpa_run::{run, run_with};
+use cpa_units::ResId;
+use cpa_workers::Gate;
 use std::alloc::{AllocError, Global};
 use std::process::Abort;
 use std::test::Fail;
@@ -80,6 +82,31 @@ pub fn call<R: AllocGlobal + Threads + Sync>(
     Ok((status, sink))
 }
 
+/// The same without faults, with rounds through a gate.
+pub fn call_with<R: AllocGlobal + Threads + Sync>(
+    rt: &R,
+    words: &[&str],
+    option: &[&str],
+    texts: &[(&str, &str)],
+    gate: Box<dyn Gate>,
+) -> Result<(u8, MemorySink), AllocError> {
+    let alloc = rt.alloc();
+    let given = given_words(alloc, words, option)?;
+    let held = held_files(alloc, texts, None)?;
+    let mut files = MemoryFiles::new(alloc, held, Vec::new(alloc));
+    let mut sink = MemorySink::new(alloc, 4096, Vec::new(alloc));
+    let status = run_with(rt, alloc, given.as_slice(), &mut files, &mut sink, gate);
+    Ok((status, sink))
+}
+
+/// A gate that holds nobody. Through it as many workers come as the words ask for, and not only those that pay.
+#[derive(Drop)]
+struct Open;
+
+impl Gate for Open {
+    fn enter(&self, _res: ResId) {}
+}
+
 /// Whether a text consists of these pieces.
 pub fn is_joined(text: &[u8], pieces: &[&str]) -> bool {
     let mut rest = text;
@@ -108,17 +135,32 @@ pub const NO_OPTION: Options = &[&[]];
 /// Several numbers of workers, which are in no answer.
 pub const WORKERS: Options = &[&["--workers", "1"], &["--workers", "2"], &["--workers=8"]];
 
+/// Whether a call of a table answers as it tells, with an option; where there is one, also where all workers come.
+fn answers<R: AllocGlobal + Threads + Sync>(
+    rt: &R,
+    (words, texts, status, pieces): &Call,
+    option: &[&str],
+) -> Result<bool, AllocError> {
+    let (seen, sink) = call(rt, words, option, texts, None, &NO_FAULTS)?;
+    let right = seen == *status && is_joined(sink.sent(), pieces);
+    if option.is_empty() {
+        return Ok(right);
+    }
+    let gate: Box<dyn Gate> = Box::new(rt.alloc(), Open)?;
+    let (seen, sink) = call_with(rt, words, option, texts, gate)?;
+    Ok(right && seen == *status && is_joined(sink.sent(), pieces))
+}
+
 /// Tries each call of a table with each of the options.
 pub fn try_calls<R: AllocGlobal + Threads + Sync + Abort>(
     rt: &R,
     calls: &[Call],
     options: Options,
 ) -> Result<(), Fail> {
-    for (words, texts, status, pieces) in calls {
+    for it in calls {
         for option in options {
-            let (seen, sink) = call(rt, words, option, texts, None, &NO_FAULTS)?;
-            let right = seen == *status && is_joined(sink.sent(), pieces);
-            assert!(rt; right, "{pieces:?}");
+            let right = answers(rt, it, option)?;
+            assert!(rt; right, "{:?}", it.3);
         }
     }
     Ok(())

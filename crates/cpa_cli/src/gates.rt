@@ -1,10 +1,8 @@
 //! What workers pass, and what a gate sees of them: that analyses run beside each other, and which there are.
 
 use crate::anew::edit_once;
-use crate::calls::{given_words, held_files};
+use crate::calls::call_with;
 use crate::cases::{CROSSING_CHAINS, CROSSING_CHAINS_REPORT, ENDLESS_JITTER};
-use cpa_io::{MemoryFiles, MemorySink};
-use cpa_run::run_with;
 use cpa_units::ResId;
 use cpa_workers::{Gate, Shared};
 use std::alloc::{AllocError, Global};
@@ -73,28 +71,12 @@ fn new_gate(alloc: Global, holds: bool) -> Result<(Box<dyn Gate>, Arc<Seen>), Al
     Ok((Box::new(alloc, gate)?, seen))
 }
 
-/// The sink of a call over a system held as `sys`, and a script or a trace held as `scr`.
-fn call_with<R: AllocGlobal + Threads + Sync>(
-    rt: &R,
-    words: &[&str],
-    texts: &[(&str, &str)],
-    gate: Box<dyn Gate>,
-) -> Result<MemorySink, AllocError> {
-    let alloc = rt.alloc();
-    let given = given_words(alloc, words, &[])?;
-    let held = held_files(alloc, texts, None)?;
-    let mut files = MemoryFiles::new(alloc, held, Vec::new(alloc));
-    let mut sink = MemorySink::new(alloc, 4096, Vec::new(alloc));
-    run_with(rt, alloc, given.as_slice(), &mut files, &mut sink, gate);
-    Ok(sink)
-}
-
 /// The first analyses of two workers are under way at the same time.
 #[test]
 fn two_analyses_meet(rt: HostRuntime) -> Result<(), Fail> {
     let (gate, seen) = new_gate(rt.alloc(), true)?;
     let words: &[&str] = &["analyse", "sys", "--workers", "2"];
-    let sink = call_with(&rt, words, &[("sys", CROSSING_CHAINS)], gate)?;
+    let (_, sink) = call_with(&rt, words, &[], &[("sys", CROSSING_CHAINS)], gate)?;
     assert!(rt; seen.met.load(SeqCst) >= 2 && seen.missed.load(SeqCst) == 0);
     assert!(rt; sink.sent() == CROSSING_CHAINS_REPORT.as_bytes());
     Ok(())
@@ -110,14 +92,15 @@ fn edit_meets(rt: HostRuntime) -> Result<(), Fail> {
     Ok(())
 }
 
-/// How often each of three resources is analysed in a call.
+/// How often each of three resources is analysed in a call, over a system held as `sys` and a script or a trace held as `scr`.
 fn count_calls<R: AllocGlobal + Threads + Sync>(
     rt: &R,
     words: &[&str],
     script: &str,
 ) -> Result<[u64; 3], AllocError> {
     let (gate, seen) = new_gate(rt.alloc(), false)?;
-    call_with(rt, words, &[("sys", ENDLESS_JITTER), ("scr", script)], gate)?;
+    let texts: &[(&str, &str)] = &[("sys", ENDLESS_JITTER), ("scr", script)];
+    call_with(rt, words, &[], texts, gate)?;
     let [first, second, third] = &seen.came;
     Ok([first.load(SeqCst), second.load(SeqCst), third.load(SeqCst)])
 }

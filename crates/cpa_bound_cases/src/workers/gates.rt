@@ -39,6 +39,9 @@ pub(crate) const IN_TURN: Places = [(0, 1), (1, 2), (2, 2)];
 /// one thread the first is held too long.
 pub(crate) const MEET: Places = [(0, 1), (1, 0), (1, 0)];
 
+/// Holds nobody, since what an analysis waits for is that it has begun itself.
+pub(crate) const FREE: Places = [(0, 0), (1, 1), (2, 2)];
+
 /// Holds analyses until others have begun.
 #[derive(Drop)]
 struct Holding {
