@@ -1,7 +1,7 @@
 # shellcheck shell=bash disable=SC2154
 # The words of `lokwurmi`, help, and the version. `here` is the folder of the repository.
 version=1.0
-# the toolchains that have proved the whole repository
+# the toolchains that have proved the whole repository, the second one up to the last few clauses
 kits=(rattle-kit-13b rattle-kit-13f)
 commands=(analyse session simulate generate load hammer assign slack buffers audit schedule)
 

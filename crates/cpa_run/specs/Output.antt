@@ -29,7 +29,7 @@ abbrev pub SendsSome : Plan Work → Option (List ℕ) → Option (List ℕ) →
 SendsSome (Do (work.Generate number size)) before now = (now ≡ before) ⊎ SendsPart (IsDone (work.Generate number size)) before now
 SendsSome plan before now = SendsPart (IsAnswerTo plan) before now
 
--- two answers to one call: a made system's file may be laid out in several ways, and all else is the same
+-- two answers to one call: of two files of a made system it is said that both stand for it, and all else is the same
 abbrev pub AreAlike : Plan Work → Answer → Answer → Type 0
 AreAlike (Do (work.Generate number size)) a b = (a.status ≡ b.status) × (reading_of a.text ≡ reading_of b.text)
 AreAlike plan a b = a ≡ b
