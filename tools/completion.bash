@@ -65,16 +65,16 @@ _lokwurmi_operand() {
   [[ ${file:0:2} != \~/ ]] || file=$HOME/${file:2}
   case ${given[0]}.${#given[@]} in
   generate.* | load.* | hammer.[23]) ;;
-  analyse.1 | session.1 | simulate.1 | hammer.1 | assign.1 | slack.1 | buffers.1 | audit.1 | schedule.1) _lokwurmi_files "$word" .toml ;;
+  analyse.1 | session.1 | simulate.1 | hammer.1 | assign.1 | slack.1 | buffers.1 | audit.1 | schedule.1 | chain.1) _lokwurmi_files "$word" .toml ;;
   session.2) _lokwurmi_files "$word" .txt ;;
   simulate.2 | buffers.2 | audit.2 | audit.3 | schedule.2) _lokwurmi_files "$word" .csv ;;
   assign.2) mapfile -t COMPREPLY < <(compgen -W "$(_lokwurmi_names resource "$file")" -- "$word") ;;
-  slack.2) mapfile -t COMPREPLY < <(compgen -W "$(_lokwurmi_names task "$file")" -- "$word") ;;
+  slack.2 | chain.[2-9] | chain.[12][0-9] | chain.3[0-3]) mapfile -t COMPREPLY < <(compgen -W "$(_lokwurmi_names task "$file")" -- "$word") ;;
   esac
 }
 
 _lokwurmi() {
-  local word=${COMP_WORDS[COMP_CWORD]} number has_workers='' commands="analyse session simulate generate load hammer assign slack buffers audit schedule"
+  local word=${COMP_WORDS[COMP_CWORD]} number has_workers='' commands="analyse session simulate generate load hammer assign slack buffers audit schedule chain"
   local -a given=() found=()
   COMPREPLY=()
   _lokwurmi_read

@@ -3,7 +3,7 @@
 version=1.0
 # the toolchains that have proved the whole repository, the second one up to the last few clauses
 kits=(rattle-kit-13b rattle-kit-13f)
-commands=(analyse session simulate generate load hammer assign slack buffers audit schedule)
+commands=(analyse session simulate generate load hammer assign slack buffers audit schedule chain)
 
 # Sets of a command: its words, whether it takes --workers N too, what it writes, what its status tells beside 0, and the words
 # of an example.
@@ -55,6 +55,10 @@ describe() {
     words="FILE TRACE" writes="the schedule of the run under a trace"
     example="examples/crossing_chains.toml examples/crossing_chains.trace.csv"
     ;;
+  chain)
+    words="FILE TASK [TASK..]" writes="how late a chain reacts, how old data gets"
+    example="examples/effects.toml sense filter act" statuses="2: a bound is overload"
+    ;;
   *) return 1 ;;
   esac
 }
@@ -68,6 +72,7 @@ explain() {
   SCHEDULE) echo "what ran from when to when (\"Recorded schedules\")" ;;
   RESOURCE) echo "the name of a preemptive or CAN resource in FILE" ;;
   TASK) echo "the name of a task in FILE" ;;
+  "[TASK..]") echo "up to 31 more, in the order of the chain" ;;
   NUMBER) echo "0 to 4294967295: another number makes others" ;;
   SIZE) echo "how many chains, 0 to 128" ;;
   TRACES) echo "how many of them, 1 to 10000" ;;

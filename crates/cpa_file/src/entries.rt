@@ -42,7 +42,7 @@ fn required_kind(entry: &Value, key: &str) -> Result<KindWord, ReadFault>
     }
 }
 
-/// What stands in the file as an entry of its own.
+/// What stands in a file as an entry of its own.
 pub trait Entry: Drop {
     ghost use Rattle.std.specs.Prelude.{Bool, Option};
     ghost use Rattle.toml.specs.Data.{Data};
@@ -201,8 +201,9 @@ fn texts(alloc: Global, value: &Value) -> Result<RawList, ReadFault>
     }
 }
 
+/// The array of texts at a key that must be there; `Malformed` where it is absent, no array, or has what is no text.
 #[tactic(auto, unfolding(crate::specs::Fields::required))]
-fn required_texts(alloc: Global, entry: &Value, key: &str) -> Result<RawList, ReadFault>
+pub fn required_texts(alloc: Global, entry: &Value, key: &str) -> Result<RawList, ReadFault>
     ensures { Gives result (required as_texts key.now (view entry.now)) }
 {
     match entry.get(key) {
@@ -265,7 +266,9 @@ impl Entry for Raw {
 /// Why a list of entries was not read.
 #[derive(Clone, Copy, Debug, PartialEq, Eq)]
 pub enum ListFault {
+    /// The first malformed entry stands in this place, from 1.
     At(u64),
+    /// Out of memory.
     Memory,
 }
 

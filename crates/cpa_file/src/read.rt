@@ -26,7 +26,8 @@ pub enum FileRefusal {
     Memory,
 }
 
-fn format_of(document: &Value) -> Option<i64>
+/// The integer at the key `format` of a document, if there is one.
+pub fn format_of(document: &Value) -> Option<i64>
     ensures { result ≡ integer_at (codes "format") (view document.now) }
 {
     match document.get("format") {
@@ -145,9 +146,9 @@ fn read_draft(alloc: Global, document: &Value) -> Result<Draft, FileRefusal>
     read_lists(alloc, has_lists(format), document)
 }
 
-/// The document that the bytes are.
+/// The document that the bytes are; `NotToml` exactly where they are none, or `Memory`.
 #[tactic(auto, unfolding(crate::specs::Document::document_of))]
-fn read_document(alloc: Global, bytes: &[u8]) -> Result<Value, FileRefusal>
+pub fn read_document(alloc: Global, bytes: &[u8]) -> Result<Value, FileRefusal>
     ensures { GivesDocument result (document_of bytes.now) }
 {
     match toml::table_from_slice(alloc, bytes) {

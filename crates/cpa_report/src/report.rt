@@ -141,7 +141,8 @@ fn put_tasks(text: &mut Text, system: &System, x: &Vector) -> Result<(), NoMemor
     Ok(())
 }
 
-pub(crate) fn put_deadline(text: &mut Text, deadline: Option<u64>) -> Result<(), NoMemory>
+/// Writes a deadline; a hyphen where there is none.
+pub fn put_deadline(text: &mut Text, deadline: Option<u64>) -> Result<(), NoMemory>
     ensures { OnOk result (text.new ≡ text.old ++ deadline_text deadline) }
 {
     match deadline {
@@ -150,7 +151,8 @@ pub(crate) fn put_deadline(text: &mut Text, deadline: Option<u64>) -> Result<(),
     }
 }
 
-pub(crate) fn put_outcome(text: &mut Text, outcome: Outcome) -> Result<(), NoMemory>
+/// Writes the verdict on a deadline.
+pub fn put_outcome(text: &mut Text, outcome: Outcome) -> Result<(), NoMemory>
     ensures { OnOk result (text.new ≡ text.old ++ outcome_text outcome) }
 {
     match outcome {

@@ -1,0 +1,90 @@
+-- Where bounds hold, the bounds of chains do.
+use Rattle.std.proofs.Common.{◌≡◌, ℕ, ◌+◌, ◌-◌, ◌<◌, ◌≤◌, List, length, arith}
+use Rattle.std.specs.List.{range_with_len}
+use Rattle.cpa_units.specs.declared.bound.Bound.{Bound}
+use Rattle.cpa_units.specs.declared.bound.Bound.TheVariants.{Within}
+use Rattle.cpa_units.specs.declared.places.TaskId.{TaskId}
+use Rattle.cpa_units.specs.Bounds.{bound_of, sum_bounds}
+use Rattle.cpa_model.specs.Rules.{IsSystem}
+use Rattle.cpa_model.specs.SystemLists.{SystemLists}
+use Rattle.cpa_trace.specs.Trace.{TraceLists, Obeys}
+use Rattle.cpa_sound.specs.BoundsHold.{HasJob, arrival_of, stream_of, SourcesStayNear, HoldIn}
+use Rattle.cpa_sound.proofs.Soundness.{closed_vectors_bound_every_run, least_solutions_bound_every_run, each_job_has_a_stream}
+use Rattle.cpa_effects.specs.Bounds.{wait_of, task_in, last_in, forward, backward, through, latency_of, reaction_of, age_of}
+use Rattle.cpa_effects.specs.Effects.{Reads, ReadWithin, HasEnded, FollowsOn, IsFirstToRead, GoesForward, GoesBackward}
+use Rattle.cpa_effects.specs.Laws.{IsChain, ChainHolds, HeldBoundsBoundChains, ClosedVectorsBoundChains, LeastSolutionsBoundChains, OneStreamGoesOn}
+use Rattle.cpa_effects.proofs.SumLaws.{add-up, climb}
+use Rattle.cpa_effects.proofs.JobTimes.{ends-soon}
+use Rattle.cpa_effects.proofs.StepLaws.{reads-soon, knows-soon, has-late}
+use Rattle.cpa_effects.proofs.AnswerLaws.{answers}
+use Rattle.cpa_effects.proofs.FedLaws.{feeds}
+
+module _ (s : SystemLists) (x : List Bound) (tr : TraceLists) (rules : IsSystem s) (obeys : Obeys s tr) (hold : HoldIn s x tr) (near : SourcesStayNear s tr) (tasks : List TaskId) (chain : IsChain s tasks) where
+  there : (k : ℕ) → k < length tasks → (task_in tasks k).0 < length s.tasks
+  there k less = chain.there k (record { 0 = 0 }) less
+
+  -- when the job in each place arrives
+  abbrev comes : ℕ → (ℕ → ℕ) → ℕ → ℕ
+  comes t jobs k = arrival_of s tr t (task_in tasks k).0 (jobs k)
+
+  -- steps that keep their costs, and a last job that ends
+  passes : (t : ℕ) (jobs : ℕ → ℕ) (ended r : ℕ) (step : ℕ → Bound) → through step x tasks ≡ Within r
+      → ((k c : ℕ) → k + 1 < length tasks → step k ≡ Within c → comes t jobs (k + 1) ≤ comes t jobs k + c)
+      → HasEnded s tr t (last_in tasks).0 (jobs (length tasks - 1)) ended → ended ≤ comes t jobs 0 + r
+  passes t jobs ended r step is steps last =
+      let both = add-up (sum_bounds step (range_with_len 0 (length tasks - 1))) (bound_of x (last_in tasks).0) r is in
+      let risen = climb (comes t jobs) step (length tasks - 1) both.left both.left_is (λ k c less cost. steps k c (omega (arith, less)) cost) in
+      let h = there (length tasks - 1) (omega (arith, chain.some)) in
+      let soon = ends-soon s tr rules obeys t x hold (last_in tasks).0 both.right (jobs (length tasks - 1)) ended h both.right_is last in
+      omega (arith, risen, soon, both.sum)
+
+  keeps_latency : (r t : ℕ) (reads : Reads) (jobs : ℕ → ℕ) (ended : ℕ) → latency_of s x tasks ≡ Within r → ReadWithin s tr t reads → GoesForward s tr t reads tasks jobs ended → ended ≤ comes t jobs 0 + r
+  unfolding latency_of
+  keeps_latency r t reads jobs ended is within goes =
+      passes t jobs ended r (forward s x tasks) is
+      (λ k c less cost. knows-soon s tr rules obeys t x hold near reads (task_in tasks k) (task_in tasks (k + 1)) (jobs k) (jobs (k + 1)) c (there k (omega (arith, less))) (there (k + 1) less) within cost (goes.steps k less))
+      goes.last
+
+  keeps_reaction : (r t time : ℕ) (reads : Reads) (jobs : ℕ → ℕ) (ended : ℕ) → reaction_of s x tasks ≡ Within r → ReadWithin s tr t reads
+      → IsFirstToRead s tr t reads (task_in tasks 0).0 (jobs 0) time → FollowsOn s tr t (task_in tasks 0).0 (jobs 0) → GoesForward s tr t reads tasks jobs ended → ended ≤ time + r
+  unfolding reaction_of
+  keeps_reaction r t time reads jobs ended is within first follows goes =
+      let both = add-up (wait_of s x (task_in tasks 0).0) (latency_of s x tasks) r is in
+      let soon = reads-soon s tr rules obeys t x hold near reads (task_in tasks 0).0 (jobs 0) time both.left (there 0 chain.some) both.left_is within first follows in
+      let rest = keeps_latency both.right t reads jobs ended both.right_is within goes in
+      omega (arith, soon, rest, both.sum)
+
+  keeps_age : (r t : ℕ) (reads : Reads) (jobs : ℕ → ℕ) (ended : ℕ) → age_of s x tasks ≡ Within r → ReadWithin s tr t reads → GoesBackward s tr t reads tasks jobs ended → ended ≤ comes t jobs 0 + r
+  unfolding age_of
+  keeps_age r t reads jobs ended is within goes =
+      passes t jobs ended r (backward s x tasks) is
+      (λ k c less cost. has-late s tr rules obeys t x hold near reads (task_in tasks k) (task_in tasks (k + 1)) (jobs k) (jobs (k + 1)) c (there k (omega (arith, less))) (there (k + 1) less) within cost (goes.steps k less))
+      goes.last
+
+  pub holds : ChainHolds s x tr tasks
+  holds = record { latency = keeps_latency; reaction = keeps_reaction; answered = answers s x tr rules obeys hold near tasks chain; age = keeps_age; fed = feeds s x tr rules obeys hold near tasks chain }
+
+-- ---- the laws
+
+pub held_bounds_bound_chains : HeldBoundsBoundChains
+held_bounds_bound_chains s x rules bounds tr obeys near tasks chain = holds s x tr rules obeys (bounds tr obeys) near tasks chain
+
+pub closed_vectors_bound_chains : ClosedVectorsBoundChains
+closed_vectors_bound_chains s x rules closed = held_bounds_bound_chains s x rules (closed_vectors_bound_every_run s x rules closed)
+
+pub least_solutions_bound_chains : LeastSolutionsBoundChains
+least_solutions_bound_chains s x rules least = held_bounds_bound_chains s x rules (least_solutions_bound_every_run s x rules least)
+
+pub one_stream_goes_on : OneStreamGoesOn
+one_stream_goes_on s tr rules obeys t i k h one has q less =
+    let own : (l : ℕ) → HasJob s tr t i l → stream_of s tr t i l ≡ q =
+    λ l there. omega (arith, (each_job_has_a_stream s tr rules obeys t i l h there).0, one, less) in
+    record {
+      before = k;
+      is_before = omega arith;
+      before_own = own k (omega (arith, has));
+      after = k + 1;
+      is_after = omega arith;
+      there = has;
+      after_own = own (k + 1) has;
+    }

@@ -1,0 +1,7 @@
+pub mod JobTimes
+pub mod SumLaws
+pub mod StepLaws
+pub mod AnswerLaws
+pub mod FedLaws
+pub mod EffectLaws
+pub mod CallLaws

@@ -1,0 +1,220 @@
+-- One step of a chain: how much later a job of the next task arrives than the one before.
+use Rattle.std.proofs.Common.{◌≡◌, ℕ, zero, suc, ◌+◌, ◌-◌, ◌<◌, ◌≤◌, Bool, true, false, cond, eqb, length, List, [], ◌∷◌, Option, Some, None, refl, sym, ◌∙◌, ap, subst, inl, inr, arith}
+use Rattle.std.specs.List.{list_any}
+use Rattle.std.proofs.lemmas.Bool.{cases_lt, cases_Bool, false≢true, eqb-true}
+use Rattle.std.proofs.lemmas.List.{length-map}
+use Rattle.cpa_units.specs.declared.bound.Bound.{Bound}
+use Rattle.cpa_units.specs.declared.bound.Bound.TheVariants.{Within}
+use Rattle.cpa_units.specs.declared.places.SourceId.{SourceId}
+use Rattle.cpa_units.specs.declared.places.TaskId.{TaskId}
+use Rattle.cpa_units.specs.Bounds.{bound_of, bound_plus}
+use Rattle.cpa_events.specs.declared.stream.Stream.{Stream}
+use Rattle.cpa_events.specs.Events.{Model, IsModel}
+use Rattle.cpa_window.specs.Rivals.{IsInput}
+use Rattle.cpa_model.specs.declared.entries.Activator.{Activator}
+use Rattle.cpa_model.specs.declared.entries.Activator.TheVariants.{Task}
+use Rattle.cpa_model.specs.Rules.{IsSystem}
+use Rattle.cpa_model.specs.SystemLists.{SystemLists, task_at, source_at, streams_of, is_activated_by}
+use Rattle.cpa_local.specs.Inputs.{input}
+use Rattle.cpa_local.proofs.ResponseLaws.{input-is_input}
+use Rattle.cpa_local.proofs.StreamLaws.{input-follows}
+use Rattle.cpa_trace.specs.Trace.{TraceLists, Obeys}
+use Rattle.cpa_sched.proofs.OptionLaws.{some-injective}
+use Rattle.cpa_sound.specs.JobStreams.{is_same}
+use Rattle.cpa_sound.specs.BoundsHold.{HasJob, arrival_of, causes_at, IsStartedBy, SourcesStayNear, HoldIn}
+use Rattle.cpa_sound.proofs.CauseStreams.{same-is}
+use Rattle.cpa_sound.proofs.KeepsCauses.{Starts}
+use Rattle.cpa_effects.specs.declared.steps.Step.{Step}
+use Rattle.cpa_effects.specs.declared.steps.Step.TheVariants.{Register, Merge, Activation}
+use Rattle.cpa_effects.specs.ChainText.{step_word, place_word}
+use Rattle.cpa_effects.specs.Bounds.{step_between, task_in, next_event, wait_in, wait_of, reading_wait, writing_wait}
+use Rattle.cpa_effects.specs.Effects.{Reads, ReadWithin, IsAmidst, FollowsOn, IsFirstToRead, ReadsFirst, IsFirstToKnow, ReadsLast, HasDataOf}
+use Rattle.cpa_effects.proofs.SumLaws.{within-injective, overload-no_number, add-up, HasNext, next-has}
+use Rattle.cpa_effects.proofs.JobTimes.{end-by, arrivals-order, starter-there, started-at, starts-one, causes-activated, ends-soon, arrived-late, next-arrives}
+
+-- ---- kinds of steps
+
+is_activation : Step → Bool
+is_activation Register = false
+is_activation Merge = false
+is_activation Activation = true
+
+only-then : (starts alone : Bool) → cond starts (cond alone Activation Merge) Register ≡ Activation → (starts ≡ true) × (alone ≡ true)
+unfolding is_activation
+only-then true true e = (refl, refl)
+only-then true false e = absurd (false≢true (ap is_activation e))
+only-then false alone e = absurd (false≢true (ap is_activation e))
+
+or-nothing : (b : Bool) → list_any (λ (c : Bool). c) (b ∷ []) ≡ true → b ≡ true
+or-nothing true e = refl
+or-nothing false e = e
+
+member : (a x : Activator) → list_any (is_same a) (x ∷ []) ≡ true → a ≡ x
+member a x h =
+    elim (cases_Bool (is_same a x)) [
+      | inl e ↦ same-is a x e
+      | inr e ↦ absurd (false≢true (rw e at h))
+    ]
+
+-- the one member of a list is each that is in it
+alone : (list : List Activator) (a b : Activator) → length list ≡ 1 → list_any (is_same a) list ≡ true → list_any (is_same b) list ≡ true → a ≡ b
+alone [] a b one h g = absurd (omega (arith, one))
+alone (x ∷ []) a b one h g = member a x h ∙ sym (member b x g)
+alone (x ∷ y ∷ list) a b one h g = absurd (omega (arith, one))
+
+module _ (s : SystemLists) (tr : TraceLists) (rules : IsSystem s) (obeys : Obeys s tr) (t : ℕ) where
+  -- where a task is the only activator of another, it started each of its jobs
+  pub sole-starter : (p c : TaskId) (n : ℕ) → c.0 < length s.tasks → step_between s p.0 c.0 ≡ Activation → HasJob s tr t c.0 n → (k : ℕ) × IsStartedBy s tr t p k c n
+  sole-starter p c n h sole has =
+      let two = only-then (is_activated_by s p.0 c.0) (eqb (length (task_at s c.0).after) 1) sole in
+      let one : length (task_at s c.0).after ≡ 1 = eqb-true (length (task_at s c.0).after) 1 two.1 in
+      let starts : Starts s c.0 (Task p) = two.0 in
+      let by : (causes_at s tr t c.0 n).by ≡ Task p = alone (task_at s c.0).after (causes_at s tr t c.0 n).by (Task p) one (causes-activated s tr rules obeys t c.0 n h has) starts in
+      ((causes_at s tr t c.0 n).number, (has, λ j. record { by = by j; number = (causes_at s tr t c.0 n).number }))
+
+  module _ (x : List Bound) (hold : HoldIn s x tr) (near : SourcesStayNear s tr) where
+    -- a wait that is a number is that of some stream of a task
+    pub record Waits (i w : ℕ) : Type 0 where
+      pub model : Model
+      pub bounded : input s x i ≡ Some model
+      pub next : HasNext model (next_event model)
+      pub wait : w ≡ next_event model - 1
+      pub inside : next.place < length (streams_of s i)
+
+    pub waits : (i w : ℕ) → i < length s.tasks → wait_of s x i ≡ Within w → Waits i w
+    unfolding wait_of
+    waits i w h is = by_input (input s x i) refl
+      where
+        by_input : (m : Option Model) → input s x i ≡ m → Waits i w
+        by_input None e = absurd (overload-no_number w (sym (ap wait_in e) ∙ is))
+        by_input (Some m) e =
+            let regular : IsModel m = subst IsInput e (input-is_input s x rules i h) in
+            let next = next-has m regular.some in
+            let long : length m ≡ length (streams_of s i) =
+            sym (length-map m (λ (st : Stream). st.period)) ∙ (ap length (input-follows s x rules i m h e) ∙ length-map (streams_of s i) (λ (k : SourceId). (source_at s k.0).period)) in
+            record {
+              model = m;
+              bounded = e;
+              next = next;
+              wait = sym (within-injective (next_event m - 1) w (sym (ap wait_in e) ∙ is));
+              inside = omega (arith, next.within, long);
+            }
+
+    -- the next job of a task comes no later than its wait and a tick, where its streams go on
+    next-soon : (i k w : ℕ) → i < length s.tasks → wait_of s x i ≡ Within w → IsAmidst s tr t i k → HasJob s tr t i (k + 1) × (arrival_of s tr t i (k + 1) ≤ arrival_of s tr t i k + w + 1)
+    next-soon i k w h is amidst =
+        let v = waits i w h is in
+        let goes = amidst v.next.place v.inside in
+        let close = next-arrives s tr rules obeys t x hold near i k v.next.place v.model v.next.stream h v.bounded v.next.is goes in
+        (omega (arith, goes.is_after, goes.there), omega (arith, close, v.next.next_is, v.wait))
+
+    -- the first job that reads at a time or later comes no later than the task's wait after it
+    pub reads-soon : (reads : Reads) (i k time w : ℕ) → i < length s.tasks → wait_of s x i ≡ Within w → ReadWithin s tr t reads → IsFirstToRead s tr t reads i k time → FollowsOn s tr t i k
+        → arrival_of s tr t i k ≤ time + w
+    reads-soon reads i k time w h is within first follows =
+        let before : ℕ = follows.0 in
+        let soon = next-soon i before w h is follows.2 in
+        let there : HasJob s tr t i before = omega (arith, first.there, follows.1) in
+        let read = within.arrived i before there in
+        let missed = first.first before (omega (arith, follows.1)) in
+        let e : before + 1 ≡ k = sym follows.1 in
+        let close = rw e at soon.1 in
+        omega (arith, close, read, missed)
+
+    -- a job that another started arrives within that one's bound
+    started-soon : (p c : TaskId) (k n r : ℕ) → c.0 < length s.tasks → bound_of x p.0 ≡ Within r → IsStartedBy s tr t p k c n → arrival_of s tr t c.0 n ≤ arrival_of s tr t p.0 k + r
+    started-soon p c k n r h number is =
+        let known = starter-there s tr rules obeys t p c k n h is in
+        ends-soon s tr rules obeys t x hold p.0 r k (arrival_of s tr t c.0 n) known.1 number (started-at s tr rules obeys t p c k n h is)
+
+    -- forward
+    pub knows-soon : (reads : Reads) (p c : TaskId) (k n cost : ℕ) → p.0 < length s.tasks → c.0 < length s.tasks → ReadWithin s tr t reads
+        → bound_plus (bound_of x p.0) (reading_wait (step_between s p.0 c.0) (wait_of s x c.0)) ≡ Within cost → IsFirstToKnow s tr t reads p k c n
+        → arrival_of s tr t c.0 n ≤ arrival_of s tr t p.0 k + cost
+    knows-soon reads p c k n cost hp hc within is knows =
+        let both = add-up (bound_of x p.0) (reading_wait (step_between s p.0 c.0) (wait_of s x c.0)) cost is in
+        elim knows [
+          | inl started ↦ omega (arith, started-soon p c k n both.left hc both.left_is started, both.sum)
+          | inr reader ↦
+              let soon = ends-soon s tr rules obeys t x hold p.0 both.left k reader.written hp both.left_is reader.has in
+              elim (cases_Bool (is_activated_by s p.0 c.0)) [
+                | inl activates ↦ omega (arith, activated reader activates, soon, both.sum)
+                | inr not_so ↦
+                    elim reader.goes_on [
+                      | inl activates ↦ omega (arith, activated reader activates, soon, both.sum)
+                      | inr follows ↦
+                          let register : step_between s p.0 c.0 ≡ Register = rw not_so refl in
+                          let wait : wait_of s x c.0 ≡ Within both.right = ap (λ step. reading_wait step (wait_of s x c.0)) (sym register) ∙ both.right_is in
+                          omega (arith, reads-soon reads c.0 n reader.written both.right hc wait within reader.first follows, soon, both.sum)
+                    ]
+              ]
+        ]
+      where
+        -- it reads no later than the job that the end starts
+        activated : (reader : ReadsFirst s tr t reads p k c n) → is_activated_by s p.0 c.0 ≡ true → arrival_of s tr t c.0 n ≤ reader.written
+        activated reader activates =
+            let own = starts-one s tr rules obeys t p c k reader.written hc activates reader.has in
+            let at = started-at s tr rules obeys t p c k own.0 hc own.1 in
+            let same : reader.written ≡ arrival_of s tr t c.0 own.0 = some-injective reader.written (arrival_of s tr t c.0 own.0) (sym reader.has.1 ∙ at.1) in
+            let read = within.arrived c.0 own.0 own.1.0 in
+            let not_after : n ≤ own.0 =
+            elim (cases_lt own.0 n) [
+              | inl less ↦ absurd (omega (arith, reader.first.first own.0 less, read, same))
+              | inr more ↦ more
+            ] in
+            omega (arith, arrivals-order s tr rules obeys t c.0 n own.0 hc own.1.0 not_after, same)
+
+    -- backward
+    pub has-late : (reads : Reads) (p c : TaskId) (k n cost : ℕ) → p.0 < length s.tasks → c.0 < length s.tasks → ReadWithin s tr t reads
+        → bound_plus (bound_of x p.0) (writing_wait (step_between s p.0 c.0) (wait_of s x p.0)) ≡ Within cost → HasDataOf s tr t reads p k c n
+        → arrival_of s tr t c.0 n ≤ arrival_of s tr t p.0 k + cost
+    has-late reads p c k n cost hp hc within is data_of =
+        let both = add-up (bound_of x p.0) (writing_wait (step_between s p.0 c.0) (wait_of s x p.0)) cost is in
+        elim data_of [
+          | inl started ↦ omega (arith, started-soon p c k n both.left hc both.left_is started, both.sum)
+          | inr reader ↦ by_step both.left both.right both.left_is reader both.sum (step_between s p.0 c.0) refl both.right_is
+        ]
+      where
+        -- the job that started it had ended
+        activated : (r : ℕ) → bound_of x p.0 ≡ Within r → ReadsLast s tr t reads p k c n → step_between s p.0 c.0 ≡ Activation → arrival_of s tr t c.0 n ≤ arrival_of s tr t p.0 k + r
+        activated r number reader sole =
+            let own = sole-starter p c n hc sole reader.there in
+            let at = started-at s tr rules obeys t p c own.0 n hc own.1 in
+            let read = within.arrived c.0 n reader.there in
+            let not_after : own.0 ≤ k =
+            elim (cases_lt k own.0) [
+              | inl less ↦ absurd (omega (arith, reader.last.last own.0 (arrival_of s tr t c.0 n) less at, read))
+              | inr more ↦ more
+            ] in
+            omega (arith, started-soon p c own.0 n r hc number own.1, arrivals-order s tr rules obeys t p.0 own.0 k hp reader.last.has.0 not_after)
+
+        renewed : (r w : ℕ) → bound_of x p.0 ≡ Within r → wait_of s x p.0 ≡ Within w → ReadsLast s tr t reads p k c n → IsAmidst s tr t p.0 k → arrival_of s tr t c.0 n ≤ arrival_of s tr t p.0 k + (r + w)
+        renewed r w number wait reader amidst =
+            let soon = next-soon p.0 k w hp wait amidst in
+            let read = within.arrived c.0 n reader.there in
+            let ended = within.ended c.0 n reader.ended reader.is in
+            let seen : reads c.0 n ≤ t = omega (arith, ended, end-by s tr rules obeys t c.0 n reader.ended hc reader.is) in
+            let late = arrived-late s tr rules obeys t x hold p.0 r (k + 1) (reads c.0 n) hp number soon.0 seen (λ later has. reader.last.last (k + 1) later (omega arith) has) in
+            omega (arith, read, late, soon.1)
+
+        by_step : (r w : ℕ) → bound_of x p.0 ≡ Within r → ReadsLast s tr t reads p k c n → r + w ≡ cost → (step : Step) → step_between s p.0 c.0 ≡ step → writing_wait (step_between s p.0 c.0) (wait_of s x p.0) ≡ Within w
+            → arrival_of s tr t c.0 n ≤ arrival_of s tr t p.0 k + cost
+        by_step r w number reader sum step same wait =
+            elim reader.goes_on [
+              | inl sole ↦ omega (arith, activated r number reader sole, sum)
+              | inr amidst ↦ by_kind step same (ap (λ kind. writing_wait kind (wait_of s x p.0)) (sym same) ∙ wait) amidst
+            ]
+          where
+            by_kind : (step : Step) → step_between s p.0 c.0 ≡ step → writing_wait step (wait_of s x p.0) ≡ Within w → IsAmidst s tr t p.0 k → arrival_of s tr t c.0 n ≤ arrival_of s tr t p.0 k + cost
+            by_kind Activation same wait amidst = omega (arith, activated r number reader same, sum)
+            by_kind Register same wait amidst = omega (arith, renewed r w number wait reader amidst, sum)
+            by_kind Merge same wait amidst = omega (arith, renewed r w number wait reader amidst, sum)
+
+-- ---- words
+
+pub word-later : (s : SystemLists) (tasks : List TaskId) (k : ℕ) → (k ≡ 0 → ⊥) → step_word (step_between s (task_in tasks (k - 1)).0 (task_in tasks k).0) ≡ place_word s tasks k
+word-later s tasks zero later = absurd (later refl)
+word-later s tasks (suc k) later =
+    let e : suc k - 1 ≡ k = omega arith in
+    let f : k + 1 ≡ suc k = omega arith in
+    (λ i. step_word (step_between s (task_in tasks (e i)).0 (task_in tasks (sym f i)).0))

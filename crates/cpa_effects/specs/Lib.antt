@@ -1,0 +1,5 @@
+pub mod Bounds
+pub mod Calls
+pub mod ChainText
+pub mod Effects
+pub mod Laws

@@ -1,0 +1,219 @@
+//! The program's one call: a file and the names of tasks in, the bounds of the chain out.
+
+ghost use Rattle.std.specs.Prelude.{◌≡◌, ◌≢◌, ◌⊎◌, ◌<◌, ◌≤◌, ◌∷◌, [], ◌++◌, true, length, map, All, Err, IfOk, IfErr, OnOk, OnErr, string_bytes};
+ghost use Rattle.cpa_units.specs.declared.limits.TheConstants.{MAX_CHAIN};
+ghost use Rattle.cpa_io.specs.Causes.{grown, Rose, SentPart};
+ghost use Rattle.cpa_local.specs.Solution.{IsVector, least_of};
+ghost use Rattle.cpa_call.specs.declared.ended.Stopped.TheVariants as stopped;
+ghost use Rattle.cpa_call.specs.Answers.{IsOfOutput, Sends, SendsPart};
+ghost use Rattle.cpa_call.specs.Ends.{IsEndOf, HasStatus, IsUnreadFile, IsNoUnread};
+ghost use Rattle.cpa_call.specs.Lines.{cannot_read};
+ghost use Rattle.cpa_call.specs.Plans.{Do};
+ghost use Rattle.cpa_effects.specs.Calls.{chain_refused, refused_at, chain_of, chain_by, plan_for, plan_of, IsOutput, IsUnread, IsUnreadCall};
+ghost use Rattle.cpa_effects.specs.ChainText.{chain_text, chain_status};
+
+use crate::text::{chain_text, status};
+use crate::words::accept;
+use cpa_call::ended::{Ended, Reply, Stopped};
+use cpa_call::lines::words_line;
+use cpa_call::loading::load_system;
+use cpa_call::sending::send;
+use cpa_fix::{OneByOne, Readings, solve};
+use cpa_io::{Files, Sink};
+use cpa_local::{Trail, floor};
+use cpa_model::System;
+use cpa_text::Text;
+use cpa_units::{NoMemory, TaskId, Vector};
+use std::alloc::Global;
+use std::thread::Threads;
+
+/// A chain of tasks of a system.
+#[derive(Drop)]
+pub(crate) struct Chained {
+    pub(crate) system: System,
+    pub(crate) tasks: Vec<TaskId>,
+}
+
+/// The line where no task has the name in a place.
+fn chain_line(alloc: Global, place: u64) -> Result<Vec<u8>, NoMemory>
+    ensures { IfOk result (λ v. v.items ≡ chain_refused place) }
+{
+    let mut text = Text::new(alloc);
+    text.put_count(b"chain refused ", place)?;
+    text.put(b"\n")?;
+    Ok(text.into_bytes())
+}
+
+/// How a call ends where no task has the name in a place.
+fn refuse(alloc: Global, place: u64) -> Ended
+    ensures ended { IsEndOf (refused_at place) result }
+    ensures status { HasStatus result }
+    ensures unread { IsNoUnread result }
+{
+    match chain_line(alloc, place) {
+        Ok(text) => Ended::Refused(Reply { status: 18, text }),
+        Err(NoMemory) => Ended::Memory,
+    }
+}
+
+fn push_task(tasks: &mut Vec<TaskId>, task: TaskId) -> Result<(), NoMemory>
+    ensures { OnOk result (tasks.new.items ≡ tasks.old.items ++ task ∷ []) }
+{
+    tasks.push(task)?;
+    Ok(())
+}
+
+/// The tasks with these names.
+fn find_tasks(alloc: Global, system: &System, names: &[String]) -> Result<Vec<TaskId>, Ended>
+    ensures planned { IfOk result (λ v. chain_by system.now (map string_bytes names.now) ≡ Do (record { system = system.now; tasks = v.items })) }
+    ensures long { IfOk result (λ v. length v.items ≡ length names.now) }
+    ensures there { IfOk result (λ v. All (λ (i : TaskId). i.0 < length system.now.tasks) v.items) }
+    ensures ended { IfErr result (IsEndOf (chain_by system.now (map string_bytes names.now))) }
+    ensures status { IfErr result HasStatus }
+    ensures unread { IfErr result IsNoUnread }
+{
+    let mut tasks = Vec::new(alloc);
+    for k in 0..names.len() {
+        match system.find_task(names[k].as_bytes()) {
+            Some(task) => push_task(&mut tasks, task)?,
+            None => return Err(refuse(alloc, k as u64 + 1)),
+        }
+    }
+    Ok(tasks)
+}
+
+/// The chain of tasks with these names, of the system that a file stands for.
+fn load_chain<F: Files>(
+    alloc: Global,
+    files: &mut F,
+    file: &str,
+    names: &[String],
+) -> Result<Chained, Ended>
+    ensures planned { F.told files.old ≡ true → IfOk result (λ c. plan_for (F.held files.old) (record { file = file.now; tasks = map string_bytes names.now }) ≡ Do (chain_of c)) }
+    ensures long { IfOk result (λ c. length c.tasks.items ≡ length names.now) }
+    ensures there { IfOk result (λ c. All (λ (i : TaskId). i.0 < length c.system.tasks) c.tasks.items) }
+    ensures ended { F.told files.old ≡ true → IfErr result (IsEndOf (plan_for (F.held files.old) (record { file = file.now; tasks = map string_bytes names.now }))) }
+    ensures status { IfErr result HasStatus }
+    ensures unread { IfErr result (IsUnreadFile (λ last. last ≡ file.now) (F.faults files.old) (F.faults files.new) (F.last_failed files.new)) }
+{
+    let system = load_system(alloc, files, file)?;
+    let tasks = find_tasks(alloc, &system, names)?;
+    Ok(Chained { system, tasks })
+}
+
+/// The chain that the words name.
+fn plan<F: Files>(alloc: Global, words: &[String], files: &mut F) -> Result<Chained, Ended>
+    ensures planned { F.told files.old ≡ true → IfOk result (λ c. plan_of (map string_bytes words.now) (F.held files.old) ≡ Do (chain_of c)) }
+    ensures some { IfOk result (λ c. 0 < length c.tasks.items) }
+    ensures few { IfOk result (λ c. length c.tasks.items ≤ MAX_CHAIN) }
+    ensures there { IfOk result (λ c. All (λ (i : TaskId). i.0 < length c.system.tasks) c.tasks.items) }
+    ensures ended { F.told files.old ≡ true → IfErr result (IsEndOf (plan_of (map string_bytes words.now) (F.held files.old))) }
+    ensures status { IfErr result HasStatus }
+    ensures unread { IfErr result (IsUnreadCall (map string_bytes words.now) (F.faults files.old) (F.faults files.new) (F.last_failed files.new)) }
+{
+    match accept(words) {
+        Some(named) => load_chain(alloc, files, named.file, named.tasks),
+        None => Err(Ended::Refused(Reply {
+            status: 10,
+            text: words_line(alloc)?,
+        })),
+    }
+}
+
+/// The bounds of the least solution.
+fn least_bounds<H: Threads + Sync>(
+    rt: &H,
+    alloc: Global,
+    system: &System,
+) -> Result<Vector, NoMemory>
+    ensures least { IfOk result (λ x. x ≡ least_of system.now) }
+    ensures vector { IfOk result (λ x. IsVector system.now x) }
+{
+    let start = floor(alloc, system)?;
+    let kept = Readings::none(alloc, system)?;
+    let mut trail = Trail::with_room(alloc, system.tasks())?;
+    let solution = solve(rt, alloc, system, start, kept, &mut OneByOne, &mut trail)?;
+    Ok(solution.bounds)
+}
+
+/// Sends the bounds of a chain, with their status.
+fn write<H: Threads + Sync, K: Sink>(
+    rt: &H,
+    alloc: Global,
+    system: &System,
+    tasks: &[TaskId],
+    sink: &mut K,
+) -> Result<u8, Stopped>
+    requires some { 0 < length tasks.now }
+    requires few { length tasks.now ≤ MAX_CHAIN }
+    requires there { All (λ (i : TaskId). i.0 < length system.now.tasks) tasks.now }
+    ensures status { IfOk result (λ status. status ≡ chain_status system.now (least_of system.now) tasks.now) }
+    ensures small { IfOk result (λ status. status ≤ 2) }
+    ensures sends { OnOk result (K.sent sink.new ≡ grown (K.sent sink.old) (chain_text system.now (least_of system.now) tasks.now)) }
+    ensures part { OnErr result (SentPart (K.sent sink.old) (K.sent sink.new) (chain_text system.now (least_of system.now) tasks.now)) }
+    ensures rises { K.faults sink.old ≤ K.faults sink.new }
+    ensures failed { result ≡ Err stopped.Sink → Rose (K.faults sink.old) (K.faults sink.new) }
+{
+    let bounds = least_bounds(rt, alloc, system)?;
+    let text = chain_text(alloc, system, &bounds, tasks)?;
+    send(sink, status(system, &bounds, tasks), text.as_slice())
+}
+
+/// Does what the words ask for, or sends the line of a refusal.
+fn answer<H: Threads + Sync, F: Files, K: Sink>(
+    rt: &H,
+    alloc: Global,
+    words: &[String],
+    files: &mut F,
+    sink: &mut K,
+) -> Result<u8, Stopped>
+    ensures answered { F.told files.old ≡ true → IfOk result (λ status. status ≢ 11 → Sends (IsOutput (map string_bytes words.now) (F.held files.old)) status (K.sent sink.old) (K.sent sink.new)) }
+    ensures status { IfOk result (λ status. (status ≢ 20) × (status ≢ 30)) }
+    ensures unread { IfOk result (λ status. status ≡ 11 → IsUnread (map string_bytes words.now) (F.faults files.old) (F.faults files.new) (F.last_failed files.new)) }
+    ensures unread_line { IfOk result (λ status. status ≡ 11 → K.sent sink.new ≡ grown (K.sent sink.old) (cannot_read (F.last_failed files.new))) }
+    ensures part { F.told files.old ≡ true → OnErr result (SendsPart (IsOutput (map string_bytes words.now) (F.held files.old)) (K.sent sink.old) (K.sent sink.new) ⊎ (IsUnread (map string_bytes words.now) (F.faults files.old) (F.faults files.new) (F.last_failed files.new) × SentPart (K.sent sink.old) (K.sent sink.new) (cannot_read (F.last_failed files.new)))) }
+    ensures rises { K.faults sink.old ≤ K.faults sink.new }
+    ensures failed { result ≡ Err stopped.Sink → Rose (K.faults sink.old) (K.faults sink.new) }
+{
+    match plan(alloc, words, files) {
+        Ok(chained) => write(rt, alloc, &chained.system, chained.tasks.as_slice(), sink),
+        Err(Ended::Refused(reply)) => send(sink, reply.status, reply.text.as_slice()),
+        Err(Ended::Unread(line)) => send(sink, 11, line.as_slice()),
+        Err(Ended::Memory) => Err(Stopped::Memory),
+    }
+}
+
+/// Writes the bounds on reaction time and data age of a chain of tasks, at the least solution, and answers the status.
+///
+/// The words are those after the program's name: the system file and 1 to 32 names of tasks, none of which is empty or begins
+/// with a hyphen. The statuses: 0 with the bounds sent; 2 where one of them is missing; 10, 12 to 14 and 18 a refusal, 11 a file
+/// that couldn't be read, each with its line sent; 20 a fault of the sink; 30 want of memory.
+pub fn write_chain<H: Threads + Sync, F: Files, K: Sink>(
+    rt: &H,
+    alloc: Global,
+    words: &[String],
+    files: &mut F,
+    sink: &mut K,
+) -> u8
+    // Over files that tell what they hold, status and bytes sent are those of the output.
+    ensures answered { F.told files.old ≡ true → IsOfOutput result → Sends (IsOutput (map string_bytes words.now) (F.held files.old)) result (K.sent sink.old) (K.sent sink.new) }
+
+    // They are so, or memory was wanting, wherever neither count of faults rose.
+    ensures complete { F.told files.old ≡ true → ¬ (Rose (F.faults files.old) (F.faults files.new)) → ¬ (Rose (K.faults sink.old) (K.faults sink.new)) → result ≢ 30 → Sends (IsOutput (map string_bytes words.now) (F.held files.old)) result (K.sent sink.old) (K.sent sink.new) }
+
+    // The named file couldn't be loaded, and its line was sent.
+    ensures unread { result ≡ 11 → IsUnread (map string_bytes words.now) (F.faults files.old) (F.faults files.new) (F.last_failed files.new) }
+    ensures unread_line { result ≡ 11 → K.sent sink.new ≡ grown (K.sent sink.old) (cannot_read (F.last_failed files.new)) }
+
+    // The sink failed.
+    ensures unsent { result ≡ 20 → Rose (K.faults sink.old) (K.faults sink.new) }
+
+    // At a fault of the sink and at want of memory a prefix of the output was sent, or of the line of a file that couldn't be loaded.
+    ensures part { F.told files.old ≡ true → (result ≡ 20) ⊎ (result ≡ 30) → SendsPart (IsOutput (map string_bytes words.now) (F.held files.old)) (K.sent sink.old) (K.sent sink.new) ⊎ (IsUnread (map string_bytes words.now) (F.faults files.old) (F.faults files.new) (F.last_failed files.new) × SentPart (K.sent sink.old) (K.sent sink.new) (cannot_read (F.last_failed files.new))) }
+{
+    match answer(rt, alloc, words, files, sink) {
+        Ok(status) => status,
+        Err(Stopped::Sink) => 20,
+        Err(Stopped::Memory) => 30,
+    }
+}
