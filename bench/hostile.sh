@@ -346,7 +346,8 @@ for file in brackets nested braces tables; do expect 13 "not TOML $file" chains 
 for file in sections feeds comment string; do expect 18 'chains refused reason 1 file 0' chains two.toml "$file"; done
 expect 12 'too long longer' chains two.toml longer
 expect 12 'too long longer' chains longer pair
-expect 0 'summary chains 128 overload 0 missed 0' chains chains most_chains
+# waits of two periods and more, beside deadlines of one
+expect 1 'summary chains 128 overload 0 missed 128' chains chains most_chains
 expect 18 'chains refused reason 5 chain 1' chains two.toml most_chains
 expect 18 'chains refused reason 12 chain 129' chains chains more_chains
 expect 18 'chains refused reason 11 chain 1' chains chains long_chain
