@@ -12,3 +12,8 @@ pub record Gives (output : Answer → Type 0) (status : ℕ) (before now : List 
   pub status_is : answer.status ≡ Some status
   pub used_is : used ≡ length answer.text
   pub out_is : now ≡ over answer.text before
+
+-- no text is given: its length is told as 0, and the buffer is as before
+pub record GivesNothing (before now : List ℕ) (used : ℕ) : Type 0 where
+  pub used_is : used ≡ 0
+  pub out_is : now ≡ before

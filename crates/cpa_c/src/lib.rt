@@ -1,14 +1,14 @@
 //! The functions of lokwurmi.h.
 #![tactic(auto)]
 
-ghost use Rattle.std.specs.Prelude.{◌≡◌, ◌≢◌, [], codes, length};
+ghost use Rattle.std.specs.Prelude.{◌≡◌, ◌≢◌, [], codes, length, IfOk, IsUtf8};
 ghost use Rattle.std.specs.Result.{IsOkAnd};
 ghost use Rattle.cpa_words.specs.Words.{Analyse, Session, Simulate, Generate, Hammer, Assign, Slack, Buffers, Audit, AreTraces, IsNumber, IsSize, IsWithin};
 ghost use Rattle.cpa_words.specs.Commands.{asked};
 ghost use Rattle.cpa_run.specs.Plan.{plan_for};
 ghost use Rattle.cpa_run.specs.Output.{IsAnswerTo};
 ghost use Rattle.cpa_memory.specs.Held.{held_in, held_of};
-ghost use Rattle.cpa_c.specs.Given.{Gives, over};
+ghost use Rattle.cpa_c.specs.Given.{Gives, GivesNothing, over};
 
 use cpa_call::ended::Reply;
 use cpa_memory::{SCHEDULE, SCRIPT, SYSTEM, TRACE, Texts, call};
@@ -17,7 +17,7 @@ use cpa_units::limits::{MAX_NUMBER, MAX_SIZE, MAX_TRACES};
 use cpa_words::Command;
 use std::alloc::Global;
 
-/// Want of memory.
+/// Memory is out.
 const NO_MEMORY: u8 = 30;
 
 /// A number that is out of its range, or a name that is no text.
@@ -33,6 +33,8 @@ fn put(text: &[u8], out: &mut [u8])
 
 /// Gives a reply to the caller.
 fn give(reply: Result<Reply, NoMemory>, out: &mut [u8], used: &mut usize) -> u8
+    requires { IfOk reply (λ r. r.status ≢ 30) }
+    ensures wanting { result ≡ 30 → GivesNothing out.old out.new used.new }
     ensures told { result ≢ 30 → IsOkAnd reply (λ r. (result ≡ r.status) × (used.new ≡ length r.text.items) × (out.new ≡ over r.text.items out.old)) }
 {
     match reply {
@@ -51,12 +53,13 @@ fn give(reply: Result<Reply, NoMemory>, out: &mut [u8], used: &mut usize) -> u8
 /// Gives the answer to a command over texts.
 fn answer(alloc: Global, command: Command, texts: Texts, out: &mut [u8], used: &mut usize) -> u8
     requires { IsWithin (asked command) }
-    ensures { result ≢ 30 → Gives (IsAnswerTo (plan_for (held_in texts.entry) (asked command.entry))) result out.old out.new used.new }
+    ensures told { result ≢ 30 → Gives (IsAnswerTo (plan_for (held_in texts.entry) (asked command.entry))) result out.old out.new used.new }
+    ensures wanting { result ≡ 30 → GivesNothing out.old out.new used.new }
 {
     give(call(alloc, command, texts), out, used)
 }
 
-/// Gives no text, where a number is out of its range or a name is no text.
+/// Tells that no text is given, where a number is out of its range or a name is no text.
 fn refuse(used: &mut usize) -> u8
     ensures status { result ≡ 10 }
     ensures used { used.new ≡ 0 }
@@ -82,6 +85,7 @@ pub extern "C" fn lokwurmi_analyse(
     used: &mut usize,
 ) -> u8
     ensures told { result ≢ 30 → Gives (IsAnswerTo (plan_for (held_of system.now [] [] []) (Analyse (codes "system") 1))) result out.old out.new used.new }
+    ensures wanting { result ≡ 30 → GivesNothing out.old out.new used.new }
 {
     let texts = Texts {
         system,
@@ -106,6 +110,7 @@ pub extern "C" fn lokwurmi_session(
     used: &mut usize,
 ) -> u8
     ensures told { result ≢ 30 → Gives (IsAnswerTo (plan_for (held_of system.now script.now [] []) (Session (codes "system") (codes "script") 1))) result out.old out.new used.new }
+    ensures wanting { result ≡ 30 → GivesNothing out.old out.new used.new }
 {
     let texts = Texts {
         system,
@@ -131,6 +136,7 @@ pub extern "C" fn lokwurmi_simulate(
     used: &mut usize,
 ) -> u8
     ensures told { result ≢ 30 → Gives (IsAnswerTo (plan_for (held_of system.now [] trace.now []) (Simulate (codes "system") (codes "trace")))) result out.old out.new used.new }
+    ensures wanting { result ≡ 30 → GivesNothing out.old out.new used.new }
 {
     let texts = Texts {
         system,
@@ -155,6 +161,7 @@ pub extern "C" fn lokwurmi_buffers(
     used: &mut usize,
 ) -> u8
     ensures told { result ≢ 30 → Gives (IsAnswerTo (plan_for (held_of system.now [] trace.now []) (Buffers (codes "system") (codes "trace") 1))) result out.old out.new used.new }
+    ensures wanting { result ≡ 30 → GivesNothing out.old out.new used.new }
 {
     let texts = Texts {
         system,
@@ -181,6 +188,7 @@ pub extern "C" fn lokwurmi_audit(
     used: &mut usize,
 ) -> u8
     ensures told { result ≢ 30 → Gives (IsAnswerTo (plan_for (held_of system.now [] trace.now schedule.now) (Audit (codes "system") (codes "trace") (codes "schedule")))) result out.old out.new used.new }
+    ensures wanting { result ≡ 30 → GivesNothing out.old out.new used.new }
 {
     let texts = Texts {
         system,
@@ -206,6 +214,8 @@ pub extern "C" fn lokwurmi_generate(
     used: &mut usize,
 ) -> u8
     ensures told { IsNumber number → IsSize size → result ≢ 30 → Gives (IsAnswerTo (plan_for (held_of [] [] [] []) (Generate number size))) result out.old out.new used.new }
+    ensures refused { ¬ (IsNumber number × IsSize size) → (result ≡ 10) × GivesNothing out.old out.new used.new }
+    ensures wanting { result ≡ 30 → GivesNothing out.old out.new used.new }
 {
     if number > MAX_NUMBER || size > MAX_SIZE {
         return refuse(used);
@@ -234,6 +244,8 @@ pub extern "C" fn lokwurmi_hammer(
     used: &mut usize,
 ) -> u8
     ensures told { IsNumber number → AreTraces traces → result ≢ 30 → Gives (IsAnswerTo (plan_for (held_of system.now [] [] []) (Hammer (codes "system") number traces))) result out.old out.new used.new }
+    ensures refused { ¬ (IsNumber number × AreTraces traces) → (result ≡ 10) × GivesNothing out.old out.new used.new }
+    ensures wanting { result ≡ 30 → GivesNothing out.old out.new used.new }
 {
     if number > MAX_NUMBER || traces < 1 || traces > MAX_TRACES {
         return refuse(used);
@@ -261,7 +273,9 @@ pub extern "C" fn lokwurmi_assign(
     out: &mut [u8],
     used: &mut usize,
 ) -> u8
-    ensures told { result ≢ 10 → result ≢ 30 → Gives (IsAnswerTo (plan_for (held_of system.now [] [] []) (Assign (codes "system") resource.now))) result out.old out.new used.new }
+    ensures told { IsUtf8 resource.now → result ≢ 30 → Gives (IsAnswerTo (plan_for (held_of system.now [] [] []) (Assign (codes "system") resource.now))) result out.old out.new used.new }
+    ensures refused { ¬ (IsUtf8 resource.now) → (result ≡ 10) × GivesNothing out.old out.new used.new }
+    ensures wanting { result ≡ 30 → GivesNothing out.old out.new used.new }
 {
     let Ok(name) = std::str::from_utf8(resource) else {
         return refuse(used);
@@ -288,7 +302,9 @@ pub extern "C" fn lokwurmi_slack(
     out: &mut [u8],
     used: &mut usize,
 ) -> u8
-    ensures told { result ≢ 10 → result ≢ 30 → Gives (IsAnswerTo (plan_for (held_of system.now [] [] []) (Slack (codes "system") task.now 1))) result out.old out.new used.new }
+    ensures told { IsUtf8 task.now → result ≢ 30 → Gives (IsAnswerTo (plan_for (held_of system.now [] [] []) (Slack (codes "system") task.now 1))) result out.old out.new used.new }
+    ensures refused { ¬ (IsUtf8 task.now) → (result ≡ 10) × GivesNothing out.old out.new used.new }
+    ensures wanting { result ≡ 30 → GivesNothing out.old out.new used.new }
 {
     let Ok(name) = std::str::from_utf8(task) else {
         return refuse(used);

@@ -1,6 +1,6 @@
 //! One call.
 
-ghost use Rattle.std.specs.Prelude.{◌≡◌, IfOk};
+ghost use Rattle.std.specs.Prelude.{◌≡◌, ◌≢◌, IfOk};
 ghost use Rattle.cpa_words.specs.Words.{IsWithin};
 ghost use Rattle.cpa_words.specs.Commands.{asked};
 ghost use Rattle.cpa_call.specs.Answers.{reply};
@@ -17,10 +17,11 @@ use cpa_words::Command;
 use std::alloc::Global;
 
 /// What a command answers over texts in memory, on the calling thread: the status and all the text that `run` sends where words
-/// ask for the command and files hold the texts. The only error is want of memory.
+/// ask for the command and files hold the texts. The only error is that memory is out, which no status of an answer says.
 pub fn call(alloc: Global, command: Command, texts: Texts) -> Result<Reply, NoMemory>
     requires { IsWithin (asked command) }
-    ensures { IfOk result (λ r. IsAnswerTo (plan_for (held_in texts.entry) (asked command.entry)) (reply r.status r.text.items)) }
+    ensures answers { IfOk result (λ r. IsAnswerTo (plan_for (held_in texts.entry) (asked command.entry)) (reply r.status r.text.items)) }
+    ensures status { IfOk result (λ r. r.status ≢ 30) }
 {
     let mut files = texts;
     let mut written = Written::nothing(alloc);

@@ -6,5 +6,8 @@ use Rattle.cpa_c.proofs.GiveLaws.{gives-by}
 use Rattle.cpa_c.proofs.answer.Goals as goal
 
 pub returns : goal.returns
-returns c = λ enough.
-    gives-by (IsAnswerTo (plan_for (held_in c.args.texts) (asked c.args.command))) c.call.result c.give.result c.give.new.used c.args.out.now c.give.new.out c.call.ensures (c.give.ensures.told enough)
+returns c = record {
+  told = λ enough.
+      gives-by (IsAnswerTo (plan_for (held_in c.args.texts) (asked c.args.command))) c.call.result c.give.result c.give.new.used c.args.out.now c.give.new.out c.call.ensures.answers (c.give.ensures.told enough);
+  wanting = λ short. c.give.ensures.wanting short;
+}

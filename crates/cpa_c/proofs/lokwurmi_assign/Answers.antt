@@ -10,5 +10,7 @@ pub returns : goal.returns
 returns c = record {
   told = λ named enough.
       subst (λ (n : List ℕ). Gives (IsAnswerTo (plan_for (held_of c.args.system.now [] [] []) (Assign (codes "system") n))) c.answer.result c.args.out.now c.answer.new.out c.answer.new.used)
-      c.in-Ok.ensures.cases.0 (c.answer.ensures enough);
+      c.in-Ok.ensures.cases.0 (c.answer.ensures.told enough);
+  refused = λ no. absurd (no c.in-Ok.ensures.cases.1);
+  wanting = λ short. c.answer.ensures.wanting short;
 }

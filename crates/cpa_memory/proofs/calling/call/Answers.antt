@@ -13,5 +13,9 @@ returns c =
     let status = c.run_command-status.result in
     let read : status ≢ 11 = λ is. absurd (omega (arith, said.unread is)) in
     let sunk : status ≢ 20 = λ is. absurd (omega (arith, said.unsent is)) in
-    sent-all (IsAnswerTo (plan_for (held_in c.args.texts) (asked c.args.command))) status c.nothing-written.result.bytes.items c.run_command-status.new.sink.bytes.items c.nothing-written.ensures
-    (said.answered refl (read, sunk, c.if-status-eq30.false))
+    record {
+      answers =
+          sent-all (IsAnswerTo (plan_for (held_in c.args.texts) (asked c.args.command))) status c.nothing-written.result.bytes.items c.run_command-status.new.sink.bytes.items c.nothing-written.ensures
+          (said.answered refl (read, sunk, c.if-status-eq30.false));
+      status = c.if-status-eq30.false;
+    }
