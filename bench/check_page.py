@@ -1,13 +1,14 @@
 #!/usr/bin/env python3
-"""Tries the pages of tools/page.py in headless Chromium. Outside the gate; takes about a minute, and no network.
+"""Tries the pages of tools/page.py in headless Chromium. Outside the gate; takes a minute or some, and no network.
 
 For some of the examples a page is made, with a trace, a schedule and a script where there are some. It must load without an
 error and without asking for anything else, show the numbers of the report, of `simulate` and of `session`, and the load of
-each resource and of slots, sort each column both ways by mouse and by keyboard, filter, fit into a narrow window, be light and dark, and
-print. In windows of five widths the first column of a table leaves room for the others, the tables of a wide page aren't cut, and
-the lines between their rows go on under the fixed column. Pages of overloaded systems must tell what lies behind; what is told of random systems that are overloaded must be so:
-with a limit a hundred times as high a task that has too much work has no bound still, and each task without one has a cause.
-What page.py doesn't take is refused in a line.
+each resource and of slots, sort each column both ways by mouse and by keyboard, filter, fit into a narrow window, be light and
+dark, and print. In windows of five widths the first column of Paths leaves room for the others, the tables of a page with long
+names aren't cut from 1366 on, and the lines between their rows go on under the fixed column. Pages of overloaded systems must
+tell what lies behind; what is told of random systems that are overloaded must be so: with a limit a hundred times as high a
+task that has too much work has no bound still, and each task without one has a cause. What page.py doesn't take is refused in
+a line.
 
 A schedule that isn't among the examples is made by the step rules of check_runs.py. With --keep pictures of the pages, in
 light and dark, wide and narrow, the documents that they print, and the pages themselves stay in a folder.

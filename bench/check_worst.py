@@ -140,6 +140,15 @@ def check_one(program):
         check_late(words[0], first[1])
 
 
+def check_page(program):
+    """The lines that docs/TIGHTNESS.md shows are those of its call."""
+    with open(os.path.join(TOP, "docs", "TIGHTNESS.md"), encoding="utf-8") as it:
+        shown = re.search(r"^```\n(task b seen .*\n(?:late .*\n)+)```", it.read(), re.M)
+    with tempfile.TemporaryDirectory() as folder:
+        told = call(["long_window.toml", "b", "--to", os.path.join(folder, "worst.trace.csv")], program)[1].replace(folder + "/", "")
+    hold(shown and told == shown[1], f"docs/TIGHTNESS.md shows {shown and shown[1]}, and it is {told}")
+
+
 def check_all(name, program):
     """A table with its traces, and each path and task of it by itself."""
     with tempfile.TemporaryDirectory() as folder:
@@ -206,6 +215,7 @@ def main():
     program = os.path.abspath(reader.parse_args().program)
     check_refused(program)
     check_one(program)
+    check_page(program)
     for name in COMPARED:
         check_all(name, program)
     check_progress(program)
