@@ -1,5 +1,7 @@
-"""Packages that a tool needs beside Python's own library: told in a line where one is missing, and where they are installed for
-Debian's Python alone, the tool goes on there."""
+"""Packages that a tool needs beside Python's own library.
+
+Where one is missing the tool ends with a line, and where they are installed for Debian's Python alone it goes on there.
+"""
 import importlib
 import os
 import shutil
@@ -31,7 +33,8 @@ def is_debian() -> bool:
 def has_debian(modules: tuple[str, ...]) -> bool:
     """Whether Debian's Python has the modules, and is new enough for the tools."""
     try:
-        return not subprocess.run([DEBIAN, "-c", "import " + ", ".join(("tomllib", *modules))], capture_output=True, check=False).returncode
+        words = [DEBIAN, "-c", "import " + ", ".join(("tomllib", *modules))]
+        return subprocess.run(words, capture_output=True, check=False).returncode == 0
     except OSError:
         return False
 
@@ -45,8 +48,10 @@ def remedy(missing: list[str]) -> str:
 
 
 def need(*modules: str, status: int = 1) -> None:
-    """Comes back where this Python has the modules. Otherwise the tool goes on under Debian's Python where that has them, or ends
-    with a line that says what to install."""
+    """Comes back where this Python has the modules.
+
+    Otherwise the tool goes on under Debian's Python where that has them, or ends with a line that says what to install.
+    """
     missing = [it for it in modules if not is_here(it)]
     if not missing:
         return

@@ -399,6 +399,7 @@ class Search:
         rng = random.Random(f"{self.options.seed} {' '.join(target)}")
         plans = scope.first_plans(self.system, target, self.best)
         while not self.is_over(target, made, ends) and (plans or made < self.options.tries):
+            self.show(target, made, max(self.options.tries, made + len(plans)), last)
             if not plans:
                 picks = [pool[min(int(rng.expovariate(0.7)), len(pool) - 1)][1] for _ in range(TOGETHER)]
                 plans = [change(self.system, it, rng, scope.sources, scope.tasks) for it in picks]
@@ -408,7 +409,6 @@ class Search:
             self.best.take(some, answers, scope.span)
             pool += [(answer.get(target, -1), plan) for plan, answer in zip(some, answers)]
             pool = sorted(pool, key=lambda it: -it[0])[:6]
-            self.show(target, made, max(self.options.tries, made + len(plans)), last)
 
     def run(self):
         """Makes each search, and tells of each target as it was looked for."""
