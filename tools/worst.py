@@ -477,13 +477,14 @@ def late_in(system, events, jobs, target):
 
 
 def tell_late(judge, rows, targets, trace=None):
-    """A line for each target that a trace shows: which job is late there, and when."""
+    """A line for each target that a trace shows: which job is late there, and when; whether that could be told."""
     found = judge.jobs(rows)
     if found is None:
         print(f"worst.py: which job is late isn't told, as {judge.scheduler} has no command `schedule`", file=sys.stderr)
-        return
+        return False
     for target in targets:
         say(f"late {late_in(judge.system, *found, target)}" + (f" trace {trace}" if trace else ""))
+    return True
 
 
 def ratio_of(seen, bound):
@@ -573,11 +574,11 @@ def keep(options, judge, best, rows):
     """Writes the traces that are asked for, and tells which jobs are late in them."""
     if options.keep:
         os.makedirs(options.keep, exist_ok=True)
-        name = os.path.splitext(os.path.basename(options.file))[0]
+        name, is_told = os.path.splitext(os.path.basename(options.file))[0], True
         for number, (trace, shown) in enumerate(cover(judge, best, rows), 1):
             to = os.path.join(options.keep, f"{name}.worst{number}.csv")
             write(to, trace)
-            tell_late(judge, trace, shown, to)
+            is_told = is_told and tell_late(judge, trace, shown, to)
     if not options.all:
         for target, seen in rows.items():
             trace = shortest(judge, *best.found[target][1:], {target: seen})
@@ -604,7 +605,12 @@ def perform(options, folder):
     rows = tell(search, told)
     if options.all and not judge.interrupt.is_set():
         tell_sum(rows, bounds)
-    keep(options, judge, search.best, rows)
+    try:
+        keep(options, judge, search.best, rows)
+    except SystemExit:
+        # a call of `schedule` that the interrupt of a terminal ended
+        if not judge.interrupt.is_set():
+            raise
     if judge.interrupt.is_set():
         print(f"worst.py: interrupted in search {search.place + 1} of {len(targets)}: what is written was seen by then", file=sys.stderr)
         return 130
