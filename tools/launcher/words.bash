@@ -175,13 +175,93 @@ nearest() {
   echo "$found"
 }
 
-# What to say of words that aren't accepted: a command's own words, or for an unknown command the nearest and all.
+# Whether a word is a number in a range; else says what is wrong with it. in_range WHAT WORD LEAST MOST
+in_range() {
+  if [[ ! $2 =~ ^[0-9]{1,10}$ ]]; then
+    echo "$1 is ${2@Q}, and has to be a number of 1 to 10 digits alone, $3 to $4"
+  elif ((10#$2 < $3 || 10#$2 > $4)); then
+    echo "$1 is $2, and has to be $3 to $4"
+  else
+    return 0
+  fi
+  return 1
+}
+
+# What is wrong with a word in the place of FILE, NUMBER and the like. told_wrong SORT WORD
+told_wrong() {
+  if [ -z "$2" ]; then
+    echo "the word for ${1:-one more} is empty"
+  elif [[ $2 == -* && $1 =~ ^(FILE|SCRIPT|TRACE|SCHEDULE)$ ]]; then
+    echo "${2@Q} begins with a dash: write ./$2 for a file of that name"
+  elif [[ $2 == -* ]]; then
+    echo "${2@Q} begins with a dash, and no word but --workers does"
+  fi
+}
+
+# What is wrong with the number of words, where something is. told_count COMMAND GIVEN..
+told_count() {
+  local command=$1 wanted
+  shift
+  read -ra wanted <<<"$words"
+  if (($# < ${#wanted[@]})); then
+    echo "${wanted[*]:$#} $( ((${#wanted[@]} - $# == 1)) && echo is || echo are) missing"
+  elif (($# > ${#wanted[@]})); then
+    echo "$command takes $words, and here $( (($# == 1)) && echo "is 1 word" || echo "are $# words"); the first too many is ${*:${#wanted[@]}+1:1}"
+  fi
+}
+
+# Says what is wrong with the numbers among the words of the command that was described, where something is.
+told_numbers() {
+  local sort
+  for sort in $words; do
+    case $sort in
+    NUMBER) in_range NUMBER "$1" 0 4294967295 || return ;;
+    SIZE) in_range SIZE "$1" 0 128 || return ;;
+    TRACES) in_range TRACES "$1" 1 10000 || return ;;
+    esac
+    shift
+  done
+}
+
+# The first thing that is wrong with the words after a command that is known.
+told_fault() {
+  local command=$1 it given=() wanted seen='' fault
+  read -ra wanted <<<"$words"
+  shift
+  while (($# > 0)); do
+    it=$1
+    shift
+    if [[ $it != --workers && $it != --workers=* ]]; then
+      fault=$(told_wrong "${wanted[${#given[@]}]-}" "$it")
+      [ -z "$fault" ] || { echo "$fault" && return; }
+      given+=("$it")
+      continue
+    fi
+    [ -n "$workers" ] || { echo "$command takes no --workers" && return; }
+    [ -z "$seen" ] || { echo "--workers stands twice" && return; }
+    seen=yes
+    if [[ $it == --workers && $# -eq 0 ]]; then
+      echo "the number is missing behind --workers: 1 to 64"
+      return
+    elif [ "$it" = --workers ]; then
+      it=$1
+      shift
+    fi
+    in_range "the number of workers" "${it#--workers=}" 1 64 || return
+  done
+  fault=$(told_count "$command" "${given[@]}")
+  [ -z "$fault" ] || { echo "$fault" && return; }
+  told_numbers "${given[@]}"
+}
+
+# What to say of words that aren't accepted: what is wrong and a command's own words, or for an unknown command the nearest and all.
 tell_words() {
-  local words workers writes statuses example near
+  local words workers writes statuses example near fault
   if describe "${1-}"; then
-    echo "lokwurmi: $1 is called so:"
-    echo "  lokwurmi $1 $(with_workers)"
-    echo "lokwurmi --help $1 tells what these are."
+    fault=$(told_fault "$@")
+    echo "lokwurmi: ${fault:-the words of $1 are not accepted}"
+    echo "  $1 is called so: lokwurmi $1 $(with_workers)"
+    echo "  lokwurmi --help $1 tells what these are"
     return
   fi
   if (($# == 0)); then
@@ -220,7 +300,7 @@ answer() {
 # Refuses words as the program does, and ends.
 refuse() {
   echo "words refused" 2>/dev/null || exit 20
-  tell_words "$@" >&2
+  [ -n "$quiet" ] || tell_words "$@" >&2
   exit 10
 }
 

@@ -7,6 +7,7 @@ from collections.abc import Iterator
 from system import activators
 
 from .keys import PARTS
+from .newer import older
 from .places import Place, places_in
 from .remark import Span
 
@@ -18,8 +19,8 @@ class Document:
 
     def __init__(self, text: str):
         self.text = text
-        self.values: Entry = tomllib.loads(text)
-        self.root: Place = places_in(text)
+        self.values: Entry = tomllib.loads(older(text))
+        self.root: Place = places_in(older(text))
         self.entries: dict[str, list] = {part: self.values[part] if isinstance(self.values.get(part), list) else [] for part in PARTS}
 
     @property

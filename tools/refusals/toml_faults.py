@@ -4,6 +4,7 @@ from __future__ import annotations
 import re
 import tomllib
 
+from .newer import older, open_table
 from .remark import File, Note, Remark, Span
 
 MORE = "Statuses"
@@ -14,7 +15,7 @@ def fault_in(file: File) -> Remark | None:
     """What is wrong; None where it is TOML as far as tomllib knows."""
     try:
         file.text.encode("utf-8")
-        tomllib.loads(file.text)
+        tomllib.loads(older(file.text))
     except UnicodeEncodeError as fault:
         byte = ord(file.text[fault.start]) - 0xDC00
         return Remark(f"the byte 0x{byte:02x} isn't UTF-8", (fault.start, fault.start + 1), (), "save the file as UTF-8, or write ASCII", MORE)
@@ -28,7 +29,9 @@ def fault_in(file: File) -> Remark | None:
 def told(file: File, message: str) -> Remark:
     found = PLACED.fullmatch(message)
     what = found[1] if found else message
-    at = len(file.text) if not found or not found[2] else file.starts[int(found[2]) - 1] + int(found[3]) - 1
+    # it counts lines of what it was given, whose letters stand where those of the file do
+    given = File(file.name, older(file.text))
+    at = len(file.text) if not found or not found[2] else given.starts[int(found[2]) - 1] + int(found[3]) - 1
     for begin, tell in TELLERS.items():
         if what.startswith(begin):
             if remark := tell(file, at):
@@ -178,27 +181,16 @@ def unclosed_array(file: File, at: int) -> Remark:
 
 
 def unclosed_table(file: File, at: int) -> Remark:
-    if file.text[at : at + 1] in ("\n", ""):
-        return end_in_table(file, at)
-    return at_word(file, at, "an inline table isn't closed or has no comma here", "write a comma between two keys, and } at the end")
-
-
-def end_in_table(file: File, at: int) -> Remark:
-    line = file.span_of_line(file.place(min(at, len(file.text)))[0])
-    opened = file.text.rfind("{", line[0], line[1])
-    span = (opened, line[1]) if opened >= 0 else line
-    return Remark("an inline table { .. } isn't closed on its line", span, (), "write it on one line, or as a section: [[task]], and each key on a line below", MORE)
+    opened = open_table(file.text, at)
+    notes = (Note("the table begins here", (opened, opened + 1)),) if opened is not None else ()
+    return at_word(file, at, "an inline table isn't closed before this, or has no comma", "write a comma between two keys, and } at the end", notes)
 
 
 def no_key(file: File, at: int) -> Remark:
     letter = file.text[at : at + 1]
     before = file.text[:at].rstrip(" \t")
-    inside = before.endswith((",", "{")) and "{" in file.text[line_start(file, at) : at]
-    if letter in ("\n", "") and inside:
-        return end_in_table(file, at)
-    if letter == "}" and before.endswith(","):
-        place = len(before) - 1
-        return Remark("a comma stands before }", (place, place + 1), (), "leave it out: after the last key of { } there is none", MORE)
+    if before.endswith((",", "{")) and open_table(file.text, at) is not None:
+        return unclosed_table(file, at)
     if letter in "}]" and letter:
         return Remark(f"`{letter}` closes nothing", (at, at + 1), (), "leave it out, or open it further up", MORE)
     if letter == "=":
