@@ -88,7 +88,7 @@ def damaged_rows(draw: random.Random, text: str, names: list[str]) -> str:
         if not rows:
             break
         row, way = draw.randrange(len(rows)), draw.randrange(6)
-        if way < 3:
+        if way < 3 and rows[row]:
             rows[row][draw.randrange(len(rows[row]))] = draw.choice([*ROW_VALUES, *names, str(draw.randrange(200))])
         elif way == 3:
             rows.insert(draw.randrange(len(rows) + 1), list(rows[row]))
