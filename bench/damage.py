@@ -13,9 +13,25 @@ def words_of(text: str) -> list[tuple[int, int]]:
     return [it.span() for it in re.finditer(r'"[^"\n]*"|[\w.-]+|[^\s\w]', text)]
 
 
+def sort_of(word: str) -> str:
+    return "text" if word[:1] == '"' else "number" if word.isdigit() else "word" if word[:1].isalnum() else "mark"
+
+
 def exchange_words(draw: random.Random, text: str) -> str:
-    """One word takes the place of another."""
+    """One word takes the place of another, most often of its sort."""
     spans = words_of(text)
+    if not spans:
+        return text
+    start, end = draw.choice(spans)
+    if draw.random() < 0.9:
+        spans = [it for it in spans if sort_of(text[slice(*it)]) == sort_of(text[start:end])]
+    other, last = draw.choice(spans)
+    return text[:start] + text[other:last] + text[end:]
+
+
+def exchange_texts(draw: random.Random, text: str) -> str:
+    """One of the texts in quotes takes the place of another: names that name others."""
+    spans = [it.span() for it in re.finditer(r'"[^"\n]*"', text)]
     if not spans:
         return text
     (start, end), (other, last) = draw.choice(spans), draw.choice(spans)
@@ -68,7 +84,7 @@ def add_line(draw: random.Random, text: str) -> str:
     return "".join([*lines[:at], f"{draw.choice(KEYS)} = {draw.choice(VALUES)}\n", *lines[at:]])
 
 
-WAYS = [exchange_words, exchange_words, exchange_value, exchange_value, exchange_key, drop_line, double_lines, change_letter, add_line]
+WAYS = [exchange_words, exchange_words, exchange_texts, exchange_texts, exchange_texts, exchange_value, exchange_key, drop_line, double_lines, change_letter, add_line]
 
 
 def damaged(draw: random.Random, text: str) -> str:

@@ -53,6 +53,8 @@ except ImportError:
     sys.exit(2)
 
 from grids import MOST_PRIORITY, Wrong, columns_of, fronted, read_grid, row_of, script_of
+from refusals.front import told_of
+from refusals.newer import older
 
 TOP = os.path.join(os.path.dirname(os.path.abspath(__file__)), "..")
 MOST_TRACES, MOST_NUMBER = 10_000, 4_294_967_295
@@ -558,7 +560,7 @@ class Variants:
 
 
 def variants(words, kept):
-    system = tomllib.loads(read_bytes(words.file).decode())
+    system = tomllib.loads(older(read_bytes(words.file).decode("utf-8-sig")))
     grid = read_grid(words.grid, system)
     front = columns_of(words.front, grid, system) if words.front else None
     count = math.prod(len(it.values) for it in grid)
@@ -651,6 +653,8 @@ def perform(words, kept):
         sys.stdout.write(text)
         if script is not None:
             say(f"this is the script that was refused:\n{script[:2000]}")
+        elif 11 <= status <= 14:
+            sys.stderr.write(told_of(status, text.split("\n", 1)[0], "analyse", words.file) or "")
         return status
     except Wrong as it:
         say(f"{it}")

@@ -69,3 +69,9 @@ def seen_in(lines, file):
     if end is None:
         sys.exit(f"{file}: there is no whole run; its last line begins with summary")
     return tasks, paths, end
+
+
+if __name__ == "__main__":
+    from program import no_command
+
+    no_command(__file__)

@@ -89,3 +89,9 @@ def jobs_in(system, schedule, trace):
         came = sorted(time for before in activators(task) for time in (ends[before] if before in tasks else events.get(before, [])))
         jobs[name] = [(time, ends[name][place] if place < len(ends[name]) else None) for place, time in enumerate(came)]
     return jobs
+
+
+if __name__ == "__main__":
+    from program import no_command
+
+    no_command(__file__)

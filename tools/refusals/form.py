@@ -198,7 +198,7 @@ def executions(document: Document, at: int) -> Remark | None:
     if "payload" in value or (len(has) == 2 and "extended" not in value):
         return None
     if "extended" in value:
-        return Remark(f"{called}: `extended` stands without `payload`", document.key_span("task", at, "extended"), (), "it tells that a frame has a long identifier: give the task a `payload` in place of `best` and `worst`, or leave `extended` out", FORM)
+        return Remark(f"{called}: `extended` stands without `payload`", document.key_span("task", at, "extended"), (), "it tells that a frame has an identifier of 29 bits: give the task a `payload` in place of `best` and `worst`, or leave `extended` out", FORM)
     span = document.place("task", at).span
     if has:
         other = "worst" if has == ["best"] else "best"

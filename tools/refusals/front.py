@@ -7,11 +7,12 @@ import stat
 import sys
 import tomllib
 from collections.abc import Sequence
+from typing import NoReturn
 
 from . import edits, lines, notices, schedule, script
-from .document import Document
+from .document import Document, Entry
 from .judge import Refusal, first_refusal
-from .remark import File, Look, Remark, decoded, listed, nearest, page, printable
+from .remark import TOP, File, Look, Remark, decoded, listed, nearest, page, printable
 from .toml_faults import fault_in
 from .trace import Trace
 
@@ -197,6 +198,56 @@ class Call:
         more = f", the first {MOST_NOTICES} of which are told here" if len(wrote) > MOST_NOTICES else ""
         texts.append(f'{printable(file.name)}: {len(wrote)} of {count} edits were refused{more}; the reports are of the system without {"it" if len(wrote) == 1 else "them"} ({page("FILES.md")}, "{edits.MORE}")\n')
         return "".join(texts)
+
+
+# ---- for the tools of tools/
+
+
+PROGRAM = os.path.join(TOP, "crates", "cpa_cli", "out", "cpa_cli")
+
+
+def accepted(name: str) -> Entry:
+    """The values of a system file; ends with the program's status, and says why, where the program refuses it."""
+    try:
+        with open(name, "rb") as it:
+            data = it.read()
+    except OSError:
+        end(UNREADABLE, f"cannot read {name}", name)
+    file = File(name, decoded(data).replace("\r\n", "\n"))
+    remark, found, document = fault_in(file), None, None
+    if remark is None:
+        document = Document(file.text)
+        found = first_refusal(document)
+    if remark or found:
+        status, line = asked(name) or ((NO_TOML, f"not TOML {name}") if remark else (NO_SYSTEM, found.line))
+        if status >= UNREADABLE:
+            here = remark if status == NO_TOML else found.remark if found and found.line == line else None
+            end(status, line, name, look_for(sys.stderr).text(file, here) if here else None)
+    if document is None:
+        sys.exit(f"{printable(name)}: the program accepts it, but it can't be read here: {remark.says}")
+    return document.values
+
+
+def asked(name: str) -> tuple[int, str] | None:
+    """What the program says of a file that seems to be refused, where it is built."""
+    if not is_regular(name) or not os.access(PROGRAM, os.X_OK):
+        return None
+    import subprocess
+
+    done = subprocess.run([PROGRAM, "analyse", name], stdout=subprocess.PIPE, check=False)
+    return done.returncode, done.stdout.decode("utf-8", "surrogateescape").split("\n", 1)[0]
+
+
+def end(status: int, line: str, name: str, told: str | None = None) -> NoReturn:
+    """Says what there is to say of a refused file, and ends."""
+    told = told or Call(status, line, "analyse", [name], look_for(sys.stderr)).told()
+    sys.stderr.write(told or f"{printable(line)}\n")
+    sys.exit(status)
+
+
+def told_of(status: int, line: str, command: str, *words: str) -> str | None:
+    """What to say of a call that was refused, by the program's line."""
+    return Call(status, line, command, words, look_for(sys.stderr)).told()
 
 
 def unreadable(name: str) -> Remark:

@@ -58,6 +58,15 @@ def each(document: Document) -> Iterator[tuple[str, int, Entry]]:
             yield part, at, value
 
 
+# what is told of keys that aren't times, or whose range surprises
+MEANINGS = {
+    "priority": "; the smaller number goes first, and 0x1fffffff is the greatest identifier of 29 bits",
+    "payload": " bytes; a longer frame, as of CAN FD, can't be told by its payload",
+    "bit": " ticks: it is the time of a bit, as 2 at 500 kbit/s where a tick is a microsecond",
+    "limit": " ticks: the longest busy window that is looked at",
+}
+
+
 def out_of_range(document: Document) -> Found:
     for part, at, value in each(document):
         for key, number in value.items():
@@ -76,12 +85,8 @@ def beyond(document: Document, part: str, at: int, key: str) -> Remark:
     rule, number = KEYS[part][key], document.entries[part][at][key]
     side = "below" if number < rule.least else "above"
     end = rule.least if number < rule.least else rule.most
-    helps = f"`{key}` is {rule.least} to {rule.most}"
-    if key == "priority":
-        helps += "; the smaller number is the higher priority"
-    elif key == "payload":
-        helps += " bytes; a frame of more is no CAN frame as this analysis knows them"
-    elif side == "above" and key not in ("limit", "bit"):
+    helps = f"`{key}` is {rule.least} to {rule.most}{MEANINGS.get(key, '')}"
+    if side == "above" and key not in MEANINGS:
         helps += " ticks: take a coarser tick for the whole file"
     return Remark(f"{document.called(part, at)}: `{key}` is {number}, {side} {end}", document.value_span(part, at, key), (), helps, SECTIONS[2])
 
@@ -92,8 +97,8 @@ def no_name(document: Document) -> Found:
             continue
         wrong = next((it for it in name if not is_name_letter(it)), None)
         fault = "is empty" if not name else "has a blank" if wrong == " " else f"has {wrong!r}" if wrong else f"has {len(name)} letters, and {MOST_IN_NAME} are the most"
-        tidy = "".join(it if is_name_letter(it) else "_" for it in name)[:MOST_IN_NAME]
-        helps = "a name has 1 to 64 of the letters A to Z and a to z, digits, _, - and ." + (f'; write "{tidy}"' if tidy.strip("_") else "")
+        tidy = "".join(it if is_name_letter(it) else "_" for it in name.strip())
+        helps = "a name has 1 to 64 of the letters A to Z and a to z, digits, _, - and ." + (f'; write "{tidy}"' if tidy.strip("_") and is_name(tidy) else "")
         yield part, at, Remark(f"{part} {at + 1}: its name {fault}", document.value_span(part, at, "name"), (), helps, SECTIONS[3])
 
 
@@ -118,7 +123,8 @@ def unknown_name(document: Document) -> Found:
     sources, tasks = ([it["name"] for it in document.entries[part]] for part in ("source", "task"))
     for at, task in enumerate(document.entries["task"]):
         if task["on"] not in resources:
-            says = f'{document.called("task", at)}: no resource is called "{task["on"]}"{mean(task["on"], resources)}'
+            other = next((f'; it is a {part}' for part, known in (("source", sources), ("task", tasks)) if task["on"] in known), mean(task["on"], resources))
+            says = f'{document.called("task", at)}: no resource is called "{task["on"]}"{other}'
             helps = known_names("resource", resources) if resources else f'the file has no resource: add [[resource]] name = "{task["on"]}", kind = ".."'
             yield "task", at, Remark(says, document.value_span("task", at, "on"), (), helps, SECTIONS[5])
         for item, name in enumerate(activators(task)):
@@ -136,7 +142,7 @@ def no_activator(document: Document, at: int, item: int, resources: list[str], k
     span = document.item_span("task", at, "after", item)
     if name in resources:
         return Remark(f'{called}: "{name}" in `after` is a resource', span, (), "`after` names what starts the task, a source or a task; where it runs is told by `on`", SECTIONS[5])
-    helps = f'`after` names a source or a task: add [[source]] name = "{name}", period = .., or name one that is there'
+    helps = "`after` names a source or a task: " + (f'add [[source]] name = "{name}", period = .., or name one that is there' if is_name(name) else "name one that is there")
     return Remark(f'{called}: no source and no task is called "{name}"{mean(name, known)}', span, (), helps, SECTIONS[5])
 
 
@@ -158,16 +164,27 @@ def known_names(part: str, names: list[str]) -> str:
 
 def endless(document: Document) -> Found:
     names = Names(document)
-    for name, length in names.chains().items():
-        if length is not None:
-            continue
-        ring, at = names.ring(name), names.tasks[name]
-        way = " -> ".join([*ring[::-1], ring[-1]])
-        called = document.called("task", at)
-        says = f"{called}: it starts itself" if ring == [name] else f"{called}: what starts it leads into a ring of tasks, {way}, and to no source"
-        span = ends_in(document, at, ring[1 % len(ring)] if name in ring else names.way(ring[0], name)[-2])
-        notes = [Note(f'task "{it}" comes after "{ring[(place + 1) % len(ring)]}"', ends_in(document, names.tasks[it], ring[(place + 1) % len(ring)])) for place, it in enumerate(ring) if it != name]
-        yield "task", at, Remark(says, span, notes[:5], "let one of them come after a source; what feeds back can't be analysed", SECTIONS[6])
+    chains = names.chains()
+    for at, task in enumerate(document.entries["task"]):
+        if chains[task["name"]] is None:
+            yield "task", at, in_ring(document, names, at)
+
+
+def in_ring(document: Document, names: Names, at: int) -> Remark:
+    name = document.entries["task"][at]["name"]
+    ring, called = names.ring(name), document.called("task", at)
+    if name in ring:
+        ring = ring[ring.index(name) :] + ring[: ring.index(name)]
+    way = " -> ".join([ring[0], *ring[:0:-1], ring[0]])
+    after = {it: ring[(place + 1) % len(ring)] for place, it in enumerate(ring)}
+    if name in ring:
+        says = f"{called}: it starts itself" if len(ring) == 1 else f"{called}: it starts itself in a ring of tasks, {way}"
+        span = ends_in(document, at, after[name])
+    else:
+        says = f"{called}: it comes behind a ring of tasks, {way}"
+        span = ends_in(document, at, names.way(ring[0], name)[-2])
+    notes = [Note(f'task "{it}" comes after "{after[it]}"', ends_in(document, names.tasks[it], after[it])) for it in ring if it != name]
+    return Remark(says, span, notes[:5], "let one of them come after a source in place of a task: what feeds back can't be analysed", SECTIONS[6])
 
 
 def ends_in(document: Document, at: int, name: str) -> tuple[int, int]:
@@ -177,9 +194,11 @@ def ends_in(document: Document, at: int, name: str) -> tuple[int, int]:
 
 def long_chain(document: Document) -> Found:
     names = Names(document)
-    for name, length in names.chains().items():
+    chains = names.chains()
+    for at, task in enumerate(document.entries["task"]):
+        length = chains[task["name"]]
         if length > MOST_IN_CHAIN:
-            at, way = names.tasks[name], names.longest_chain(name)
+            way = names.longest_chain(task["name"])
             source = activators(names.task(way[0]))
             says = f"{document.called('task', at)}: it is the {ordinal(length)} task of a chain, and a chain has {MOST_IN_CHAIN} at most"
             helps = f"take some of them together; the chain: {' -> '.join([*source[:1], *way])}"
@@ -205,7 +224,7 @@ def known_priority(document: Document) -> Found:
         other = taken[rank]
         notes = [Note(f"{document.called('task', other)} has it", document.value_span("task", other, "priority"))]
         says = f'{document.called("task", at)}: the priority {task["priority"]} is taken on resource "{task["on"]}"'
-        helps = f"each task of a {names.kind(task)} resource has a priority of its own" + (f"; the next free one is {free}" if free <= KEYS["task"]["priority"].most else "")
+        helps = "the tasks of one resource have different priorities" + (f"; the next free one is {free}" if free <= KEYS["task"]["priority"].most else "")
         yield "task", at, Remark(says, document.value_span("task", at, "priority"), notes, helps, SECTIONS[8])
 
 
@@ -221,8 +240,8 @@ def misfit(document: Document) -> Found:
         wanted, other = ("priority", "slot") if kind in WITH_PRIORITIES else ("slot", "priority")
         called, where = document.called("task", at), f'resource "{task["on"]}" is {kind}'
         if other in task:
-            instead = "" if wanted in task else f", and a `{wanted}`, which is missing,"
-            yield "task", at, Remark(f"{called}: it has a `{other}`{instead} but {where}", document.key_span("task", at, other), (), f"tasks of a {kind} resource have a `{wanted}` and no `{other}`", SECTIONS[9])
+            how = f"beside its `{wanted}`" if wanted in task else f"in place of a `{wanted}`"
+            yield "task", at, Remark(f"{called}: it has a `{other}` {how}: {where}", document.key_span("task", at, other), (), f"tasks of a {kind} resource have a `{wanted}` and no `{other}`", SECTIONS[9])
         if wanted not in task:
             yield "task", at, Remark(f"{called}: the key `{wanted}` is missing: {where}", document.place("task", at).span, (), missing_turn(names, task, wanted), SECTIONS[9])
         if "payload" in task and kind != "can":
@@ -264,6 +283,8 @@ def not_after(document: Document, names: Names, at: int, item: int) -> Remark:
         helps = f"there are tasks between them: write {', '.join(f'{chr(34)}{it}{chr(34)}' for it in way)}"
     elif before != name and names.way(name, before):
         helps = f'"{before}" comes behind "{name}": write the tasks from the first to the last'
+    elif before == name:
+        helps = "a path has each task once"
     else:
         helps = f'each task of a path but the first has the one before it in its `after`: no way leads from "{before}" to "{name}"'
     return Remark(says, document.item_span("path", at, "tasks", item), notes, helps, SECTIONS[11])

@@ -72,14 +72,14 @@ def older(text: str) -> str:
     return "".join(letters)
 
 
-def open_table(text: str, before: int) -> int | None:
-    """Where the inline table begins that isn't closed before a place."""
+def open_mark(text: str, before: int, mark: str) -> int | None:
+    """Where the array or the inline table begins, told by its bracket, that isn't closed before a place."""
     opened: list[int] = []
     for it in TOKEN.finditer(text, 0, before):
         if it[0] == "\n" and HEADING.match(text, it.end()):
             opened = []
         if it[0] in "[{":
             opened.append(it.start())
-        elif it[0] in "]}" and opened:
-            opened.pop()
-    return next((at for at in reversed(opened) if text[at] == "{"), None)
+        elif it[0] in "]}":
+            del opened[-1:]
+    return next((at for at in reversed(opened) if text[at] == mark), None)

@@ -4,7 +4,7 @@ from __future__ import annotations
 import re
 import tomllib
 
-from .newer import older, open_table
+from .newer import older, open_mark
 from .remark import File, Note, Remark, Span
 
 MORE = "Statuses"
@@ -15,7 +15,7 @@ def fault_in(file: File) -> Remark | None:
     """What is wrong; None where it is TOML as far as tomllib knows."""
     try:
         file.text.encode("utf-8")
-        tomllib.loads(older(file.text))
+        return too_large(file, tomllib.loads(older(file.text)))
     except UnicodeEncodeError as fault:
         byte = ord(file.text[fault.start]) - 0xDC00
         return Remark(f"the byte 0x{byte:02x} isn't UTF-8", (fault.start, fault.start + 1), (), "save the file as UTF-8, or write ASCII", MORE)
@@ -23,7 +23,17 @@ def fault_in(file: File) -> Remark | None:
         return told(file, str(fault))
     except RecursionError:
         return Remark("arrays or tables lie in each other too deep", None, (), "", MORE)
-    return None
+
+
+def too_large(file: File, value: object) -> Remark | None:
+    """A whole number of more than 64 bits, which TOML doesn't have."""
+    if isinstance(value, (dict, list)):
+        parts = value.values() if isinstance(value, dict) else value
+        return next((it for it in (too_large(file, part) for part in parts) if it), None)
+    if not isinstance(value, int) or -(2**63) <= value < 2**63:
+        return None
+    digits = re.search("_?".join(str(abs(value))), file.text)
+    return Remark(f"the number {value} has more than 64 bits", digits and digits.span(), (), "write one in the range of its key", MORE)
 
 
 def told(file: File, message: str) -> Remark:
@@ -31,7 +41,9 @@ def told(file: File, message: str) -> Remark:
     what = found[1] if found else message
     # it counts lines of what it was given, whose letters stand where those of the file do
     given = File(file.name, older(file.text))
-    at = len(file.text) if not found or not found[2] else given.starts[int(found[2]) - 1] + int(found[3]) - 1
+    at = len(file.text.rstrip("\n")) if not found or not found[2] else given.starts[int(found[2]) - 1] + int(found[3]) - 1
+    if key := re.match(r"Duplicate inline table key '(.*)'", what):
+        return key_twice(file, key[1], at)
     for begin, tell in TELLERS.items():
         if what.startswith(begin):
             if remark := tell(file, at):
@@ -100,7 +112,7 @@ def no_value(file: File, at: int) -> Remark:
         return at_word(file, at, "an array isn't closed before this", "a ] is missing further up")
     if word[0] in "+-.0123456789":
         return at_word(file, at, f"`{word}` is no number as TOML writes them", "write digits alone, with no zero before them")
-    return at_word(file, at, f"`{word}` is no value: a text stands in quotes", f'write "{word}"')
+    return at_word(file, at, f"`{word}` is no value: a text stands in quotes", f'write "{word.strip(chr(34))}"')
 
 
 def after_value(file: File, at: int) -> Remark:
@@ -109,16 +121,24 @@ def after_value(file: File, at: int) -> Remark:
     before = re.search(r"[\w.+-]*\Z", file.text[line_start(file, at) : at])[0]
     start = at - len(before)
     word = before + word_at(file, at)
-    number = re.fullmatch(r"[+-]?\d[\d_]*", before)
-    if number and re.match(r"[A-Za-zµ%]", rest):
-        helps = f"write ticks alone, without a unit; a tick is whatever you take it for: {before}"
+    number = re.search(r"(?<![\w.])[+-]?\d[\d_]*[ \t]*\Z", file.text[line_start(file, at) : at])
+    if number and re.match(r"[A-Za-zµ%]{1,3}(?![\w])", rest):
+        start = line_start(file, at) + number.start()
+        word = file.text[start:at] + word_at(file, at)
+        helps = f"write ticks alone, as {number[0].strip()}; a tick is whatever you take it for"
         return Remark(f"`{word}` is no number: a unit can't stand here", (start, start + len(word)), (), helps, MORE)
+    if number and rest.startswith("."):
+        return Remark(f"`{word}` is no number: digits are missing behind the point", (start, start + len(word)), (), f"write a whole number, as {before}", MORE)
+    if number and (digits := re.match(r",(\d+)", rest)):
+        word = before + digits[0]
+        helps = f"write {word.replace(',', '')}" if len(digits[1]) == 3 else "write a whole number; take a finer tick where it has a fraction"
+        return Remark(f"`{word}` is no number: it has a comma", (start, start + len(word)), (), helps, MORE)
     if before in ("0", "+0", "-0") and rest[:1].isdigit():
         return Remark(f"`{word}` begins with a zero, which TOML doesn't allow", (start, start + len(word)), (), f"write {word.lstrip('0') or '0'}", MORE)
     if rest.startswith("//") or rest.startswith("--"):
         return at_word(file, at, "this isn't a comment", "a comment begins with #")
     if rest.startswith(","):
-        helps = "leave it out: in a section each key has a line of its own" if not rest[1:].strip() else "a number with a fraction has a point, and this file wants whole numbers; a list stands in [ ]"
+        helps = "leave it out: in a section each key has a line of its own" if not rest[1:].strip() else "a list stands in [ ]"
         return Remark("a comma can't stand here", (at, at + 1), (), helps, MORE)
     if rest.startswith(";"):
         return Remark("a semicolon can't stand here", (at, at + 1), (), "leave it out: a line's end is enough", MORE)
@@ -162,6 +182,13 @@ def twice(file: File, at: int) -> Remark | None:
     return Remark(f"the key `{found[1]}` stands twice", key_span(start, found), (), "take one of them out; if another entry begins here, its heading is missing", MORE)
 
 
+def key_twice(file: File, key: str, at: int) -> Remark:
+    places = [it.start() for it in re.finditer(rf"(?<![\w-]){re.escape(key)}(?=[\"']?\s*=)", file.text[:at])]
+    second = places[-1] if places else at
+    notes = (Note("it stands here already", (places[-2], places[-2] + len(key))),) if len(places) > 1 else ()
+    return Remark(f"the key `{key}` stands twice in this table", (second, second + len(key)), notes, "take one of them out", MORE)
+
+
 def key_span(start: int, found: re.Match[str]) -> Span:
     return start + found.start(1), start + found.end(1)
 
@@ -177,11 +204,15 @@ def heading_twice(file: File, start: int, key: str) -> Remark:
 def unclosed_array(file: File, at: int) -> Remark:
     if quoted := unclosed_text(file, at):
         return quoted
-    return at_word(file, at, "an array isn't closed or has no comma here", "write a comma between two values, and ] at the end")
+    opened = open_mark(file.text, at, "[")
+    notes = (Note("the array begins here", (opened, opened + 1)),) if opened is not None else ()
+    if file.text[at - 1] in "\"'" and file.text[at].isalnum():
+        return at_word(file, at, "a quote is missing or too many before this", 'each text stands in a pair of quotes: ["a", "b"]')
+    return at_word(file, at, "an array isn't closed before this, or has no comma", "write a comma between two values, and ] at the end", notes)
 
 
 def unclosed_table(file: File, at: int) -> Remark:
-    opened = open_table(file.text, at)
+    opened = open_mark(file.text, at, "{")
     notes = (Note("the table begins here", (opened, opened + 1)),) if opened is not None else ()
     return at_word(file, at, "an inline table isn't closed before this, or has no comma", "write a comma between two keys, and } at the end", notes)
 
@@ -189,10 +220,12 @@ def unclosed_table(file: File, at: int) -> Remark:
 def no_key(file: File, at: int) -> Remark:
     letter = file.text[at : at + 1]
     before = file.text[:at].rstrip(" \t")
-    if before.endswith((",", "{")) and open_table(file.text, at) is not None:
+    if before.endswith((",", "{")) and open_mark(file.text, at, "{") is not None:
         return unclosed_table(file, at)
     if letter in "}]" and letter:
         return Remark(f"`{letter}` closes nothing", (at, at + 1), (), "leave it out, or open it further up", MORE)
+    if letter == "{" and not file.text[:at].strip():
+        return Remark("this isn't TOML but maybe JSON", (at, at + 1), (), "a system file has lines of the form key = value below headings as [[task]]", MORE)
     if letter == "=":
         return Remark("the key is missing before `=`", (at, at + 1), (), "write key = value", MORE)
     if file.text.startswith(("//", "/*"), at) or letter in (";", "%", "!"):
@@ -221,7 +254,6 @@ TELLERS = {
     "Cannot redefine": twice,
     "Unclosed array": unclosed_array,
     "Unclosed inline table": unclosed_table,
-    "Duplicate inline table key": lambda file, at: at_word(file, at, "a key stands twice in this table", "take one of them out"),
     "Invalid initial character for a key part": no_key,
     "Invalid statement": no_key,
     "Expected ']]'": no_heading_end,
