@@ -219,7 +219,7 @@ class Room:
         path, text = self.valid()
         other = self.write("script.txt", damaged_script(self.draw, self.names(text)))
         lines = wrote("session", path, other)
-        file = front.read(other)
+        file = front.read_script(other)
         fault = script.fault_in(file)
         first = next((it for it in lines if it.startswith("script refused")), "accepted")
         self.hold("script", first, f"script refused {fault[0]}" if fault else "accepted", path, other)

@@ -5,10 +5,10 @@ version=1.0
 kits=(rattle-kit-13b rattle-kit-13f)
 commands=(analyse session simulate generate load hammer assign slack buffers audit schedule)
 
-# Sets of a command: its words, whether it takes --workers N too, what it writes, what its status tells beside 0, and the words
-# of an example.
+# Sets of a command: its words, whether it takes --workers N too, what it writes, what its status tells beside 0, what else is to be
+# known, and the words of an example.
 describe() {
-  workers='' statuses=''
+  workers='' statuses='' note=''
   case $1 in
   analyse)
     words="FILE" workers=yes writes="the bounds of the system in FILE" example="examples/two_tasks.toml"
@@ -44,6 +44,7 @@ describe() {
     ;;
   buffers)
     words="FILE TRACE" workers=yes writes="how many jobs can wait, and how many do"
+    note="for the bounds alone TRACE may be empty: /dev/null"
     example="examples/long_window.toml examples/long_window.trace.csv"
     ;;
   audit)
@@ -87,20 +88,37 @@ list_commands() {
   done
 }
 
+# What stands in tools/, a line a tool.
+list_tools() {
+  printf '  tools/%-11s  %s\n' graph.py "draws a system: resources, tasks, and who starts whom" \
+    chart.py "draws a report: bounds, and paths against deadlines" \
+    curve.py "draws how many events start a task in a window" \
+    gantt.py "draws a schedule: what ran when" \
+    page.py "writes one page with a system, its bounds and a run" \
+    worst.py "looks for runs that come near the bounds" \
+    campaign.py "has many processors try made traces, and variants"
+}
+
 help() {
   echo "lokwurmi: the timing of distributed real-time systems; its answers are proved."
   echo
   list_commands
   printf '  %-34s  %s\n' "--help [COMMAND]" "this, or a command's words and an example" \
-    "--version" "the version, the toolchain, the commit"
+    "--version" "the version, the toolchain, the commit" \
+    "--quiet COMMAND .." "no more than its output (LOKWURMI_QUIET=1)"
+  echo
+  echo "Each of these is called by python3, and has --help:"
+  list_tools
   echo
   echo "NUMBER is 0 to 4294967295, SIZE 0 to 128, TRACES 1 to 10000, N 1 to 64; write"
-  echo "./-name for a file -name. All words and each status are told in"
-  echo "$here/docs/FILES.md"
+  echo "./-name for a file -name. docs/TUTORIAL.md builds a system step by step,"
+  echo "examples/README.md tells what each of examples/ shows, docs/FILES.md has all"
+  echo "words and each status. They are in the folder"
+  echo "$here"
 }
 
 help_of() {
-  local words workers writes statuses example word
+  local words workers writes statuses note example word
   describe "$1"
   echo "lokwurmi $1 $(with_workers)"
   echo "  writes $writes"
@@ -109,6 +127,7 @@ help_of() {
     printf '  %-11s  %s\n' "$word" "$(explain "$word")"
   done
   [ -z "$workers" ] || printf '  %-11s  %s\n' "--workers N" "so many threads, 1 to 64; what is written is the same"
+  [ -z "$note" ] || echo "  $note"
   printf '  %-11s  %s\n' status "0${statuses:+; $statuses}; 10 and above: a refusal or a fault"
   echo
   echo "An example, in the folder $here:"
@@ -134,7 +153,7 @@ tell_version() {
 }
 
 is_command() {
-  local words workers writes statuses example
+  local words workers writes statuses note example
   describe "${1-}"
 }
 
@@ -256,7 +275,7 @@ told_fault() {
 
 # What to say of words that aren't accepted: what is wrong and a command's own words, or for an unknown command the nearest and all.
 tell_words() {
-  local words workers writes statuses example near fault
+  local words workers writes statuses note example near fault
   if describe "${1-}"; then
     fault=$(told_fault "$@")
     echo "lokwurmi: ${fault:-the words of $1 are not accepted}"
@@ -307,7 +326,7 @@ refuse() {
 # Takes the words after a command apart: operands has all but --workers with its number, where the command takes it, and
 # wanted what they are. Fails where the program refuses them, whatever the numbers and files are.
 is_regular() {
-  local words workers writes statuses example
+  local words workers writes statuses note example
   describe "${1-}" || return
   local it
   read -ra wanted <<<"$words"

@@ -37,12 +37,18 @@ def is_regular(name: str) -> bool:
 
 
 def read(name: str) -> File:
-    """A file as it is looked at here: line ends are line feeds."""
     with open(name, "rb") as it:
         return File(name, decoded(it.read()))
 
 
+def read_script(name: str) -> File:
+    """A script, of which a byte order mark is part of its first word."""
+    with open(name, "rb") as it:
+        return File(name, it.read().decode("utf-8", "surrogateescape"))
+
+
 def read_system(name: str) -> File:
+    """A system file as it is looked at here: its line ends are line feeds."""
     it = read(name)
     return File(name, it.text.replace("\r\n", "\n"))
 
@@ -123,7 +129,7 @@ class Call:
         name = self.file("script")
         if not name or not is_regular(name):
             return self.by_line(name) if name else None
-        file = read(name)
+        file = read_script(name)
         return self.on(name, script.fault_in(file), self.line.removeprefix("script refused "), file)
 
     def traced(self) -> tuple[File, Trace] | None:
@@ -184,7 +190,7 @@ class Call:
 
     def refused_edits(self, document: Document) -> str:
         """The edits that the program refused, by the lines that it wrote."""
-        file, wrote = read(self.words[1]), self.line.splitlines()
+        file, wrote = read_script(self.words[1]), self.line.splitlines()
         count, found = edits.refused_edits(document, file)
         told = {it.words: it for it in found}
         texts = []
@@ -315,7 +321,7 @@ def behind_tasks(document: Document, resource: str, tasks: set[str], more: str) 
         return None
     at, task = found[0]
     before = next(it for it in activators(task) if it in tasks)
-    others = f"; so do {len(found) - 1} more tasks of {resource}" if len(found) > 1 else ""
+    others = "; so does one more" if len(found) == 2 else f"; so do {len(found) - 1} more" if len(found) > 2 else ""
     says = f'task "{task["name"]}" of {resource} comes after the task "{before}", so that its input depends on the order{others}'
     helps = "assign takes resources whose tasks all come after sources; try orders by a script (swap), or give the task in a copy of the file a source with the period, jitter and distance of its line in the report"
     return Remark(says, document.item_span("task", at, "after", activators(task).index(before)), (), helps, more)

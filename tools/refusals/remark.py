@@ -112,9 +112,10 @@ class Look:
         before = ("..." if first else "") + before
         gap = "".join("\t" if it == "\t" else " " * columns(it) for it in before)
         mark = "^" * max(1, columns(word.replace("\t", " ")))
-        edge = self.paint(BLUE, f"{number:5} |")
+        edge = f"{number:5} |"
         rest += "..." if last < len(whole) else ""
-        return [f"{edge} {before}{word}{rest}", f"{self.paint(BLUE, '      |')} {gap}{self.paint(colour, mark)}"]
+        below = f"{'|':>{len(edge)}}"
+        return [f"{self.paint(BLUE, edge)} {before}{word}{rest}", f"{self.paint(BLUE, below)} {gap}{self.paint(colour, mark)}"]
 
     def text(self, file: File, remark: Remark) -> str:
         colour = YELLOW if remark.is_notice else RED

@@ -80,10 +80,13 @@ def remark_on(file: File, line: Line) -> Remark:
         return Remark("a comment can't stand behind an edit", (line.spans[comment][0], line.spans[-1][1]), (), "give the comment a line of its own", MORE)
     if len(words) > len(sorts):
         span = line.spans[len(sorts) + 1][0], line.spans[-1][1]
-        return Remark(f"`{keyword}` takes {count(len(sorts))}, and here are {len(words)}", span, (), form, MORE)
+        if "=" in words:
+            return Remark("a `=` can't stand in an edit", line.spans[words.index("=") + 1], (), form, MORE)
+        here = "is 1" if len(words) == 1 else f"are {len(words)}"
+        return Remark(f"`{keyword}` takes {count(len(sorts))}, and here {here}", span, (), form, MORE)
     for sort, word, span in zip(sorts, words, line.spans[1:]):
         if not (is_name(word) if sort.isupper() else is_number(word)):
-            return Remark(wrong_word(sort, word), span, (), form, MORE)
+            return Remark(wrong_word(sort, word), span, (), form + in_digits(sort, word), MORE)
     missing = sorts[len(words) :]
     end = line.spans[-1][1]
     return Remark(f"`{keyword}` takes {count(len(sorts))}: {listed([it.upper() for it in missing])} {'is' if len(missing) == 1 else 'are'} missing", (line.spans[0][0], end), (), form, MORE)
@@ -95,10 +98,17 @@ def count(number: int) -> str:
 
 def unknown_word(line: Line) -> Remark:
     word = line.words[0]
+    if word.startswith("\ufeff"):
+        return Remark("a byte order mark stands before the first word", line.spans[0], (), "save the script without it", MORE)
     near = OTHER_WORDS.get(word.lower()) or nearest(word, list(FORMS))
     guess = f"; did you mean `{near}`?" if near else ""
     helps = f"the form is: {form_of(near)}" if near else f"a line begins with {listed(list(FORMS), 'or')}; a comment begins with #"
     return Remark(f"`{word}` begins no edit{guess}", line.spans[0], (), helps, MORE)
+
+
+def in_digits(sort: str, word: str) -> str:
+    """The number that a word of another form writes."""
+    return f"; write {int(word, 0)}" if sort.islower() and re.fullmatch(r"0x[0-9a-fA-F]+|[1-9]\d{0,2}(_\d{3})+", word) else ""
 
 
 def wrong_word(sort: str, word: str) -> str:

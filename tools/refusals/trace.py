@@ -92,7 +92,7 @@ class Trace:
             helps = "write commas in place of the semicolons: " + FORM
         elif count == 1 and text.startswith("#"):
             helps = "a trace has no comments: leave the row out"
-        elif count == 1 and len(text.split()) == 3:
+        elif count == 1 and text.split()[:1] and text.split()[0] in WORDS:
             helps = "write commas between the fields: " + FORM
         return Remark(f"row {row.number} has {count} field{'s' if count > 1 else ''}, and wants 3", row.span(self.file), (), helps, MORE)
 
@@ -197,6 +197,8 @@ def least_time(period: int, jitter: int, distance: int, steps: int) -> int:
 
 
 def no_number(word: str) -> str:
+    if not word:
+        return "the number is missing"
     if word.strip() != word:
         return f"a blank stands beside the number in `{word}`"
     if word.startswith(("-", "+")):
