@@ -67,7 +67,7 @@ line_again() {
     # a word that is no file is a name
     [[ ! -e $it || -f $it || -d $it ]] || return
   done
-  line=$("$program" "${handed[@]}" 2>/dev/null)
+  line=$(timeout 10 "$program" "${handed[@]}" 2>/dev/null)
   (($? != status)) || printf '%s' "$line"
 }
 

@@ -210,6 +210,10 @@ in_range() {
 told_wrong() {
   if [ -z "$2" ]; then
     echo "the word for ${1:-one more} is empty"
+  elif [[ $2 == --* ]]; then
+    echo "${2@Q} is no option; --workers N is the only one, and --quiet stands before the command"
+  elif [[ $2 =~ ^-[0-9]+$ && $1 =~ ^(NUMBER|SIZE|TRACES)$ ]]; then
+    echo "$1 is $2, and can't be below 0"
   elif [[ $2 == -* && $1 =~ ^(FILE|SCRIPT|TRACE|SCHEDULE)$ ]]; then
     echo "${2@Q} begins with a dash: write ./$2 for a file of that name"
   elif [[ $2 == -* ]]; then
@@ -287,6 +291,11 @@ tell_words() {
     echo "lokwurmi: there is no command:"
   else
     near=$(nearest "$1")
+    if is_command "${2-}"; then
+      echo "lokwurmi: ${1@Q} is no command, which stands first: lokwurmi $2 $1"
+      echo "  lokwurmi --help $2 tells its words"
+      return
+    fi
     echo "lokwurmi: ${1@Q} is no command${near:+; the nearest is $near (lokwurmi --help $near)}:"
   fi
   list_commands

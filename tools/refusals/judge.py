@@ -121,18 +121,19 @@ def known_name(document: Document) -> Found:
 def unknown_name(document: Document) -> Found:
     resources = [it["name"] for it in document.entries["resource"]]
     sources, tasks = ([it["name"] for it in document.entries[part]] for part in ("source", "task"))
+    every = {part: {it["name"] for it in document.entries[part]} for part in PARTS}
     for at, task in enumerate(document.entries["task"]):
-        if task["on"] not in resources:
-            other = next((f'; it is a {part}' for part, known in (("source", sources), ("task", tasks)) if task["on"] in known), mean(task["on"], resources))
+        if task["on"] not in every["resource"]:
+            other = next((f"; it is a {part}" for part in ("source", "task") if task["on"] in every[part]), mean(task["on"], resources))
             says = f'{document.called("task", at)}: no resource is called "{task["on"]}"{other}'
             helps = known_names("resource", resources) if resources else f'the file has no resource: add [[resource]] name = "{task["on"]}", kind = ".."'
             yield "task", at, Remark(says, document.value_span("task", at, "on"), (), helps, SECTIONS[5])
         for item, name in enumerate(activators(task)):
-            if name not in sources and name not in tasks:
+            if name not in every["source"] and name not in every["task"]:
                 yield "task", at, no_activator(document, at, item, resources, sources + tasks)
     for at, path in enumerate(document.entries["path"]):
         for item, name in enumerate(path["tasks"]):
-            if name not in tasks:
+            if name not in every["task"]:
                 yield "path", at, no_task(document, at, item, sources, tasks)
 
 
@@ -306,9 +307,10 @@ def misfed(document: Document) -> Found:
         span = document.value_span("task", at, "after")
         if not after:
             yield "task", at, Remark(f"{called}: its list of activators is empty", span, (), "name a source or a task that starts it", SECTIONS[14])
+        first: dict[str, int] = {}
         for item, name in enumerate(after):
-            if name in after[:item]:
-                notes = [Note("the first time", document.item_span("task", at, "after", after.index(name)))]
+            if first.setdefault(name, item) != item:
+                notes = [Note("the first time", document.item_span("task", at, "after", first[name]))]
                 left = list(dict.fromkeys(after))
                 helps = f'name it once: after = "{name}"' if len(left) == 1 else "name it once"
                 yield "task", at, Remark(f'{called}: "{name}" stands twice in `after`', document.item_span("task", at, "after", item), notes, helps, SECTIONS[14])
