@@ -143,7 +143,7 @@ def run(case: Case) -> list[str]:
 def check_cases(keep: bool, only: str) -> tuple[int, int]:
     tried = wrong = 0
     for path in sorted(glob.glob(os.path.join(CASES, "*.txt"))):
-        if only and only not in path:
+        if only and not os.path.basename(path).startswith(only):
             continue
         texts, cases = [], list(cases_in(path))
         with ThreadPoolExecutor(4) as pool:
@@ -304,7 +304,7 @@ def check_look(room: str) -> int:
 def main() -> None:
     reader = argparse.ArgumentParser(description=__doc__.split("\n", 1)[0], epilog="python3 bench/check_messages.py --random 3000 --seed 7", formatter_class=argparse.RawDescriptionHelpFormatter)
     reader.add_argument("--keep", action="store_true", help="write what is said now into the cases")
-    reader.add_argument("--only", metavar="PART", default="", help="only files of cases whose name has this in it")
+    reader.add_argument("--only", metavar="PART", default="", help="only files of cases whose name begins so")
     reader.add_argument("--random", metavar="N", type=int, default=1000, help="so many damaged systems, and half as many scripts and traces; 1000 if absent")
     reader.add_argument("--seed", type=int, default=1)
     words = reader.parse_args()

@@ -105,7 +105,7 @@ class Call:
             return None
         length = f" {os.path.getsize(name)} bytes," if is_regular(name) else ""
         says = f"it has{length or ' too many bytes,'} and a {sort} has {MOST_BYTES[sort]} at most"
-        helps = "cut the system into parts" if sort == "system" else f"cut the {sort} into parts, or leave comments and empty lines out"
+        helps = f"cut the {sort} into parts" + ("" if sort in ("trace", "schedule") else ", or leave comments and empty lines out")
         return self.look.text(File(name, ""), Remark(says, None, (), helps, "Statuses"))
 
     def no_toml(self) -> str | None:
