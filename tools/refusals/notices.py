@@ -33,7 +33,7 @@ def long_identifiers(document: Document) -> list[Remark]:
         if not frames:
             continue
         at, task = frames[0], document.entries["task"][frames[0]]
-        others = f", and so have {len(frames) - 1} more on {resource['name']}" if len(frames) > 1 else ""
+        others = f", and so has one more on {resource['name']}" if len(frames) == 2 else f", and so have {len(frames) - 1} more on {resource['name']}" if len(frames) > 2 else ""
         says = f"{document.called('task', at)} has a priority above {MOST_SHORT:#x}, the greatest identifier of 11 bits, without `extended = true`{others}"
         way = "write `extended = true`" if "payload" in task else "write `payload` and `extended = true` in place of `best` and `worst`"
         helps = f"if it is an identifier of 29 bits, {way}, and mind the order of mixed identifiers; a mere rank may stay"
@@ -57,7 +57,7 @@ def of_assign(document: Document, resource: str, is_order: bool) -> list[Remark]
     else:
         helps = "no order meets these deadlines; those of longer paths weren't looked at"
     if count == 0 and is_order:
-        helps = f'no deadline was looked at, so any order would do; give the tasks paths: [[path]] name = "{without[0]}", tasks = ["{without[0]}"], deadline = ..'
+        helps = f'no deadline was looked at, so that this order may be far worse than the present one, for tasks and for paths over several; give tasks deadlines of their own: [[path]] name = "{without[0]}", tasks = ["{without[0]}"], deadline = ..'
     if 0 < count and len(without) <= 8:
         helps += f"; without one: {listed(without)}"
     return [Remark(says, document.value_span("resource", at, "name"), (), helps, "Priority orders and slack", is_notice=True)]
