@@ -200,9 +200,8 @@ class Call:
             else:
                 number, rule = re.findall(r"\d+", line)
                 texts.append(self.look.text(file, Remark(f"the edit on line {number} was refused by rule {rule}", file.span_of_line(int(number)), (), "", "", is_notice=True)))
-        edit = "edit was" if len(wrote) == 1 else "edits were"
         more = f", the first {MOST_NOTICES} of which are told here" if len(wrote) > MOST_NOTICES else ""
-        texts.append(f'{printable(file.name)}: {len(wrote)} of {count} edits were refused{more}; the reports are of the system without {"it" if len(wrote) == 1 else "them"} ({page("FILES.md")}, "{edits.MORE}")\n')
+        texts.append(f'{printable(file.name)}: {len(wrote)} of {count} edits {"was" if len(wrote) == 1 else "were"} refused{more}; the reports are of the system without {"it" if len(wrote) == 1 else "them"} ({page("FILES.md")}, "{edits.MORE}")\n')
         return "".join(texts)
 
 
