@@ -117,7 +117,11 @@ def make(room: str, case: Case) -> None:
             new.append(rest)
         elif sign == ">":
             with open(os.path.join(room, name), "ab") as it:
-                it.write(rest.encode().decode("unicode_escape").encode("latin-1") + b"\n" if "\\" in rest else rest.encode() + b"\n")
+                it.write(
+                    rest.encode().decode("unicode_escape").encode("latin-1") + b"\n"
+                    if "\\" in rest
+                    else rest.encode() + b"\n"
+                )
         elif sign == "!":
             subprocess.run(["bash", "-c", rest], cwd=room, check=True)
         else:
@@ -131,13 +135,22 @@ def run(case: Case) -> list[str]:
     with tempfile.TemporaryDirectory() as room:
         shutil.copytree(os.path.join(CASES, "base"), room, dirs_exist_ok=True)
         make(room, case)
-        environment = {key: value for key, value in os.environ.items() if key not in ("LOKWURMI_QUIET", "NO_COLOR")} | {"LOKWURMI_FAULTS": "1", "LC_ALL": "C.UTF-8"}
+        environment = {key: value for key, value in os.environ.items() if key not in ("LOKWURMI_QUIET", "NO_COLOR")} | {
+            "LOKWURMI_FAULTS": "1",
+            "LC_ALL": "C.UTF-8",
+        }
         words = [os.path.join(TOP, "lokwurmi"), *shlex.split(case.words)]
-        done = subprocess.run(words, cwd=room, capture_output=True, env=environment, stdin=subprocess.DEVNULL, check=False)
+        done = subprocess.run(
+            words, cwd=room, capture_output=True, env=environment, stdin=subprocess.DEVNULL, check=False
+        )
     wrote, said = (it.decode("utf-8", "replace").replace(TOP + "/docs/", "docs/") for it in (done.stdout, done.stderr))
     lines = wrote.splitlines()
     first = f"{done.returncode} {lines[0] if lines else ''}".rstrip()
-    return [first, *(f"  {it}" for it in lines[1:] if it.startswith("line ")), *(f"| {it}".rstrip() for it in said.splitlines())]
+    return [
+        first,
+        *(f"  {it}" for it in lines[1:] if it.startswith("line ")),
+        *(f"| {it}".rstrip() for it in said.splitlines()),
+    ]
 
 
 def check_cases(keep: bool, only: str) -> tuple[int, int]:
@@ -153,7 +166,12 @@ def check_cases(keep: bool, only: str) -> tuple[int, int]:
             texts.append(case.text(got))
             if got != case.kept and not keep:
                 wrong += 1
-                print(f"{os.path.basename(path)}: {case.title}:", *(f"  kept {it}" for it in case.kept), *(f"  now  {it}" for it in got), sep="\n")
+                print(
+                    f"{os.path.basename(path)}: {case.title}:",
+                    *(f"  kept {it}" for it in case.kept),
+                    *(f"  now  {it}" for it in got),
+                    sep="\n",
+                )
         if keep:
             with open(path, "w", encoding="utf-8") as it:
                 it.write("\n".join(texts))
@@ -167,7 +185,9 @@ def check_cases(keep: bool, only: str) -> tuple[int, int]:
 def wrote(*words: str) -> list[str]:
     """What the program itself writes."""
     program = [PROGRAMS["cpa_schedule"], *words[1:]] if words[0] == "schedule" else [PROGRAMS["cpa_cli"], *words]
-    return subprocess.run(program, capture_output=True, text=True, errors="surrogateescape", check=False).stdout.splitlines()
+    return subprocess.run(
+        program, capture_output=True, text=True, errors="surrogateescape", check=False
+    ).stdout.splitlines()
 
 
 class Room:
@@ -175,7 +195,9 @@ class Room:
 
     def __init__(self, folder: str, seed: int):
         self.folder, self.draw, self.seen, self.wrong = folder, random.Random(seed), Counter(), 0
-        paths = sorted(glob.glob(os.path.join(TOP, "examples", "*.toml"))) + [os.path.join(CASES, "base", "system.toml")]
+        paths = sorted(glob.glob(os.path.join(TOP, "examples", "*.toml"))) + [
+            os.path.join(CASES, "base", "system.toml")
+        ]
         self.systems = [read(it) for it in paths]
         self.systems += ["\n".join(wrote("generate", str(number), str(number % 5))) + "\n" for number in range(8)]
 
@@ -189,7 +211,10 @@ class Room:
         self.seen[sort, " ".join(it for it in program.split() if not it.isdigit() or "reason" in program)[:28]] += 1
         if program != here:
             self.wrong += 1
-            kept = [shutil.copy(it, os.path.join(tempfile.gettempdir(), f"differs{self.wrong}.{os.path.basename(it)}")) for it in files]
+            kept = [
+                shutil.copy(it, os.path.join(tempfile.gettempdir(), f"differs{self.wrong}.{os.path.basename(it)}"))
+                for it in files
+            ]
             print(f"{sort}: the program: {program!r}, here: {here!r}; {' '.join(kept)}")
 
     def names(self, text: str) -> list[str]:
@@ -209,7 +234,9 @@ class Room:
             if not found:
                 # no notice may fail on what is accepted
                 notices.of_system(Document(file.text))
-        self.hold("system", first if first.startswith(("system refused", "not TOML", "too long")) else "accepted", here, path)
+        self.hold(
+            "system", first if first.startswith(("system refused", "not TOML", "too long")) else "accepted", here, path
+        )
 
     def valid(self) -> tuple[str, str]:
         text = self.draw.choice(self.systems)
@@ -232,11 +259,19 @@ class Room:
     def trace(self) -> None:
         path, text = self.valid()
         sources = [it["name"] for it in Document(text).entries["source"]] or ["s"]
-        rows = [f"event,{self.draw.choice(sources)},{time * self.draw.choice([1, 50, 5000])}" for time in range(self.draw.randint(0, 9))]
+        rows = [
+            f"event,{self.draw.choice(sources)},{time * self.draw.choice([1, 50, 5000])}"
+            for time in range(self.draw.randint(0, 9))
+        ]
         names = self.names(text)
-        rows += [f"exec,{self.draw.choice(names or ['a'])},{self.draw.randint(1, 300)}" for _ in range(self.draw.randint(0, 3))]
+        rows += [
+            f"exec,{self.draw.choice(names or ['a'])},{self.draw.randint(1, 300)}"
+            for _ in range(self.draw.randint(0, 3))
+        ]
         text_of = "\n".join(rows) + "\n"
-        other = self.write("trace.csv", damaged_rows(self.draw, text_of, names) if self.draw.random() < 0.7 else text_of)
+        other = self.write(
+            "trace.csv", damaged_rows(self.draw, text_of, names) if self.draw.random() < 0.7 else text_of
+        )
         lines = wrote("simulate", path, other)
         found = Trace(Document(text), front.read(other))
         first = lines[0] if lines and lines[0].startswith("trace") else "accepted"
@@ -248,7 +283,9 @@ class Room:
 
     def schedule(self) -> None:
         name = self.draw.choice(["crossing_chains", "long_window", "round_robin", "pedal"])
-        path, trace, kept = (os.path.join(TOP, "examples", name + it) for it in (".toml", ".trace.csv", ".schedule.csv"))
+        path, trace, kept = (
+            os.path.join(TOP, "examples", name + it) for it in (".toml", ".trace.csv", ".schedule.csv")
+        )
         text = read(path)
         rows = "\n".join(read(kept).splitlines()[: self.draw.randint(0, 6)]) + "\n"
         other = self.write("schedule.csv", damaged_rows(self.draw, rows, self.names(text)))
@@ -287,14 +324,34 @@ def check_look(room: str) -> int:
     with open(file, "w", encoding="utf-8") as it:
         it.write('format = 1\nsource = [{ name = "\\u001b[31m", period = 10 }] # \x1b\n'.replace("\x1b", ""))
     call = shlex.join([os.path.join(TOP, "lokwurmi"), "analyse", file])
-    plain = {key: value for key, value in os.environ.items() if key not in ("LOKWURMI_QUIET", "NO_COLOR")} | {"TERM": "xterm"}
-    for what, change_, wanted in (("in a terminal", {}, True), ("with NO_COLOR", {"NO_COLOR": "1"}, False), ("in a dumb terminal", {"TERM": "dumb"}, False)):
-        said = subprocess.run(["script", "-qec", call, "/dev/null"], capture_output=True, text=True, env=plain | change_, stdin=subprocess.DEVNULL, check=False).stdout
+    plain = {key: value for key, value in os.environ.items() if key not in ("LOKWURMI_QUIET", "NO_COLOR")} | {
+        "TERM": "xterm"
+    }
+    for what, change_, wanted in (
+        ("in a terminal", {}, True),
+        ("with NO_COLOR", {"NO_COLOR": "1"}, False),
+        ("in a dumb terminal", {"TERM": "dumb"}, False),
+    ):
+        said = subprocess.run(
+            ["script", "-qec", call, "/dev/null"],
+            capture_output=True,
+            text=True,
+            env=plain | change_,
+            stdin=subprocess.DEVNULL,
+            check=False,
+        ).stdout
         good = ("\033[1m" in said) == wanted and "help:" in said and "\033[31m" not in said
         wrong += not good
         print(f"{'ok   ' if good else 'WRONG'} {what}: colours {wanted}")
     for what, words, change_ in (("--quiet", ["--quiet"], {}), ("LOKWURMI_QUIET=1", [], {"LOKWURMI_QUIET": "1"})):
-        done = subprocess.run([os.path.join(TOP, "lokwurmi"), *words, "analyse", file], capture_output=True, text=True, env=plain | change_, stdin=subprocess.DEVNULL, check=False)
+        done = subprocess.run(
+            [os.path.join(TOP, "lokwurmi"), *words, "analyse", file],
+            capture_output=True,
+            text=True,
+            env=plain | change_,
+            stdin=subprocess.DEVNULL,
+            check=False,
+        )
         good = done.stderr == "" and done.stdout == "system refused reason 3 source 1\n" and done.returncode == 14
         wrong += not good
         print(f"{'ok   ' if good else 'WRONG'} {what}: nothing but the line")
@@ -302,10 +359,20 @@ def check_look(room: str) -> int:
 
 
 def main() -> None:
-    reader = argparse.ArgumentParser(description=__doc__.split("\n", 1)[0], epilog="python3 bench/check_messages.py --random 3000 --seed 7", formatter_class=argparse.RawDescriptionHelpFormatter)
+    reader = argparse.ArgumentParser(
+        description=__doc__.split("\n", 1)[0],
+        epilog="python3 bench/check_messages.py --random 3000 --seed 7",
+        formatter_class=argparse.RawDescriptionHelpFormatter,
+    )
     reader.add_argument("--keep", action="store_true", help="write what is said now into the cases")
     reader.add_argument("--only", metavar="PART", default="", help="only files of cases whose name begins so")
-    reader.add_argument("--random", metavar="N", type=int, default=1000, help="so many damaged systems, and half as many scripts and traces; 1000 if absent")
+    reader.add_argument(
+        "--random",
+        metavar="N",
+        type=int,
+        default=1000,
+        help="so many damaged systems, and half as many scripts and traces; 1000 if absent",
+    )
     reader.add_argument("--seed", type=int, default=1)
     words = reader.parse_args()
     tried, wrong = check_cases(words.keep, words.only)

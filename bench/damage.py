@@ -4,8 +4,64 @@ from __future__ import annotations
 import random
 import re
 
-KEYS = ["name", "kind", "limit", "gap", "bit", "period", "jitter", "distance", "on", "after", "best", "worst", "payload", "extended", "priority", "slot", "tasks", "deadline", "wcet", "format", "nane"]
-VALUES = ["0", "1", "2", "-1", "3", "7", "10", "1000001", "1000000", "536870912", "2_000", "0x10", "1.5", "10.0", '""', '"s"', '"a"', '"a b"', "true", "false", "[]", '["a"]', '["s", "s"]', "{}", '"can"', '"tdma"', '"preemptive"', '"round-robin"', '"spp"', "1979-05-27", "'x'", '"ü"', "99999999999"]
+KEYS = [
+    "name",
+    "kind",
+    "limit",
+    "gap",
+    "bit",
+    "period",
+    "jitter",
+    "distance",
+    "on",
+    "after",
+    "best",
+    "worst",
+    "payload",
+    "extended",
+    "priority",
+    "slot",
+    "tasks",
+    "deadline",
+    "wcet",
+    "format",
+    "nane",
+]
+VALUES = [
+    "0",
+    "1",
+    "2",
+    "-1",
+    "3",
+    "7",
+    "10",
+    "1000001",
+    "1000000",
+    "536870912",
+    "2_000",
+    "0x10",
+    "1.5",
+    "10.0",
+    '""',
+    '"s"',
+    '"a"',
+    '"a b"',
+    "true",
+    "false",
+    "[]",
+    '["a"]',
+    '["s", "s"]',
+    "{}",
+    '"can"',
+    '"tdma"',
+    '"preemptive"',
+    '"round-robin"',
+    '"spp"',
+    "1979-05-27",
+    "'x'",
+    '"ü"',
+    "99999999999",
+]
 
 
 def words_of(text: str) -> list[tuple[int, int]]:
@@ -84,7 +140,19 @@ def add_line(draw: random.Random, text: str) -> str:
     return "".join([*lines[:at], f"{draw.choice(KEYS)} = {draw.choice(VALUES)}\n", *lines[at:]])
 
 
-WAYS = [exchange_words, exchange_words, exchange_texts, exchange_texts, exchange_texts, exchange_value, exchange_key, drop_line, double_lines, change_letter, add_line]
+WAYS = [
+    exchange_words,
+    exchange_words,
+    exchange_texts,
+    exchange_texts,
+    exchange_texts,
+    exchange_value,
+    exchange_key,
+    drop_line,
+    double_lines,
+    change_letter,
+    add_line,
+]
 
 
 def damaged(draw: random.Random, text: str) -> str:
@@ -94,7 +162,28 @@ def damaged(draw: random.Random, text: str) -> str:
     return text
 
 
-ROW_VALUES = ["0", "1", "5", "-1", "10000001", "1000001", "20000001", "1000000001", "12345678901", "1.5", "", " 1", "x", "event", "exec", "phase", "é", '"a"', '"', "a,b"]
+ROW_VALUES = [
+    "0",
+    "1",
+    "5",
+    "-1",
+    "10000001",
+    "1000001",
+    "20000001",
+    "1000000001",
+    "12345678901",
+    "1.5",
+    "",
+    " 1",
+    "x",
+    "event",
+    "exec",
+    "phase",
+    "é",
+    '"a"',
+    '"',
+    "a,b",
+]
 
 
 def damaged_rows(draw: random.Random, text: str, names: list[str]) -> str:
@@ -121,12 +210,31 @@ def damaged_script(draw: random.Random, names: list[str]) -> str:
     for _ in range(draw.randint(1, 12)):
         one, other, third = (draw.choice([*names, "zz"]) for _ in range(3))
         few = [str(draw.choice([0, 1, 2, 3, 5, 9, 20, 1_000_000, 1_000_001, draw.randrange(50)])) for _ in range(3)]
-        lines.append(draw.choice([
-            f"exec {one} {few[0]} {few[1]}", f"priority {one} {few[0]}", f"swap {one} {other}", f"slot {one} {few[0]}",
-            f"source {one} {few[0]} {few[1]} {few[2]}", f"add {draw.choice(['n1', 'n2', one])} {other} {third} {few[0]} {few[1]} {few[2]}",
-            f"remove {draw.choice([one, 'n1', 'n2'])}", "report", "# text", "",
-        ]))
+        lines.append(
+            draw.choice(
+                [
+                    f"exec {one} {few[0]} {few[1]}",
+                    f"priority {one} {few[0]}",
+                    f"swap {one} {other}",
+                    f"slot {one} {few[0]}",
+                    f"source {one} {few[0]} {few[1]} {few[2]}",
+                    f"add {draw.choice(['n1', 'n2', one])} {other} {third} {few[0]} {few[1]} {few[2]}",
+                    f"remove {draw.choice([one, 'n1', 'n2'])}",
+                    "report",
+                    "# text",
+                    "",
+                ]
+            )
+        )
     if draw.random() < 0.3:
         at = draw.randrange(len(lines))
-        lines[at] = draw.choice([change_letter(draw, lines[at]), lines[at] + " x", lines[at].upper(), "\t" + lines[at] + " \r", lines[at] + " # c"])
+        lines[at] = draw.choice(
+            [
+                change_letter(draw, lines[at]),
+                lines[at] + " x",
+                lines[at].upper(),
+                "\t" + lines[at] + " \r",
+                lines[at] + " # c",
+            ]
+        )
     return "\n".join(lines) + draw.choice(["", "\n", "\r\n"])

@@ -35,7 +35,13 @@ class Way:
 
     def call(self) -> None:
         start = time.perf_counter()
-        it = subprocess.Popen(self.words, stdin=subprocess.DEVNULL, stdout=subprocess.DEVNULL, stderr=subprocess.DEVNULL, env=os.environ | self.environment)
+        it = subprocess.Popen(
+            self.words,
+            stdin=subprocess.DEVNULL,
+            stdout=subprocess.DEVNULL,
+            stderr=subprocess.DEVNULL,
+            env=os.environ | self.environment,
+        )
         _, status, used = os.wait4(it.pid, 0)
         it.returncode = os.waitstatus_to_exitcode(status)
         self.times.append(time.perf_counter() - start)
@@ -55,7 +61,9 @@ def earlier(folder: str, revision: str) -> str:
     """The script as it was, above the same crates."""
     for name in ("crates", "crates.txt", "docs"):
         os.symlink(os.path.join(TOP, name), os.path.join(folder, name))
-    archive = subprocess.run(["git", "-C", TOP, "archive", revision, "lokwurmi", "tools"], stdout=subprocess.PIPE, check=True)
+    archive = subprocess.run(
+        ["git", "-C", TOP, "archive", revision, "lokwurmi", "tools"], stdout=subprocess.PIPE, check=True
+    )
     subprocess.run(["tar", "-x", "-C", folder], input=archive.stdout, check=True)
     return os.path.join(folder, "lokwurmi")
 
@@ -70,7 +78,11 @@ def written(folder: str, name: str, text: str) -> str:
 def ways_in(folder: str, revision: str | None) -> list[Way]:
     launcher, file = os.path.join(TOP, "lokwurmi"), os.path.join(TOP, "examples", "car_network.toml")
     quiet = {"LOKWURMI_QUIET": "1"}
-    ways = [Way("the program itself", [PROGRAM, "analyse", file]), Way("lokwurmi, quiet", [launcher, "analyse", file], quiet), Way("lokwurmi", [launcher, "analyse", file])]
+    ways = [
+        Way("the program itself", [PROGRAM, "analyse", file]),
+        Way("lokwurmi, quiet", [launcher, "analyse", file], quiet),
+        Way("lokwurmi", [launcher, "analyse", file]),
+    ]
     ways.append(Way("lokwurmi, with a notice", [launcher, "analyse", written(folder, "unused.toml", UNUSED)]))
     ways.append(Way("lokwurmi, with a refusal", [launcher, "analyse", written(folder, "refused.toml", REFUSED)]))
     if revision:
@@ -79,7 +91,11 @@ def ways_in(folder: str, revision: str | None) -> list[Way]:
 
 
 def main() -> None:
-    reader = argparse.ArgumentParser(description=__doc__.split("\n", 1)[0], epilog="python3 bench/time_launcher.py --calls 200 --than 132bc4f", formatter_class=argparse.RawDescriptionHelpFormatter)
+    reader = argparse.ArgumentParser(
+        description=__doc__.split("\n", 1)[0],
+        epilog="python3 bench/time_launcher.py --calls 200 --than 132bc4f",
+        formatter_class=argparse.RawDescriptionHelpFormatter,
+    )
     reader.add_argument("--calls", metavar="N", type=int, default=200, help="how many calls each; 200 if absent")
     reader.add_argument("--than", metavar="REVISION", help="an earlier commit, whose script is called too")
     words = reader.parse_args()
@@ -93,12 +109,24 @@ def main() -> None:
             if number % 50 == 49:
                 print(f"{number + 1} of {words.calls} rounds", file=sys.stderr, flush=True)
     alone = ways[0]
-    print("| Call | Median, ms | Beyond the program | Processor, ms | Beyond the program |", "|---|---|---|---|---|", sep="\n")
+    print(
+        "| Call | Median, ms | Beyond the program | Processor, ms | Beyond the program |",
+        "|---|---|---|---|---|",
+        sep="\n",
+    )
     for way in ways:
-        print(f"| {way.what} | {way.median:.1f} | {way.median - alone.median:.1f} | {way.work:.1f} | {way.work - alone.work:.1f} |")
+        print(
+            f"| {way.what} | {way.median:.1f} | {way.median - alone.median:.1f} | {way.work:.1f} |"
+            f" {way.work - alone.work:.1f} |"
+        )
     for way in ways[1:3] if words.than else []:
-        clock, work = (ways[-1].median - alone.median) / (way.median - alone.median), (ways[-1].work - alone.work) / (way.work - alone.work)
-        print(f"{way.what}: {ways[-1].what} takes {clock:.1f} times as long beyond the program, and {work:.1f} times the work")
+        clock, work = (ways[-1].median - alone.median) / (way.median - alone.median), (ways[-1].work - alone.work) / (
+            way.work - alone.work
+        )
+        print(
+            f"{way.what}: {ways[-1].what} takes {clock:.1f} times as long beyond the program, and {work:.1f} times the"
+            " work"
+        )
 
 
 if __name__ == "__main__":

@@ -21,7 +21,9 @@ class Document:
         self.text = text
         self.values: Entry = tomllib.loads(older(text))
         self.root: Place = places_in(older(text))
-        self.entries: dict[str, list] = {part: self.values[part] if isinstance(self.values.get(part), list) else [] for part in PARTS}
+        self.entries: dict[str, list] = {
+            part: self.values[part] if isinstance(self.values.get(part), list) else [] for part in PARTS
+        }
 
     @property
     def has_lists(self) -> bool:

@@ -69,7 +69,9 @@ class Bench:
             yield 3, f"{number} isn't {rule.least} to {rule.most}", word, f"the range is that of `{key}` in a system file"
 
     def taken(self, resource: str, number: int, name: str, word: int) -> Found:
-        used = {it["priority"]: it["name"] for _, it in self.names.on(resource) if "priority" in it and it["name"] != name}
+        used = {
+            it["priority"]: it["name"] for _, it in self.names.on(resource) if "priority" in it and it["name"] != name
+        }
         if self.has_priorities(resource) and number in used:
             free = next(it for it in range(number, number + len(used) + 1) if it not in used)
             swap = f"swap {name} {used[number]}, or " if name in self.names.tasks else ""
@@ -82,7 +84,13 @@ class Bench:
 
 def numbers_of(keyword: str) -> range:
     """The places of the numbers among the words after the first."""
-    return {"exec": range(1, 3), "priority": range(1, 2), "slot": range(1, 2), "source": range(1, 4), "add": range(3, 6)}.get(keyword, range(0))
+    return {
+        "exec": range(1, 3),
+        "priority": range(1, 2),
+        "slot": range(1, 2),
+        "source": range(1, 4),
+        "add": range(3, 6),
+    }.get(keyword, range(0))
 
 
 def break_exec(bench: Bench, name: str, best: int, worst: int) -> Found:
@@ -132,8 +140,16 @@ def do_swap(bench: Bench, first: str, second: str) -> None:
 
 def break_source(bench: Bench, name: str, period: int, jitter: int, distance: int) -> Found:
     if name not in bench.names.sources:
-        what = f'"{name}" is a task, and a source is wanted' if name in bench.names.tasks else f'no source is called "{name}"{mean(name, sorted(bench.names.sources))}'
-        yield 1, what, 1, "the input of a task follows from its activators, and can't be edited" if name in bench.names.tasks else "names are as in the file"
+        what = (
+            f'"{name}" is a task, and a source is wanted'
+            if name in bench.names.tasks
+            else f'no source is called "{name}"{mean(name, sorted(bench.names.sources))}'
+        )
+        yield 1, what, 1, (
+            "the input of a task follows from its activators, and can't be edited"
+            if name in bench.names.tasks
+            else "names are as in the file"
+        )
     for key, number, word in (("period", period, 2), ("jitter", jitter, 3)):
         rule = KEYS["source"][key]
         if not rule.least <= number <= rule.most:
@@ -195,7 +211,10 @@ class Form:
 
 
 def by_turn(key: str) -> Form:
-    return Form(lambda bench, name, number: break_turn(bench, name, number, key), lambda bench, name, number: do_turn(bench, name, number, key))
+    return Form(
+        lambda bench, name, number: break_turn(bench, name, number, key),
+        lambda bench, name, number: do_turn(bench, name, number, key),
+    )
 
 
 FORMS = {

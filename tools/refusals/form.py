@@ -13,7 +13,7 @@ TYPES = {
     "text": "a text in quotes",
     "integer": "a whole number",
     "truth": "true or false",
-    "texts": "an array of texts, as [\"a\", \"b\"]",
+    "texts": 'an array of texts, as ["a", "b"]',
     "after": "a text, or with `format = 2` an array of texts",
 }
 
@@ -31,7 +31,13 @@ def other_format(document: Document) -> Remark | None:
     if not is_integer(value) or value in (1, 2):
         return None
     helps = "write `format = 1`, or `format = 2` so that a task's `after` may be a list"
-    return Remark(f"the format {value} isn't known: it is 1 or 2", document.root.items["format"].span, (), helps, "13: another format")
+    return Remark(
+        f"the format {value} isn't known: it is 1 or 2",
+        document.root.items["format"].span,
+        (),
+        helps,
+        "13: another format",
+    )
 
 
 def top(document: Document) -> Remark | None:
@@ -60,21 +66,50 @@ def unknown_top_key(document: Document, key: str) -> Remark:
 def no_array(document: Document, part: str) -> Remark:
     place = document.root.items[part]
     if isinstance(document.values[part], dict):
-        return Remark(f"[{part}] begins one table, and the file wants a list of them", place.span, (), f"write [[{part}]], once before each {part}", FORM)
+        return Remark(
+            f"[{part}] begins one table, and the file wants a list of them",
+            place.span,
+            (),
+            f"write [[{part}]], once before each {part}",
+            FORM,
+        )
     helps = f"write a section [[{part}]] for each, or {part} = [{{ name = .. }}, ..]"
-    return Remark(f"`{part}` is {kind_of(document.values[part])}, and has to be an array of tables", place.span, (), helps, FORM)
+    return Remark(
+        f"`{part}` is {kind_of(document.values[part])}, and has to be an array of tables", place.span, (), helps, FORM
+    )
 
 
 def format_of(document: Document) -> Remark | None:
     value = document.values.get("format")
-    wanted = 2 if any(isinstance(it, dict) and isinstance(it.get("after"), list) for it in document.entries["task"]) else 1
+    wanted = (
+        2 if any(isinstance(it, dict) and isinstance(it.get("after"), list) for it in document.entries["task"]) else 1
+    )
     helps = f"write `format = {wanted}` as the first line"
     if value is None:
-        inside = [(part, at) for part in PARTS for at, it in enumerate(document.entries[part]) if isinstance(it, dict) and "format" in it]
-        notes = [Note(f"here `format` stands below a heading, and so belongs to {document.called(*it)}", document.key_span(*it, "format")) for it in inside[:1]]
-        return Remark("the key `format` is missing at the top of the file", None, notes, helps + ", above all headings", FORM)
+        inside = [
+            (part, at)
+            for part in PARTS
+            for at, it in enumerate(document.entries[part])
+            if isinstance(it, dict) and "format" in it
+        ]
+        notes = [
+            Note(
+                f"here `format` stands below a heading, and so belongs to {document.called(*it)}",
+                document.key_span(*it, "format"),
+            )
+            for it in inside[:1]
+        ]
+        return Remark(
+            "the key `format` is missing at the top of the file", None, notes, helps + ", above all headings", FORM
+        )
     if not is_integer(value):
-        return Remark(f"`format` is {kind_of(value)}, and has to be the whole number 1 or 2", document.root.items["format"].span, (), helps, FORM)
+        return Remark(
+            f"`format` is {kind_of(value)}, and has to be the whole number 1 or 2",
+            document.root.items["format"].span,
+            (),
+            helps,
+            FORM,
+        )
     return None
 
 
@@ -82,8 +117,14 @@ def entry(document: Document, part: str, at: int) -> Remark | None:
     """What is wrong with the form of an entry: what can be pointed at before what is missing."""
     value = document.entries[part][at]
     if not isinstance(value, dict):
-        helps = f"each {part} is a table, as {{ name = \"..\", .. }}"
-        return Remark(f"{part} {at + 1} is {kind_of(value)}, and has to be a table", document.place(part, at).span, (), helps, FORM)
+        helps = f'each {part} is a table, as {{ name = "..", .. }}'
+        return Remark(
+            f"{part} {at + 1} is {kind_of(value)}, and has to be a table",
+            document.place(part, at).span,
+            (),
+            helps,
+            FORM,
+        )
     for key in value:
         if key not in KEYS[part]:
             return unknown_key(document, part, at, key)
@@ -117,7 +158,13 @@ def unknown_key(document: Document, part: str, at: int, key: str) -> Remark:
         guess, helps = "", f"`{key}` belongs to the top of the file, above all headings in [[ ]]"
     elif not near and (owners := [it for it in KEYS if key in KEYS[it]]):
         helps = f"`{key}` is a key of {AN[owners[0]]}; those of {AN[part]} are {listed(list(KEYS[part]))}"
-    return Remark(f"{document.called(part, at)}: the key `{key}` isn't known{guess}", document.key_span(part, at, key), (), helps, FORM)
+    return Remark(
+        f"{document.called(part, at)}: the key `{key}` isn't known{guess}",
+        document.key_span(part, at, key),
+        (),
+        helps,
+        FORM,
+    )
 
 
 def wrong_type(document: Document, part: str, at: int, key: str) -> Remark:
@@ -138,7 +185,13 @@ def wrong_list(document: Document, at: int, says: str) -> Remark:
     called = document.called("task", at)
     if document.has_lists:
         item = next(it for it, text in enumerate(value) if not isinstance(text, str))
-        return Remark(f"{called}: `after` holds {kind_of(value[item])}, and has to hold texts", document.item_span("task", at, "after", item), (), "write each name in quotes", FORM)
+        return Remark(
+            f"{called}: `after` holds {kind_of(value[item])}, and has to hold texts",
+            document.item_span("task", at, "after", item),
+            (),
+            "write each name in quotes",
+            FORM,
+        )
     notes = [Note("the format of this file", document.root.items["format"].span)]
     helps = "write `format = 2`" if len(value) != 1 else f'write `format = 2`, or after = "{value[0]}"'
     return Remark(f"{called}: `after` is a list, which format 1 hasn't", span, notes, helps, FORM)
@@ -170,10 +223,20 @@ def remedy(wanted: str, value: object, key: str, written: str) -> str:
 
 def unknown_kind(document: Document, at: int) -> Remark:
     value = document.entries["resource"][at]["kind"]
-    near = OTHER_KINDS.get(bare(value)) or next((it for it in KINDS if bare(it) == bare(value)), None) or nearest(value, KINDS)
+    near = (
+        OTHER_KINDS.get(bare(value))
+        or next((it for it in KINDS if bare(it) == bare(value)), None)
+        or nearest(value, KINDS)
+    )
     guess = f'; did you mean "{near}"?' if near else ""
     says = f'{document.called("resource", at)}: the kind "{value}" isn\'t known{guess}'
-    return Remark(says, document.value_span("resource", at, "kind"), (), "the kinds are preemptive, round-robin, tdma and can", FORM)
+    return Remark(
+        says,
+        document.value_span("resource", at, "kind"),
+        (),
+        "the kinds are preemptive, round-robin, tdma and can",
+        FORM,
+    )
 
 
 def missing_key(document: Document, part: str, at: int, key: str) -> Remark:
@@ -185,7 +248,9 @@ def missing_key(document: Document, part: str, at: int, key: str) -> Remark:
         "after": 'write after = "..": the source or the task that starts it',
         "tasks": 'write tasks = ["..", ".."]: its tasks, from the first to the last',
     }[key]
-    return Remark(f"{document.called(part, at)}: the key `{key}` is missing", document.place(part, at).span, (), helps, FORM)
+    return Remark(
+        f"{document.called(part, at)}: the key `{key}` is missing", document.place(part, at).span, (), helps, FORM
+    )
 
 
 def executions(document: Document, at: int) -> Remark | None:
@@ -194,13 +259,40 @@ def executions(document: Document, at: int) -> Remark | None:
     has = [it for it in ("best", "worst") if it in value]
     if "payload" in value and has:
         notes = [Note("the payload, of which its execution is worked out", document.key_span("task", at, "payload"))]
-        return Remark(f"{called}: `{has[0]}` stands beside `payload`", document.key_span("task", at, has[0]), notes, "a frame has `payload` alone; a task with an execution of its own has `best` and `worst` alone", FORM)
+        return Remark(
+            f"{called}: `{has[0]}` stands beside `payload`",
+            document.key_span("task", at, has[0]),
+            notes,
+            "a frame has `payload` alone; a task with an execution of its own has `best` and `worst` alone",
+            FORM,
+        )
     if "payload" in value or (len(has) == 2 and "extended" not in value):
         return None
     if "extended" in value:
-        return Remark(f"{called}: `extended` stands without `payload`", document.key_span("task", at, "extended"), (), "it tells that a frame has an identifier of 29 bits: give the task a `payload` in place of `best` and `worst`, or leave `extended` out", FORM)
+        return Remark(
+            f"{called}: `extended` stands without `payload`",
+            document.key_span("task", at, "extended"),
+            (),
+            (
+                "it tells that a frame has an identifier of 29 bits: give the task a `payload` in place of `best` and"
+                " `worst`, or leave `extended` out"
+            ),
+            FORM,
+        )
     span = document.place("task", at).span
     if has:
         other = "worst" if has == ["best"] else "best"
-        return Remark(f"{called}: the key `{other}` is missing beside `{has[0]}`", document.key_span("task", at, has[0]), (), f"write {other} = N too: an execution lies between the two, and they may be equal", FORM)
-    return Remark(f"{called}: it has no execution: `best` and `worst`, or `payload`, are missing", span, (), "write best = N and worst = N; on a CAN bus payload = N, 0 to 8 bytes, may stand in their place", FORM)
+        return Remark(
+            f"{called}: the key `{other}` is missing beside `{has[0]}`",
+            document.key_span("task", at, has[0]),
+            (),
+            f"write {other} = N too: an execution lies between the two, and they may be equal",
+            FORM,
+        )
+    return Remark(
+        f"{called}: it has no execution: `best` and `worst`, or `payload`, are missing",
+        span,
+        (),
+        "write best = N and worst = N; on a CAN bus payload = N, 0 to 8 bytes, may stand in their place",
+        FORM,
+    )

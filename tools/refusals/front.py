@@ -19,7 +19,13 @@ from .trace import Trace
 UNREADABLE, TOO_LONG, NO_TOML, NO_SYSTEM, SCRIPT, TRACE, DISOBEYS, WORD, SCHEDULE = 11, 12, 13, 14, 15, 16, 17, 18, 19
 MOST_BYTES = {"system": 1_048_576, "script": 1_048_576, "trace": 16_777_216, "schedule": 16_777_216}
 # what the words of a command are, after the system file
-OTHERS = {"session": ("script",), "simulate": ("trace",), "buffers": ("trace",), "schedule": ("trace",), "audit": ("trace", "schedule")}
+OTHERS = {
+    "session": ("script",),
+    "simulate": ("trace",),
+    "buffers": ("trace",),
+    "schedule": ("trace",),
+    "audit": ("trace", "schedule"),
+}
 MOST_NOTICES = 10
 
 
@@ -74,9 +80,19 @@ class Call:
     def told(self) -> str | None:
         """What to say; None where a hint by the status is all there is."""
         tellers = {
-            UNREADABLE: self.unreadable, TOO_LONG: self.too_long, NO_TOML: self.no_toml, NO_SYSTEM: self.no_system,
-            SCRIPT: self.script, TRACE: self.trace, DISOBEYS: self.disobeys, WORD: self.word, SCHEDULE: self.schedule,
-            3: self.no_answer, 0: self.notices, 1: self.notices, 2: self.notices,
+            UNREADABLE: self.unreadable,
+            TOO_LONG: self.too_long,
+            NO_TOML: self.no_toml,
+            NO_SYSTEM: self.no_system,
+            SCRIPT: self.script,
+            TRACE: self.trace,
+            DISOBEYS: self.disobeys,
+            WORD: self.word,
+            SCHEDULE: self.schedule,
+            3: self.no_answer,
+            0: self.notices,
+            1: self.notices,
+            2: self.notices,
         }
         return tellers[self.status]() if self.status in tellers else None
 
@@ -85,7 +101,11 @@ class Call:
         found = lines.told(self.line)
         if found is None:
             return None
-        helps = "" if is_regular(name) else "this can't be read a second time: write it into a file to see the line and the word"
+        helps = (
+            ""
+            if is_regular(name)
+            else "this can't be read a second time: write it into a file to see the line and the word"
+        )
         return self.look.text(File(name, ""), Remark(found[0], None, (), helps, found[1]))
 
     def on(self, name: str, fault: tuple[str, Remark] | None, wanted: str, file: File) -> str | None:
@@ -105,7 +125,9 @@ class Call:
             return None
         length = f" {os.path.getsize(name)} bytes," if is_regular(name) else ""
         says = f"it has{length or ' too many bytes,'} and a {sort} has {MOST_BYTES[sort]} at most"
-        helps = f"cut the {sort} into parts" + ("" if sort in ("trace", "schedule") else ", or leave comments and empty lines out")
+        helps = f"cut the {sort} into parts" + (
+            "" if sort in ("trace", "schedule") else ", or leave comments and empty lines out"
+        )
         return self.look.text(File(name, ""), Remark(says, None, (), helps, "Statuses"))
 
     def no_toml(self) -> str | None:
@@ -170,9 +192,17 @@ class Call:
     # ---- notices
 
     def no_answer(self) -> str | None:
-        hint = {"assign": "no order of priorities meets the deadlines that tasks of this resource have of their own", "slack": "a deadline is missed already, or a path with one has no bound"}[self.command]
-        helps = {"assign": "look where the time goes, by `lokwurmi analyse`: take work off the resource, or allow more time", "slack": "look for `missed` and `unknown` in what `lokwurmi analyse` writes"}[self.command]
-        told = self.look.text(File(self.words[0], ""), Remark(hint, None, (), helps, "Priority orders and slack", is_notice=True))
+        hint = {
+            "assign": "no order of priorities meets the deadlines that tasks of this resource have of their own",
+            "slack": "a deadline is missed already, or a path with one has no bound",
+        }[self.command]
+        helps = {
+            "assign": "look where the time goes, by `lokwurmi analyse`: take work off the resource, or allow more time",
+            "slack": "look for `missed` and `unknown` in what `lokwurmi analyse` writes",
+        }[self.command]
+        told = self.look.text(
+            File(self.words[0], ""), Remark(hint, None, (), helps, "Priority orders and slack", is_notice=True)
+        )
         return told + (self.notices() or "")
 
     def notices(self) -> str | None:
@@ -199,9 +229,25 @@ class Call:
                 texts.append(self.look.text(file, told[line].remark))
             else:
                 number, rule = re.findall(r"\d+", line)
-                texts.append(self.look.text(file, Remark(f"the edit on line {number} was refused by rule {rule}", file.span_of_line(int(number)), (), "", "", is_notice=True)))
+                texts.append(
+                    self.look.text(
+                        file,
+                        Remark(
+                            f"the edit on line {number} was refused by rule {rule}",
+                            file.span_of_line(int(number)),
+                            (),
+                            "",
+                            "",
+                            is_notice=True,
+                        ),
+                    )
+                )
         more = f", the first {MOST_NOTICES} of which are told here" if len(wrote) > MOST_NOTICES else ""
-        texts.append(f'{printable(file.name)}: {len(wrote)} of {count} edits {"was" if len(wrote) == 1 else "were"} refused{more}; the reports are of the system without {"it" if len(wrote) == 1 else "them"} ({page("FILES.md")}, "{edits.MORE}")\n')
+        texts.append(
+            f"{printable(file.name)}: {len(wrote)} of {count} edits"
+            f" {'was' if len(wrote) == 1 else 'were'} refused{more}; the reports are of the system without"
+            f" {'it' if len(wrote) == 1 else 'them'} ({page('FILES.md')}, \"{edits.MORE}\")\n"
+        )
         return "".join(texts)
 
 
@@ -263,9 +309,17 @@ def unreadable(name: str) -> Remark:
     if os.path.lexists(name) and not os.path.exists(name):
         return Remark("it is a link to what isn't there", None, (), "", "Statuses")
     if os.path.exists(name):
-        return Remark("it is there, but may not be read", None, (), f"look at its permissions: ls -l {name}", "Statuses")
+        return Remark(
+            "it is there, but may not be read", None, (), f"look at its permissions: ls -l {name}", "Statuses"
+        )
     if folder and not os.path.isdir(folder):
-        return Remark(f"there is no folder {printable(folder)}", None, (), "look at the path, and at the folder that the call is made in", "Statuses")
+        return Remark(
+            f"there is no folder {printable(folder)}",
+            None,
+            (),
+            "look at the path, and at the folder that the call is made in",
+            "Statuses",
+        )
     try:
         near = nearest(last, sorted(os.listdir(folder or ".")))
     except OSError:
@@ -280,7 +334,11 @@ def in_folder(name: str) -> str:
         found = sorted(it for it in os.listdir(name) if it.endswith((".toml", ".csv", ".txt")))
     except OSError:
         return ""
-    return f"in it are {listed([printable(it) for it in found[:6]])}{' and more' if len(found) > 6 else ''}" if found else ""
+    return (
+        f"in it are {listed([printable(it) for it in found[:6]])}{' and more' if len(found) > 6 else ''}"
+        if found
+        else ""
+    )
 
 
 def refusal_of(name: str) -> tuple[File, Refusal] | None:
@@ -295,18 +353,40 @@ def refusal_of(name: str) -> tuple[File, Refusal] | None:
 
 def remark_on_word(document: Document, line: str, word: str) -> Remark | None:
     more = "Status 18: the resource or the task is refused"
-    resources, tasks, sources = ([it["name"] for it in document.entries[part]] for part in ("resource", "task", "source"))
+    resources, tasks, sources = (
+        [it["name"] for it in document.entries[part]] for part in ("resource", "task", "source")
+    )
     at = resources.index(word) if word in resources else None
     if line == "slack refused 1":
-        helps = "sources have no slack: name a task" if word in sources else "resources have no slack: name a task on it" if word in resources else f"its tasks are {listed(tasks[:8])}{' and more' if len(tasks) > 8 else ''}"
+        helps = (
+            "sources have no slack: name a task"
+            if word in sources
+            else (
+                "resources have no slack: name a task on it"
+                if word in resources
+                else f"its tasks are {listed(tasks[:8])}{' and more' if len(tasks) > 8 else ''}"
+            )
+        )
         guess = f"; did you mean {near}?" if (near := nearest(word, tasks)) else ""
         return Remark(f'no task is called "{printable(word)}"{guess}', None, (), helps, more)
     if line == "assign refused 1":
         guess = f"; did you mean {near}?" if (near := nearest(word, resources)) else ""
-        return Remark(f'no resource is called "{printable(word)}"{guess}', None, (), f"its resources are {listed(resources[:8])}{' and more' if len(resources) > 8 else ''}", more)
+        return Remark(
+            f'no resource is called "{printable(word)}"{guess}',
+            None,
+            (),
+            f"its resources are {listed(resources[:8])}{' and more' if len(resources) > 8 else ''}",
+            more,
+        )
     if line == "assign refused 2" and at is not None:
         kind = document.entries["resource"][at]["kind"]
-        return Remark(f'resource "{word}" is {kind}: its tasks have slots, and no priorities', document.value_span("resource", at, "kind"), (), "try other slots by a script: lokwurmi session, with slot TASK N", more)
+        return Remark(
+            f'resource "{word}" is {kind}: its tasks have slots, and no priorities',
+            document.value_span("resource", at, "kind"),
+            (),
+            "try other slots by a script: lokwurmi session, with slot TASK N",
+            more,
+        )
     if line == "assign refused 3" and at is not None:
         return behind_tasks(document, word, set(tasks), more)
     return None
@@ -315,14 +395,24 @@ def remark_on_word(document: Document, line: str, word: str) -> Remark | None:
 def behind_tasks(document: Document, resource: str, tasks: set[str], more: str) -> Remark | None:
     from system import activators
 
-    found = [(at, it) for at, it in enumerate(document.entries["task"]) if it["on"] == resource and tasks.intersection(activators(it))]
+    found = [
+        (at, it)
+        for at, it in enumerate(document.entries["task"])
+        if it["on"] == resource and tasks.intersection(activators(it))
+    ]
     if not found:
         return None
     at, task = found[0]
     before = next(it for it in activators(task) if it in tasks)
     others = "; so does one more" if len(found) == 2 else f"; so do {len(found) - 1} more" if len(found) > 2 else ""
-    says = f'task "{task["name"]}" of {resource} comes after the task "{before}", so that its input depends on the order{others}'
-    helps = "assign takes resources whose tasks all come after sources; try orders by a script (swap), or give the task in a copy of the file a source with the period, jitter and distance of its line in the report"
+    says = (
+        f'task "{task["name"]}" of {resource} comes after the task "{before}", so that its input depends on the'
+        f" order{others}"
+    )
+    helps = (
+        "assign takes resources whose tasks all come after sources; try orders by a script (swap), or give the task in"
+        " a copy of the file a source with the period, jitter and distance of its line in the report"
+    )
     return Remark(says, document.item_span("task", at, "after", activators(task).index(before)), (), helps, more)
 
 

@@ -21,7 +21,16 @@ def unused_sources(document: Document) -> list[Remark]:
     for place, at in enumerate(found[:MOST], 1):
         more = f"; {len(found) - MOST} more start nobody" if place == MOST < len(found) else ""
         helps = f"no task has it in `after`: name it there, or leave it out{more}"
-        remarks.append(Remark(f"{document.called('source', at)} starts nobody", document.value_span("source", at, "name"), (), helps, "", is_notice=True))
+        remarks.append(
+            Remark(
+                f"{document.called('source', at)} starts nobody",
+                document.value_span("source", at, "name"),
+                (),
+                helps,
+                "",
+                is_notice=True,
+            )
+        )
     return remarks
 
 
@@ -29,15 +38,34 @@ def long_identifiers(document: Document) -> list[Remark]:
     """One notice a bus."""
     names, remarks = Names(document), []
     for resource in document.entries["resource"]:
-        frames = [at for at, it in names.on(resource["name"]) if resource["kind"] == "can" and it["priority"] > MOST_SHORT and not it.get("extended")]
+        frames = [
+            at
+            for at, it in names.on(resource["name"])
+            if resource["kind"] == "can" and it["priority"] > MOST_SHORT and not it.get("extended")
+        ]
         if not frames:
             continue
         at, task = frames[0], document.entries["task"][frames[0]]
-        others = f", and so has one more on {resource['name']}" if len(frames) == 2 else f", and so have {len(frames) - 1} more on {resource['name']}" if len(frames) > 2 else ""
-        says = f"{document.called('task', at)} has a priority above {MOST_SHORT:#x}, the greatest identifier of 11 bits, without `extended = true`{others}"
-        way = "write `extended = true`" if "payload" in task else "write `payload` and `extended = true` in place of `best` and `worst`"
-        helps = f"if it is an identifier of 29 bits, {way}, and mind the order of mixed identifiers; a mere rank may stay"
-        remarks.append(Remark(says, document.value_span("task", at, "priority"), (), helps, "The system", is_notice=True))
+        others = (
+            f", and so has one more on {resource['name']}"
+            if len(frames) == 2
+            else f", and so have {len(frames) - 1} more on {resource['name']}" if len(frames) > 2 else ""
+        )
+        says = (
+            f"{document.called('task', at)} has a priority above {MOST_SHORT:#x}, the greatest identifier of 11 bits,"
+            f" without `extended = true`{others}"
+        )
+        way = (
+            "write `extended = true`"
+            if "payload" in task
+            else "write `payload` and `extended = true` in place of `best` and `worst`"
+        )
+        helps = (
+            f"if it is an identifier of 29 bits, {way}, and mind the order of mixed identifiers; a mere rank may stay"
+        )
+        remarks.append(
+            Remark(says, document.value_span("task", at, "priority"), (), helps, "The system", is_notice=True)
+        )
     return remarks
 
 
@@ -53,18 +81,38 @@ def of_assign(document: Document, resource: str, is_order: bool) -> list[Remark]
     says = f"{count} of {len(tasks)} tasks of {resource} have a deadline of their own (a path of that task alone)"
     without = [it for it in tasks if it not in with_one]
     if is_order:
-        helps = "the order counts these deadlines alone: tasks without one may get much worse, and so may paths over several tasks; look at the whole system under it"
+        helps = (
+            "the order counts these deadlines alone: tasks without one may get much worse, and so may paths over"
+            " several tasks; look at the whole system under it"
+        )
     else:
         helps = "no order meets these deadlines; those of longer paths weren't looked at"
     if count == 0 and is_order:
-        helps = f'no deadline was looked at, so that this order may be far worse than the present one, for tasks and for paths over several; give tasks deadlines of their own: [[path]] name = "{without[0]}", tasks = ["{without[0]}"], deadline = ..'
+        helps = (
+            "no deadline was looked at, so that this order may be far worse than the present one, for tasks and for"
+            f' paths over several; give tasks deadlines of their own: [[path]] name = "{without[0]}", tasks ='
+            f' ["{without[0]}"], deadline = ..'
+        )
     if 0 < count and len(without) <= 8:
         helps += f"; without one: {listed(without)}"
-    return [Remark(says, document.value_span("resource", at, "name"), (), helps, "Priority orders and slack", is_notice=True)]
+    return [
+        Remark(
+            says, document.value_span("resource", at, "name"), (), helps, "Priority orders and slack", is_notice=True
+        )
+    ]
 
 
 def without_deadlines(document: Document) -> list[Remark]:
     """What an answer of `slack` counts."""
     if any("deadline" in it for it in document.entries["path"]):
         return []
-    return [Remark("no path has a deadline, so that nothing can be missed", None, (), "the answer tells only how far `worst` is from the greatest execution there is", "Priority orders and slack", is_notice=True)]
+    return [
+        Remark(
+            "no path has a deadline, so that nothing can be missed",
+            None,
+            (),
+            "the answer tells only how far `worst` is from the greatest execution there is",
+            "Priority orders and slack",
+            is_notice=True,
+        )
+    ]

@@ -37,7 +37,9 @@ class Remark:
 
 def printable(text: str) -> str:
     """The text without what a terminal would obey; a tabulator stays."""
-    return "".join(it if it.isprintable() or it == "\t" else "\\x%02x" % ord(it) if ord(it) < 256 else "?" for it in text)
+    return "".join(
+        it if it.isprintable() or it == "\t" else "\\x%02x" % ord(it) if ord(it) < 256 else "?" for it in text
+    )
 
 
 def columns(text: str) -> int:
@@ -115,7 +117,10 @@ class Look:
         edge = f"{number:5} |"
         rest += "..." if last < len(whole) else ""
         below = f"{'|':>{len(edge)}}"
-        return [f"{self.paint(BLUE, edge)} {before}{word}{rest}", f"{self.paint(BLUE, below)} {gap}{self.paint(colour, mark)}"]
+        return [
+            f"{self.paint(BLUE, edge)} {before}{word}{rest}",
+            f"{self.paint(BLUE, below)} {gap}{self.paint(colour, mark)}",
+        ]
 
     def text(self, file: File, remark: Remark) -> str:
         colour = YELLOW if remark.is_notice else RED

@@ -21,7 +21,20 @@ FORMS = {
     "remove": ("TASK",),
     "report": (),
 }
-OTHER_WORDS = {"wcet": "exec", "set": "exec", "prio": "priority", "delete": "remove", "analyse": "report", "analyze": "report", "print": "report", "period": "source", "jitter": "source", "rm": "remove", "del": "remove", "payload": "exec"}
+OTHER_WORDS = {
+    "wcet": "exec",
+    "set": "exec",
+    "prio": "priority",
+    "delete": "remove",
+    "analyse": "report",
+    "analyze": "report",
+    "print": "report",
+    "period": "source",
+    "jitter": "source",
+    "rm": "remove",
+    "del": "remove",
+    "payload": "exec",
+}
 
 
 @dataclass(frozen=True)
@@ -57,13 +70,23 @@ def lines_in(file: File) -> Iterator[Line]:
 def is_form(line: Line) -> bool:
     keyword, *words = line.words
     sorts = FORMS.get(keyword)
-    return sorts is not None and len(words) == len(sorts) and all(is_name(word) if sort.isupper() else is_number(word) for sort, word in zip(sorts, words))
+    return (
+        sorts is not None
+        and len(words) == len(sorts)
+        and all(is_name(word) if sort.isupper() else is_number(word) for sort, word in zip(sorts, words))
+    )
 
 
 def fault_in(file: File) -> tuple[str, Remark] | None:
     """The program's words for the first fault of a script, and what to say."""
     if line_count(file.text) > MOST_LINES:
-        return "too many lines", Remark(f"the script has {line_count(file.text)} lines, and {MOST_LINES} are the most", None, (), "cut it, or leave comments and empty lines out", MORE)
+        return "too many lines", Remark(
+            f"the script has {line_count(file.text)} lines, and {MOST_LINES} are the most",
+            None,
+            (),
+            "cut it, or leave comments and empty lines out",
+            MORE,
+        )
     for line in lines_in(file):
         if not is_form(line):
             return f"line {line.number}", remark_on(file, line)
@@ -77,7 +100,13 @@ def remark_on(file: File, line: Line) -> Remark:
     sorts, form = FORMS[keyword], f"the form is: {form_of(keyword)}"
     comment = next((at for at, it in enumerate(line.words) if at and it.startswith("#")), None)
     if comment is not None:
-        return Remark("a comment can't stand behind an edit", (line.spans[comment][0], line.spans[-1][1]), (), "give the comment a line of its own", MORE)
+        return Remark(
+            "a comment can't stand behind an edit",
+            (line.spans[comment][0], line.spans[-1][1]),
+            (),
+            "give the comment a line of its own",
+            MORE,
+        )
     if len(words) > len(sorts):
         span = line.spans[len(sorts) + 1][0], line.spans[-1][1]
         if "=" in words:
@@ -89,7 +118,16 @@ def remark_on(file: File, line: Line) -> Remark:
             return Remark(wrong_word(sort, word), span, (), form + in_digits(sort, word), MORE)
     missing = sorts[len(words) :]
     end = line.spans[-1][1]
-    return Remark(f"`{keyword}` takes {count(len(sorts))}: {listed([it.upper() for it in missing])} {'is' if len(missing) == 1 else 'are'} missing", (line.spans[0][0], end), (), form, MORE)
+    return Remark(
+        (
+            f"`{keyword}` takes {count(len(sorts))}:"
+            f" {listed([it.upper() for it in missing])} {'is' if len(missing) == 1 else 'are'} missing"
+        ),
+        (line.spans[0][0], end),
+        (),
+        form,
+        MORE,
+    )
 
 
 def count(number: int) -> str:
@@ -99,23 +137,37 @@ def count(number: int) -> str:
 def unknown_word(line: Line) -> Remark:
     word = line.words[0]
     if word.startswith("\ufeff"):
-        return Remark("a byte order mark stands before the first word", line.spans[0], (), "save the script without it", MORE)
+        return Remark(
+            "a byte order mark stands before the first word", line.spans[0], (), "save the script without it", MORE
+        )
     near = OTHER_WORDS.get(word.lower()) or nearest(word, list(FORMS))
     guess = f"; did you mean `{near}`?" if near else ""
-    helps = f"the form is: {form_of(near)}" if near else f"a line begins with {listed(list(FORMS), 'or')}; a comment begins with #"
+    helps = (
+        f"the form is: {form_of(near)}"
+        if near
+        else f"a line begins with {listed(list(FORMS), 'or')}; a comment begins with #"
+    )
     return Remark(f"`{word}` begins no edit{guess}", line.spans[0], (), helps, MORE)
 
 
 def in_digits(sort: str, word: str) -> str:
     """The number that a word of another form writes."""
-    return f"; write {int(word, 0)}" if sort.islower() and re.fullmatch(r"0x[0-9a-fA-F]+|[1-9]\d{0,2}(_\d{3})+", word) else ""
+    return (
+        f"; write {int(word, 0)}"
+        if sort.islower() and re.fullmatch(r"0x[0-9a-fA-F]+|[1-9]\d{0,2}(_\d{3})+", word)
+        else ""
+    )
 
 
 def wrong_word(sort: str, word: str) -> str:
     if sort.isupper():
         wrong = next((it for it in word if not is_name_letter(it)), None)
         quoted = word.strip("\"'") != word
-        return f"`{word}` is no name: " + ("names stand without quotes here" if quoted else f"it has {wrong!r}" if wrong else "it has more than 64 letters")
+        return f"`{word}` is no name: " + (
+            "names stand without quotes here"
+            if quoted
+            else f"it has {wrong!r}" if wrong else "it has more than 64 letters"
+        )
     if re.fullmatch(r"[+-]\d+", word):
         return f"`{word}` is no number: it has a sign"
     if re.fullmatch(r"\d+\D+", word):
