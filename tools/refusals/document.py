@@ -61,7 +61,9 @@ class Names:
         self.entries = document.entries
         self.resources = {it["name"]: it for it in self.entries["resource"]}
         self.sources = {it["name"] for it in self.entries["source"]}
-        self.tasks = {it["name"]: at for at, it in reversed(list(enumerate(self.entries["task"])))}
+        self.tasks: dict[str, int] = {}
+        for at, it in enumerate(self.entries["task"]):
+            self.tasks.setdefault(it["name"], at)
 
     def task(self, name: str) -> Entry:
         return self.entries["task"][self.tasks[name]]
