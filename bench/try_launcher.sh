@@ -62,7 +62,7 @@ afresh() {
   local it
   rm -rf "$work"
   mkdir -p "$work/docs" "$work/tools"
-  cp "$top/lokwurmi" "$work/" && cp -r "$top/tools/launcher" "$work/tools/" || exit 1
+  cp "$top/lokwurmi" "$work/" && cp -r "$top"/tools/{launcher,refusals,system.py} "$work/tools/" || exit 1
   cat >"$work/crates.txt" <<'END'
 # the crates, and what they use
 cpa_units:
@@ -150,7 +150,7 @@ run | lib)
     [ "$1 $it" = "run $own" ] || { mkdir -p "../$it/out/rlib" && touch "../$it/out/rlib/stamp"; }
   done
   [ "$1" = run ] || exit 0
-  printf '#!/bin/sh\necho "called $*"\ncase $2 in status.*) exit ${2#status.} ;; esac\ncase $1 in anal*) exit 0 ;; esac\nexit 10\n' >"out/$own"
+  printf '#!/bin/sh\necho "called $*"\ncase $2 in sleep) exec sleep 300 ;; signal.*) kill -${2#signal.} $$ ;; status.*) exit ${2#status.} ;; esac\ncase $1 in anal*) exit 0 ;; esac\nexit 10\n' >"out/$own"
   chmod +x "out/$own"
   ;;
 esac
@@ -169,7 +169,9 @@ for words in --help -h help; do
   call "$words"
   hold "$words: status 0" is "$status" 0
   hold "$words: a line for each command" is "$(grep -oE '^  [a-z]+ [A-Z]' "$room/text" | tr -d ' A-Z\n')" "${commands// /}"
-  hold "$words: 80 columns" is "$(grep -v docs/ "$room/text" | awk 'length > 80' | wc -l)" 0
+  hold "$words: 80 columns" is "$(grep -v "^$room" "$room/text" | awk 'length > 80' | wc -l)" 0
+    hold "$words: where to begin" said 'docs/TUTORIAL\.md' "$room/text"
+    hold "$words: a line for each tool" is "$(grep -oE '^  tools/[a-z]+\.py' "$room/text" | tr -d ' ' | sort | tr '\n' ' ')" "$(cd "$top" && grep -l '^#!/usr/bin/env python3' tools/*.py | sort | tr '\n' ' ')"
   call "$words" slack
   hold "$words slack: its words" said '^lokwurmi slack FILE TASK \[--workers N\]$' "$room/text"
   hold "$words slack: an example" said '^  \./lokwurmi slack examples/' "$room/text"
@@ -267,7 +269,8 @@ hold "the second call says nothing more" [ ! -s "$room/said" ]
 in_terminal "'$work/lokwurmi' loda 1 2"
 hold "built: the nearest command" said 'the nearest is load '
 in_terminal "'$work/lokwurmi' load 1"
-hold "built: the words of a command" said '  lokwurmi load NUMBER SIZE \[--workers N\]'
+hold "built: the words of a command" said 'load is called so: lokwurmi load NUMBER SIZE \[--workers N\]'
+hold "built: what is missing" said '^lokwurmi: SIZE is missing'
 for it in cpa_bench cpa_cases; do
   touch "$work/crates/$it/src/lib.rt"
   call analyse two.toml
@@ -293,10 +296,10 @@ hold "schedule: a line for the crate that is left" said '^lokwurmi: 4 of 4: cpa_
 hold "schedule: the words that it is first run with" is "$(tail -n 1 "$room/calls")" "run -- data/crossing_chains.toml data/crossing_chains.trace.csv"
 hold "schedule: a file that isn't there is told" said "note: 'trace.csv' can't be read"
 call schedule two.toml trace.csv
-hold "schedule: the second call builds nothing" [ ! -s "$room/said" ]
+hold "schedule: the second call builds nothing" unsaid 'built first'
 touch "$work/crates/cpa_fix/src/lib.rt"
 call schedule two.toml trace.csv
-hold "schedule: a source that it doesn't stand on is newer: nothing is built" [ ! -s "$room/said" ]
+hold "schedule: a source that it doesn't stand on is newer: nothing is built" unsaid 'built first'
 touch "$work/crates/cpa_schedule/src/lib.rt"
 call schedule two.toml trace.csv
 hold "schedule: a source of its own is newer: it is built again" said 'crates/cpa_schedule/src/lib.rt is newer than the program'
@@ -304,7 +307,7 @@ in_terminal "'$work/lokwurmi' schedule two.toml status.17"
 hold "schedule: a status is handed on, with its hint" said '^lokwurmi: the trace is readable'
 hold "schedule: that status" is "$status" 17
 in_terminal "'$work/lokwurmi' schedule two.toml"
-hold "schedule: its words, where they are refused" said '  lokwurmi schedule FILE TRACE'
+hold "schedule: its words, where they are refused" said 'schedule is called so: lokwurmi schedule FILE TRACE'
 afresh
 LOKWURMI_JOBS=2 "$work/lokwurmi" analyse one.toml >"$room/text.1" 2>"$room/said.1" </dev/null &
 sleep 1
@@ -453,7 +456,54 @@ for it in 0 1 2; do
   hold "status $it has none" unsaid '^lokwurmi: '
 done
 call analyse status.14
-hold "no terminal, no hint" [ ! -s "$room/said" ]
+hold "no terminal: the hint too" said '^lokwurmi: the file is TOML but no system'
+hold "a refusal: the program's text alone on standard output" is "$(cat "$room/text")" "called analyse status.14"
+LOKWURMI_QUIET=1 call analyse status.14
+hold "LOKWURMI_QUIET=1: no hint" is "$status $(wc -c <"$room/said")" "14 0"
+LOKWURMI_QUIET=0 call analyse status.14
+hold "LOKWURMI_QUIET=0: the hint" said '^lokwurmi: '
+call --quiet analyse status.14
+hold "--quiet: no hint" is "$status $(wc -c <"$room/said")" "14 0"
+hold "--quiet: the word isn't handed on" is "$(cat "$room/text")" "called analyse status.14"
+call --quiet schedule two.toml status.16
+hold "--quiet before schedule" is "$status $(cat "$room/text")" "16 called two.toml status.16"
+call --quiet
+hold "--quiet alone, and no terminal" is "$status" 10
+call --quiet --help
+hold "--quiet --help" said '^lokwurmi: the timing' "$room/text"
+echo 'format = 1' >"$room/one.toml"
+echo 'source = [{ name = "s", period = 10 }]' >>"$room/one.toml"
+call analyse one.toml
+hold "a notice" said 'one.toml:2:20: notice: source "s" starts nobody'
+hold "a notice: the status stays" is "$status $(cat "$room/text")" "0 called analyse one.toml"
+call --quiet analyse one.toml
+hold "--quiet: no notice" [ ! -s "$room/said" ]
+mv "$work/tools/refusals" "$work/tools/elsewhere"
+call analyse status.13
+hold "no module that says it in words: the hint" said "^lokwurmi: the system file isn't TOML"
+hold "no module that says it in words: nothing else" is "$(wc -l <"$room/said")" 1
+mv "$work/tools/elsewhere" "$work/tools/refusals"
+exec 3<"$room/two.toml"
+call analyse two.toml <&3
+hold "standard input may be anything" is "$status" 0
+
+# ---- signals that come while the program runs
+for signal in INT TERM HUP; do
+  python3 -c 'import signal, subprocess, sys, time
+number = getattr(signal, "SIG" + sys.argv[1])
+it = subprocess.Popen(sys.argv[2:], preexec_fn=lambda: signal.signal(signal.SIGINT, signal.SIG_DFL))
+time.sleep(3)
+it.send_signal(number)
+sys.exit(it.wait() == -number)' "$signal" "$work/lokwurmi" analyse sleep >"$room/text" 2>"$room/said" </dev/null
+  hold "$signal while the program runs: ends by it" is $? 1
+  hold "$signal while the program runs: says nothing" [ ! -s "$room/said" ]
+  hold "$signal while the program runs: the program has ended" is "$(pgrep -fc '^sleep 300$')" 0
+done
+python3 -c 'import subprocess, sys
+sys.exit(subprocess.run(sys.argv[1:]).returncode == -9)' "$work/lokwurmi" analyse signal.KILL >"$room/text" 2>"$room/said" </dev/null
+hold "a program that was killed: ends by the same signal" is $? 1
+(sleep 3 && printf '\003' && sleep 2) | script -qec "'$work/lokwurmi' analyse sleep" /dev/null >"$room/text" 2>&1
+hold "the terminal's interrupt while the program runs: it has ended" is "$(pgrep -fc '^sleep 300$')" 0
 
 # ---- where it is called from
 ln -s "$work/lokwurmi" "$room/a link"

@@ -126,3 +126,9 @@ def reached(name, why):
             found.add(it)
             left += why[it][1]
     return found
+
+
+if __name__ == "__main__":
+    from program import no_command
+
+    no_command(__file__)

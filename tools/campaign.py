@@ -43,6 +43,8 @@ import zlib
 from grids import MOST_PRIORITY, Wrong, columns_of, fronted, read_grid, row_of, script_of
 from packages import need
 from progress import span
+from refusals.front import told_of
+from refusals.newer import older
 
 try:
     import distributed
@@ -550,7 +552,7 @@ class Variants:
 
 
 def variants(words, kept):
-    system = tomllib.loads(read_bytes(words.file).decode())
+    system = tomllib.loads(older(read_bytes(words.file).decode("utf-8-sig")))
     grid = read_grid(words.grid, system)
     front = columns_of(words.front, grid, system) if words.front else None
     count = math.prod(len(it.values) for it in grid)
@@ -643,6 +645,8 @@ def perform(words, kept):
         sys.stdout.write(text)
         if script is not None:
             say(f"this is the script that was refused:\n{script[:2000]}")
+        elif 11 <= status <= 14:
+            sys.stderr.write(told_of(status, text.split("\n", 1)[0], "analyse", words.file) or "")
         return status
     except Wrong as it:
         say(f"{it}")

@@ -52,3 +52,9 @@ def hues_of_sources(system):
             found.setdefault(before, HUES[place % len(HUES)])
     others = [it["name"] for it in system.get("source", []) if it["name"] not in found]
     return found | {name: PALE[place % len(PALE)] for place, name in enumerate(others)}
+
+
+if __name__ == "__main__":
+    from program import no_command
+
+    no_command(__file__)

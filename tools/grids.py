@@ -185,3 +185,9 @@ def columns_of(front, grid, system):
     if None in found:
         raise Wrong(f"--front: there is no column {names[found.index(None)]}; there are {', '.join(there)}")
     return found
+
+
+if __name__ == "__main__":
+    from program import no_command
+
+    no_command(__file__)

@@ -13,9 +13,10 @@ def add_program(reader):
 
 
 def call(program, *words):
-    """The status of a call, and what it writes. What it tells a terminal, as how far a build is, goes there."""
+    """The status of a call, and what it writes. What it tells a terminal, as how far a build is, goes there; what it would say
+    beside its output is said by whoever calls."""
     try:
-        done = subprocess.run([program, *words], stdout=subprocess.PIPE, text=True, check=False)
+        done = subprocess.run([program, *words], stdout=subprocess.PIPE, text=True, check=False, env=os.environ | {"LOKWURMI_QUIET": "1"})
     except OSError as fault:
         sys.exit(f"{program}: can't be called: {fault.strerror}. `./lokwurmi --version` builds nothing, any other command of ./lokwurmi builds the program; --program names one")
     if done.returncode == 70:
@@ -23,11 +24,21 @@ def call(program, *words):
     return done.returncode, done.stdout
 
 
+def end_refused(status, text, *words):
+    """Ends the tool by the status of a refusal or a fault, with what `lokwurmi` says of it."""
+    from refusals.front import told_of
+
+    line = text.strip().split("\n", 1)[0]
+    print(f"lokwurmi {shlex.join(words)}: status {status}: {line or 'nothing is written'}", file=sys.stderr)
+    sys.stderr.write(told_of(status, line, *words) or "docs/FILES.md, \"Statuses\", tells what to do\n")
+    sys.exit(status if status > 0 else 1)
+
+
 def written_by(program, *words):
     """What a call writes, whose status is a verdict; a refusal or a fault ends the tool."""
     status, text = call(program, *words)
     if status < 0 or status >= 10:
-        sys.exit(f"lokwurmi {shlex.join(words)}: status {status}: {text.strip() or 'nothing is written'}; docs/FILES.md tells what to do")
+        end_refused(status, text, *words)
     return text
 
 
@@ -37,5 +48,21 @@ def schedule_by(program, *words):
     if status == 10:
         return None
     if status:
-        sys.exit(f"lokwurmi schedule {shlex.join(words)}: status {status}: {text.strip()}; docs/FILES.md tells what to do")
+        end_refused(status, text, "schedule", *words)
     return text
+
+
+def no_command(file):
+    """Ends a module that is called as if it were a tool, and names the tools."""
+    folder = os.path.dirname(os.path.abspath(__file__))
+    tools = []
+    for name in sorted(it for it in os.listdir(folder) if it.endswith(".py")):
+        with open(os.path.join(folder, name), encoding="utf-8") as it:
+            if it.readline().startswith("#!"):
+                tools.append(name)
+    print(f"{os.path.basename(file)} is a module that the tools use, and no tool; the tools are {', '.join(tools)}, each with --help", file=sys.stderr)
+    sys.exit(2)
+
+
+if __name__ == "__main__":
+    no_command(__file__)

@@ -37,3 +37,9 @@ def read_report(file):
     except (OSError, UnicodeDecodeError) as fault:
         sys.exit(f"{file}: can't be read: {fault}")
     return reports_in(rows, file)[-1][:2]
+
+
+if __name__ == "__main__":
+    from program import no_command
+
+    no_command(__file__)

@@ -132,3 +132,9 @@ def passages_in(system: dict, jobs: dict, events: dict, way: list[str]) -> list[
             places.append(place)
         found.append(Passage(came, jobs[way[-1]][places[-1]][1] if len(places) == len(way) else None, tuple(places)))
     return found
+
+
+if __name__ == "__main__":
+    from program import no_command
+
+    no_command(__file__)

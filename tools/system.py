@@ -1,14 +1,12 @@
 """Reads a system file, for the tools beside it."""
-import sys
-import tomllib
 
 
 def read_system(file):
-    try:
-        with open(file, "rb") as it:
-            return tomllib.load(it)
-    except (OSError, tomllib.TOMLDecodeError) as fault:
-        sys.exit(f"{file}: can't be read: {fault}")
+    """The values of a system file. One that the program refuses ends the tool by the program's status, with what `lokwurmi` says."""
+    # that package reads entries by this module
+    from refusals.front import accepted
+
+    return accepted(file)
 
 
 def execution(task, resource):
@@ -69,3 +67,9 @@ def first_windows(stream, longest):
         found.append(least + 1)
         count += 1
     return found
+
+
+if __name__ == "__main__":
+    from program import no_command
+
+    no_command(__file__)

@@ -360,7 +360,7 @@ wait_for_others() {
   if ! flock -n "$lock"; then
     echo "lokwurmi: $1: another call builds already, and this one waits" >&2
     flock "$lock"
-    [ -z "$(stale)" ] && return
+    is_stale || return 0
   fi
   return 1
 }

@@ -5,10 +5,10 @@ version=1.0
 kits=(rattle-kit-13b rattle-kit-13f)
 commands=(analyse session simulate generate load hammer assign slack buffers audit schedule chain)
 
-# Sets of a command: its words, whether it takes --workers N too, what it writes, what its status tells beside 0, and the words
-# of an example.
+# Sets of a command: its words, whether it takes --workers N too, what it writes, what its status tells beside 0, what else is to be
+# known, and the words of an example.
 describe() {
-  workers='' statuses=''
+  workers='' statuses='' note=''
   case $1 in
   analyse)
     words="FILE" workers=yes writes="the bounds of the system in FILE" example="examples/two_tasks.toml"
@@ -44,6 +44,7 @@ describe() {
     ;;
   buffers)
     words="FILE TRACE" workers=yes writes="how many jobs can wait, and how many do"
+    note="for the bounds alone TRACE may be empty: /dev/null"
     example="examples/long_window.toml examples/long_window.trace.csv"
     ;;
   audit)
@@ -92,20 +93,37 @@ list_commands() {
   done
 }
 
+# What stands in tools/, a line a tool.
+list_tools() {
+  printf '  tools/%-11s  %s\n' graph.py "draws a system: resources, tasks, and who starts whom" \
+    chart.py "draws a report: bounds, and paths against deadlines" \
+    curve.py "draws how many events start a task in a window" \
+    gantt.py "draws a schedule: what ran when" \
+    page.py "writes one page with a system, its bounds and a run" \
+    worst.py "looks for runs that come near the bounds" \
+    campaign.py "has many processors try made traces, and variants"
+}
+
 help() {
   echo "lokwurmi: the timing of distributed real-time systems; its answers are proved."
   echo
   list_commands
   printf '  %-34s  %s\n' "--help [COMMAND]" "this, or a command's words and an example" \
-    "--version" "the version, the toolchain, the commit"
+    "--version" "the version, the toolchain, the commit" \
+    "--quiet COMMAND .." "no more than its output (LOKWURMI_QUIET=1)"
+  echo
+  echo "Each of these is called by python3, and has --help:"
+  list_tools
   echo
   echo "NUMBER is 0 to 4294967295, SIZE 0 to 128, TRACES 1 to 10000, N 1 to 64; write"
-  echo "./-name for a file -name. All words and each status are told in"
-  echo "$here/docs/FILES.md"
+  echo "./-name for a file -name. docs/TUTORIAL.md builds a system step by step,"
+  echo "examples/README.md tells what each of examples/ shows, docs/FILES.md has all"
+  echo "words and each status. They are in the folder"
+  echo "$here"
 }
 
 help_of() {
-  local words workers writes statuses example word
+  local words workers writes statuses note example word
   describe "$1"
   echo "lokwurmi $1 $(with_workers)"
   echo "  writes $writes"
@@ -114,6 +132,7 @@ help_of() {
     printf '  %-11s  %s\n' "$word" "$(explain "$word")"
   done
   [ -z "$workers" ] || printf '  %-11s  %s\n' "--workers N" "so many threads, 1 to 64; what is written is the same"
+  [ -z "$note" ] || echo "  $note"
   printf '  %-11s  %s\n' status "0${statuses:+; $statuses}; 10 and above: a refusal or a fault"
   echo
   echo "An example, in the folder $here:"
@@ -139,7 +158,7 @@ tell_version() {
 }
 
 is_command() {
-  local words workers writes statuses example
+  local words workers writes statuses note example
   describe "${1-}"
 }
 
@@ -180,19 +199,108 @@ nearest() {
   echo "$found"
 }
 
-# What to say of words that aren't accepted: a command's own words, or for an unknown command the nearest and all.
+# Whether a word is a number in a range; else says what is wrong with it. in_range WHAT WORD LEAST MOST
+in_range() {
+  if [[ ! $2 =~ ^[0-9]{1,10}$ ]]; then
+    echo "$1 is ${2@Q}, and has to be a number of 1 to 10 digits alone, $3 to $4"
+  elif ((10#$2 < $3 || 10#$2 > $4)); then
+    echo "$1 is $2, and has to be $3 to $4"
+  else
+    return 0
+  fi
+  return 1
+}
+
+# What is wrong with a word in the place of FILE, NUMBER and the like. told_wrong SORT WORD
+told_wrong() {
+  if [ -z "$2" ]; then
+    echo "the word for ${1:-one more} is empty"
+  elif [[ $2 == --* ]]; then
+    echo "${2@Q} is no option; --workers N is the only one, and --quiet stands before the command"
+  elif [[ $2 =~ ^-[0-9]+$ && $1 =~ ^(NUMBER|SIZE|TRACES)$ ]]; then
+    echo "$1 is $2, and can't be below 0"
+  elif [[ $2 == -* && $1 =~ ^(FILE|SCRIPT|TRACE|SCHEDULE)$ ]]; then
+    echo "${2@Q} begins with a dash: write ./$2 for a file of that name"
+  elif [[ $2 == -* ]]; then
+    echo "${2@Q} begins with a dash, and no word but --workers does"
+  fi
+}
+
+# What is wrong with the number of words, where something is. told_count COMMAND GIVEN..
+told_count() {
+  local command=$1 wanted
+  shift
+  read -ra wanted <<<"$words"
+  if (($# < ${#wanted[@]})); then
+    echo "${wanted[*]:$#} $( ((${#wanted[@]} - $# == 1)) && echo is || echo are) missing"
+  elif (($# > ${#wanted[@]})); then
+    echo "$command takes $words, and here $( (($# == 1)) && echo "is 1 word" || echo "are $# words"); the first too many is ${*:${#wanted[@]}+1:1}"
+  fi
+}
+
+# Says what is wrong with the numbers among the words of the command that was described, where something is.
+told_numbers() {
+  local sort
+  for sort in $words; do
+    case $sort in
+    NUMBER) in_range NUMBER "$1" 0 4294967295 || return ;;
+    SIZE) in_range SIZE "$1" 0 128 || return ;;
+    TRACES) in_range TRACES "$1" 1 10000 || return ;;
+    esac
+    shift
+  done
+}
+
+# The first thing that is wrong with the words after a command that is known.
+told_fault() {
+  local command=$1 it given=() wanted seen='' fault
+  read -ra wanted <<<"$words"
+  shift
+  while (($# > 0)); do
+    it=$1
+    shift
+    if [[ $it != --workers && $it != --workers=* ]]; then
+      fault=$(told_wrong "${wanted[${#given[@]}]-}" "$it")
+      [ -z "$fault" ] || { echo "$fault" && return; }
+      given+=("$it")
+      continue
+    fi
+    [ -n "$workers" ] || { echo "$command takes no --workers" && return; }
+    [ -z "$seen" ] || { echo "--workers stands twice" && return; }
+    seen=yes
+    if [[ $it == --workers && $# -eq 0 ]]; then
+      echo "the number is missing behind --workers: 1 to 64"
+      return
+    elif [ "$it" = --workers ]; then
+      it=$1
+      shift
+    fi
+    in_range "the number of workers" "${it#--workers=}" 1 64 || return
+  done
+  fault=$(told_count "$command" "${given[@]}")
+  [ -z "$fault" ] || { echo "$fault" && return; }
+  told_numbers "${given[@]}"
+}
+
+# What to say of words that aren't accepted: what is wrong and a command's own words, or for an unknown command the nearest and all.
 tell_words() {
-  local words workers writes statuses example near
+  local words workers writes statuses note example near fault
   if describe "${1-}"; then
-    echo "lokwurmi: $1 is called so:"
-    echo "  lokwurmi $1 $(with_workers)"
-    echo "lokwurmi --help $1 tells what these are."
+    fault=$(told_fault "$@")
+    echo "lokwurmi: ${fault:-the words of $1 are not accepted}"
+    echo "  $1 is called so: lokwurmi $1 $(with_workers)"
+    echo "  lokwurmi --help $1 tells what these are"
     return
   fi
   if (($# == 0)); then
     echo "lokwurmi: there is no command:"
   else
     near=$(nearest "$1")
+    if is_command "${2-}"; then
+      echo "lokwurmi: ${1@Q} is no command, which stands first: lokwurmi $2 $1"
+      echo "  lokwurmi --help $2 tells its words"
+      return
+    fi
     echo "lokwurmi: ${1@Q} is no command${near:+; the nearest is $near (lokwurmi --help $near)}:"
   fi
   list_commands
@@ -225,14 +333,14 @@ answer() {
 # Refuses words as the program does, and ends.
 refuse() {
   echo "words refused" 2>/dev/null || exit 20
-  tell_words "$@" >&2
+  [ -n "$quiet" ] || tell_words "$@" >&2
   exit 10
 }
 
 # Takes the words after a command apart: operands has all but --workers with its number, where the command takes it, and
 # wanted what they are. Fails where the program refuses them, whatever the numbers and files are.
 is_regular() {
-  local words workers writes statuses example
+  local words workers writes statuses note example
   describe "${1-}" || return
   local it
   read -ra wanted <<<"$words"

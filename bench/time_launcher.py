@@ -1,0 +1,133 @@
+#!/usr/bin/env python3
+"""Times calls by the script `lokwurmi` beside calls of the program itself, and beside an earlier version of the script.
+
+The calls take turns, so that what else runs on the machine meets all alike; told are the medians, by the clock and of
+the time that processors worked, what each takes beyond the program, and the ratios. The program has to be built. Outside the gate.
+
+    python3 bench/time_launcher.py --calls 200 --than 132bc4f
+"""
+from __future__ import annotations
+
+import argparse
+import os
+import statistics
+import subprocess
+import sys
+import tempfile
+import time
+from dataclasses import dataclass, field
+
+TOP = os.path.dirname(os.path.dirname(os.path.abspath(__file__)))
+PROGRAM = os.path.join(TOP, "crates", "cpa_cli", "out", "cpa_cli")
+REFUSED = 'format = 1\nsource = [{ name = "s", perod = 10 }]\n'
+UNUSED = 'format = 1\nsource = [{ name = "s", period = 10 }]\n'
+
+
+@dataclass
+class Way:
+    """A way of calling the program, and how long its calls took."""
+
+    what: str
+    words: list[str]
+    environment: dict[str, str] = field(default_factory=dict)
+    times: list[float] = field(default_factory=list)
+    worked: list[float] = field(default_factory=list)
+
+    def call(self) -> None:
+        start = time.perf_counter()
+        it = subprocess.Popen(
+            self.words,
+            stdin=subprocess.DEVNULL,
+            stdout=subprocess.DEVNULL,
+            stderr=subprocess.DEVNULL,
+            env=os.environ | self.environment,
+        )
+        _, status, used = os.wait4(it.pid, 0)
+        it.returncode = os.waitstatus_to_exitcode(status)
+        self.times.append(time.perf_counter() - start)
+        self.worked.append(used.ru_utime + used.ru_stime)
+
+    @property
+    def median(self) -> float:
+        return statistics.median(self.times) * 1000
+
+    @property
+    def work(self) -> float:
+        """The median of the time that processors worked for it."""
+        return statistics.median(self.worked) * 1000
+
+
+def earlier(folder: str, revision: str) -> str:
+    """The script as it was, above the same crates."""
+    for name in ("crates", "crates.txt", "docs"):
+        os.symlink(os.path.join(TOP, name), os.path.join(folder, name))
+    archive = subprocess.run(
+        ["git", "-C", TOP, "archive", revision, "lokwurmi", "tools"], stdout=subprocess.PIPE, check=True
+    )
+    subprocess.run(["tar", "-x", "-C", folder], input=archive.stdout, check=True)
+    return os.path.join(folder, "lokwurmi")
+
+
+def written(folder: str, name: str, text: str) -> str:
+    path = os.path.join(folder, name)
+    with open(path, "w", encoding="utf-8") as it:
+        it.write(text)
+    return path
+
+
+def ways_in(folder: str, revision: str | None) -> list[Way]:
+    launcher, file = os.path.join(TOP, "lokwurmi"), os.path.join(TOP, "examples", "car_network.toml")
+    quiet = {"LOKWURMI_QUIET": "1"}
+    ways = [
+        Way("the program itself", [PROGRAM, "analyse", file]),
+        Way("lokwurmi, quiet", [launcher, "analyse", file], quiet),
+        Way("lokwurmi", [launcher, "analyse", file]),
+    ]
+    ways.append(Way("lokwurmi, with a notice", [launcher, "analyse", written(folder, "unused.toml", UNUSED)]))
+    ways.append(Way("lokwurmi, with a refusal", [launcher, "analyse", written(folder, "refused.toml", REFUSED)]))
+    if revision:
+        ways.append(Way(f"lokwurmi of {revision}", [earlier(folder, revision), "analyse", file]))
+    return ways
+
+
+def main() -> None:
+    reader = argparse.ArgumentParser(
+        description=__doc__.split("\n", 1)[0],
+        epilog="python3 bench/time_launcher.py --calls 200 --than 132bc4f",
+        formatter_class=argparse.RawDescriptionHelpFormatter,
+    )
+    reader.add_argument("--calls", metavar="N", type=int, default=200, help="how many calls each; 200 if absent")
+    reader.add_argument("--than", metavar="REVISION", help="an earlier commit, whose script is called too")
+    words = reader.parse_args()
+    if not os.access(PROGRAM, os.X_OK):
+        sys.exit(f"{PROGRAM} isn't built yet: call ./lokwurmi analyse examples/two_tasks.toml first")
+    with tempfile.TemporaryDirectory() as folder:
+        ways = ways_in(folder, words.than)
+        for number in range(words.calls):
+            for way in ways:
+                way.call()
+            if number % 50 == 49:
+                print(f"{number + 1} of {words.calls} rounds", file=sys.stderr, flush=True)
+    alone = ways[0]
+    print(
+        "| Call | Median, ms | Beyond the program | Processor, ms | Beyond the program |",
+        "|---|---|---|---|---|",
+        sep="\n",
+    )
+    for way in ways:
+        print(
+            f"| {way.what} | {way.median:.1f} | {way.median - alone.median:.1f} | {way.work:.1f} |"
+            f" {way.work - alone.work:.1f} |"
+        )
+    for way in ways[1:3] if words.than else []:
+        clock, work = (ways[-1].median - alone.median) / (way.median - alone.median), (ways[-1].work - alone.work) / (
+            way.work - alone.work
+        )
+        print(
+            f"{way.what}: {ways[-1].what} takes {clock:.1f} times as long beyond the program, and {work:.1f} times the"
+            " work"
+        )
+
+
+if __name__ == "__main__":
+    main()
