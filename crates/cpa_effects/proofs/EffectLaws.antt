@@ -4,20 +4,20 @@ use Rattle.std.specs.List.{range_with_len}
 use Rattle.cpa_units.specs.declared.bound.Bound.{Bound}
 use Rattle.cpa_units.specs.declared.bound.Bound.TheVariants.{Within}
 use Rattle.cpa_units.specs.declared.places.TaskId.{TaskId}
-use Rattle.cpa_units.specs.Bounds.{bound_of, sum_bounds}
+use Rattle.cpa_units.specs.Bounds.{bound_of, bound_plus, sum_bounds}
 use Rattle.cpa_model.specs.Rules.{IsSystem}
 use Rattle.cpa_model.specs.SystemLists.{SystemLists}
 use Rattle.cpa_trace.specs.Trace.{TraceLists, Obeys}
 use Rattle.cpa_sound.specs.BoundsHold.{HasJob, arrival_of, stream_of, SourcesStayNear, HoldIn}
 use Rattle.cpa_sound.proofs.Soundness.{closed_vectors_bound_every_run, least_solutions_bound_every_run, each_job_has_a_stream}
-use Rattle.cpa_effects.specs.Bounds.{wait_of, task_in, last_in, forward, backward, through, latency_of, reaction_of, age_of}
-use Rattle.cpa_effects.specs.Effects.{Reads, ReadWithin, HasEnded, FollowsOn, IsFirstToRead, GoesForward, GoesBackward}
-use Rattle.cpa_effects.specs.Laws.{IsChain, ChainHolds, HeldBoundsBoundChains, ClosedVectorsBoundChains, LeastSolutionsBoundChains, OneStreamGoesOn}
-use Rattle.cpa_effects.proofs.SumLaws.{add-up, climb}
+use Rattle.cpa_effects.specs.Bounds.{reading_wait, writing_wait, wait_of, task_in, last_in, forward, backward, through, latency_of, reaction_of, age_of, held_of}
+use Rattle.cpa_effects.specs.Effects.{Reads, ReadWithin, HasEnded, FollowsOn, IsFirstToRead, GoesForward, GoesBackward, IsHeld}
+use Rattle.cpa_effects.specs.Laws.{IsChain, ChainHolds, HeldBoundsBoundChains, ClosedVectorsBoundChains, LeastSolutionsBoundChains, OneStreamGoesOn, EqualWhereAllRead}
+use Rattle.cpa_effects.proofs.SumLaws.{add-up, climb, shifted-sum}
 use Rattle.cpa_effects.proofs.JobTimes.{ends-soon}
-use Rattle.cpa_effects.proofs.StepLaws.{reads-soon, knows-soon, has-late}
+use Rattle.cpa_effects.proofs.StepLaws.{reads-soon, overwritten-soon, knows-soon, has-late}
 use Rattle.cpa_effects.proofs.AnswerLaws.{answers}
-use Rattle.cpa_effects.proofs.FedLaws.{feeds}
+use Rattle.cpa_effects.proofs.FedLaws.{feeds, fills}
 
 module _ (s : SystemLists) (x : List Bound) (tr : TraceLists) (rules : IsSystem s) (obeys : Obeys s tr) (hold : HoldIn s x tr) (near : SourcesStayNear s tr) (tasks : List TaskId) (chain : IsChain s tasks) where
   there : (k : ℕ) → k < length tasks → (task_in tasks k).0 < length s.tasks
@@ -61,8 +61,19 @@ module _ (s : SystemLists) (x : List Bound) (tr : TraceLists) (rules : IsSystem 
       (λ k c less cost. has-late s tr rules obeys t x hold near reads (task_in tasks k) (task_in tasks (k + 1)) (jobs k) (jobs (k + 1)) c (there k (omega (arith, less))) (there (k + 1) less) within cost (goes.steps k less))
       goes.last
 
+  keeps_held : (r t time : ℕ) (reads : Reads) (jobs : ℕ → ℕ) → held_of s x tasks ≡ Within r → ReadWithin s tr t reads → time ≤ t → IsHeld s tr t reads tasks jobs time → time ≤ comes t jobs 0 + r
+  unfolding held_of age_of
+  keeps_held r t time reads jobs is within seen it =
+      let both = add-up (age_of s x tasks) (wait_of s x (last_in tasks).0) r is in
+      let parts = add-up (sum_bounds (backward s x tasks) (range_with_len 0 (length tasks - 1))) (bound_of x (last_in tasks).0) both.left both.left_is in
+      let risen = climb (comes t jobs) (backward s x tasks) (length tasks - 1) parts.left parts.left_is
+      (λ k c less cost. has-late s tr rules obeys t x hold near reads (task_in tasks k) (task_in tasks (k + 1)) (jobs k) (jobs (k + 1)) c (there k (omega (arith, less))) (there (k + 1) (omega (arith, less))) within cost (it.goes.steps k (omega (arith, less)))) in
+      let h = there (length tasks - 1) (omega (arith, chain.some)) in
+      let late = overwritten-soon s tr rules obeys t x hold near (last_in tasks).0 (jobs (length tasks - 1)) parts.right both.right time h parts.right_is both.right_is seen it.last it.amidst in
+      omega (arith, risen, late, parts.sum, both.sum)
+
   pub holds : ChainHolds s x tr tasks
-  holds = record { latency = keeps_latency; reaction = keeps_reaction; answered = answers s x tr rules obeys hold near tasks chain; age = keeps_age; fed = feeds s x tr rules obeys hold near tasks chain }
+  holds = record { latency = keeps_latency; reaction = keeps_reaction; answered = answers s x tr rules obeys hold near tasks chain; age = keeps_age; fed = feeds s x tr rules obeys hold near tasks chain; held = keeps_held; filled = fills s x tr rules obeys hold near tasks chain }
 
 -- ---- the laws
 
@@ -88,3 +99,13 @@ one_stream_goes_on s tr rules obeys t i k h one has q less =
       there = has;
       after_own = own (k + 1) has;
     }
+
+pub equal_where_all_read : EqualWhereAllRead
+unfolding reaction_of latency_of held_of age_of
+equal_where_all_read s x tasks some reads =
+    let last : ℕ = length tasks - 1 in
+    let waits : ℕ → Bound = λ k. wait_of s x (task_in tasks k).0 in
+    let bounds : ℕ → Bound = λ k. bound_of x (task_in tasks k).0 in
+    shifted-sum waits bounds (forward s x tasks) (backward s x tasks) last (bound_of x (last_in tasks).0)
+    (λ k less. (λ i. bound_plus (bounds k) (reading_wait (reads k (omega (arith, less)) i) (waits (k + 1)))))
+    (λ k less. (λ i. bound_plus (bounds k) (writing_wait (reads k (omega (arith, less)) i) (waits k))))

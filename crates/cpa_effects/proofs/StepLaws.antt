@@ -28,7 +28,7 @@ use Rattle.cpa_effects.specs.declared.steps.Step.{Step}
 use Rattle.cpa_effects.specs.declared.steps.Step.TheVariants.{Register, Merge, Activation}
 use Rattle.cpa_effects.specs.ChainText.{step_word, place_word}
 use Rattle.cpa_effects.specs.Bounds.{step_between, task_in, next_event, wait_in, wait_of, reading_wait, writing_wait}
-use Rattle.cpa_effects.specs.Effects.{Reads, ReadWithin, IsAmidst, FollowsOn, IsFirstToRead, ReadsFirst, IsFirstToKnow, ReadsLast, HasDataOf}
+use Rattle.cpa_effects.specs.Effects.{Reads, ReadWithin, IsAmidst, FollowsOn, IsFirstToRead, IsLastToEnd, ReadsFirst, IsFirstToKnow, ReadsLast, HasDataOf}
 use Rattle.cpa_effects.proofs.SumLaws.{within-injective, overload-no_number, add-up, HasNext, next-has}
 use Rattle.cpa_effects.proofs.JobTimes.{end-by, arrivals-order, starter-there, started-at, starts-one, causes-activated, ends-soon, arrived-late, next-arrives}
 
@@ -107,6 +107,14 @@ module _ (s : SystemLists) (tr : TraceLists) (rules : IsSystem s) (obeys : Obeys
         let goes = amidst v.next.place v.inside in
         let close = next-arrives s tr rules obeys t x hold near i k v.next.place v.model v.next.stream h v.bounded v.next.is goes in
         (omega (arith, goes.is_after, goes.there), omega (arith, close, v.next.next_is, v.wait))
+
+    -- what a job wrote is overwritten no later than its task's wait and bound after it arrived
+    pub overwritten-soon : (i k r w u : ℕ) → i < length s.tasks → bound_of x i ≡ Within r → wait_of s x i ≡ Within w → u ≤ t → IsLastToEnd s tr t i k u → IsAmidst s tr t i k
+        → u ≤ arrival_of s tr t i k + (r + w)
+    overwritten-soon i k r w u h number wait seen last amidst =
+        let soon = next-soon i k w h wait amidst in
+        let late = arrived-late s tr rules obeys t x hold i r (k + 1) u h number soon.0 seen (λ later has. last.last (k + 1) later (omega arith) has) in
+        omega (arith, late, soon.1)
 
     -- the first job that reads at a time or later comes no later than the task's wait after it
     pub reads-soon : (reads : Reads) (i k time w : ℕ) → i < length s.tasks → wait_of s x i ≡ Within w → ReadWithin s tr t reads → IsFirstToRead s tr t reads i k time → FollowsOn s tr t i k
@@ -190,12 +198,10 @@ module _ (s : SystemLists) (tr : TraceLists) (rules : IsSystem s) (obeys : Obeys
 
         renewed : (r w : ℕ) → bound_of x p.0 ≡ Within r → wait_of s x p.0 ≡ Within w → ReadsLast s tr t reads p k c n → IsAmidst s tr t p.0 k → arrival_of s tr t c.0 n ≤ arrival_of s tr t p.0 k + (r + w)
         renewed r w number wait reader amidst =
-            let soon = next-soon p.0 k w hp wait amidst in
             let read = within.arrived c.0 n reader.there in
             let ended = within.ended c.0 n reader.ended reader.is in
             let seen : reads c.0 n ≤ t = omega (arith, ended, end-by s tr rules obeys t c.0 n reader.ended hc reader.is) in
-            let late = arrived-late s tr rules obeys t x hold p.0 r (k + 1) (reads c.0 n) hp number soon.0 seen (λ later has. reader.last.last (k + 1) later (omega arith) has) in
-            omega (arith, read, late, soon.1)
+            omega (arith, read, overwritten-soon p.0 k r w (reads c.0 n) hp number wait seen reader.last amidst)
 
         by_step : (r w : ℕ) → bound_of x p.0 ≡ Within r → ReadsLast s tr t reads p k c n → r + w ≡ cost → (step : Step) → step_between s p.0 c.0 ≡ step → writing_wait (step_between s p.0 c.0) (wait_of s x p.0) ≡ Within w
             → arrival_of s tr t c.0 n ≤ arrival_of s tr t p.0 k + cost

@@ -84,6 +84,11 @@ latency_of s x tasks = through (forward s x tasks) x tasks
 unfoldable pub reaction_of : SystemLists → List Bound → List TaskId → Bound
 reaction_of s x tasks = bound_plus (wait_of s x (task_in tasks 0).0) (latency_of s x tasks)
 
--- how old the data of a job of the last task is at its end
+-- how old the data of a job of the last task is at its end: the reduced data age of Günzel et al. ("On the Equivalence of Maximum Reaction
+-- Time and Maximum Data Age for Cause-Effect Chains", 2023), whose reaction time is `reaction_of`
 unfoldable pub age_of : SystemLists → List Bound → List TaskId → Bound
 age_of s x tasks = through (backward s x tasks) x tasks
+
+-- how old the data in the register of the last task is until it is overwritten: the data age of Günzel et al.
+unfoldable pub held_of : SystemLists → List Bound → List TaskId → Bound
+held_of s x tasks = bound_plus (age_of s x tasks) (wait_of s x (last_in tasks).0)

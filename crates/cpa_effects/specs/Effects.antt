@@ -121,3 +121,11 @@ pub record IsFed (s : SystemLists) (tr : TraceLists) (t : ℕ) (reads : Reads) (
   pub jobs : ℕ → ℕ
   pub is : jobs (length tasks - 1) ≡ n
   pub goes : GoesBackward s tr t reads tasks jobs ended
+
+-- at a time the register of the last task holds what its job among these wrote, as the last that has ended; and each of them has the data
+-- of the one before
+pub record IsHeld (s : SystemLists) (tr : TraceLists) (t : ℕ) (reads : Reads) (tasks : List TaskId) (jobs : ℕ → ℕ) (time : ℕ) : Type 0 where
+  pub last : IsLastToEnd s tr t (last_in tasks).0 (jobs (length tasks - 1)) time
+  pub amidst : IsAmidst s tr t (last_in tasks).0 (jobs (length tasks - 1))
+  pub ended : ℕ
+  pub goes : GoesBackward s tr t reads tasks jobs ended

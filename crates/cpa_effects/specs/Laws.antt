@@ -8,8 +8,9 @@ use Rattle.cpa_model.specs.Rules.{IsSystem}
 use Rattle.cpa_local.specs.Solution.{IsClosed, IsLeast}
 use Rattle.cpa_trace.specs.Trace.{TraceLists, Obeys}
 use Rattle.cpa_sound.specs.BoundsHold.{HasJob, arrival_of, SourcesStayNear, BoundsHold}
-use Rattle.cpa_effects.specs.Bounds.{task_in, last_in, latency_of, reaction_of, age_of}
-use Rattle.cpa_effects.specs.Effects.{Reads, ReadWithin, IsAmidst, FollowsOn, IsFirstToRead, GoesForward, GoesBackward, IsRunning, IsAnswered, IsFed, HasEnded}
+use Rattle.cpa_effects.specs.declared.steps.Step.TheVariants.{Register}
+use Rattle.cpa_effects.specs.Bounds.{step_between, task_in, last_in, latency_of, reaction_of, age_of, held_of}
+use Rattle.cpa_effects.specs.Effects.{Reads, ReadWithin, IsAmidst, FollowsOn, IsFirstToRead, GoesForward, GoesBackward, IsRunning, IsAnswered, IsFed, IsHeld, HasEnded}
 
 -- a chain has a task at least, and each is a task of the system
 pub record IsChain (s : SystemLists) (tasks : List TaskId) : Type 0 where
@@ -39,6 +40,15 @@ pub record ChainHolds (s : SystemLists) (x : List Bound) (tr : TraceLists) (task
   pub fed : (r t start n ended : ℕ) (reads : Reads) → age_of s x tasks ≡ Within r → ReadWithin s tr t reads
       → HasEnded s tr t (last_in tasks).0 n ended → start + r ≤ ended
       → ((k : ℕ) → k + 1 < length tasks → IsRunning s tr t (task_in tasks k).0 start ended) → IsFed s tr t reads tasks n ended
+  -- at any time the job of the first task whose data the register of the last holds arrived no longer ago than data is held
+  pub held : (r t time : ℕ) (reads : Reads) (jobs : ℕ → ℕ) → held_of s x tasks ≡ Within r → ReadWithin s tr t reads → time ≤ t
+      → IsHeld s tr t reads tasks jobs time
+      → time ≤ arrival_of s tr t (task_in tasks 0).0 (jobs 0) + r
+  -- and there is such a job: the register holds data of the first, where the streams of all tasks had begun so long before, each with a job
+  -- that ended, and have a job at that time or later
+  pub filled : (r t start time : ℕ) (reads : Reads) → held_of s x tasks ≡ Within r → ReadWithin s tr t reads → start + r ≤ time
+      → ((k : ℕ) → k < length tasks → IsRunning s tr t (task_in tasks k).0 start time)
+      → (jobs : ℕ → ℕ) × IsHeld s tr t reads tasks jobs time
 
 -- wherever bounds hold, and the events of the sources stay near, the bounds of chains do
 abbrev pub HeldBoundsBoundChains : Type 0
@@ -63,3 +73,10 @@ abbrev pub OneStreamGoesOn : Type 0
 OneStreamGoesOn =
     (s : SystemLists) (tr : TraceLists) → IsSystem s → Obeys s tr → (t i k : ℕ) → i < length s.tasks → length (streams_of s i) ≡ 1
     → HasJob s tr t i (k + 1) → IsAmidst s tr t i k
+
+-- where each task of a chain reads what the one before wrote, and starts none of its jobs, data is held as long as a reaction takes
+abbrev pub EqualWhereAllRead : Type 0
+EqualWhereAllRead =
+    (s : SystemLists) (x : List Bound) (tasks : List TaskId) → 0 < length tasks
+    → ((k : ℕ) → k + 1 < length tasks → step_between s (task_in tasks k).0 (task_in tasks (k + 1)).0 ≡ Register)
+    → reaction_of s x tasks ≡ held_of s x tasks

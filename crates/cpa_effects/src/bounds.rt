@@ -6,7 +6,7 @@ ghost use Rattle.cpa_units.specs.Bounds.{RespectsLimit, bound_of, bound_plus};
 ghost use Rattle.cpa_units.specs.declared.limits.TheConstants.{MAX_CHAIN};
 ghost use Rattle.cpa_events.specs.Events.{IsModelInRange};
 ghost use Rattle.cpa_local.specs.Solution.{IsVector};
-ghost use Rattle.cpa_effects.specs.Bounds.{next_event, wait_of, reading_wait, writing_wait, forward, backward, latency_of, reaction_of, age_of};
+ghost use Rattle.cpa_effects.specs.Bounds.{next_event, wait_of, reading_wait, writing_wait, forward, backward, latency_of, reaction_of, age_of, held_of};
 
 use crate::steps::{Step, step_between};
 use cpa_events::Model;
@@ -125,7 +125,7 @@ pub fn latency(system: &System, x: &Vector, tasks: &[TaskId]) -> Bound
 }
 
 /// From an event that the first task has just missed to the end of the first job of the last that knows of it: the
-/// reaction time (Feiertag et al. 2008; first to first).
+/// reaction time (Feiertag et al. 2008; first to first; so named by Günzel et al. 2023).
 #[tactic(auto, unfolding(crate::specs::Bounds::reaction_of))]
 pub fn reaction(system: &System, x: &Vector, tasks: &[TaskId]) -> Bound
     requires some { 0 < length tasks.now }
@@ -138,7 +138,7 @@ pub fn reaction(system: &System, x: &Vector, tasks: &[TaskId]) -> Bound
 }
 
 /// How old the data of a job of the last task can be at its end, from the arrival of the job of the first task: the data
-/// age (Feiertag et al. 2008; last to last).
+/// age (Feiertag et al. 2008; last to last; the reduced data age of Günzel et al. 2023).
 #[tactic(auto, unfolding(crate::specs::Bounds::age_of))]
 pub fn age(system: &System, x: &Vector, tasks: &[TaskId]) -> Bound
     requires some { 0 < length tasks.now }
@@ -146,6 +146,7 @@ pub fn age(system: &System, x: &Vector, tasks: &[TaskId]) -> Bound
     requires there { All (λ (i : TaskId). i.0 < length system.now.tasks) tasks.now }
     requires vector { IsVector system.now x.now }
     ensures value { result ≡ age_of system.now x.now tasks.now }
+    ensures few { RespectsLimit 140000000000 result }
 {
     let last = tasks.len() - 1;
     let mut sum = Bound::Within(0);
@@ -153,4 +154,18 @@ pub fn age(system: &System, x: &Vector, tasks: &[TaskId]) -> Bound
         sum = sum.plus(backward(system, x, tasks, k));
     }
     sum.plus(x.get(tasks[last]))
+}
+
+/// How old the data in the register of the last task can be until it is overwritten, from the arrival of the job of the
+/// first task (the data age of Günzel et al. 2023): the data age, and the wait for the last task's next job.
+#[tactic(auto, unfolding(crate::specs::Bounds::held_of))]
+pub fn held(system: &System, x: &Vector, tasks: &[TaskId]) -> Bound
+    requires some { 0 < length tasks.now }
+    requires few { length tasks.now ≤ MAX_CHAIN }
+    requires there { All (λ (i : TaskId). i.0 < length system.now.tasks) tasks.now }
+    requires vector { IsVector system.now x.now }
+    ensures value { result ≡ held_of system.now x.now tasks.now }
+{
+    let last = tasks[tasks.len() - 1];
+    age(system, x, tasks).plus(wait(system, last, x))
 }

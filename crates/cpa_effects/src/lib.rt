@@ -9,7 +9,7 @@ mod steps;
 mod text;
 mod words;
 
-pub use bounds::{age, latency, reaction, wait};
+pub use bounds::{age, held, latency, reaction, wait};
 pub use command::write_chain;
 pub use laws::chains_have_bounds;
 pub use steps::{Step, step_between};

@@ -4,9 +4,9 @@ ghost use Rattle.std.specs.Prelude.{◌≡◌, ◌<◌, ◌≤◌, ◌++◌, len
 ghost use Rattle.std.specs.List.{flat_map, range_with_len};
 ghost use Rattle.cpa_units.specs.declared.limits.TheConstants.{MAX_CHAIN};
 ghost use Rattle.cpa_local.specs.Solution.{IsVector};
-ghost use Rattle.cpa_effects.specs.ChainText.{step_word, place_word, times_text, step_line, total_line, chain_text, chain_status};
+ghost use Rattle.cpa_effects.specs.ChainText.{step_word, place_word, labelled, times_text, step_line, total_line, chain_text, chain_status};
 
-use crate::bounds::{age, reaction, wait};
+use crate::bounds::{age, held, reaction, wait};
 use crate::steps::{Step, step_between};
 use cpa_local::is_overload;
 use cpa_model::System;
@@ -38,14 +38,21 @@ fn place_word(system: &System, tasks: &[TaskId], k: usize) -> &'static [u8]
     }
 }
 
+/// A bound after its label.
+#[tactic(auto, unfolding(crate::specs::ChainText::labelled))]
+fn put_labelled(text: &mut Text, label: &[u8], bound: Bound) -> Result<(), NoMemory>
+    ensures { OnOk result (text.new ≡ text.old ++ labelled label.now bound) }
+{
+    text.put(label)?;
+    put_bound(text, bound)
+}
+
 #[tactic(auto, unfolding(crate::specs::ChainText::times_text))]
 fn put_times(text: &mut Text, wait: Bound, response: Bound) -> Result<(), NoMemory>
     ensures { OnOk result (text.new ≡ text.old ++ times_text wait response) }
 {
-    text.put(b" wait ")?;
-    put_bound(text, wait)?;
-    text.put(b" response ")?;
-    put_bound(text, response)?;
+    put_labelled(text, b" wait ", wait)?;
+    put_labelled(text, b" response ", response)?;
     text.put(b"\n")
 }
 
@@ -81,19 +88,24 @@ fn put_steps(text: &mut Text, system: &System, x: &Vector, tasks: &[TaskId]) -> 
 }
 
 #[tactic(auto, unfolding(crate::specs::ChainText::total_line))]
-fn put_total(text: &mut Text, count: u64, reaction: Bound, age: Bound) -> Result<(), NoMemory>
-    ensures { OnOk result (text.new ≡ text.old ++ total_line count reaction age) }
+fn put_total(
+    text: &mut Text,
+    count: u64,
+    reaction: Bound,
+    age: Bound,
+    held: Bound,
+) -> Result<(), NoMemory>
+    ensures { OnOk result (text.new ≡ text.old ++ total_line count reaction age held) }
 {
     text.put_count(b"chain tasks ", count)?;
-    text.put(b" reaction ")?;
-    put_bound(text, reaction)?;
-    text.put(b" age ")?;
-    put_bound(text, age)?;
+    put_labelled(text, b" reaction ", reaction)?;
+    put_labelled(text, b" age ", age)?;
+    put_labelled(text, b" held ", held)?;
     text.put(b"\n")
 }
 
 /// The text that tells of a chain how data comes to each task, its wait and its bound, and the bounds on reaction time
-/// and data age. A chain has 1 to 32 tasks.
+/// and data age, and on the time for which data is held. A chain has 1 to 32 tasks.
 #[tactic(auto, unfolding(crate::specs::ChainText::chain_text))]
 pub fn chain_text(
     alloc: Global,
@@ -111,7 +123,8 @@ pub fn chain_text(
     put_steps(&mut text, system, x, tasks)?;
     let reaction = reaction(system, x, tasks);
     let age = age(system, x, tasks);
-    put_total(&mut text, tasks.len() as u64, reaction, age)?;
+    let held = held(system, x, tasks);
+    put_total(&mut text, tasks.len() as u64, reaction, age, held)?;
     Ok(text.into_bytes())
 }
 
@@ -125,7 +138,7 @@ pub fn status(system: &System, x: &Vector, tasks: &[TaskId]) -> u8
     ensures value { result ≡ chain_status system.now x.now tasks.now }
     ensures small { result ≤ 2 }
 {
-    if is_overload(reaction(system, x, tasks)) || is_overload(age(system, x, tasks)) {
+    if is_overload(reaction(system, x, tasks)) || is_overload(held(system, x, tasks)) {
         2
     } else {
         0
