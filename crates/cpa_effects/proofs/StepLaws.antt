@@ -26,8 +26,9 @@ use Rattle.cpa_sound.proofs.CauseStreams.{same-is}
 use Rattle.cpa_sound.proofs.KeepsCauses.{Starts}
 use Rattle.cpa_effects.specs.declared.steps.Step.{Step}
 use Rattle.cpa_effects.specs.declared.steps.Step.TheVariants.{Register, Merge, Activation}
-use Rattle.cpa_effects.specs.ChainText.{step_word, place_word}
-use Rattle.cpa_effects.specs.Bounds.{step_between, task_in, next_event, wait_in, wait_of, reading_wait, writing_wait}
+use Rattle.cpa_effects.specs.declared.steps.Reading.{Reading}
+use Rattle.cpa_effects.specs.ChainText.{passage_word, place_word}
+use Rattle.cpa_effects.specs.Bounds.{step_between, passage_between, task_in, next_event, wait_in, wait_of, reading_wait, writing_wait}
 use Rattle.cpa_effects.specs.Effects.{Reads, ReadWithin, IsAmidst, FollowsOn, IsFirstToRead, IsLastToEnd, ReadsFirst, IsFirstToKnow, ReadsLast, HasDataOf}
 use Rattle.cpa_effects.proofs.SumLaws.{within-injective, overload-no_number, add-up, HasNext, next-has}
 use Rattle.cpa_effects.proofs.JobTimes.{end-by, arrivals-order, starter-there, started-at, starts-one, causes-activated, ends-soon, arrived-late, next-arrives}
@@ -39,7 +40,7 @@ is_activation Register = false
 is_activation Merge = false
 is_activation Activation = true
 
-only-then : (starts alone : Bool) → cond starts (cond alone Activation Merge) Register ≡ Activation → (starts ≡ true) × (alone ≡ true)
+pub only-then : (starts alone : Bool) → cond starts (cond alone Activation Merge) Register ≡ Activation → (starts ≡ true) × (alone ≡ true)
 unfolding is_activation
 only-then true true e = (refl, refl)
 only-then true false e = absurd (false≢true (ap is_activation e))
@@ -101,7 +102,7 @@ module _ (s : SystemLists) (tr : TraceLists) (rules : IsSystem s) (obeys : Obeys
             }
 
     -- the next job of a task comes no later than its wait and a tick, where its streams go on
-    next-soon : (i k w : ℕ) → i < length s.tasks → wait_of s x i ≡ Within w → IsAmidst s tr t i k → HasJob s tr t i (k + 1) × (arrival_of s tr t i (k + 1) ≤ arrival_of s tr t i k + w + 1)
+    pub next-soon : (i k w : ℕ) → i < length s.tasks → wait_of s x i ≡ Within w → IsAmidst s tr t i k → HasJob s tr t i (k + 1) × (arrival_of s tr t i (k + 1) ≤ arrival_of s tr t i k + w + 1)
     next-soon i k w h is amidst =
         let v = waits i w h is in
         let goes = amidst v.next.place v.inside in
@@ -218,9 +219,10 @@ module _ (s : SystemLists) (tr : TraceLists) (rules : IsSystem s) (obeys : Obeys
 
 -- ---- words
 
-pub word-later : (s : SystemLists) (tasks : List TaskId) (k : ℕ) → (k ≡ 0 → ⊥) → step_word (step_between s (task_in tasks (k - 1)).0 (task_in tasks k).0) ≡ place_word s tasks k
-word-later s tasks zero later = absurd (later refl)
-word-later s tasks (suc k) later =
+pub word-later : (reading : Reading) (s : SystemLists) (tasks : List TaskId) (k : ℕ) → (k ≡ 0 → ⊥)
+    → passage_word (passage_between reading s (task_in tasks (k - 1)).0 (task_in tasks k).0) ≡ place_word reading s tasks k
+word-later reading s tasks zero later = absurd (later refl)
+word-later reading s tasks (suc k) later =
     let e : suc k - 1 ≡ k = omega arith in
     let f : k + 1 ≡ suc k = omega arith in
-    (λ i. step_word (step_between s (task_in tasks (e i)).0 (task_in tasks (sym f i)).0))
+    (λ i. passage_word (passage_between reading s (task_in tasks (e i)).0 (task_in tasks (sym f i)).0))

@@ -49,6 +49,10 @@ plus-none : (b : Bound) → bound_plus b (Within 0) ≡ bound_plus (Within 0) b
 plus-none (Within n) = ap Within (omega arith)
 plus-none Overload = refl
 
+pub no-more : (b : Bound) → bound_plus (Within 0) b ≡ b
+no-more (Within n) = ap Within (omega arith)
+no-more Overload = refl
+
 plus-joins : (a b c : Bound) → bound_plus (bound_plus a b) c ≡ bound_plus a (bound_plus b c)
 plus-joins (Within a) (Within b) (Within c) = ap Within (omega arith)
 plus-joins (Within a) (Within b) Overload = refl
