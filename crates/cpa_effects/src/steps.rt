@@ -38,7 +38,7 @@ pub fn step_between(system: &System, before: TaskId, next: TaskId) -> Step
 pub enum Reading {
     /// At any time from their arrival to their end.
     Anywhere,
-    /// In a tick in which they run: no job reads while one of higher priority is pending.
+    /// In a tick in which they run.
     WhileRunning,
 }
 
