@@ -19,7 +19,7 @@ use Rattle.cpa_call.proofs.SendLaws.{sent-nothing, part-reply}
 use Rattle.cpa_local.specs.Solution.{least_of}
 use Rattle.cpa_effects.specs.ChainText.{chain_text, chain_status}
 use Rattle.cpa_call.specs.Plans.{Held, Do, Refuse}
-use Rattle.cpa_effects.specs.Calls.{is_no_word, is_count, is_chain, Asked, Chain, refused_at, chain_on, chain_from, accepted, plan_for, plan_of, answer_to, IsOutput}
+use Rattle.cpa_effects.specs.Calls.{is_no_word, is_count, is_chain, Asked, Call, Chain, refused_at, chain_on, chain_from, accepted, plan_for, plan_of, answer_to, IsOutputOf}
 
 -- who is named is there
 task_at_place : (o : Option ℕ) (i : TaskId) → option_map (λ k. record { 0 = k }) o ≡ Some i → o ≡ Some i.0
@@ -68,22 +68,22 @@ unfolding plan_of
 plan-none words held e = rw (← e) refl
 
 -- the bounds are the output
-pub done-answer : (words : List (List ℕ)) (held : Held) (c : Chain) (status : ℕ) (text : List ℕ) → plan_of words held ≡ Do c → status ≡ chain_status c.system (least_of c.system) c.tasks → text ≡ chain_text c.system (least_of c.system) c.tasks
-    → IsOutput words held (reply status text)
-done-answer words held c status text plan told is = (λ i. reply (told i) (is i)) ∙ ap answer_to (sym plan)
+pub done-answer : (it : Call) (held : Held) (c : Chain) (status : ℕ) (text : List ℕ) → plan_of it.words held ≡ Do c → status ≡ chain_status it.reading c.system (least_of c.system) c.tasks
+    → text ≡ chain_text it.reading c.system (least_of c.system) c.tasks → IsOutputOf it held (reply status text)
+done-answer it held c status text plan told is = (λ i. reply (told i) (is i)) ∙ ap (answer_to it.reading) (sym plan)
 
 -- the line of a refusal is the output
-pub refused-answer : (words : List (List ℕ)) (held : Held) (e : Ended) (r : Reply) (text : List ℕ) → IsEndOf (plan_of words held) e → e ≡ Refused r → text ≡ r.text.items → IsOutput words held (reply r.status text)
-refused-answer words held e r text end is same =
-    let plan : plan_of words held ≡ Refuse r.status r.text.items = subst (IsEndOf (plan_of words held)) is end in
-    ap (reply r.status) same ∙ ap answer_to (sym plan)
+pub refused-answer : (it : Call) (held : Held) (e : Ended) (r : Reply) (text : List ℕ) → IsEndOf (plan_of it.words held) e → e ≡ Refused r → text ≡ r.text.items → IsOutputOf it held (reply r.status text)
+refused-answer it held e r text end is same =
+    let plan : plan_of it.words held ≡ Refuse r.status r.text.items = subst (IsEndOf (plan_of it.words held)) is end in
+    ap (reply r.status) same ∙ ap (answer_to it.reading) (sym plan)
 
 -- nothing was sent
-pub nothing-yet : (words : List (List ℕ)) (held : Held) (sent : Option (List ℕ)) → SendsPart (IsOutput words held) sent sent
-nothing-yet words held sent = record { answer = answer_to (plan_of words held); is_output = refl; part = sent-nothing sent _ }
+pub nothing-yet : (it : Call) (held : Held) (sent : Option (List ℕ)) → SendsPart (IsOutputOf it held) sent sent
+nothing-yet it held sent = record { answer = answer_to it.reading (plan_of it.words held); is_output = refl; part = sent-nothing sent _ }
 
 -- a part of the line of a refusal
-pub refused-part : (words : List (List ℕ)) (held : Held) (e : Ended) (r : Reply) (text : List ℕ) (before now : Option (List ℕ)) → IsEndOf (plan_of words held) e → e ≡ Refused r → text ≡ r.text.items
-    → SentPart before now text → SendsPart (IsOutput words held) before now
-refused-part words held e r text before now end is same part =
-    part-reply (IsOutput words held) r.status text before now (refused-answer words held e r text end is same) part
+pub refused-part : (it : Call) (held : Held) (e : Ended) (r : Reply) (text : List ℕ) (before now : Option (List ℕ)) → IsEndOf (plan_of it.words held) e → e ≡ Refused r → text ≡ r.text.items
+    → SentPart before now text → SendsPart (IsOutputOf it held) before now
+refused-part it held e r text before now end is same part =
+    part-reply (IsOutputOf it held) r.status text before now (refused-answer it held e r text end is same) part

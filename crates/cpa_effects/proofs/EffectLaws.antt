@@ -1,23 +1,28 @@
 -- Where bounds hold, the bounds of chains do.
-use Rattle.std.proofs.Common.{◌≡◌, ℕ, ◌+◌, ◌-◌, ◌<◌, ◌≤◌, List, length, arith}
+use Rattle.std.proofs.Common.{◌≡◌, ℕ, ◌+◌, ◌-◌, ◌⊎◌, ◌<◌, ◌≤◌, List, length, refl, sym, subst, inl, inr, arith}
 use Rattle.std.specs.List.{range_with_len}
 use Rattle.cpa_units.specs.declared.bound.Bound.{Bound}
 use Rattle.cpa_units.specs.declared.bound.Bound.TheVariants.{Within}
 use Rattle.cpa_units.specs.declared.places.TaskId.{TaskId}
-use Rattle.cpa_units.specs.Bounds.{bound_of, sum_bounds}
+use Rattle.cpa_units.specs.Bounds.{bound_of, bound_plus, sum_bounds}
 use Rattle.cpa_model.specs.Rules.{IsSystem}
 use Rattle.cpa_model.specs.SystemLists.{SystemLists}
 use Rattle.cpa_trace.specs.Trace.{TraceLists, Obeys}
 use Rattle.cpa_sound.specs.BoundsHold.{HasJob, arrival_of, stream_of, SourcesStayNear, HoldIn}
 use Rattle.cpa_sound.proofs.Soundness.{closed_vectors_bound_every_run, least_solutions_bound_every_run, each_job_has_a_stream}
-use Rattle.cpa_effects.specs.Bounds.{wait_of, task_in, last_in, forward, backward, through, latency_of, reaction_of, age_of}
-use Rattle.cpa_effects.specs.Effects.{Reads, ReadWithin, HasEnded, FollowsOn, IsFirstToRead, GoesForward, GoesBackward}
-use Rattle.cpa_effects.specs.Laws.{IsChain, ChainHolds, HeldBoundsBoundChains, ClosedVectorsBoundChains, LeastSolutionsBoundChains, OneStreamGoesOn}
-use Rattle.cpa_effects.proofs.SumLaws.{add-up, climb}
+use Rattle.cpa_effects.specs.declared.steps.Step.TheVariants.{Register}
+use Rattle.cpa_effects.specs.declared.steps.Reading.{Reading}
+use Rattle.cpa_effects.specs.declared.steps.Passage.{Passage}
+use Rattle.cpa_effects.specs.declared.steps.Passage.TheVariants.{By, FromAbove, OfOneSource}
+use Rattle.cpa_effects.specs.Bounds.{wait_of, task_in, last_in, forward, backward, through, passage_in, forward_cost, backward_cost, latency_by, reaction_by, age_by, held_by}
+use Rattle.cpa_effects.specs.Effects.{Reads, ReadsBy, HasEnded, FollowsOn, IsFirstToRead, GoesForward, GoesBackward, IsHeld}
+use Rattle.cpa_effects.specs.Laws.{IsChain, ChainHolds, HeldBoundsBoundChains, ClosedVectorsBoundChains, LeastSolutionsBoundChains, OneStreamGoesOn, EqualWhereAllRead}
+use Rattle.cpa_effects.proofs.SumLaws.{add-up, climb, no-more, shifted-sum}
 use Rattle.cpa_effects.proofs.JobTimes.{ends-soon}
-use Rattle.cpa_effects.proofs.StepLaws.{reads-soon, knows-soon, has-late}
+use Rattle.cpa_effects.proofs.StepLaws.{reads-soon, overwritten-soon}
+use Rattle.cpa_effects.proofs.AboveLaws.{within-of, goes-soon, comes-late}
 use Rattle.cpa_effects.proofs.AnswerLaws.{answers}
-use Rattle.cpa_effects.proofs.FedLaws.{feeds}
+use Rattle.cpa_effects.proofs.FedLaws.{feeds, fills}
 
 module _ (s : SystemLists) (x : List Bound) (tr : TraceLists) (rules : IsSystem s) (obeys : Obeys s tr) (hold : HoldIn s x tr) (near : SourcesStayNear s tr) (tasks : List TaskId) (chain : IsChain s tasks) where
   there : (k : ℕ) → k < length tasks → (task_in tasks k).0 < length s.tasks
@@ -38,31 +43,55 @@ module _ (s : SystemLists) (x : List Bound) (tr : TraceLists) (rules : IsSystem 
       let soon = ends-soon s tr rules obeys t x hold (last_in tasks).0 both.right (jobs (length tasks - 1)) ended h both.right_is last in
       omega (arith, risen, soon, both.sum)
 
-  keeps_latency : (r t : ℕ) (reads : Reads) (jobs : ℕ → ℕ) (ended : ℕ) → latency_of s x tasks ≡ Within r → ReadWithin s tr t reads → GoesForward s tr t reads tasks jobs ended → ended ≤ comes t jobs 0 + r
-  unfolding latency_of
-  keeps_latency r t reads jobs ended is within goes =
-      passes t jobs ended r (forward s x tasks) is
-      (λ k c less cost. knows-soon s tr rules obeys t x hold near reads (task_in tasks k) (task_in tasks (k + 1)) (jobs k) (jobs (k + 1)) c (there k (omega (arith, less))) (there (k + 1) less) within cost (goes.steps k less))
-      goes.last
+  module _ (reading : Reading) where
+    passes-on : (t : ℕ) (reads : Reads) (jobs : ℕ → ℕ) (ended : ℕ) → ReadsBy reading s tr t reads tasks → GoesForward s tr t reads tasks jobs ended
+        → (k c : ℕ) → k + 1 < length tasks → forward reading s x tasks k ≡ Within c → comes t jobs (k + 1) ≤ comes t jobs k + c
+    passes-on t reads jobs ended by goes k c less cost =
+        goes-soon s x tr rules obeys hold near tasks reading t reads by k less (there k (omega (arith, less))) (there (k + 1) less) (jobs k) (jobs (k + 1)) c cost (goes.steps k less)
 
-  keeps_reaction : (r t time : ℕ) (reads : Reads) (jobs : ℕ → ℕ) (ended : ℕ) → reaction_of s x tasks ≡ Within r → ReadWithin s tr t reads
-      → IsFirstToRead s tr t reads (task_in tasks 0).0 (jobs 0) time → FollowsOn s tr t (task_in tasks 0).0 (jobs 0) → GoesForward s tr t reads tasks jobs ended → ended ≤ time + r
-  unfolding reaction_of
-  keeps_reaction r t time reads jobs ended is within first follows goes =
-      let both = add-up (wait_of s x (task_in tasks 0).0) (latency_of s x tasks) r is in
-      let soon = reads-soon s tr rules obeys t x hold near reads (task_in tasks 0).0 (jobs 0) time both.left (there 0 chain.some) both.left_is within first follows in
-      let rest = keeps_latency both.right t reads jobs ended both.right_is within goes in
-      omega (arith, soon, rest, both.sum)
+    goes-back : (t : ℕ) (reads : Reads) (jobs : ℕ → ℕ) (ended : ℕ) → ReadsBy reading s tr t reads tasks → GoesBackward s tr t reads tasks jobs ended
+        → (k c : ℕ) → k + 1 < length tasks → backward reading s x tasks k ≡ Within c → comes t jobs (k + 1) ≤ comes t jobs k + c
+    goes-back t reads jobs ended by goes k c less cost =
+        comes-late s x tr rules obeys hold near tasks reading t reads by k less (there k (omega (arith, less))) (there (k + 1) less) (jobs k) (jobs (k + 1)) c cost (goes.steps k less)
 
-  keeps_age : (r t : ℕ) (reads : Reads) (jobs : ℕ → ℕ) (ended : ℕ) → age_of s x tasks ≡ Within r → ReadWithin s tr t reads → GoesBackward s tr t reads tasks jobs ended → ended ≤ comes t jobs 0 + r
-  unfolding age_of
-  keeps_age r t reads jobs ended is within goes =
-      passes t jobs ended r (backward s x tasks) is
-      (λ k c less cost. has-late s tr rules obeys t x hold near reads (task_in tasks k) (task_in tasks (k + 1)) (jobs k) (jobs (k + 1)) c (there k (omega (arith, less))) (there (k + 1) less) within cost (goes.steps k less))
-      goes.last
+    keeps_latency : (r t : ℕ) (reads : Reads) (jobs : ℕ → ℕ) (ended : ℕ) → latency_by reading s x tasks ≡ Within r → ReadsBy reading s tr t reads tasks → GoesForward s tr t reads tasks jobs ended → ended ≤ comes t jobs 0 + r
+    unfolding latency_by
+    keeps_latency r t reads jobs ended is by goes = passes t jobs ended r (forward reading s x tasks) is (passes-on t reads jobs ended by goes) goes.last
 
-  pub holds : ChainHolds s x tr tasks
-  holds = record { latency = keeps_latency; reaction = keeps_reaction; answered = answers s x tr rules obeys hold near tasks chain; age = keeps_age; fed = feeds s x tr rules obeys hold near tasks chain }
+    keeps_reaction : (r t time : ℕ) (reads : Reads) (jobs : ℕ → ℕ) (ended : ℕ) → reaction_by reading s x tasks ≡ Within r → ReadsBy reading s tr t reads tasks
+        → IsFirstToRead s tr t reads (task_in tasks 0).0 (jobs 0) time → FollowsOn s tr t (task_in tasks 0).0 (jobs 0) → GoesForward s tr t reads tasks jobs ended → ended ≤ time + r
+    unfolding reaction_by
+    keeps_reaction r t time reads jobs ended is by first follows goes =
+        let within = within-of reading s tr t reads tasks by in
+        let both = add-up (wait_of s x (task_in tasks 0).0) (latency_by reading s x tasks) r is in
+        let soon = reads-soon s tr rules obeys t x hold near reads (task_in tasks 0).0 (jobs 0) time both.left (there 0 chain.some) both.left_is within first follows in
+        let rest = keeps_latency both.right t reads jobs ended both.right_is by goes in
+        omega (arith, soon, rest, both.sum)
+
+    keeps_age : (r t : ℕ) (reads : Reads) (jobs : ℕ → ℕ) (ended : ℕ) → age_by reading s x tasks ≡ Within r → ReadsBy reading s tr t reads tasks → GoesBackward s tr t reads tasks jobs ended → ended ≤ comes t jobs 0 + r
+    unfolding age_by
+    keeps_age r t reads jobs ended is by goes = passes t jobs ended r (backward reading s x tasks) is (goes-back t reads jobs ended by goes) goes.last
+
+    keeps_held : (r t time : ℕ) (reads : Reads) (jobs : ℕ → ℕ) → held_by reading s x tasks ≡ Within r → ReadsBy reading s tr t reads tasks → time ≤ t → IsHeld s tr t reads tasks jobs time → time ≤ comes t jobs 0 + r
+    unfolding held_by age_by
+    keeps_held r t time reads jobs is by seen it =
+        let both = add-up (age_by reading s x tasks) (wait_of s x (last_in tasks).0) r is in
+        let parts = add-up (sum_bounds (backward reading s x tasks) (range_with_len 0 (length tasks - 1))) (bound_of x (last_in tasks).0) both.left both.left_is in
+        let risen = climb (comes t jobs) (backward reading s x tasks) (length tasks - 1) parts.left parts.left_is (λ k c less cost. goes-back t reads jobs it.ended by it.goes k c (omega (arith, less)) cost) in
+        let h = there (length tasks - 1) (omega (arith, chain.some)) in
+        let late = overwritten-soon s tr rules obeys t x hold near (last_in tasks).0 (jobs (length tasks - 1)) parts.right both.right time h parts.right_is both.right_is seen it.last it.amidst in
+        omega (arith, risen, late, parts.sum, both.sum)
+
+    pub holds : ChainHolds reading s x tr tasks
+    holds = record {
+      latency = keeps_latency;
+      reaction = keeps_reaction;
+      answered = answers s x tr rules obeys hold near tasks chain reading;
+      age = keeps_age;
+      fed = feeds s x tr rules obeys hold near tasks chain reading;
+      held = keeps_held;
+      filled = fills s x tr rules obeys hold near tasks chain reading;
+    }
 
 -- ---- the laws
 
@@ -88,3 +117,28 @@ one_stream_goes_on s tr rules obeys t i k h one has q less =
       there = has;
       after_own = own (k + 1) has;
     }
+
+-- what a passage costs beside a wait
+response_in : Passage → Bound → Bound
+response_in (By step) response = response
+response_in FromAbove response = Within 0
+response_in OfOneSource response = Within 0
+
+forward-adds : (g : Passage) (response wait : Bound) → (g ≡ By Register) ⊎ (g ≡ FromAbove) → forward_cost g response wait ≡ bound_plus (response_in g response) wait
+unfolding response_in
+forward-adds g response wait (inl e) = subst (λ h. forward_cost h response wait ≡ bound_plus (response_in h response) wait) (sym e) refl
+forward-adds g response wait (inr e) = subst (λ h. forward_cost h response wait ≡ bound_plus (response_in h response) wait) (sym e) (sym (no-more wait))
+
+backward-adds : (g : Passage) (response wait : Bound) → (g ≡ By Register) ⊎ (g ≡ FromAbove) → backward_cost g response wait ≡ bound_plus (response_in g response) wait
+unfolding response_in
+backward-adds g response wait (inl e) = subst (λ h. backward_cost h response wait ≡ bound_plus (response_in h response) wait) (sym e) refl
+backward-adds g response wait (inr e) = subst (λ h. backward_cost h response wait ≡ bound_plus (response_in h response) wait) (sym e) (sym (no-more wait))
+
+pub equal_where_all_read : EqualWhereAllRead
+unfolding reaction_by latency_by held_by age_by
+equal_where_all_read reading s x tasks some is =
+    let waits : ℕ → Bound = λ k. wait_of s x (task_in tasks k).0 in
+    let bounds : ℕ → Bound = λ k. bound_of x (task_in tasks k).0 in
+    shifted-sum waits (λ k. response_in (passage_in reading s tasks k) (bounds k)) (forward reading s x tasks) (backward reading s x tasks) (length tasks - 1) (bound_of x (last_in tasks).0)
+    (λ k less. forward-adds (passage_in reading s tasks k) (bounds k) (waits (k + 1)) (is k (omega (arith, less))))
+    (λ k less. backward-adds (passage_in reading s tasks k) (bounds k) (waits k) (is k (omega (arith, less))))

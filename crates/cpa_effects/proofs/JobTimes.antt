@@ -116,6 +116,20 @@ module _ (s : SystemLists) (tr : TraceLists) (rules : IsSystem s) (obeys : Obeys
       let when = end-is s tr rules obeys t i k ended h has.0 has.1 in
       omega (arith, when.2.1, ended-mono (course_of s tr i) (task_at s i).best (task_at s i).worst (in_order i h) (when.0 + 1) u (omega (arith, when.1, le)))
 
+  -- and who is counted ended by then
+  pub ended-late : (i k ended u : ℕ) → i < length s.tasks → HasEnded s tr t i k ended → k < (course_of s tr i).ended u → ended ≤ u
+  ended-late i k ended u h has done =
+      let when = end-is s tr rules obeys t i k ended h has.0 has.1 in
+      elim (cases_lt u ended) [
+        | inr fine ↦ fine
+        | inl late ↦ absurd (omega (arith, when.1, when.2.0, done, ended-mono (course_of s tr i) (task_at s i).best (task_at s i).worst (in_order i h) u when.0 (omega (arith, late, when.1))))
+      ]
+
+  pub end-order : (i k u : ℕ) → i < length s.tasks → HasJob s tr t i k → u ≤ t → k < (course_of s tr i).ended u → (ended : ℕ) × HasEnded s tr t i k ended × (ended ≤ u)
+  end-order i k u h has le done =
+      let own = has-end i k (omega (arith, done, ended-mono (course_of s tr i) (task_at s i).best (task_at s i).worst (in_order i h) u t le)) h has in
+      (own.0, (has, own.1), ended-late i k own.0 u h (has, own.1) done)
+
   pub last-ended : (i u : ℕ) → i < length s.tasks → u ≤ t → 0 < (course_of s tr i).ended u → LastEnded i ((course_of s tr i).ended u - 1) u
   last-ended i u h le some =
       let c = course_of s tr i in

@@ -1,6 +1,7 @@
 pub mod JobTimes
 pub mod SumLaws
 pub mod StepLaws
+pub mod AboveLaws
 pub mod AnswerLaws
 pub mod FedLaws
 pub mod EffectLaws

@@ -26,9 +26,10 @@ use Rattle.cpa_sound.proofs.CauseStreams.{same-is}
 use Rattle.cpa_sound.proofs.KeepsCauses.{Starts}
 use Rattle.cpa_effects.specs.declared.steps.Step.{Step}
 use Rattle.cpa_effects.specs.declared.steps.Step.TheVariants.{Register, Merge, Activation}
-use Rattle.cpa_effects.specs.ChainText.{step_word, place_word}
-use Rattle.cpa_effects.specs.Bounds.{step_between, task_in, next_event, wait_in, wait_of, reading_wait, writing_wait}
-use Rattle.cpa_effects.specs.Effects.{Reads, ReadWithin, IsAmidst, FollowsOn, IsFirstToRead, ReadsFirst, IsFirstToKnow, ReadsLast, HasDataOf}
+use Rattle.cpa_effects.specs.declared.steps.Reading.{Reading}
+use Rattle.cpa_effects.specs.ChainText.{passage_word, place_word}
+use Rattle.cpa_effects.specs.Bounds.{step_between, passage_between, task_in, next_event, wait_in, wait_of, reading_wait, writing_wait}
+use Rattle.cpa_effects.specs.Effects.{Reads, ReadWithin, IsAmidst, FollowsOn, IsFirstToRead, IsLastToEnd, ReadsFirst, IsFirstToKnow, ReadsLast, HasDataOf}
 use Rattle.cpa_effects.proofs.SumLaws.{within-injective, overload-no_number, add-up, HasNext, next-has}
 use Rattle.cpa_effects.proofs.JobTimes.{end-by, arrivals-order, starter-there, started-at, starts-one, causes-activated, ends-soon, arrived-late, next-arrives}
 
@@ -39,7 +40,7 @@ is_activation Register = false
 is_activation Merge = false
 is_activation Activation = true
 
-only-then : (starts alone : Bool) → cond starts (cond alone Activation Merge) Register ≡ Activation → (starts ≡ true) × (alone ≡ true)
+pub only-then : (starts alone : Bool) → cond starts (cond alone Activation Merge) Register ≡ Activation → (starts ≡ true) × (alone ≡ true)
 unfolding is_activation
 only-then true true e = (refl, refl)
 only-then true false e = absurd (false≢true (ap is_activation e))
@@ -101,12 +102,20 @@ module _ (s : SystemLists) (tr : TraceLists) (rules : IsSystem s) (obeys : Obeys
             }
 
     -- the next job of a task comes no later than its wait and a tick, where its streams go on
-    next-soon : (i k w : ℕ) → i < length s.tasks → wait_of s x i ≡ Within w → IsAmidst s tr t i k → HasJob s tr t i (k + 1) × (arrival_of s tr t i (k + 1) ≤ arrival_of s tr t i k + w + 1)
+    pub next-soon : (i k w : ℕ) → i < length s.tasks → wait_of s x i ≡ Within w → IsAmidst s tr t i k → HasJob s tr t i (k + 1) × (arrival_of s tr t i (k + 1) ≤ arrival_of s tr t i k + w + 1)
     next-soon i k w h is amidst =
         let v = waits i w h is in
         let goes = amidst v.next.place v.inside in
         let close = next-arrives s tr rules obeys t x hold near i k v.next.place v.model v.next.stream h v.bounded v.next.is goes in
         (omega (arith, goes.is_after, goes.there), omega (arith, close, v.next.next_is, v.wait))
+
+    -- what a job wrote is overwritten no later than its task's wait and bound after it arrived
+    pub overwritten-soon : (i k r w u : ℕ) → i < length s.tasks → bound_of x i ≡ Within r → wait_of s x i ≡ Within w → u ≤ t → IsLastToEnd s tr t i k u → IsAmidst s tr t i k
+        → u ≤ arrival_of s tr t i k + (r + w)
+    overwritten-soon i k r w u h number wait seen last amidst =
+        let soon = next-soon i k w h wait amidst in
+        let late = arrived-late s tr rules obeys t x hold i r (k + 1) u h number soon.0 seen (λ later has. last.last (k + 1) later (omega arith) has) in
+        omega (arith, late, soon.1)
 
     -- the first job that reads at a time or later comes no later than the task's wait after it
     pub reads-soon : (reads : Reads) (i k time w : ℕ) → i < length s.tasks → wait_of s x i ≡ Within w → ReadWithin s tr t reads → IsFirstToRead s tr t reads i k time → FollowsOn s tr t i k
@@ -190,12 +199,10 @@ module _ (s : SystemLists) (tr : TraceLists) (rules : IsSystem s) (obeys : Obeys
 
         renewed : (r w : ℕ) → bound_of x p.0 ≡ Within r → wait_of s x p.0 ≡ Within w → ReadsLast s tr t reads p k c n → IsAmidst s tr t p.0 k → arrival_of s tr t c.0 n ≤ arrival_of s tr t p.0 k + (r + w)
         renewed r w number wait reader amidst =
-            let soon = next-soon p.0 k w hp wait amidst in
             let read = within.arrived c.0 n reader.there in
             let ended = within.ended c.0 n reader.ended reader.is in
             let seen : reads c.0 n ≤ t = omega (arith, ended, end-by s tr rules obeys t c.0 n reader.ended hc reader.is) in
-            let late = arrived-late s tr rules obeys t x hold p.0 r (k + 1) (reads c.0 n) hp number soon.0 seen (λ later has. reader.last.last (k + 1) later (omega arith) has) in
-            omega (arith, read, late, soon.1)
+            omega (arith, read, overwritten-soon p.0 k r w (reads c.0 n) hp number wait seen reader.last amidst)
 
         by_step : (r w : ℕ) → bound_of x p.0 ≡ Within r → ReadsLast s tr t reads p k c n → r + w ≡ cost → (step : Step) → step_between s p.0 c.0 ≡ step → writing_wait (step_between s p.0 c.0) (wait_of s x p.0) ≡ Within w
             → arrival_of s tr t c.0 n ≤ arrival_of s tr t p.0 k + cost
@@ -212,9 +219,10 @@ module _ (s : SystemLists) (tr : TraceLists) (rules : IsSystem s) (obeys : Obeys
 
 -- ---- words
 
-pub word-later : (s : SystemLists) (tasks : List TaskId) (k : ℕ) → (k ≡ 0 → ⊥) → step_word (step_between s (task_in tasks (k - 1)).0 (task_in tasks k).0) ≡ place_word s tasks k
-word-later s tasks zero later = absurd (later refl)
-word-later s tasks (suc k) later =
+pub word-later : (reading : Reading) (s : SystemLists) (tasks : List TaskId) (k : ℕ) → (k ≡ 0 → ⊥)
+    → passage_word (passage_between reading s (task_in tasks (k - 1)).0 (task_in tasks k).0) ≡ place_word reading s tasks k
+word-later reading s tasks zero later = absurd (later refl)
+word-later reading s tasks (suc k) later =
     let e : suc k - 1 ≡ k = omega arith in
     let f : k + 1 ≡ suc k = omega arith in
-    (λ i. step_word (step_between s (task_in tasks (e i)).0 (task_in tasks (sym f i)).0))
+    (λ i. passage_word (passage_between reading s (task_in tasks (e i)).0 (task_in tasks (sym f i)).0))

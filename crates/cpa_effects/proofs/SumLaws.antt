@@ -49,15 +49,57 @@ plus-none : (b : Bound) → bound_plus b (Within 0) ≡ bound_plus (Within 0) b
 plus-none (Within n) = ap Within (omega arith)
 plus-none Overload = refl
 
+pub no-more : (b : Bound) → bound_plus (Within 0) b ≡ b
+no-more (Within n) = ap Within (omega arith)
+no-more Overload = refl
+
 plus-joins : (a b c : Bound) → bound_plus (bound_plus a b) c ≡ bound_plus a (bound_plus b c)
 plus-joins (Within a) (Within b) (Within c) = ap Within (omega arith)
 plus-joins (Within a) (Within b) Overload = refl
 plus-joins (Within a) Overload c = refl
 plus-joins Overload b c = refl
 
+plus-turns : (a b : Bound) → bound_plus a b ≡ bound_plus b a
+plus-turns (Within a) (Within b) = ap Within (omega arith)
+plus-turns (Within a) Overload = refl
+plus-turns Overload (Within b) = refl
+plus-turns Overload Overload = refl
+
+swap : (a b c : Bound) → bound_plus (bound_plus a b) c ≡ bound_plus (bound_plus a c) b
+swap a b c = plus-joins a b c ∙ (ap (bound_plus a) (plus-turns b c) ∙ sym (plus-joins a c b))
+
+crossed : (a b c d : Bound) → bound_plus (bound_plus a b) (bound_plus c d) ≡ bound_plus (bound_plus a (bound_plus c b)) d
+crossed a b c d = sym (plus-joins (bound_plus a b) c d) ∙ ap (λ e. bound_plus e d) (plus-joins a b c ∙ ap (bound_plus a) (plus-turns b c))
+
 pub sum-last : (f : ℕ → Bound) (xs : List ℕ) (y : ℕ) → sum_bounds f (xs ++ y ∷ []) ≡ bound_plus (sum_bounds f xs) (f y)
 sum-last f [] y = plus-none (f y)
 sum-last f (x ∷ xs) y = ap (bound_plus (f x)) (sum-last f xs y) ∙ sym (plus-joins (f x) (sum_bounds f xs) (f y))
+
+-- two sums of as many pairs, of which one has what the other has a place later
+pub shifted-sum : (w b f g : ℕ → Bound) (n : ℕ) (last : Bound) → ((k : ℕ) → k < n → f k ≡ bound_plus (b k) (w (k + 1))) → ((k : ℕ) → k < n → g k ≡ bound_plus (b k) (w k))
+    → bound_plus (w 0) (bound_plus (sum_bounds f (range_with_len 0 n)) last) ≡ bound_plus (bound_plus (sum_bounds g (range_with_len 0 n)) last) (w n)
+shifted-sum w b f g n last one two = end (w 0) (sum_bounds f (range_with_len 0 n)) (sum_bounds g (range_with_len 0 n)) (w n) last (shifted n one two)
+  where
+    end : (a f g z l : Bound) → bound_plus a f ≡ bound_plus g z → bound_plus a (bound_plus f l) ≡ bound_plus (bound_plus g l) z
+    end a f g z l e = sym (plus-joins a f l) ∙ (ap (λ b. bound_plus b l) e ∙ swap g z l)
+
+    step : (a f g z b y : Bound) → bound_plus a f ≡ bound_plus g z → bound_plus a (bound_plus f (bound_plus b y)) ≡ bound_plus (bound_plus g (bound_plus b z)) y
+    step a f g z b y e = sym (plus-joins a f (bound_plus b y)) ∙ (ap (λ c. bound_plus c (bound_plus b y)) e ∙ crossed g z b y)
+
+    shifted : (n : ℕ) → ((k : ℕ) → k < n → f k ≡ bound_plus (b k) (w (k + 1))) → ((k : ℕ) → k < n → g k ≡ bound_plus (b k) (w k))
+        → bound_plus (w 0) (sum_bounds f (range_with_len 0 n)) ≡ bound_plus (sum_bounds g (range_with_len 0 n)) (w n)
+    shifted zero one two = plus-none (w 0)
+    shifted (suc n) one two =
+        let e : n + 1 ≡ suc n = omega arith in
+        let more : (f : ℕ → Bound) → sum_bounds f (range_with_len 0 (n + 1)) ≡ bound_plus (sum_bounds f (range_with_len 0 n)) (f n) =
+        λ f. ap (sum_bounds f) (places-more n) ∙ sum-last f (range_with_len 0 n) n in
+        let before = shifted n (λ k less. one k (omega (arith, less))) (λ k less. two k (omega (arith, less))) in
+        let here = step (w 0) (sum_bounds f (range_with_len 0 n)) (sum_bounds g (range_with_len 0 n)) (w n) (b n) (w (n + 1)) before in
+        let first : bound_plus (w 0) (sum_bounds f (range_with_len 0 (n + 1))) ≡ bound_plus (w 0) (bound_plus (sum_bounds f (range_with_len 0 n)) (bound_plus (b n) (w (n + 1)))) =
+        ap (bound_plus (w 0)) (more f ∙ ap (bound_plus (sum_bounds f (range_with_len 0 n))) (one n (omega arith))) in
+        let second : bound_plus (bound_plus (sum_bounds g (range_with_len 0 n)) (bound_plus (b n) (w n))) (w (n + 1)) ≡ bound_plus (sum_bounds g (range_with_len 0 (n + 1))) (w (n + 1)) =
+        ap (λ c. bound_plus c (w (n + 1))) (sym (more g ∙ ap (bound_plus (sum_bounds g (range_with_len 0 n))) (two n (omega arith)))) in
+        subst (λ m. bound_plus (w 0) (sum_bounds f (range_with_len 0 m)) ≡ bound_plus (sum_bounds g (range_with_len 0 m)) (w m)) e (first ∙ (here ∙ second))
 
 -- what rises from place to place by no more than a number has risen by no more than their sum
 pub climb : (a : ℕ → ℕ) (cost : ℕ → Bound) (n r : ℕ) → sum_bounds cost (range_with_len 0 n) ≡ Within r

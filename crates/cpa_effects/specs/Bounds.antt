@@ -1,22 +1,64 @@
 -- Bounds on a chain of tasks, of which each takes what the one before wrote last: the time that passes from task to task is that of Davare
 -- et al. ("Period Optimization for Hard Real-time Distributed Automotive Systems", 2007), with a tick less for each wait, since time is whole.
-use Rattle.std.specs.Prelude.{ℕ, ◌+◌, ◌-◌, ◌==◌, min, if◌then◌else◌, List, [], ◌∷◌, length, fold, Option, Some, None, slice_index_or}
+use Rattle.std.specs.Prelude.{ℕ, ◌+◌, ◌-◌, ◌==◌, min, Bool, true, false, not, ◌&&◌, if◌then◌else◌, List, [], ◌∷◌, length, fold, Option, Some, None, slice_index_or}
 use Rattle.std.specs.List.{range_with_len}
 use Rattle.cpa_units.specs.declared.bound.Bound.{Bound}
 use Rattle.cpa_units.specs.declared.bound.Bound.TheVariants.{Within, Overload}
+use Rattle.cpa_units.specs.declared.places.SourceId.{SourceId}
 use Rattle.cpa_units.specs.declared.places.TaskId.{TaskId}
 use Rattle.cpa_units.specs.Bounds.{bound_of, bound_plus, sum_bounds}
 use Rattle.cpa_events.specs.declared.stream.Stream.{Stream}
 use Rattle.cpa_events.specs.Streams.{stream_delta_plus}
 use Rattle.cpa_events.specs.Events.{Model}
-use Rattle.cpa_model.specs.SystemLists.{SystemLists, task_at, is_activated_by}
+use Rattle.cpa_model.specs.declared.entries.Activator.{Activator}
+use Rattle.cpa_model.specs.declared.entries.Activator.TheVariants.{Source, Task}
+use Rattle.cpa_model.specs.declared.entries.Kind.{Kind}
+use Rattle.cpa_model.specs.declared.entries.Kind.TheVariants.{Preemptive, RoundRobin, Tdma, Can}
+use Rattle.cpa_model.specs.SystemLists.{SystemLists, task_at, resource_of, is_higher, is_activated_by}
 use Rattle.cpa_local.specs.Inputs.{input}
 use Rattle.cpa_effects.specs.declared.steps.Step.{Step}
 use Rattle.cpa_effects.specs.declared.steps.Step.TheVariants.{Register, Merge, Activation}
+use Rattle.cpa_effects.specs.declared.steps.Reading.{Reading}
+use Rattle.cpa_effects.specs.declared.steps.Reading.TheVariants.{Anywhere, WhileRunning}
+use Rattle.cpa_effects.specs.declared.steps.Passage.{Passage}
+use Rattle.cpa_effects.specs.declared.steps.Passage.TheVariants.{By, FromAbove, OfOneSource}
 
 -- how what task j wrote comes to task i
 abbrev pub step_between : SystemLists → ℕ → ℕ → Step
 step_between s j i = if is_activated_by s j i then (if length (task_at s i).after == 1 then Activation else Merge) else Register
+
+abbrev pub is_preemptive : Kind → Bool
+is_preemptive Preemptive = true
+is_preemptive RoundRobin = false
+is_preemptive (Tdma gap) = false
+is_preemptive (Can bit) = false
+
+-- whether task j is on the resource of task i with preemptive priorities, of higher priority, and starts none of its jobs
+abbrev pub is_above : SystemLists → ℕ → ℕ → Bool
+is_above s j i = (is_preemptive (resource_of s i).kind && is_higher s i j) && not (is_activated_by s j i)
+
+-- the source that is a task's only activator
+abbrev pub sole_source : List Activator → Option SourceId
+sole_source [] = None
+sole_source (Source k ∷ []) = Some k
+sole_source (Task j ∷ []) = None
+sole_source (a ∷ b ∷ more) = None
+
+abbrev pub is_one_source : Option SourceId → Option SourceId → Bool
+is_one_source (Some k) (Some m) = k.0 == m.0
+is_one_source (Some k) None = false
+is_one_source None other = false
+
+-- whether one source alone starts the jobs of both tasks
+abbrev pub have_one_source : SystemLists → ℕ → ℕ → Bool
+have_one_source s j i = is_one_source (sole_source (task_at s j).after) (sole_source (task_at s i).after)
+
+-- how data passes from task j to task i: what task j wrote before a tick in which task i runs is of its last job that has arrived by then,
+-- where task j is above it; and where one source starts both, of the job that arrived with that of task i, or a later one
+abbrev pub passage_between : Reading → SystemLists → ℕ → ℕ → Passage
+passage_between Anywhere s j i = By (step_between s j i)
+passage_between WhileRunning s j i =
+    if is_above s j i then (if have_one_source s j i then OfOneSource else FromAbove) else By (step_between s j i)
 
 -- the greatest time from one event of a stream to the next
 abbrev pub next_of : Stream → ℕ
@@ -56,17 +98,30 @@ writing_wait Activation wait = Within 0
 abbrev pub task_in : List TaskId → ℕ → TaskId
 task_in tasks k = slice_index_or tasks k (record { 0 = 0 })
 
--- the step to the task in place k + 1
-abbrev pub step_in : SystemLists → List TaskId → ℕ → Step
-step_in s tasks k = step_between s (task_in tasks k).0 (task_in tasks (k + 1)).0
+-- the passage to the task in place k + 1
+abbrev pub passage_in : Reading → SystemLists → List TaskId → ℕ → Passage
+passage_in reading s tasks k = passage_between reading s (task_in tasks k).0 (task_in tasks (k + 1)).0
+
+-- the writer's response and the reader's wait; where the writer is above, its job has ended whenever the reader runs, and the wait is all;
+-- and where one source starts both, the job that arrived with it has
+abbrev pub forward_cost : Passage → Bound → Bound → Bound
+forward_cost (By step) response wait = bound_plus response (reading_wait step wait)
+forward_cost FromAbove response wait = wait
+forward_cost OfOneSource response wait = Within 0
+
+-- the writer's response and its wait, or its wait alone, or nothing
+abbrev pub backward_cost : Passage → Bound → Bound → Bound
+backward_cost (By step) response wait = bound_plus response (writing_wait step wait)
+backward_cost FromAbove response wait = wait
+backward_cost OfOneSource response wait = Within 0
 
 -- how long it takes from a job of the task in place k to one of the next that has read what it wrote, both as they arrive
-abbrev pub forward : SystemLists → List Bound → List TaskId → ℕ → Bound
-forward s x tasks k = bound_plus (bound_of x (task_in tasks k).0) (reading_wait (step_in s tasks k) (wait_of s x (task_in tasks (k + 1)).0))
+abbrev pub forward : Reading → SystemLists → List Bound → List TaskId → ℕ → Bound
+forward reading s x tasks k = forward_cost (passage_in reading s tasks k) (bound_of x (task_in tasks k).0) (wait_of s x (task_in tasks (k + 1)).0)
 
 -- how long before a job of the next task the job can have arrived whose data it takes
-abbrev pub backward : SystemLists → List Bound → List TaskId → ℕ → Bound
-backward s x tasks k = bound_plus (bound_of x (task_in tasks k).0) (writing_wait (step_in s tasks k) (wait_of s x (task_in tasks k).0))
+abbrev pub backward : Reading → SystemLists → List Bound → List TaskId → ℕ → Bound
+backward reading s x tasks k = backward_cost (passage_in reading s tasks k) (bound_of x (task_in tasks k).0) (wait_of s x (task_in tasks k).0)
 
 -- the task in the last place
 abbrev pub last_in : List TaskId → TaskId
@@ -77,13 +132,31 @@ abbrev pub through : (ℕ → Bound) → List Bound → List TaskId → Bound
 through step x tasks = bound_plus (sum_bounds step (range_with_len 0 (length tasks - 1))) (bound_of x (last_in tasks).0)
 
 -- from a job of the first task to the end of the first job of the last that knows of it
-unfoldable pub latency_of : SystemLists → List Bound → List TaskId → Bound
-latency_of s x tasks = through (forward s x tasks) x tasks
+unfoldable pub latency_by : Reading → SystemLists → List Bound → List TaskId → Bound
+latency_by reading s x tasks = through (forward reading s x tasks) x tasks
 
 -- from an event that the first task has just missed
-unfoldable pub reaction_of : SystemLists → List Bound → List TaskId → Bound
-reaction_of s x tasks = bound_plus (wait_of s x (task_in tasks 0).0) (latency_of s x tasks)
+unfoldable pub reaction_by : Reading → SystemLists → List Bound → List TaskId → Bound
+reaction_by reading s x tasks = bound_plus (wait_of s x (task_in tasks 0).0) (latency_by reading s x tasks)
 
--- how old the data of a job of the last task is at its end
-unfoldable pub age_of : SystemLists → List Bound → List TaskId → Bound
-age_of s x tasks = through (backward s x tasks) x tasks
+-- how old the data of a job of the last task is at its end: the reduced data age of Günzel et al. ("On the Equivalence of Maximum Reaction
+-- Time and Maximum Data Age for Cause-Effect Chains", 2023), whose reaction time is the bound above
+unfoldable pub age_by : Reading → SystemLists → List Bound → List TaskId → Bound
+age_by reading s x tasks = through (backward reading s x tasks) x tasks
+
+-- how old the data in the register of the last task is until it is overwritten: the data age of Günzel et al.
+unfoldable pub held_by : Reading → SystemLists → List Bound → List TaskId → Bound
+held_by reading s x tasks = bound_plus (age_by reading s x tasks) (wait_of s x (last_in tasks).0)
+
+-- and whenever jobs read
+abbrev pub latency_of : SystemLists → List Bound → List TaskId → Bound
+latency_of s x tasks = latency_by Anywhere s x tasks
+
+abbrev pub reaction_of : SystemLists → List Bound → List TaskId → Bound
+reaction_of s x tasks = reaction_by Anywhere s x tasks
+
+abbrev pub age_of : SystemLists → List Bound → List TaskId → Bound
+age_of s x tasks = age_by Anywhere s x tasks
+
+abbrev pub held_of : SystemLists → List Bound → List TaskId → Bound
+held_of s x tasks = held_by Anywhere s x tasks

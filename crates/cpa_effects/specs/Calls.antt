@@ -1,5 +1,5 @@
 -- What the program answers.
-use Rattle.std.specs.Prelude.{◌≡◌, ℕ, ◌+◌, Bool, true, ◌==◌, not, ◌&&◌, ◌++◌, nat_lt, nat_le, if◌then◌else◌, List, [], ◌∷◌, map, length, codes, string_bytes, Option, Some, None}
+use Rattle.std.specs.Prelude.{◌≡◌, ℕ, ◌+◌, ◌-◌, Bool, true, ◌==◌, not, ◌&&◌, ◌++◌, nat_lt, nat_le, if◌then◌else◌, List, [], ◌∷◌, map, length, take, codes, bytes_eq, string_bytes, slice_index_or, Option, Some, None}
 use Rattle.std.specs.Fmt.{decimal}
 use Rattle.std.specs.List.{list_any}
 use Rattle.cpa_units.specs.declared.places.TaskId.{TaskId}
@@ -12,9 +12,36 @@ use Rattle.cpa_call.specs.Answers.{Answer, reply}
 use Rattle.cpa_call.specs.Ends.{IsUnreadLine}
 use Rattle.cpa_call.specs.Lines.{words_refused}
 use Rattle.cpa_call.specs.Plans.{Held, Plan, Do, Refuse, Missing, and_then, system_in}
+use Rattle.cpa_effects.specs.declared.steps.Reading.{Reading}
+use Rattle.cpa_effects.specs.declared.steps.Reading.TheVariants.{Anywhere, WhileRunning}
 use Rattle.cpa_effects.specs.declared.words.Named.{Named}
+use Rattle.cpa_effects.specs.declared.words.Request.{Request}
 use Rattle.cpa_effects.specs.declared.command.Chained.{Chained}
 use Rattle.cpa_effects.specs.ChainText.{chain_text, chain_status}
+
+-- what a call asks for: when jobs read, and the words beside that
+pub record Call : Type 0 where
+  pub reading : Reading
+  pub words : List (List ℕ)
+
+-- as the program has it
+abbrev pub call : Request → Call
+call r = record { reading = r.reading; words = map string_bytes r.words.now }
+
+-- the word that says that jobs read only while they run
+abbrev pub flag : List ℕ
+flag = codes "--while-running"
+
+-- it stands last, or isn't there
+abbrev pub call_by_last : List (List ℕ) → Call
+call_by_last words =
+    if bytes_eq (slice_index_or words (length words - 1) []) flag then record { reading = WhileRunning; words = take (length words - 1) words }
+    else record { reading = Anywhere; words = words }
+
+-- it stands first, or last, or isn't there; of two one is left among the words, which begins with a hyphen
+abbrev pub call_of : List (List ℕ) → Call
+call_of [] = record { reading = Anywhere; words = [] }
+call_of (word ∷ words) = if bytes_eq word flag then record { reading = WhileRunning; words = words } else call_by_last (word ∷ words)
 
 -- the file that accepted words name, and the tasks
 pub record Asked : Type 0 where
@@ -87,14 +114,18 @@ unfoldable pub plan_of : List (List ℕ) → Held → Plan Chain
 plan_of words held = plan_by held (accepted words)
 
 -- the chain's bounds at the least solution, or a refusal with its line; where the file isn't held, there is no answer but a fault
-abbrev pub answer_to : Plan Chain → Answer
-answer_to (Do it) = reply (chain_status it.system (least_of it.system) it.tasks) (chain_text it.system (least_of it.system) it.tasks)
-answer_to (Refuse status line) = reply status line
-answer_to Missing = record { status = None; text = [] }
+abbrev pub answer_to : Reading → Plan Chain → Answer
+answer_to reading (Do it) = reply (chain_status reading it.system (least_of it.system) it.tasks) (chain_text reading it.system (least_of it.system) it.tasks)
+answer_to reading (Refuse status line) = reply status line
+answer_to reading Missing = record { status = None; text = [] }
+
+-- the one answer to a call, over files that hold these bytes
+abbrev pub IsOutputOf : Call → Held → Answer → Type 0
+IsOutputOf it held answer = answer ≡ answer_to it.reading (plan_of it.words held)
 
 -- the output: the one answer to these words, over files that hold these bytes
 abbrev pub IsOutput : List (List ℕ) → Held → Answer → Type 0
-IsOutput words held answer = answer ≡ answer_to (plan_of words held)
+IsOutput words held answer = IsOutputOf (call_of words) held answer
 
 -- the file that the words name is the one whose load failed last, and the count of faults rose
 pub record IsUnread (words : List (List ℕ)) (before now : ℕ) (last : List ℕ) : Type 0 where

@@ -10,34 +10,56 @@ use Rattle.cpa_local.specs.Paths.{is_overload}
 use Rattle.cpa_report.specs.Report.{bound_text}
 use Rattle.cpa_effects.specs.declared.steps.Step.{Step}
 use Rattle.cpa_effects.specs.declared.steps.Step.TheVariants.{Register, Merge, Activation}
-use Rattle.cpa_effects.specs.Bounds.{step_in, wait_of, task_in, reaction_of, age_of}
+use Rattle.cpa_effects.specs.declared.steps.Reading.{Reading}
+use Rattle.cpa_effects.specs.declared.steps.Reading.TheVariants.{Anywhere, WhileRunning}
+use Rattle.cpa_effects.specs.declared.steps.Passage.{Passage}
+use Rattle.cpa_effects.specs.declared.steps.Passage.TheVariants.{By, FromAbove, OfOneSource}
+use Rattle.cpa_effects.specs.Bounds.{passage_in, wait_of, task_in, reaction_by, age_by, held_by}
 
 abbrev pub step_word : Step → List ℕ
 step_word Register = codes " register"
 step_word Merge = codes " merge"
 step_word Activation = codes " activation"
 
+abbrev pub passage_word : Passage → List ℕ
+passage_word (By step) = step_word step
+passage_word FromAbove = codes " above"
+passage_word OfOneSource = codes " same-source"
+
 -- how data comes to the task in a place
-abbrev pub place_word : SystemLists → List TaskId → ℕ → List ℕ
-place_word s tasks zero = codes " first"
-place_word s tasks (suc k) = step_word (step_in s tasks k)
+abbrev pub place_word : Reading → SystemLists → List TaskId → ℕ → List ℕ
+place_word reading s tasks zero = codes " first"
+place_word reading s tasks (suc k) = passage_word (passage_in reading s tasks k)
+
+-- what is presumed of when jobs read
+abbrev pub reading_word : Reading → List ℕ
+reading_word Anywhere = codes "chain "
+reading_word WhileRunning = codes "chain while-running "
+
+-- a bound after its label
+unfoldable pub labelled : List ℕ → Bound → List ℕ
+labelled label bound = label ++ bound_text bound
 
 unfoldable pub times_text : Bound → Bound → List ℕ
-times_text wait response = codes " wait " ++ bound_text wait ++ codes " response " ++ bound_text response ++ codes "\n"
+times_text wait response = labelled (codes " wait ") wait ++ labelled (codes " response ") response ++ codes "\n"
 
-unfoldable pub step_line : SystemLists → List Bound → List TaskId → ℕ → List ℕ
-step_line s x tasks k =
-    codes "step " ++ (task_at s (task_in tasks k).0).name ++ place_word s tasks k
+unfoldable pub step_line : Reading → SystemLists → List Bound → List TaskId → ℕ → List ℕ
+step_line reading s x tasks k =
+    codes "step " ++ (task_at s (task_in tasks k).0).name ++ place_word reading s tasks k
     ++ times_text (wait_of s x (task_in tasks k).0) (bound_of x (task_in tasks k).0)
 
-unfoldable pub total_line : ℕ → Bound → Bound → List ℕ
-total_line count reaction age = codes "chain tasks " ++ decimal count ++ codes " reaction " ++ bound_text reaction ++ codes " age " ++ bound_text age ++ codes "\n"
+unfoldable pub total_line : Reading → ℕ → Bound → Bound → Bound → List ℕ
+total_line reading count reaction age held =
+    reading_word reading ++ codes "tasks " ++ decimal count
+    ++ labelled (codes " reaction ") reaction ++ labelled (codes " age ") age ++ labelled (codes " held ") held ++ codes "\n"
 
 -- a line for each task of the chain, and the bounds
-unfoldable pub chain_text : SystemLists → List Bound → List TaskId → List ℕ
-chain_text s x tasks =
-    flat_map (step_line s x tasks) (range_with_len 0 (length tasks)) ++ total_line (length tasks) (reaction_of s x tasks) (age_of s x tasks)
+unfoldable pub chain_text : Reading → SystemLists → List Bound → List TaskId → List ℕ
+chain_text reading s x tasks =
+    flat_map (step_line reading s x tasks) (range_with_len 0 (length tasks))
+    ++ total_line reading (length tasks) (reaction_by reading s x tasks) (age_by reading s x tasks) (held_by reading s x tasks)
 
--- 2 where a bound is missing, else 0
-unfoldable pub chain_status : SystemLists → List Bound → List TaskId → ℕ
-chain_status s x tasks = if is_overload (reaction_of s x tasks) || is_overload (age_of s x tasks) then 2 else 0
+-- 2 where a bound is missing, else 0. Where the age is missing, what is held is too, since that is the age and a wait. At the least solution
+-- it is so the other way round as well: a task whose input is unbounded has no bound there
+unfoldable pub chain_status : Reading → SystemLists → List Bound → List TaskId → ℕ
+chain_status reading s x tasks = if is_overload (reaction_by reading s x tasks) || is_overload (held_by reading s x tasks) then 2 else 0

@@ -9,8 +9,11 @@ use Rattle.std.specs.Prelude.{◌≡◌, ◌⊎◌, ℕ, ◌+◌, ◌-◌, ◌<�
 use Rattle.cpa_units.specs.declared.places.TaskId.{TaskId}
 use Rattle.cpa_model.specs.SystemLists.{SystemLists, streams_of, is_activated_by}
 use Rattle.cpa_trace.specs.Trace.{TraceLists}
+use Rattle.cpa_sim.specs.Run.{runs_in, run}
 use Rattle.cpa_sound.specs.BoundsHold.{job_at, HasJob, arrival_of, stream_of, IsStartedBy}
 use Rattle.cpa_effects.specs.declared.steps.Step.TheVariants.{Activation}
+use Rattle.cpa_effects.specs.declared.steps.Reading.{Reading}
+use Rattle.cpa_effects.specs.declared.steps.Reading.TheVariants.{Anywhere, WhileRunning}
 use Rattle.cpa_effects.specs.Bounds.{step_between, task_in, last_in}
 
 -- when each job of each task reads, by task and number
@@ -25,6 +28,15 @@ HasEnded s tr t i k ended = HasJob s tr t i k × ((job_at s tr t i k).end ≡ So
 pub record ReadWithin (s : SystemLists) (tr : TraceLists) (t : ℕ) (reads : Reads) : Type 0 where
   pub arrived : (i k : ℕ) → HasJob s tr t i k → arrival_of s tr t i k ≤ reads i k
   pub ended : (i k ended : ℕ) → HasEnded s tr t i k ended → reads i k ≤ ended
+
+-- each job of a task reads in a tick in which the task runs
+abbrev pub ReadsRunning : SystemLists → TraceLists → ℕ → Reads → ℕ → Type 0
+ReadsRunning s tr t reads i = (k : ℕ) → HasJob s tr t i k → runs_in s tr (reads i k) (run s tr (reads i k)) i ≡ true
+
+-- the jobs of a chain's tasks read so
+abbrev pub ReadsBy : Reading → SystemLists → TraceLists → ℕ → Reads → List TaskId → Type 0
+ReadsBy Anywhere s tr t reads tasks = ReadWithin s tr t reads
+ReadsBy WhileRunning s tr t reads tasks = ReadWithin s tr t reads × ((k : ℕ) → k < length tasks → ReadsRunning s tr t reads (task_in tasks k).0)
 
 -- a stream of a task has a job up to and with number k, and one after it
 pub record GoesOn (s : SystemLists) (tr : TraceLists) (t i k q : ℕ) : Type 0 where
@@ -120,4 +132,12 @@ pub record IsAnswered (s : SystemLists) (tr : TraceLists) (t : ℕ) (reads : Rea
 pub record IsFed (s : SystemLists) (tr : TraceLists) (t : ℕ) (reads : Reads) (tasks : List TaskId) (n ended : ℕ) : Type 0 where
   pub jobs : ℕ → ℕ
   pub is : jobs (length tasks - 1) ≡ n
+  pub goes : GoesBackward s tr t reads tasks jobs ended
+
+-- at a time the register of the last task holds what its job among these wrote, as the last that has ended; and each of them has the data
+-- of the one before
+pub record IsHeld (s : SystemLists) (tr : TraceLists) (t : ℕ) (reads : Reads) (tasks : List TaskId) (jobs : ℕ → ℕ) (time : ℕ) : Type 0 where
+  pub last : IsLastToEnd s tr t (last_in tasks).0 (jobs (length tasks - 1)) time
+  pub amidst : IsAmidst s tr t (last_in tasks).0 (jobs (length tasks - 1))
+  pub ended : ℕ
   pub goes : GoesBackward s tr t reads tasks jobs ended

@@ -9,11 +9,12 @@ ghost use Rattle.cpa_call.specs.Answers.{IsOfOutput, Sends, SendsPart};
 ghost use Rattle.cpa_call.specs.Ends.{IsEndOf, HasStatus, IsUnreadFile, IsNoUnread};
 ghost use Rattle.cpa_call.specs.Lines.{cannot_read};
 ghost use Rattle.cpa_call.specs.Plans.{Do};
-ghost use Rattle.cpa_effects.specs.Calls.{chain_refused, refused_at, chain_of, chain_by, plan_for, plan_of, IsOutput, IsUnread, IsUnreadCall};
+ghost use Rattle.cpa_effects.specs.Calls.{chain_refused, refused_at, chain_of, chain_by, plan_for, plan_of, call_of, IsOutput, IsOutputOf, IsUnread, IsUnreadCall};
 ghost use Rattle.cpa_effects.specs.ChainText.{chain_text, chain_status};
 
+use crate::steps::Reading;
 use crate::text::{chain_text, status};
-use crate::words::accept;
+use crate::words::{accept, read_request};
 use cpa_call::ended::{Ended, Reply, Stopped};
 use cpa_call::lines::words_line;
 use cpa_call::loading::load_system;
@@ -134,6 +135,7 @@ fn least_bounds(alloc: Global, system: &System) -> Result<Vector, NoMemory>
 /// Sends the bounds of a chain, with their status.
 fn write<K: Sink>(
     alloc: Global,
+    reading: Reading,
     system: &System,
     tasks: &[TaskId],
     sink: &mut K,
@@ -141,35 +143,46 @@ fn write<K: Sink>(
     requires some { 0 < length tasks.now }
     requires few { length tasks.now ≤ MAX_CHAIN }
     requires there { All (λ (i : TaskId). i.0 < length system.now.tasks) tasks.now }
-    ensures status { IfOk result (λ status. status ≡ chain_status system.now (least_of system.now) tasks.now) }
+    ensures status { IfOk result (λ status. status ≡ chain_status reading system.now (least_of system.now) tasks.now) }
     ensures small { IfOk result (λ status. status ≤ 2) }
-    ensures sends { OnOk result (K.sent sink.new ≡ grown (K.sent sink.old) (chain_text system.now (least_of system.now) tasks.now)) }
-    ensures part { OnErr result (SentPart (K.sent sink.old) (K.sent sink.new) (chain_text system.now (least_of system.now) tasks.now)) }
+    ensures sends { OnOk result (K.sent sink.new ≡ grown (K.sent sink.old) (chain_text reading system.now (least_of system.now) tasks.now)) }
+    ensures part { OnErr result (SentPart (K.sent sink.old) (K.sent sink.new) (chain_text reading system.now (least_of system.now) tasks.now)) }
     ensures rises { K.faults sink.old ≤ K.faults sink.new }
     ensures failed { result ≡ Err stopped.Sink → Rose (K.faults sink.old) (K.faults sink.new) }
 {
     let bounds = least_bounds(alloc, system)?;
-    let text = chain_text(alloc, system, &bounds, tasks)?;
-    send(sink, status(system, &bounds, tasks), text.as_slice())
+    let text = chain_text(alloc, reading, system, &bounds, tasks)?;
+    send(
+        sink,
+        status(reading, system, &bounds, tasks),
+        text.as_slice(),
+    )
 }
 
-/// Does what the words ask for, or sends the line of a refusal.
+/// Does what a call asks for, or sends the line of a refusal.
 fn answer<F: Files, K: Sink>(
     alloc: Global,
+    reading: Reading,
     words: &[String],
     files: &mut F,
     sink: &mut K,
 ) -> Result<u8, Stopped>
-    ensures answered { F.told files.old ≡ true → IfOk result (λ status. status ≢ 11 → Sends (IsOutput (map string_bytes words.now) (F.held files.old)) status (K.sent sink.old) (K.sent sink.new)) }
+    ensures answered { F.told files.old ≡ true → IfOk result (λ status. status ≢ 11 → Sends (IsOutputOf (record { reading = reading; words = map string_bytes words.now }) (F.held files.old)) status (K.sent sink.old) (K.sent sink.new)) }
     ensures status { IfOk result (λ status. (status ≢ 20) × (status ≢ 30)) }
     ensures unread { IfOk result (λ status. status ≡ 11 → IsUnread (map string_bytes words.now) (F.faults files.old) (F.faults files.new) (F.last_failed files.new)) }
     ensures unread_line { IfOk result (λ status. status ≡ 11 → K.sent sink.new ≡ grown (K.sent sink.old) (cannot_read (F.last_failed files.new))) }
-    ensures part { F.told files.old ≡ true → OnErr result (SendsPart (IsOutput (map string_bytes words.now) (F.held files.old)) (K.sent sink.old) (K.sent sink.new) ⊎ (IsUnread (map string_bytes words.now) (F.faults files.old) (F.faults files.new) (F.last_failed files.new) × SentPart (K.sent sink.old) (K.sent sink.new) (cannot_read (F.last_failed files.new)))) }
+    ensures part { F.told files.old ≡ true → OnErr result (SendsPart (IsOutputOf (record { reading = reading; words = map string_bytes words.now }) (F.held files.old)) (K.sent sink.old) (K.sent sink.new) ⊎ (IsUnread (map string_bytes words.now) (F.faults files.old) (F.faults files.new) (F.last_failed files.new) × SentPart (K.sent sink.old) (K.sent sink.new) (cannot_read (F.last_failed files.new)))) }
     ensures rises { K.faults sink.old ≤ K.faults sink.new }
     ensures failed { result ≡ Err stopped.Sink → Rose (K.faults sink.old) (K.faults sink.new) }
 {
     match plan(alloc, words, files) {
-        Ok(chained) => write(alloc, &chained.system, chained.tasks.as_slice(), sink),
+        Ok(chained) => write(
+            alloc,
+            reading,
+            &chained.system,
+            chained.tasks.as_slice(),
+            sink,
+        ),
         Err(Ended::Refused(reply)) => send(sink, reply.status, reply.text.as_slice()),
         Err(Ended::Unread(line)) => send(sink, 11, line.as_slice()),
         Err(Ended::Memory) => Err(Stopped::Memory),
@@ -179,8 +192,9 @@ fn answer<F: Files, K: Sink>(
 /// Writes the bounds on reaction time and data age of a chain of tasks, at the least solution, and answers the status.
 ///
 /// The words are those after the program's name: the system file and 1 to 32 names of tasks, none of which is empty or begins
-/// with a hyphen. The statuses: 0 with the bounds sent; 2 where one of them is missing; 10, 12 to 14 and 18 a refusal, 11 a file
-/// that couldn't be read, each with its line sent; 20 a fault of the sink; 30 want of memory.
+/// with a hyphen; before or after these `--while-running` once, which presumes that jobs read only while they run. The
+/// statuses: 0 with the bounds sent; 2 where one of them is missing; 10, 12 to 14 and 18 a refusal, 11 a file that couldn't
+/// be read, each with its line sent; 20 a fault of the sink; 30 out of memory.
 pub fn write_chain<F: Files, K: Sink>(
     alloc: Global,
     words: &[String],
@@ -194,16 +208,17 @@ pub fn write_chain<F: Files, K: Sink>(
     ensures complete { F.told files.old ≡ true → ¬ (Rose (F.faults files.old) (F.faults files.new)) → ¬ (Rose (K.faults sink.old) (K.faults sink.new)) → result ≢ 30 → Sends (IsOutput (map string_bytes words.now) (F.held files.old)) result (K.sent sink.old) (K.sent sink.new) }
 
     // The named file couldn't be loaded, and its line was sent.
-    ensures unread { result ≡ 11 → IsUnread (map string_bytes words.now) (F.faults files.old) (F.faults files.new) (F.last_failed files.new) }
+    ensures unread { result ≡ 11 → IsUnread (call_of (map string_bytes words.now)).words (F.faults files.old) (F.faults files.new) (F.last_failed files.new) }
     ensures unread_line { result ≡ 11 → K.sent sink.new ≡ grown (K.sent sink.old) (cannot_read (F.last_failed files.new)) }
 
     // The sink failed.
     ensures unsent { result ≡ 20 → Rose (K.faults sink.old) (K.faults sink.new) }
 
     // At a fault of the sink and at want of memory a prefix of the output was sent, or of the line of a file that couldn't be loaded.
-    ensures part { F.told files.old ≡ true → (result ≡ 20) ⊎ (result ≡ 30) → SendsPart (IsOutput (map string_bytes words.now) (F.held files.old)) (K.sent sink.old) (K.sent sink.new) ⊎ (IsUnread (map string_bytes words.now) (F.faults files.old) (F.faults files.new) (F.last_failed files.new) × SentPart (K.sent sink.old) (K.sent sink.new) (cannot_read (F.last_failed files.new))) }
+    ensures part { F.told files.old ≡ true → (result ≡ 20) ⊎ (result ≡ 30) → SendsPart (IsOutput (map string_bytes words.now) (F.held files.old)) (K.sent sink.old) (K.sent sink.new) ⊎ (IsUnread (call_of (map string_bytes words.now)).words (F.faults files.old) (F.faults files.new) (F.last_failed files.new) × SentPart (K.sent sink.old) (K.sent sink.new) (cannot_read (F.last_failed files.new))) }
 {
-    match answer(alloc, words, files, sink) {
+    let request = read_request(words);
+    match answer(alloc, request.reading, request.words, files, sink) {
         Ok(status) => status,
         Err(Stopped::Sink) => 20,
         Err(Stopped::Memory) => 30,

@@ -9,8 +9,8 @@ mod steps;
 mod text;
 mod words;
 
-pub use bounds::{age, latency, reaction, wait};
+pub use bounds::{age, age_by, held, held_by, latency, latency_by, reaction, reaction_by, wait};
 pub use command::write_chain;
 pub use laws::chains_have_bounds;
-pub use steps::{Step, step_between};
+pub use steps::{Passage, Reading, Step, passage_between, step_between};
 pub use text::{chain_text, status};

@@ -1,10 +1,66 @@
-//! The words of a call: a system file, and the tasks of a chain.
+//! The words of a call: a system file, the tasks of a chain, and when their jobs read.
 
-ghost use Rattle.std.specs.Prelude.{◌≡◌, ◌∷◌, map, option_map, string_bytes};
+ghost use Rattle.std.specs.Prelude.{◌≡◌, ◌<◌, ◌∷◌, length, map, option_map, bytes_eq, string_bytes};
 ghost use Rattle.std.specs.List.{list_any};
-ghost use Rattle.cpa_effects.specs.Calls.{accepted, asked, is_chain, is_count, is_no_word};
+ghost use Rattle.cpa_effects.specs.Calls.{accepted, asked, call, call_by_last, call_of, flag, is_chain, is_count, is_no_word};
 
+use crate::steps::Reading;
 use cpa_units::limits::MAX_CHAIN;
+
+/// When jobs read, and the words beside that.
+#[derive(Clone, Copy)]
+pub(crate) struct Request<'a> {
+    pub(crate) reading: Reading,
+    pub(crate) words: &'a [String],
+}
+
+/// Whether a word says that jobs read only while they run.
+fn is_flag(word: &str) -> bool
+    ensures { result ≡ bytes_eq word.now flag }
+{
+    word == "--while-running"
+}
+
+/// What words ask for that have the flag last, or nowhere.
+fn request_by_last<'a>(words: &'a [String]) -> Request<'a>
+    requires { 0 < length words.now }
+    ensures { call result ≡ call_by_last (map string_bytes words.now) }
+{
+    let last = words.len() - 1;
+    if is_flag(words[last].as_str()) {
+        Request {
+            reading: Reading::WhileRunning,
+            words: &words[..last],
+        }
+    } else {
+        Request {
+            reading: Reading::Anywhere,
+            words,
+        }
+    }
+}
+
+/// What words ask for.
+pub(crate) fn read_request<'a>(words: &'a [String]) -> Request<'a>
+    ensures { call result ≡ call_of (map string_bytes words.now) }
+{
+    match words {
+        [] => Request {
+            reading: Reading::Anywhere,
+            words,
+        },
+        [first, rest @ ..] => {
+            if is_flag(first.as_str()) {
+                Request {
+                    reading: Reading::WhileRunning,
+                    words: rest,
+                }
+            } else {
+                request_by_last(words)
+            }
+        }
+    }
+}
 
 /// The file and the tasks that accepted words name.
 #[derive(Clone, Copy)]

@@ -3,31 +3,31 @@ use Rattle.std.proofs.lemmas.Result.{IfOk-weaker, on_err_weaker}
 use Rattle.cpa_call.specs.declared.ended.Reply.{Reply}
 use Rattle.cpa_call.specs.Lines.{cannot_read}
 use Rattle.cpa_call.proofs.SendLaws.{sends-by, unread-text, unread-part, unread-sent}
-use Rattle.cpa_effects.specs.Calls.{IsOutput, IsUnread}
+use Rattle.cpa_effects.specs.Calls.{Call, IsOutputOf, IsUnread}
 use Rattle.cpa_effects.proofs.CallLaws.{nothing-yet, refused-answer, refused-part}
 use Rattle.cpa_effects.proofs.command.answer.Goals as goal
 
 pub returns-in-Err-Refused-clause-answered : goal.returns-in-Err-Refused-clause-answered
 returns-in-Err-Refused-clause-answered g c = λ told.
-    let words = map string_bytes c.args.words.now in
+    let it : Call = record { reading = c.args.reading; words = map string_bytes c.args.words.now } in
     let held = g.F.Files.held c.args.files.now in
     let value = c.as_slice-in-Err-Refused.ensures.value in
     let is = c.in-Err-Refused.reply-is in
     let text : c.as_slice-in-Err-Refused.result.now ≡ c.in-Err-Refused.reply.text.items = value ∙ ap (λ (r : Reply). r.text.items) is in
     IfOk-weaker c.send.result _ _ (λ status said ne. said)
-    (sends-by (IsOutput words held) c.in-Err-Refused.reply.status c.as_slice-in-Err-Refused.result.now (g.K.Sink.sent c.args.sink.now) (g.K.Sink.sent c.send.new.sink) c.send.result
-    (refused-answer words held c.in-Err-Refused.field-0 c.in-Err-Refused.reply c.as_slice-in-Err-Refused.result.now (c.in-Err-Refused.ensures.ended told) c.in-Err-Refused.field-0-is text)
+    (sends-by (IsOutputOf it held) c.in-Err-Refused.reply.status c.as_slice-in-Err-Refused.result.now (g.K.Sink.sent c.args.sink.now) (g.K.Sink.sent c.send.new.sink) c.send.result
+    (refused-answer it held c.in-Err-Refused.field-0 c.in-Err-Refused.reply c.as_slice-in-Err-Refused.result.now (c.in-Err-Refused.ensures.ended told) c.in-Err-Refused.field-0-is text)
     c.send.ensures.sent (subst (λ (r : Reply). IfOk c.send.result (λ told. told ≡ r.status)) is c.send.ensures.status))
 
 pub returns-in-Err-Refused-clause-part : goal.returns-in-Err-Refused-clause-part
 returns-in-Err-Refused-clause-part g c = λ told.
-    let words = map string_bytes c.args.words.now in
+    let it : Call = record { reading = c.args.reading; words = map string_bytes c.args.words.now } in
     let held = g.F.Files.held c.args.files.now in
     let value = c.as_slice-in-Err-Refused.ensures.value in
     let is = c.in-Err-Refused.reply-is in
     let text : c.as_slice-in-Err-Refused.result.now ≡ c.in-Err-Refused.reply.text.items = value ∙ ap (λ (r : Reply). r.text.items) is in
     on_err_weaker c.send.result
-    (λ part. inl (refused-part words held c.in-Err-Refused.field-0 c.in-Err-Refused.reply c.as_slice-in-Err-Refused.result.now (g.K.Sink.sent c.args.sink.now) (g.K.Sink.sent c.send.new.sink)
+    (λ part. inl (refused-part it held c.in-Err-Refused.field-0 c.in-Err-Refused.reply c.as_slice-in-Err-Refused.result.now (g.K.Sink.sent c.args.sink.now) (g.K.Sink.sent c.send.new.sink)
     (c.in-Err-Refused.ensures.ended told) c.in-Err-Refused.field-0-is text part))
     c.send.ensures.part
 
@@ -42,7 +42,7 @@ returns-in-Err-Unread-clause-unread_line g c =
 
 pub returns-in-Err-Memory-clause-part : goal.returns-in-Err-Memory-clause-part
 returns-in-Err-Memory-clause-part g c = λ told.
-    inl (nothing-yet (map string_bytes c.args.words.now) (g.F.Files.held c.args.files.now) (g.K.Sink.sent c.args.sink.now))
+    inl (nothing-yet (record { reading = c.args.reading; words = map string_bytes c.args.words.now }) (g.F.Files.held c.args.files.now) (g.K.Sink.sent c.args.sink.now))
 
 pub returns-in-Err-Unread-clause-part : goal.returns-in-Err-Unread-clause-part
 returns-in-Err-Unread-clause-part g c = λ told.

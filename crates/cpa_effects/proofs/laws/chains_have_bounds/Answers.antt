@@ -12,3 +12,6 @@ returns-clause-least c = effects.least_solutions_bound_chains
 
 pub returns-clause-one_stream : goal.returns-clause-one_stream
 returns-clause-one_stream c = effects.one_stream_goes_on
+
+pub returns-clause-equal : goal.returns-clause-equal
+returns-clause-equal c = effects.equal_where_all_read

@@ -1,10 +1,10 @@
 use Rattle.cpa_effects.specs.Bounds.{backward}
 use Rattle.cpa_effects.proofs.SumLaws.{one-more, limit-more}
-use Rattle.cpa_effects.proofs.bounds.age.Goals as goal
+use Rattle.cpa_effects.proofs.bounds.age_by.Goals as goal
 
 pub loop-k-preserved : goal.loop-k-preserved
 loop-k-preserved c =
     record {
-      sum = one-more (backward c.args.system.now c.args.x.now c.args.tasks.now) c.loop-k.k c.loop-k.sum c.backward.result c.plus-sum.result c.loop-k.invariant.sum c.backward.ensures.value c.plus-sum.ensures;
+      sum = one-more (backward c.args.reading c.args.system.now c.args.x.now c.args.tasks.now) c.loop-k.k c.loop-k.sum c.backward.result c.plus-sum.result c.loop-k.invariant.sum c.backward.ensures.value c.plus-sum.ensures;
       few = limit-more c.loop-k.k c.loop-k.sum c.backward.result c.plus-sum.result c.loop-k.invariant.few c.backward.ensures.few c.plus-sum.ensures;
     }

@@ -1,0 +1,342 @@
+-- While a job of higher priority is pending, a task doesn't run; so a step from above waits less.
+use Rattle.std.proofs.Common.{◌≡◌, ◌⊎◌, ℕ, zero, suc, ◌+◌, ◌<◌, ◌≤◌, Bool, true, false, cond, not, eqb, length, List, [], ◌∷◌, Option, Some, None, refl, sym, ◌∙◌, ap, subst, inl, inr, arith}
+use Rattle.std.specs.Prelude.{filter, sum_by, unwrap_or, ◌&&◌}
+use Rattle.std.specs.List.{list_any}
+use Rattle.std.proofs.lemmas.Option.{none-some}
+use Rattle.std.proofs.lemmas.Bool.{cases_lt, cases_Bool, eq-eqb, eqb-true, ltb-true, false≢true}
+use Rattle.cpa_units.specs.declared.bound.Bound.{Bound}
+use Rattle.cpa_units.specs.declared.bound.Bound.TheVariants.{Within}
+use Rattle.cpa_units.specs.declared.places.SourceId.{SourceId}
+use Rattle.cpa_units.specs.declared.places.TaskId.{TaskId}
+use Rattle.cpa_units.specs.Bounds.{bound_of}
+use Rattle.cpa_model.specs.declared.entries.Activator.{Activator}
+use Rattle.cpa_model.specs.declared.entries.Activator.TheVariants.{Source, Task}
+use Rattle.cpa_model.specs.declared.entries.Kind.{Kind}
+use Rattle.cpa_model.specs.declared.entries.Kind.TheVariants.{Preemptive, RoundRobin, Tdma, Can}
+use Rattle.cpa_model.specs.Rules.{IsSystem}
+use Rattle.cpa_model.specs.SystemLists.{SystemLists, task_at, priority_of, tasks_on, task_places, source_places, is_task, is_source, is_activated_by}
+use Rattle.cpa_trace.specs.Trace.{TraceLists, times_of, Obeys}
+use Rattle.cpa_sched.specs.States.{IsOn, IsWaiting}
+use Rattle.cpa_sched.specs.Steps.{kind_of}
+use Rattle.cpa_sim.specs.Run.{runs_in, ended_count, run}
+use Rattle.cpa_sim.proofs.JobCount.{events_before, jobs-counted}
+use Rattle.cpa_sound.specs.RunCourse.{course_of}
+use Rattle.cpa_sound.specs.BoundsHold.{HasJob, arrival_of, SourcesStayNear, HoldIn}
+use Rattle.cpa_sound.proofs.Serving.{IsPending}
+use Rattle.cpa_sound.proofs.CourseLaws.{arrived-mono, arrives-order}
+use Rattle.cpa_sound.proofs.RunLaws.{arrived-zero, arrived-one}
+use Rattle.cpa_sound.specs.Course.{Arrives}
+use Rattle.cpa_sound.proofs.ChoiceLaws.{waiting_at, runs-chosen, preemptive-choice, urgent_waits}
+use Rattle.cpa_sound.proofs.StepLaws.{in_waiting, all_at}
+use Rattle.cpa_sound.proofs.KindRuns.{pending-waits}
+use Rattle.cpa_sound.proofs.FieldLaws.{arrival-is}
+use Rattle.cpa_effects.specs.declared.steps.Reading.{Reading}
+use Rattle.cpa_effects.specs.declared.steps.Reading.TheVariants.{Anywhere, WhileRunning}
+use Rattle.cpa_effects.specs.declared.steps.Passage.{Passage}
+use Rattle.cpa_effects.specs.declared.steps.Passage.TheVariants.{By, FromAbove, OfOneSource}
+use Rattle.cpa_effects.specs.Bounds.{step_between, is_preemptive, is_above, sole_source, is_one_source, have_one_source, task_in, wait_of, forward_cost, backward_cost, forward, backward}
+use Rattle.cpa_effects.specs.Effects.{Reads, ReadWithin, ReadsRunning, ReadsBy, IsAmidst, FollowsOn, ReadsFirst, IsFirstToKnow, ReadsLast, HasDataOf}
+use Rattle.cpa_effects.proofs.JobTimes.{in_order, end-by, end-order, ended-late, arrivals-order, starter-there}
+use Rattle.cpa_effects.proofs.StepLaws.{only-then, next-soon, knows-soon, has-late}
+
+-- ---- kinds of passages
+
+both-true : (a b : Bool) → (a && b) ≡ true → (a ≡ true) × (b ≡ true)
+both-true true b e = (refl, e)
+both-true false b e = absurd (false≢true e)
+
+not-true : (b : Bool) → not b ≡ true → b ≡ true → ⊥
+not-true true e same = false≢true e
+not-true false e same = false≢true same
+
+preemptive-is : (k : Kind) → is_preemptive k ≡ true → k ≡ Preemptive
+preemptive-is Preemptive e = refl
+preemptive-is RoundRobin e = absurd (false≢true e)
+preemptive-is (Tdma gap) e = absurd (false≢true e)
+preemptive-is (Can bit) e = absurd (false≢true e)
+
+pub record IsAbove (s : SystemLists) (p c : ℕ) : Type 0 where
+  pub kind : kind_of s (task_at s c).res.0 ≡ Preemptive
+  pub shared : (task_at s p).res.0 ≡ (task_at s c).res.0
+  pub rank : priority_of (task_at s p).turn < priority_of (task_at s c).turn
+  pub apart : is_activated_by s p c ≡ true → ⊥
+
+pub above-is : (s : SystemLists) (p c : ℕ) → is_above s p c ≡ true → IsAbove s p c
+above-is s p c e =
+    let outer = both-true _ _ e in
+    let inner = both-true _ _ outer.0 in
+    let higher = both-true _ _ inner.1 in
+    record {
+      kind = preemptive-is (kind_of s (task_at s c).res.0) inner.0;
+      shared = sym (eqb-true (task_at s c).res.0 (task_at s p).res.0 higher.0);
+      rank = ltb-true (priority_of (task_at s p).turn) (priority_of (task_at s c).turn) higher.1;
+      apart = not-true (is_activated_by s p c) outer.1;
+    }
+
+-- a passage costs what it does whenever jobs read, or is from above
+pub record GoesPlain (reading : Reading) (s : SystemLists) (x : List Bound) (tasks : List TaskId) (m : ℕ) : Type 0 where
+  pub forward_is : forward reading s x tasks m ≡ forward Anywhere s x tasks m
+  pub backward_is : backward reading s x tasks m ≡ backward Anywhere s x tasks m
+
+pub record GoesAbove (reading : Reading) (s : SystemLists) (x : List Bound) (tasks : List TaskId) (m : ℕ) : Type 0 where
+  pub above : is_above s (task_in tasks m).0 (task_in tasks (m + 1)).0 ≡ true
+  pub runs : reading ≡ WhileRunning
+  pub forward_is : forward reading s x tasks m ≡ wait_of s x (task_in tasks (m + 1)).0
+  pub backward_is : backward reading s x tasks m ≡ wait_of s x (task_in tasks m).0
+
+-- or of one source, and costs nothing
+pub record GoesTogether (reading : Reading) (s : SystemLists) (tasks : List TaskId) (m : ℕ) : Type 0 where
+  pub above : is_above s (task_in tasks m).0 (task_in tasks (m + 1)).0 ≡ true
+  pub runs : reading ≡ WhileRunning
+  pub same : (task_at s (task_in tasks m).0).after ≡ (task_at s (task_in tasks (m + 1)).0).after
+
+sole-is : (list : List Activator) (k : SourceId) → sole_source list ≡ Some k → list ≡ Source k ∷ []
+sole-is [] k e = absurd (none-some _ e)
+sole-is (Source m ∷ []) k e = ap (λ o. Source (unwrap_or o m) ∷ []) e
+sole-is (Task j ∷ []) k e = absurd (none-some _ e)
+sole-is (a ∷ b ∷ more) k e = absurd (none-some _ e)
+
+one-source : (a b : List Activator) (m n : Option SourceId) → sole_source a ≡ m → sole_source b ≡ n → is_one_source m n ≡ true → a ≡ b
+one-source a b (Some k) (Some m) e f same =
+    let number : k.0 ≡ m.0 = eqb-true k.0 m.0 same in
+    sole-is a k e ∙ (ap (λ n. Source (record { 0 = n }) ∷ []) number ∙ sym (sole-is b m f))
+one-source a b (Some k) None e f same = absurd (false≢true same)
+one-source a b None other e f same = absurd (false≢true same)
+
+pub way-of : (reading : Reading) (s : SystemLists) (x : List Bound) (tasks : List TaskId) (m : ℕ)
+    → GoesPlain reading s x tasks m ⊎ (GoesAbove reading s x tasks m ⊎ GoesTogether reading s tasks m)
+way-of Anywhere s x tasks m = inl (record { forward_is = refl; backward_is = refl })
+way-of WhileRunning s x tasks m = by_rank (is_above s p c) refl (have_one_source s p c) refl
+  where
+    p : ℕ
+    p = (task_in tasks m).0
+
+    c : ℕ
+    c = (task_in tasks (m + 1)).0
+
+    passage : Bool → Bool → Passage
+    passage above one = cond above (cond one OfOneSource FromAbove) (By (step_between s p c))
+
+    by_rank : (above : Bool) → is_above s p c ≡ above → (one : Bool) → have_one_source s p c ≡ one
+        → GoesPlain WhileRunning s x tasks m ⊎ (GoesAbove WhileRunning s x tasks m ⊎ GoesTogether WhileRunning s tasks m)
+    by_rank true e true f =
+        inr (inr (record { above = e; runs = refl; same = one-source (task_at s p).after (task_at s c).after (sole_source (task_at s p).after) (sole_source (task_at s c).after) refl refl f }))
+    by_rank true e false f =
+        inr (inl (record {
+          above = e;
+          runs = refl;
+          forward_is = (λ i. forward_cost (passage (e i) (f i)) (bound_of x p) (wait_of s x c));
+          backward_is = (λ i. backward_cost (passage (e i) (f i)) (bound_of x p) (wait_of s x p));
+        }))
+    by_rank false e one f =
+        inl (record {
+          forward_is = (λ i. forward_cost (passage (e i) (f i)) (bound_of x p) (wait_of s x c));
+          backward_is = (λ i. backward_cost (passage (e i) (f i)) (bound_of x p) (wait_of s x p));
+        })
+
+pub within-of : (reading : Reading) (s : SystemLists) (tr : TraceLists) (t : ℕ) (reads : Reads) (tasks : List TaskId) → ReadsBy reading s tr t reads tasks → ReadWithin s tr t reads
+within-of Anywhere s tr t reads tasks by = by
+within-of WhileRunning s tr t reads tasks by = by.0
+
+pub runs-of : (reading : Reading) (s : SystemLists) (tr : TraceLists) (t : ℕ) (reads : Reads) (tasks : List TaskId) → ReadsBy reading s tr t reads tasks → reading ≡ WhileRunning
+    → (k : ℕ) → k < length tasks → ReadsRunning s tr t reads (task_in tasks k).0
+runs-of reading s tr t reads tasks by runs k less = (subst (λ r. ReadsBy r s tr t reads tasks) runs by).1 k less
+
+-- ---- from above
+
+module _ (s : SystemLists) (tr : TraceLists) (rules : IsSystem s) (obeys : Obeys s tr) (p c : TaskId) (hp : p.0 < length s.tasks) (hc : c.0 < length s.tasks) (above : IsAbove s p.0 c.0) where
+  -- no job of the higher one is pending in a tick in which the lower one runs
+  runs-alone : (u : ℕ) → runs_in s tr u (run s tr u) c.0 ≡ true → IsPending (course_of s tr p.0) u → ⊥
+  runs-alone u runs pending =
+      let r : ℕ = (task_at s c.0).res.0 in
+      let urgent = sym (preemptive-choice s tr u r above.kind) ∙ runs-chosen s tr u c.0 runs in
+      let first = urgent_waits s tr u r c.0 urgent in
+      let on : IsOn s r p.0 = record { task = hp; here = eq-eqb (task_at s p.0).res.0 r above.shared } in
+      let waits : IsWaiting s r (waiting_at s tr u) p.0 = record { on = on; waits_now = pending-waits s tr rules obeys p.0 u pending } in
+      let le = all_at (λ j. priority_of (task_at s c.0).turn ≤ priority_of (task_at s j).turn) (filter (waiting_at s tr u) (tasks_on s r)) p.0 first.first (in_waiting s r (waiting_at s tr u) p.0 waits) in
+      omega (arith, le, above.rank)
+
+  module _ (t : ℕ) where
+    -- a job of it that has arrived has ended by then
+    pub ended-then : (k u : ℕ) → HasJob s tr t p.0 k → runs_in s tr u (run s tr u) c.0 ≡ true → arrival_of s tr t p.0 k ≤ u → k < (course_of s tr p.0).ended u
+    ended-then k u has runs come =
+        let arrival = arrival-is s tr t p.0 k has in
+        let mono = arrived-mono (course_of s tr p.0) (task_at s p.0).best (task_at s p.0).worst (in_order s tr rules obeys t p.0 hp) in
+        elim (cases_lt k ((course_of s tr p.0).ended u)) [
+          | inl done ↦ done
+          | inr still ↦ absurd (runs-alone u runs (omega (arith, arrival.0.1, still, mono (arrival_of s tr t p.0 k + 1) (u + 1) (omega (arith, come)))))
+        ]
+
+    module _ (x : List Bound) (hold : HoldIn s x tr) (near : SourcesStayNear s tr) (reads : Reads) (within : ReadWithin s tr t reads) (running : ReadsRunning s tr t reads c.0) where
+      knows-sooner : (k n w : ℕ) → wait_of s x c.0 ≡ Within w → ReadsFirst s tr t reads p k c n → FollowsOn s tr t c.0 n → arrival_of s tr t c.0 n ≤ arrival_of s tr t p.0 k + w
+      knows-sooner k n w wait reader follows =
+          let l : ℕ = follows.0 in
+          let soon = next-soon s tr rules obeys t x hold near c.0 l w hc wait follows.2 in
+          let there : HasJob s tr t c.0 l = omega (arith, reader.first.there, follows.1) in
+          let missed = reader.first.first l (omega (arith, follows.1)) in
+          let before : reads c.0 l < arrival_of s tr t p.0 k =
+          elim (cases_lt (reads c.0 l) (arrival_of s tr t p.0 k)) [
+            | inl less ↦ less
+            | inr come ↦
+                let done = ended-then k (reads c.0 l) reader.has.0 (running l there) come in
+                absurd (omega (arith, ended-late s tr rules obeys t p.0 k reader.written (reads c.0 l) hp reader.has done, missed))
+          ] in
+          let e : l + 1 ≡ n = sym follows.1 in
+          let close = rw e at soon.1 in
+          omega (arith, close, within.arrived c.0 l there, before)
+
+      pub knows-above : (k n w : ℕ) → wait_of s x c.0 ≡ Within w → IsFirstToKnow s tr t reads p k c n → arrival_of s tr t c.0 n ≤ arrival_of s tr t p.0 k + w
+      knows-above k n w wait knows =
+          elim knows [
+            | inl started ↦ absurd (above.apart (starter-there s tr rules obeys t p c k n hc started).0)
+            | inr reader ↦
+                elim reader.goes_on [
+                  | inl activates ↦ absurd (above.apart activates)
+                  | inr follows ↦ knows-sooner k n w wait reader follows
+                ]
+          ]
+
+      has-later : (k n w : ℕ) → wait_of s x p.0 ≡ Within w → ReadsLast s tr t reads p k c n → IsAmidst s tr t p.0 k → reads c.0 n ≤ arrival_of s tr t p.0 k + w
+      has-later k n w wait reader amidst =
+          let soon = next-soon s tr rules obeys t x hold near p.0 k w hp wait amidst in
+          let u : ℕ = reads c.0 n in
+          let seen : u ≤ t = omega (arith, within.ended c.0 n reader.ended reader.is, end-by s tr rules obeys t c.0 n reader.ended hc reader.is) in
+          elim (cases_lt u (arrival_of s tr t p.0 (k + 1))) [
+            | inl less ↦ omega (arith, less, soon.1)
+            | inr come ↦
+                let done = ended-then (k + 1) u soon.0 (running n reader.there) come in
+                let own = end-order s tr rules obeys t p.0 (k + 1) u hp soon.0 seen done in
+                absurd (omega (arith, reader.last.last (k + 1) own.0 (omega arith) own.1, own.2))
+          ]
+
+      pub has-above : (k n w : ℕ) → wait_of s x p.0 ≡ Within w → HasDataOf s tr t reads p k c n → arrival_of s tr t c.0 n ≤ arrival_of s tr t p.0 k + w
+      has-above k n w wait data_of =
+          elim data_of [
+            | inl started ↦ absurd (above.apart (starter-there s tr rules obeys t p c k n hc started).0)
+            | inr reader ↦
+                elim reader.goes_on [
+                  | inl sole ↦ absurd (above.apart (only-then (is_activated_by s p.0 c.0) (eqb (length (task_at s c.0).after) 1) sole).0)
+                  | inr amidst ↦ omega (arith, has-later k n w wait reader amidst, within.arrived c.0 n reader.there)
+                ]
+          ]
+
+-- ---- of one source
+
+module _ (s : SystemLists) (tr : TraceLists) (rules : IsSystem s) (obeys : Obeys s tr) (p c : TaskId) (hp : p.0 < length s.tasks) (hc : c.0 < length s.tasks) (above : IsAbove s p.0 c.0)
+    (same : (task_at s p.0).after ≡ (task_at s c.0).after) where
+  -- as many jobs of both have arrived
+  as-many : (t : ℕ) → length ((run s tr t).jobs p.0) ≡ length ((run s tr t).jobs c.0)
+  as-many t =
+      let count : List Activator → ℕ = λ after.
+      sum_by (λ j. cond (list_any (is_task j) after) (ended_count ((run s tr t).jobs j)) 0) (task_places s) + sum_by (λ k. cond (list_any (is_source k) after) (events_before (times_of tr k) (t + 1)) 0) (source_places s) in
+      let first : length ((run s tr t).jobs p.0) ≡ count (task_at s p.0).after = jobs-counted s tr t p.0 in
+      let second : length ((run s tr t).jobs c.0) ≡ count (task_at s c.0).after = jobs-counted s tr t c.0 in
+      first ∙ (ap count same ∙ sym second)
+
+  arrived-as : (u : ℕ) → (course_of s tr p.0).arrived u ≡ (course_of s tr c.0).arrived u
+  arrived-as zero = arrived-zero s tr p.0 ∙ sym (arrived-zero s tr c.0)
+  arrived-as (suc u) =
+      let e : u + 1 ≡ suc u = omega arith in
+      subst (λ v. (course_of s tr p.0).arrived v ≡ (course_of s tr c.0).arrived v) e (arrived-one s tr u p.0 ∙ (as-many u ∙ sym (arrived-one s tr u c.0)))
+
+  module _ (t : ℕ) where
+    -- job k of one is there where that of the other is, since the same time
+    pub is-twin : (k : ℕ) → HasJob s tr t p.0 k → HasJob s tr t c.0 k
+    is-twin k has = omega (arith, has, as-many t)
+
+    pub has-twin : (k : ℕ) → HasJob s tr t c.0 k → HasJob s tr t p.0 k
+    has-twin k has = omega (arith, has, as-many t)
+
+    pub arrive-together : (k : ℕ) → HasJob s tr t p.0 k → arrival_of s tr t p.0 k ≡ arrival_of s tr t c.0 k
+    arrive-together k has =
+        let d = course_of s tr c.0 in
+        let a : ℕ = arrival_of s tr t p.0 k in
+        let b : ℕ = arrival_of s tr t c.0 k in
+        let first = arrival-is s tr t p.0 k has in
+        let second = arrival-is s tr t c.0 k (is-twin k has) in
+        let here : Arrives d k a = (omega (arith, first.0.0, arrived-as a), omega (arith, first.0.1, arrived-as (a + 1))) in
+        let o = in_order s tr rules obeys t c.0 hc in
+        let one = arrives-order d (task_at s c.0).best (task_at s c.0).worst o k k a b here second.0 (omega arith) in
+        let two = arrives-order d (task_at s c.0).best (task_at s c.0).worst o k k b a second.0 here (omega arith) in
+        omega (arith, one, two)
+
+    module _ (reads : Reads) (within : ReadWithin s tr t reads) (running : ReadsRunning s tr t reads c.0) where
+      -- whenever one reads the other has ended
+      pub twin-ended : (k : ℕ) → HasJob s tr t c.0 k → k < (course_of s tr p.0).ended (reads c.0 k)
+      twin-ended k has =
+          let own = has-twin k has in
+          ended-then s tr rules obeys p c hp hc above t k (reads c.0 k) own (running k has) (omega (arith, within.arrived c.0 k has, arrive-together k own))
+
+      pub knows-together : (k n : ℕ) → IsFirstToKnow s tr t reads p k c n → arrival_of s tr t c.0 n ≤ arrival_of s tr t p.0 k
+      knows-together k n knows =
+          elim knows [
+            | inl started ↦ absurd (above.apart (starter-there s tr rules obeys t p c k n hc started).0)
+            | inr reader ↦
+                let there = is-twin k reader.has.0 in
+                let not_after : n ≤ k =
+                elim (cases_lt k n) [
+                  | inl less ↦ absurd (omega (arith, reader.first.first k less, ended-late s tr rules obeys t p.0 k reader.written (reads c.0 k) hp reader.has (twin-ended k there)))
+                  | inr more ↦ more
+                ] in
+                omega (arith, arrivals-order s tr rules obeys t c.0 n k hc there not_after, arrive-together k reader.has.0)
+          ]
+
+      pub has-together : (k n : ℕ) → HasDataOf s tr t reads p k c n → arrival_of s tr t c.0 n ≤ arrival_of s tr t p.0 k
+      has-together k n data_of =
+          elim data_of [
+            | inl started ↦ absurd (above.apart (starter-there s tr rules obeys t p c k n hc started).0)
+            | inr reader ↦
+                let u : ℕ = reads c.0 n in
+                let seen : u ≤ t = omega (arith, within.ended c.0 n reader.ended reader.is, end-by s tr rules obeys t c.0 n reader.ended hc reader.is) in
+                let there = has-twin n reader.there in
+                let own = end-order s tr rules obeys t p.0 n u hp there seen (twin-ended n reader.there) in
+                let not_before : n ≤ k =
+                elim (cases_lt k n) [
+                  | inl less ↦ absurd (omega (arith, reader.last.last n own.0 less own.1, own.2))
+                  | inr more ↦ more
+                ] in
+                omega (arith, arrivals-order s tr rules obeys t p.0 n k hp reader.last.has.0 not_before, arrive-together n there)
+          ]
+
+-- ---- steps of a chain, however its jobs read
+
+module _ (s : SystemLists) (x : List Bound) (tr : TraceLists) (rules : IsSystem s) (obeys : Obeys s tr) (hold : HoldIn s x tr) (near : SourcesStayNear s tr) (tasks : List TaskId)
+    (reading : Reading) (t : ℕ) (reads : Reads) (by : ReadsBy reading s tr t reads tasks) (m : ℕ) (inside : m + 1 < length tasks)
+    (hp : (task_in tasks m).0 < length s.tasks) (hc : (task_in tasks (m + 1)).0 < length s.tasks) (k n cost : ℕ) where
+  pub goes-soon : forward reading s x tasks m ≡ Within cost → IsFirstToKnow s tr t reads (task_in tasks m) k (task_in tasks (m + 1)) n
+      → arrival_of s tr t (task_in tasks (m + 1)).0 n ≤ arrival_of s tr t (task_in tasks m).0 k + cost
+  goes-soon is knows =
+      let within = within-of reading s tr t reads tasks by in
+      elim (way-of reading s x tasks m) [
+        | inl plain ↦ knows-soon s tr rules obeys t x hold near reads (task_in tasks m) (task_in tasks (m + 1)) k n cost hp hc within (sym plain.forward_is ∙ is) knows
+        | inr from_above ↦
+            elim from_above [
+              | inl way ↦
+                  let above = above-is s (task_in tasks m).0 (task_in tasks (m + 1)).0 way.above in
+                  let running = runs-of reading s tr t reads tasks by way.runs (m + 1) inside in
+                  knows-above s tr rules obeys (task_in tasks m) (task_in tasks (m + 1)) hp hc above t x hold near reads within running k n cost (sym way.forward_is ∙ is) knows
+              | inr way ↦
+                  let above = above-is s (task_in tasks m).0 (task_in tasks (m + 1)).0 way.above in
+                  let running = runs-of reading s tr t reads tasks by way.runs (m + 1) inside in
+                  omega (arith, knows-together s tr rules obeys (task_in tasks m) (task_in tasks (m + 1)) hp hc above way.same t reads within running k n knows)
+            ]
+      ]
+
+  pub comes-late : backward reading s x tasks m ≡ Within cost → HasDataOf s tr t reads (task_in tasks m) k (task_in tasks (m + 1)) n
+      → arrival_of s tr t (task_in tasks (m + 1)).0 n ≤ arrival_of s tr t (task_in tasks m).0 k + cost
+  comes-late is has =
+      let within = within-of reading s tr t reads tasks by in
+      elim (way-of reading s x tasks m) [
+        | inl plain ↦ has-late s tr rules obeys t x hold near reads (task_in tasks m) (task_in tasks (m + 1)) k n cost hp hc within (sym plain.backward_is ∙ is) has
+        | inr from_above ↦
+            elim from_above [
+              | inl way ↦
+                  let above = above-is s (task_in tasks m).0 (task_in tasks (m + 1)).0 way.above in
+                  let running = runs-of reading s tr t reads tasks by way.runs (m + 1) inside in
+                  has-above s tr rules obeys (task_in tasks m) (task_in tasks (m + 1)) hp hc above t x hold near reads within running k n cost (sym way.backward_is ∙ is) has
+              | inr way ↦
+                  let above = above-is s (task_in tasks m).0 (task_in tasks (m + 1)).0 way.above in
+                  let running = runs-of reading s tr t reads tasks by way.runs (m + 1) inside in
+                  omega (arith, has-together s tr rules obeys (task_in tasks m) (task_in tasks (m + 1)) hp hc above way.same t reads within running k n has)
+            ]
+      ]
