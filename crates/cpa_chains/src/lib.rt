@@ -1,0 +1,5 @@
+//! Chains of tasks with deadlines from a file: their bounds on reaction time and data age, judged in one call.
+#![tactic(auto)]
+
+mod draft;
+mod read;
