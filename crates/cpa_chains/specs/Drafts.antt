@@ -8,9 +8,9 @@ use Rattle.cpa_file.specs.Fields.{◌>>=◌, optional, required, has_only}
 use Rattle.cpa_file.specs.Entries.{as_texts}
 use Rattle.cpa_file.specs.Document.{integer_at, items_at}
 use Rattle.cpa_chains.specs.declared.draft.DraftChain.{DraftChain}
-use Rattle.cpa_chains.specs.declared.read.ChainsRefusal.{ChainsRefusal}
-use Rattle.cpa_chains.specs.declared.read.ChainsFault.{ChainsFault}
-use Rattle.cpa_chains.specs.declared.read.ChainsFault.TheVariants.{NotToml, Refused, Memory}
+use Rattle.cpa_chains.specs.declared.refusal.ChainsRefusal.{ChainsRefusal}
+use Rattle.cpa_chains.specs.declared.refusal.ChainsFault.{ChainsFault}
+use Rattle.cpa_chains.specs.declared.refusal.ChainsFault.TheVariants.{NotToml, Refused, Memory}
 
 -- the entry, if it has the form of a chain
 unfoldable pub chain_entry : Data → Option DraftChain

@@ -1,5 +1,9 @@
 //! Chains of tasks with deadlines from a file: their bounds on reaction time and data age, judged in one call.
 #![tactic(auto)]
 
+mod chains;
 mod draft;
 mod read;
+mod refusal;
+mod refusals;
+mod text;

@@ -1,32 +1,14 @@
-//! From the bytes of a file of chains to its draft.
+//! From a document to the draft of its chains.
 
-ghost use Rattle.std.specs.Prelude.{◌≡◌, codes, IfOk, IfErr};
+ghost use Rattle.std.specs.Prelude.{◌≡◌};
 ghost use Rattle.toml.specs.View.{view};
-ghost use Rattle.cpa_file.specs.Document.{integer_at, document_of};
 ghost use Rattle.cpa_chains.specs.Drafts.{GivesDraft, is_other_format, has_form, chains_at, draft_of};
 
 use crate::draft::DraftChain;
-use cpa_file::{FileRefusal, ListFault, format_of, only_has, read_document, read_entries};
+use crate::refusal::{ChainsFault, ChainsRefusal};
+use cpa_file::{ListFault, format_of, only_has, read_entries};
 use std::alloc::Global;
 use toml::Value;
-
-/// Why a file of chains is refused: the reason, and the place of the chain from 1, or 0 for the file as a whole.
-#[derive(Clone, Copy, Debug, PartialEq, Eq)]
-pub(crate) struct ChainsRefusal {
-    pub(crate) reason: u8,
-    pub(crate) place: u64,
-}
-
-/// Why a file stands for no chains.
-#[derive(Clone, Copy, Debug, PartialEq, Eq)]
-pub(crate) enum ChainsFault {
-    /// Its bytes are no TOML document.
-    NotToml,
-    /// A reason applies to the document: the first, with its first place.
-    Refused(ChainsRefusal),
-    /// A growth of memory was refused.
-    Memory,
-}
 
 /// Whether the format is an integer other than 1.
 fn has_other_format(format: Option<i64>) -> bool
@@ -71,7 +53,7 @@ fn read_array(alloc: Global, document: &Value) -> Result<Vec<DraftChain>, Chains
 
 /// The chains of a document, as they are read.
 #[tactic(auto, unfolding(crate::specs::Drafts::draft_of))]
-fn read_chains(alloc: Global, document: &Value) -> Result<Vec<DraftChain>, ChainsFault>
+pub(crate) fn read_draft(alloc: Global, document: &Value) -> Result<Vec<DraftChain>, ChainsFault>
     ensures { GivesDraft result (draft_of (view document.now)) }
 {
     if has_other_format(format_of(document)) {
