@@ -1,1 +1,3 @@
 pub mod KeyLaws
+pub mod ReadingLaws
+pub mod PlanLaws

@@ -2,8 +2,12 @@
 #![tactic(auto)]
 
 mod chains;
+mod command;
 mod draft;
 mod read;
 mod refusal;
 mod refusals;
 mod text;
+mod words;
+
+pub use command::write_chains;

@@ -43,7 +43,8 @@ fn put_chain(text: &mut Text, system: &System, x: &Vector, chain: &Chain) -> Res
     put_judged(text, chain.reaction(), reaction(system, x, tasks))?;
     text.put(b" age")?;
     put_judged(text, chain.age(), age(system, x, tasks))?;
-    text.put(b"\n")
+    text.put(b"\n")?;
+    Ok(())
 }
 
 fn put_chains(
@@ -125,7 +126,8 @@ fn put_summary(text: &mut Text, count: u64, totals: Totals) -> Result<(), NoMemo
     text.put_count(b"summary chains ", count)?;
     text.put_count(b" overload ", totals.overload)?;
     text.put_count(b" missed ", totals.missed)?;
-    text.put(b"\n")
+    text.put(b"\n")?;
+    Ok(())
 }
 
 fn status_of(totals: Totals) -> u8
