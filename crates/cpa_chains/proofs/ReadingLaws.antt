@@ -1,5 +1,5 @@
 -- What is known of chains that a file stands for.
-use Rattle.std.proofs.Common.{◌≡◌, ℕ, ◌<◌, Bool, true, false, not, List, length, map, get_or, All, Option, Some, None, is_none, Result, Ok, Err, refl, sym, ap, ◌∙◌, subst, arith}
+use Rattle.std.proofs.Common.{◌≡◌, ℕ, ◌<◌, nat_lt, nat_le, Bool, true, false, not, List, length, map, get_or, All, Option, Some, None, is_none, Result, Ok, Err, refl, sym, ap, ◌∙◌, subst, arith}
 use Rattle.std.specs.Prelude.{unwrap_or}
 use Rattle.std.specs.List.{list_any}
 use Rattle.std.proofs.lemmas.Bool.{true≢false, and_parts, leb-true, ltb-true}
@@ -41,7 +41,7 @@ found s name (Some i) e some = task-there s name i e
 
 chain-in : (s : SystemLists) (c : DraftChain) → list_any (is_unknown s) c.tasks ≡ false → not (is_count (length c.tasks)) ≡ false → IsChainIn s (chain_of s c)
 chain-in s c known counted =
-    let count = and_parts _ _ (not-false _ counted) in
+    let count : (nat_lt 0 (length c.tasks) ≡ true) × (nat_le (length c.tasks) MAX_CHAIN ≡ true) = and_parts _ _ (not-false _ counted) in
     let long = length-map c.tasks (task_of s) in
     record {
       some = omega (arith, long, ltb-true _ _ count.0);

@@ -56,13 +56,13 @@ abbrev pub chains_of : Listed → Chains
 chains_of l = record { system = l.system; chains = l.chains.items }
 
 -- the chains that a file stands for
-abbrev pub chains_by : SystemLists → List ℕ → Reading → Plan (List Chain)
-chains_by s file NotToml = Refuse 13 (not_toml file)
-chains_by s file (Refused r) = Refuse 18 (chains_refused r)
-chains_by s file (Accepted chains) = Do chains
+abbrev pub chains_by : List ℕ → Reading → Plan (List Chain)
+chains_by file NotToml = Refuse 13 (not_toml file)
+chains_by file (Refused r) = Refuse 18 (chains_refused r)
+chains_by file (Accepted chains) = Do chains
 
 abbrev pub chains_in : Held → SystemLists → List ℕ → Plan (List Chain)
-chains_in held s file = and_then (content_in held file MAX_CHAINS_FILE) (λ bytes. chains_by s file (reading_of s bytes))
+chains_in held s file = and_then (content_in held file MAX_CHAINS_FILE) (λ bytes. chains_by file (reading_of s bytes))
 
 -- the system file is read first
 abbrev pub listed : SystemLists → List Chain → Plan Chains

@@ -2,7 +2,6 @@
 
 ghost use Rattle.std.specs.Prelude.{◌≡◌, ◌≢◌, ◌⊎◌, ◌≤◌, true, map, All, Err, IfOk, IfErr, OnOk, OnErr, string_bytes};
 ghost use Rattle.cpa_io.specs.Causes.{grown, Rose, SentPart};
-ghost use Rattle.cpa_model.specs.SystemLists.{SystemLists};
 ghost use Rattle.cpa_local.specs.Solution.{IsVector, least_of};
 ghost use Rattle.cpa_call.specs.declared.ended.Stopped.TheVariants as stopped;
 ghost use Rattle.cpa_call.specs.Answers.{IsOfOutput, Sends, SendsPart};
@@ -59,7 +58,7 @@ fn chains_line(alloc: Global, refusal: ChainsRefusal) -> Result<Vec<u8>, NoMemor
 
 /// The reply where a file stands for no chains; want of memory has none.
 fn refuse_chains(alloc: Global, file: &str, fault: ChainsFault) -> Result<Reply, NoMemory>
-    ensures reply { IfOk result (λ reply. (s : SystemLists) (reading : Reading) → IsFault fault reading → chains_by s file.now reading ≡ Refuse reply.status reply.text.items) }
+    ensures reply { IfOk result (λ reply. (reading : Reading) → IsFault fault reading → chains_by file.now reading ≡ Refuse reply.status reply.text.items) }
     ensures status { IfOk result (λ reply. IsOfOutput reply.status) }
 {
     match fault {
@@ -77,7 +76,7 @@ fn refuse_chains(alloc: Global, file: &str, fault: ChainsFault) -> Result<Reply,
 
 /// How a call ends where a file stands for no chains.
 fn end_chains(alloc: Global, file: &str, fault: ChainsFault) -> Ended
-    ensures ended { (s : SystemLists) (reading : Reading) → IsFault fault reading → IsEndOf (chains_by s file.now reading) result }
+    ensures ended { (reading : Reading) → IsFault fault reading → IsEndOf (chains_by file.now reading) result }
     ensures status { HasStatus result }
     ensures unread { IsNoUnread result }
 {
@@ -94,9 +93,9 @@ fn read_chains_file(
     file: &str,
     bytes: &[u8],
 ) -> Result<Vec<Chain>, Ended>
-    ensures planned { IfOk result (λ v. chains_by system.now file.now (reading_of system.now bytes.now) ≡ Do v.items) }
+    ensures planned { IfOk result (λ v. chains_by file.now (reading_of system.now bytes.now) ≡ Do v.items) }
     ensures chains { IfOk result (λ v. All (IsChainIn system.now) v.items) }
-    ensures ended { IfErr result (IsEndOf (chains_by system.now file.now (reading_of system.now bytes.now))) }
+    ensures ended { IfErr result (IsEndOf (chains_by file.now (reading_of system.now bytes.now))) }
     ensures status { IfErr result HasStatus }
     ensures unread { IfErr result IsNoUnread }
 {

@@ -1,8 +1,6 @@
 //! A chain as it was read, before its rules are looked at.
 
-use cpa_file::{
-    Entry, ReadFault, only_has, optional_integer, required_text, required_texts,
-};
+use cpa_file::{Entry, ReadFault, only_has, optional_integer, required_text, required_texts};
 use cpa_model::{Raw, RawList};
 use std::alloc::Global;
 use toml::Value;

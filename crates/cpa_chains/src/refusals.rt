@@ -128,10 +128,7 @@ fn first_unknown(system: &System, index: &Index, chains: &[DraftChain]) -> Optio
     ensures place { result ≡ first_place (λ k c. list_any (is_unknown system.now) c.tasks) chains.now }
     ensures within { IfSome result (λ k. k < 2 ^ 64 - 1) }
 {
-    chains
-        .iter()
-        .enumerate()
-        .position(|(_, chain)| has_unknown(system, index, chain.tasks.names()))
+    chains.iter().enumerate().position(|(_, chain)| has_unknown(system, index, chain.tasks.names()))
 }
 
 /// Whether a chain may have so many tasks.

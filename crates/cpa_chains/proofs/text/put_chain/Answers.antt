@@ -5,6 +5,20 @@ use Rattle.cpa_chains.proofs.text.put_chain.Goals as goal
 pub returns : goal.returns
 unfolding chain_line
 returns c =
-    rw (c.in_ok-put-5.ensures, c.in_ok-put_judged-2.ensures, c.in_ok-put-4.ensures, c.in_ok-put_judged.ensures, c.in_ok-put-3.ensures, c.in_ok-put_count.ensures, c.in_ok-put-2.ensures, c.in_ok-put.ensures,
-    c.age.ensures, c.age-2.ensures.value, c.reaction.ensures, c.reaction-2.ensures.value, c.name.ensures, c.tasks-tasks.ensures)
+    rw (
+      c.in_ok-put-5.ensures,
+      c.in_ok-put_judged-2.ensures,
+      c.in_ok-put-4.ensures,
+      c.in_ok-put_judged.ensures,
+      c.in_ok-put-3.ensures,
+      c.in_ok-put_count.ensures,
+      c.in_ok-put-2.ensures,
+      c.in_ok-put.ensures,
+      c.age.ensures,
+      c.age-2.ensures.value,
+      c.reaction.ensures,
+      c.reaction-2.ensures.value,
+      c.name.ensures,
+      c.tasks-tasks.ensures,
+    )
     (simp append_assoc)
