@@ -1,7 +1,7 @@
 //! Calls of `chains` over files in memory, and of both commands by the one call of their program. The bounds are those of the
 //! rules of docs/DEFINITIONS.md, followed in Python; what comes of them was worked out by hand.
 
-use cpa_chains::{MAX_CHAINS_FILE, run_chains};
+use cpa_chains::run_chains;
 use cpa_io::{MemoryFiles, MemorySink};
 use std::alloc::{AllocError, Global};
 use std::test::Fail;
@@ -270,7 +270,7 @@ type Faults = (&'static [u64], usize, &'static [u64]);
 const NONE: Faults = (&[], 4096, &[]);
 
 /// The faults of a call, its words, the status and the text.
-const CALLS: [(Faults, &[&str], u8, &str); 18] = [
+const CALLS: [(Faults, &[&str], u8, &str); 16] = [
     (NONE, &["chains", "s", "c"], 0, BRAKE_TEXT),
     (
         NONE,
@@ -287,8 +287,6 @@ const CALLS: [(Faults, &[&str], u8, &str); 18] = [
     (NONE, &["chains", "s", ""], 10, "words refused\n"),
     (NONE, &["chains", "zz", "c"], 11, "cannot read zz\n"),
     (NONE, &["chains", "s", "zz"], 11, "cannot read zz\n"),
-    (NONE, &["chains", "long", "zz"], 12, "too long long\n"),
-    (NONE, &["chains", "s", "long"], 12, "too long long\n"),
     (
         (&[0], 4096, &[]),
         &["chains", "s", "c"],
@@ -307,7 +305,7 @@ const CALLS: [(Faults, &[&str], u8, &str); 18] = [
     ((&[], 7, &[0]), &["no"], 20, ""),
 ];
 
-/// The files: `s` is the system, `c` has the chains, and `long` is a byte too long for either.
+/// The files: `s` is the system, and `c` has the chains.
 fn held(alloc: Global, system: &str, chains: &str) -> Result<Vec<(String, Vec<u8>)>, AllocError> {
     let mut held = Vec::new(alloc);
     for (name, text) in [("s", system), ("c", chains)] {
@@ -316,8 +314,6 @@ fn held(alloc: Global, system: &str, chains: &str) -> Result<Vec<(String, Vec<u8
             Vec::from_slice(alloc, text.as_bytes())?,
         ))?;
     }
-    let long = vec![in alloc; b'#'; MAX_CHAINS_FILE as usize + 1]?;
-    held.push((String::from_str(alloc, "long")?, long))?;
     Ok(held)
 }
 
@@ -369,6 +365,12 @@ fn answers_commands(rt: HostRuntime) -> Result<(), Fail> {
     Ok(())
 }
 
+/// The status of a call over the first example and a file of chains, and whether it wrote a text.
+fn judge(alloc: Global, chains: &str, text: &str) -> Result<(u8, bool), AllocError> {
+    let (status, sink) = call(alloc, EFFECTS, chains, &["chains", "s", "c"], &NONE)?;
+    Ok((status, sink.sent() == text.as_bytes()))
+}
+
 /// A file of so many chains.
 fn many(alloc: Global, count: u32) -> Result<String, AllocError> {
     let mut text = String::from_str(alloc, "format = 1\n")?;
@@ -383,10 +385,33 @@ fn many(alloc: Global, count: u32) -> Result<String, AllocError> {
 #[test]
 fn counts_chains(rt: HostRuntime) -> Result<(), Fail> {
     let alloc = rt.alloc();
-    let words = ["chains", "s", "c"];
-    let (most, _) = call(alloc, EFFECTS, many(alloc, 128)?.as_str(), &words, &NONE)?;
-    let (more, sink) = call(alloc, EFFECTS, many(alloc, 129)?.as_str(), &words, &NONE)?;
-    let told = sink.sent() == b"chains refused reason 12 chain 129\n";
-    assert!(rt; most == 0 && more == 18 && told, "{most} {more} {told}");
+    let most = judge(alloc, many(alloc, 128)?.as_str(), "")?;
+    let more = judge(
+        alloc,
+        many(alloc, 129)?.as_str(),
+        "chains refused reason 12 chain 129\n",
+    )?;
+    assert!(rt; most == (0, false) && more == (18, true), "{most:?} {more:?}");
+    Ok(())
+}
+
+/// A comment of 2 to the 20 bytes, as many as a file may have.
+fn longest(alloc: Global) -> Result<String, AllocError> {
+    let mut text = String::from_str(alloc, "#")?;
+    for _ in 0..20 {
+        let half = String::from_str(alloc, text.as_str())?;
+        text.push_str(half.as_str())?;
+    }
+    Ok(text)
+}
+
+#[test]
+fn counts_bytes(rt: HostRuntime) -> Result<(), Fail> {
+    let alloc = rt.alloc();
+    let mut text = longest(alloc)?;
+    let most = judge(alloc, text.as_str(), "chains refused reason 1 file 0\n")?;
+    text.push_str("#")?;
+    let more = judge(alloc, text.as_str(), "too long c\n")?;
+    assert!(rt; most == (18, true) && more == (12, true), "{most:?} {more:?}");
     Ok(())
 }
