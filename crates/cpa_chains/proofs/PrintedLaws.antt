@@ -1,17 +1,17 @@
 -- Printed bounds hold in runs.
-use Rattle.std.proofs.Common.{◌≡◌, ℕ, List, All, get_or, Option, Some, None, refl, ap, subst, ◌∙◌}
+use Rattle.std.proofs.Common.{◌≡◌, ℕ, List, All, get_or, Option, Some, None, ap, subst, ◌∙◌}
 use Rattle.cpa_model.specs.SystemLists.{SystemLists}
 use Rattle.cpa_model.specs.Rules.{IsSystem}
 use Rattle.cpa_local.specs.Solution.{least_of}
 use Rattle.cpa_local.specs.Laws.{LeastExists}
 use Rattle.cpa_effects.specs.Laws.{IsChain, LeastSolutionsBoundChains}
 use Rattle.cpa_call.specs.Answers.{Answer}
-use Rattle.cpa_call.specs.Plans.{Held, Do, Refuse, and_then, content_in, system_in}
+use Rattle.cpa_call.specs.Plans.{Held, Do, and_then, content_in, system_in}
 use Rattle.cpa_call.proofs.PlanLaws.{then-done, done-same, planned-system}
 use Rattle.cpa_chains.specs.Chain.{Chain}
 use Rattle.cpa_chains.specs.Reading.{Reading, NotToml, Refused, Accepted, reading_of, IsChainIn}
-use Rattle.cpa_chains.specs.Calls.{Asked, Chains, accepted, chains_by, chains_in, listed, plan_for, plan_by, plan_of, answer_to, IsOutput}
-use Rattle.cpa_chains.specs.Laws.{HoldsInRuns, PrintedChainsHold}
+use Rattle.cpa_chains.specs.Calls.{Asked, Chains, accepted, chains_by, chains_in, listed, plan_for, plan_by, plan_of, answer_to}
+use Rattle.cpa_chains.specs.Laws.{PrintedChainsHold}
 use Rattle.cpa_chains.specs.declared.command.TheConstants.{MAX_CHAINS_FILE}
 use Rattle.cpa_chains.proofs.ReadingLaws.{accepted-in}
 

@@ -1,5 +1,5 @@
 -- What is known of chains that a file stands for.
-use Rattle.std.proofs.Common.{◌≡◌, ℕ, ◌<◌, nat_lt, nat_le, Bool, true, false, not, List, length, map, get_or, All, Option, Some, None, is_none, Result, Ok, Err, refl, sym, ap, ◌∙◌, subst, arith}
+use Rattle.std.proofs.Common.{◌≡◌, ℕ, ◌<◌, nat_lt, nat_le, Bool, true, false, not, List, length, map, get_or, All, Option, Some, None, is_none, Result, Ok, Err, refl, sym, subst, arith}
 use Rattle.std.specs.Prelude.{unwrap_or}
 use Rattle.std.specs.List.{list_any}
 use Rattle.std.proofs.lemmas.Bool.{true≢false, and_parts, leb-true, ltb-true}
@@ -8,7 +8,6 @@ use Rattle.std.proofs.lemmas.Option.{none-some}
 use Rattle.toml.specs.Data.{Members, table}
 use Rattle.cpa_units.specs.declared.limits.TheConstants.{MAX_CHAIN}
 use Rattle.cpa_units.specs.declared.places.TaskId.{TaskId}
-use Rattle.cpa_draft.specs.First.{first_place}
 use Rattle.cpa_draft.specs.Refusals.{◌or_else◌}
 use Rattle.cpa_draft.proofs.FirstLemmas.{none_marked}
 use Rattle.cpa_draft.proofs.ListLaws.{all-map, none-at, not-false}
@@ -20,7 +19,7 @@ use Rattle.cpa_chains.specs.declared.refusal.ChainsRefusal.{ChainsRefusal}
 use Rattle.cpa_chains.specs.Chain.{Chain}
 use Rattle.cpa_chains.specs.Drafts.{draft_of}
 use Rattle.cpa_chains.specs.Refusals.{refused_at, first_with, is_unknown, is_count, by_entries, by_tasks, first_refusal}
-use Rattle.cpa_chains.specs.Reading.{Reading, NotToml, Refused, Accepted, task_of, chain_of, by_refusal, by_draft, by_document, reading_of, IsChainIn}
+use Rattle.cpa_chains.specs.Reading.{Accepted, task_of, chain_of, by_refusal, by_draft, by_document, reading_of, IsChainIn}
 
 or_none : {X : Type 0} (a b : Option X) → (a or_else b) ≡ None → (a ≡ None) × (b ≡ None)
 or_none None b e = (refl, e)

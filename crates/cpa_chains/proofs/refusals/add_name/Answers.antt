@@ -1,7 +1,4 @@
-use Rattle.std.proofs.Common.{◌≡◌, ◌∙◌, true, not, sym}
-use Rattle.std.specs.List.{list_any}
-use Rattle.std.specs.Str.{bytes_eq}
-use Rattle.cpa_chains.specs.Keys.{names_of}
+use Rattle.std.proofs.Common.{◌≡◌, ◌∙◌, true, sym}
 use Rattle.cpa_chains.proofs.KeyLaws.{new-name, name-added}
 use Rattle.cpa_chains.proofs.refusals.add_name.Goals as goal
 
