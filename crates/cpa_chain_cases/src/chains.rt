@@ -391,7 +391,10 @@ fn counts_chains(rt: HostRuntime) -> Result<(), Fail> {
         many(alloc, 129)?.as_str(),
         "chains refused reason 12 chain 129\n",
     )?;
-    assert!(rt; most == (0, false) && more == (18, true), "{most:?} {more:?}");
+    assert!(rt;
+        most == (0, false) && more == (18, true),
+        "{most:?} {more:?}"
+    );
     Ok(())
 }
 
@@ -412,6 +415,9 @@ fn counts_bytes(rt: HostRuntime) -> Result<(), Fail> {
     let most = judge(alloc, text.as_str(), "chains refused reason 1 file 0\n")?;
     text.push_str("#")?;
     let more = judge(alloc, text.as_str(), "too long c\n")?;
-    assert!(rt; most == (18, true) && more == (12, true), "{most:?} {more:?}");
+    assert!(rt;
+        most == (18, true) && more == (12, true),
+        "{most:?} {more:?}"
+    );
     Ok(())
 }
