@@ -20,6 +20,7 @@ for it in library/report bench/library_calls bench/library_refused; do
 done
 tried=0
 for file in examples/*.toml; do
+  [[ $file == *.chains.toml ]] && continue
   "$room/report" "$file" >"$room/here"
   here=$?
   "$program" analyse "$file" >"$room/there"

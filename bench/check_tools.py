@@ -350,7 +350,7 @@ def check_named():
 
 
 with tempfile.TemporaryDirectory() as room:
-    files = sorted(glob.glob("examples/*.toml"))
+    files = sorted(it for it in glob.glob("examples/*.toml") if not it.endswith(".chains.toml"))
     formats = set()
     for file in files:
         report = file[:-5] + ".report.txt"

@@ -142,6 +142,8 @@ def main():
                 compare(f"load {number} {size}", call("load", number, size), (told, status))
                 systems += 1
         for example in sorted(glob.glob(os.path.join(TOP, "examples/*.toml"))):
+            if example.endswith(".chains.toml"):
+                continue
             for traces in (1, 4, 7):
                 hammer(example, begin + traces, traces, trace)
                 hammered += 1

@@ -1,6 +1,6 @@
 #!/usr/bin/env bash
 # Analyses each system of this folder, replays each trace, audits and writes each schedule and takes each script beside one,
-# makes and hammers systems, looks for priority orders, room to grow, jobs that wait and a chain, and compares what is printed with what
+# makes and hammers systems, looks for priority orders, room to grow, jobs that wait and chains, and compares what is printed with what
 # stands beside it. It ends with 1 where something differs.
 cd "$(dirname "$0")" || exit 1
 status=0
@@ -16,6 +16,7 @@ tell() {
   fi
 }
 for system in *.toml; do
+  [[ $system == *.chains.toml ]] && continue
   tell "$system" "${system%.toml}.report.txt" analyse "$system"
 done
 for trace in *.trace.csv; do
@@ -36,6 +37,7 @@ for script in *.script.txt; do
   tell "$script" "$name.session.txt" session "$name.toml" "$script"
 done
 tell "chain of effects.toml" effects.chain.txt chain effects.toml sense filter act
+tell "chains of effects.toml" effects.chains.txt chains effects.toml effects.chains.toml
 # made_system.toml is what was made, with a head before it
 tell "generate 42 1" <(grep -v '^#' made_system.toml) generate 42 1
 tell "load 42 1" made_system.load.txt load 42 1

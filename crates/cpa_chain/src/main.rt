@@ -1,4 +1,4 @@
-//! Writes the bounds on reaction time and data age of a chain of tasks.
+//! Writes the bounds on reaction time and data age of a chain of tasks, or of the chains in a file. The words begin with the command.
 #![tactic(auto)]
 
 use cpa_io::{RealFiles, RealSink};
@@ -28,5 +28,5 @@ fn main(rt: HostRuntime) -> ExitCode {
     };
     let mut sink = RealSink::new(io::writer(&rt));
     let mut files = RealFiles::new(&rt, alloc);
-    ExitCode::from(cpa_effects::write_chain(alloc, words.as_slice(), &mut files, &mut sink))
+    ExitCode::from(cpa_chains::run_chains(alloc, words.as_slice(), &mut files, &mut sink))
 }

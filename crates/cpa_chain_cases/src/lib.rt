@@ -5,3 +5,5 @@
 
 #[cfg(test)]
 mod chain;
+#[cfg(test)]
+mod chains;

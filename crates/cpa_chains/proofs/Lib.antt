@@ -1,0 +1,4 @@
+pub mod KeyLaws
+pub mod ReadingLaws
+pub mod PlanLaws
+pub mod PrintedLaws

@@ -1,0 +1,24 @@
+use Rattle.std.proofs.Common.{append_assoc}
+use Rattle.cpa_chains.specs.ChainsText.{chain_line}
+use Rattle.cpa_chains.proofs.text.put_chain.Goals as goal
+
+pub returns : goal.returns
+unfolding chain_line
+returns c =
+    rw (
+      c.in_ok-put-5.ensures,
+      c.in_ok-put_judged-2.ensures,
+      c.in_ok-put-4.ensures,
+      c.in_ok-put_judged.ensures,
+      c.in_ok-put-3.ensures,
+      c.in_ok-put_count.ensures,
+      c.in_ok-put-2.ensures,
+      c.in_ok-put.ensures,
+      c.age.ensures,
+      c.age-2.ensures.value,
+      c.reaction.ensures,
+      c.reaction-2.ensures.value,
+      c.name.ensures,
+      c.tasks-tasks.ensures,
+    )
+    (simp append_assoc)

@@ -1,0 +1,49 @@
+-- The text that tells the bounds of chains and the verdicts on their deadlines, and its status.
+use Rattle.std.specs.Prelude.{ℕ, ◌++◌, ◌||◌, nat_lt, if◌then◌else◌, Bool, List, Option, length, count_by, codes}
+use Rattle.std.specs.Fmt.{decimal}
+use Rattle.std.specs.List.{flat_map}
+use Rattle.cpa_units.specs.declared.bound.Bound.{Bound}
+use Rattle.cpa_model.specs.SystemLists.{SystemLists}
+use Rattle.cpa_local.specs.Paths.{outcome_of, is_missed_by, is_overload}
+use Rattle.cpa_report.specs.Report.{bound_text, deadline_text, outcome_text}
+use Rattle.cpa_effects.specs.Bounds.{reaction_of, age_of}
+use Rattle.cpa_chains.specs.Chain.{Chain}
+use Rattle.cpa_chains.specs.declared.text.Totals.{Totals}
+
+-- a bound, a deadline, and the verdict
+unfoldable pub judged_text : Option ℕ → Bound → List ℕ
+judged_text deadline bound =
+    codes " " ++ bound_text bound ++ codes " deadline " ++ deadline_text deadline ++ codes " " ++ outcome_text (outcome_of deadline bound)
+
+unfoldable pub chain_line : SystemLists → List Bound → Chain → List ℕ
+chain_line s x c =
+    codes "chain " ++ c.name ++ codes " tasks " ++ decimal (length c.tasks)
+    ++ codes " reaction" ++ judged_text c.reaction (reaction_of s x c.tasks)
+    ++ codes " age" ++ judged_text c.age (age_of s x c.tasks) ++ codes "\n"
+
+-- one of the two bounds is missing
+abbrev pub is_overloaded : SystemLists → List Bound → Chain → Bool
+is_overloaded s x c = is_overload (reaction_of s x c.tasks) || is_overload (age_of s x c.tasks)
+
+-- one of the two deadlines is missed
+abbrev pub is_late : SystemLists → List Bound → Chain → Bool
+is_late s x c = is_missed_by (outcome_of c.reaction (reaction_of s x c.tasks)) || is_missed_by (outcome_of c.age (age_of s x c.tasks))
+
+-- how many chains lack a bound, and how many miss a deadline
+unfoldable pub totals : SystemLists → List Bound → List Chain → Totals
+totals s x chains = record { overload = count_by (is_overloaded s x) chains; missed = count_by (is_late s x) chains }
+
+unfoldable pub summary_line : ℕ → Totals → List ℕ
+summary_line count t =
+    codes "summary chains " ++ decimal count ++ codes " overload " ++ decimal t.overload ++ codes " missed " ++ decimal t.missed ++ codes "\n"
+
+-- a line for each chain, and the counts
+unfoldable pub chains_text : SystemLists → List Bound → List Chain → List ℕ
+chains_text s x chains = flat_map (chain_line s x) chains ++ summary_line (length chains) (totals s x chains)
+
+-- 2 where a bound is missing; else 1 where a deadline is missed; else 0
+abbrev pub status_of : Totals → ℕ
+status_of t = if nat_lt 0 t.overload then 2 else if nat_lt 0 t.missed then 1 else 0
+
+abbrev pub chains_status : SystemLists → List Bound → List Chain → ℕ
+chains_status s x chains = status_of (totals s x chains)

@@ -1,0 +1,9 @@
+pub mod Calls
+pub mod Chain
+pub mod ChainsText
+pub mod Commands
+pub mod Drafts
+pub mod Keys
+pub mod Laws
+pub mod Reading
+pub mod Refusals

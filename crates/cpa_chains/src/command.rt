@@ -1,0 +1,259 @@
+//! The command `chains`: a system file and a file of chains in, the bounds of the chains and their verdicts out.
+
+ghost use Rattle.std.specs.Prelude.{◌≡◌, ◌≢◌, ◌⊎◌, ◌≤◌, true, map, All, Err, IfOk, IfErr, OnOk, OnErr, string_bytes};
+ghost use Rattle.cpa_io.specs.Causes.{grown, Rose, SentPart};
+ghost use Rattle.cpa_local.specs.Solution.{IsVector, least_of};
+ghost use Rattle.cpa_call.specs.declared.ended.Stopped.TheVariants as stopped;
+ghost use Rattle.cpa_call.specs.Answers.{IsOfOutput, Sends, SendsPart};
+ghost use Rattle.cpa_call.specs.Ends.{IsEndOf, HasStatus, IsUnreadFile, IsNoUnread};
+ghost use Rattle.cpa_call.specs.Lines.{cannot_read};
+ghost use Rattle.cpa_call.specs.Plans.{Do, Refuse, IsSecond};
+ghost use Rattle.cpa_chains.specs.Reading.{Reading, reading_of, IsFault, IsChainIn};
+ghost use Rattle.cpa_chains.specs.ChainsText.{chains_text, chains_status};
+ghost use Rattle.cpa_chains.specs.Calls.{part_word, chains_refused, chains_of, chains_by, chains_in, plan_for, plan_of, IsOutput, IsUnread, IsUnreadCall};
+
+use crate::chains::{Chain, read_chains};
+use crate::refusal::{ChainsFault, ChainsRefusal};
+use crate::text::judge_chains;
+use crate::words::accept;
+use cpa_call::ended::{Ended, Reply, Stopped};
+use cpa_call::lines::{file_line, words_line};
+use cpa_call::loading::{load_file, load_system};
+use cpa_call::sending::send;
+use cpa_fix::{OneByOne, Readings, solve};
+use cpa_io::{Files, Sink};
+use cpa_local::{Trail, floor};
+use cpa_model::System;
+use cpa_text::Text;
+use cpa_units::{NoMemory, Vector};
+use std::alloc::Global;
+
+/// The most bytes of a file of chains.
+pub const MAX_CHAINS_FILE: u64 = 1_048_576;
+
+/// A system, and chains of its tasks.
+#[derive(Drop)]
+pub(crate) struct Listed {
+    pub(crate) system: System,
+    pub(crate) chains: Vec<Chain>,
+}
+
+fn part_word(place: u64) -> &'static [u8]
+    ensures { result.now ≡ part_word place }
+{
+    if place == 0 { b" file " } else { b" chain " }
+}
+
+/// The line of chains that are refused.
+fn chains_line(alloc: Global, refusal: ChainsRefusal) -> Result<Vec<u8>, NoMemory>
+    ensures { IfOk result (λ v. v.items ≡ chains_refused refusal) }
+{
+    let mut text = Text::new(alloc);
+    text.put_count(b"chains refused reason ", u64::from(refusal.reason))?;
+    text.put(part_word(refusal.place))?;
+    text.put_number(refusal.place)?;
+    text.put(b"\n")?;
+    Ok(text.into_bytes())
+}
+
+/// The reply where a file stands for no chains; want of memory has none.
+fn refuse_chains(alloc: Global, file: &str, fault: ChainsFault) -> Result<Reply, NoMemory>
+    ensures reply { IfOk result (λ reply. (reading : Reading) → IsFault fault reading → chains_by file.now reading ≡ Refuse reply.status reply.text.items) }
+    ensures status { IfOk result (λ reply. IsOfOutput reply.status) }
+{
+    match fault {
+        ChainsFault::NotToml => Ok(Reply {
+            status: 13,
+            text: file_line(alloc, b"not TOML ", file)?,
+        }),
+        ChainsFault::Refused(refusal) => Ok(Reply {
+            status: 18,
+            text: chains_line(alloc, refusal)?,
+        }),
+        ChainsFault::Memory => Err(NoMemory),
+    }
+}
+
+/// How a call ends where a file stands for no chains.
+fn end_chains(alloc: Global, file: &str, fault: ChainsFault) -> Ended
+    ensures ended { (reading : Reading) → IsFault fault reading → IsEndOf (chains_by file.now reading) result }
+    ensures status { HasStatus result }
+    ensures unread { IsNoUnread result }
+{
+    match refuse_chains(alloc, file, fault) {
+        Ok(reply) => Ended::Refused(reply),
+        Err(NoMemory) => Ended::Memory,
+    }
+}
+
+/// The chains that the bytes of a file stand for.
+fn read_chains_file(
+    alloc: Global,
+    system: &System,
+    file: &str,
+    bytes: &[u8],
+) -> Result<Vec<Chain>, Ended>
+    ensures planned { IfOk result (λ v. chains_by file.now (reading_of system.now bytes.now) ≡ Do v.items) }
+    ensures chains { IfOk result (λ v. All (IsChainIn system.now) v.items) }
+    ensures ended { IfErr result (IsEndOf (chains_by file.now (reading_of system.now bytes.now))) }
+    ensures status { IfErr result HasStatus }
+    ensures unread { IfErr result IsNoUnread }
+{
+    match read_chains(alloc, system, bytes) {
+        Ok(chains) => Ok(chains),
+        Err(fault) => Err(end_chains(alloc, file, fault)),
+    }
+}
+
+/// The chains that a file stands for.
+fn load_chains<F: Files>(
+    alloc: Global,
+    files: &mut F,
+    system: &System,
+    file: &str,
+) -> Result<Vec<Chain>, Ended>
+    ensures planned { F.told files.old ≡ true → IfOk result (λ v. chains_in (F.held files.old) system.now file.now ≡ Do v.items) }
+    ensures chains { IfOk result (λ v. All (IsChainIn system.now) v.items) }
+    ensures ended { F.told files.old ≡ true → IfErr result (IsEndOf (chains_in (F.held files.old) system.now file.now)) }
+    ensures status { IfErr result HasStatus }
+    ensures unread { IfErr result (IsUnreadFile (λ last. last ≡ file.now) (F.faults files.old) (F.faults files.new) (F.last_failed files.new)) }
+    ensures rises { F.faults files.old ≤ F.faults files.new }
+{
+    let bytes = load_file(alloc, files, file, MAX_CHAINS_FILE)?;
+    read_chains_file(alloc, system, file, bytes.as_slice())
+}
+
+/// The system that a file stands for, and the chains that another does.
+fn load_listed<F: Files>(
+    alloc: Global,
+    files: &mut F,
+    file: &str,
+    chains: &str,
+) -> Result<Listed, Ended>
+    ensures planned { F.told files.old ≡ true → IfOk result (λ l. plan_for (F.held files.old) file.now chains.now ≡ Do (chains_of l)) }
+    ensures chains { IfOk result (λ l. All (IsChainIn l.system) l.chains.items) }
+    ensures ended { F.told files.old ≡ true → IfErr result (IsEndOf (plan_for (F.held files.old) file.now chains.now)) }
+    ensures status { IfErr result HasStatus }
+    ensures unread { IfErr result (IsUnreadFile (IsSecond (F.told files.old) (F.held files.old) file.now chains.now) (F.faults files.old) (F.faults files.new) (F.last_failed files.new)) }
+{
+    let system = load_system(alloc, files, file)?;
+    let chains = load_chains(alloc, files, &system, chains)?;
+    Ok(Listed { system, chains })
+}
+
+/// The system and the chains that the words name.
+fn plan<F: Files>(alloc: Global, words: &[String], files: &mut F) -> Result<Listed, Ended>
+    ensures planned { F.told files.old ≡ true → IfOk result (λ l. plan_of (map string_bytes words.now) (F.held files.old) ≡ Do (chains_of l)) }
+    ensures chains { IfOk result (λ l. All (IsChainIn l.system) l.chains.items) }
+    ensures ended { F.told files.old ≡ true → IfErr result (IsEndOf (plan_of (map string_bytes words.now) (F.held files.old))) }
+    ensures status { IfErr result HasStatus }
+    ensures unread { IfErr result (IsUnreadCall (map string_bytes words.now) (F.told files.old) (F.held files.old) (F.faults files.old) (F.faults files.new) (F.last_failed files.new)) }
+{
+    match accept(words) {
+        Some(named) => load_listed(alloc, files, named.file, named.chains),
+        None => Err(Ended::Refused(Reply {
+            status: 10,
+            text: words_line(alloc)?,
+        })),
+    }
+}
+
+/// The bounds of the least solution.
+fn least_bounds(alloc: Global, system: &System) -> Result<Vector, NoMemory>
+    ensures least { IfOk result (λ x. x ≡ least_of system.now) }
+    ensures vector { IfOk result (λ x. IsVector system.now x) }
+{
+    let start = floor(alloc, system)?;
+    let kept = Readings::none(alloc, system)?;
+    let mut trail = Trail::with_room(alloc, system.tasks())?;
+    let solution = solve(&(), alloc, system, start, kept, &mut OneByOne, &mut trail)?;
+    Ok(solution.bounds)
+}
+
+/// The bounds of chains at the least solution, which is found once for all of them, and the status.
+fn judge_listed(alloc: Global, system: &System, chains: &[Chain]) -> Result<Reply, NoMemory>
+    requires { All (IsChainIn system.now) chains.now }
+    ensures text { IfOk result (λ r. r.text.items ≡ chains_text system.now (least_of system.now) chains.now) }
+    ensures status { IfOk result (λ r. r.status ≡ chains_status system.now (least_of system.now) chains.now) }
+    ensures small { IfOk result (λ r. r.status ≤ 2) }
+{
+    let bounds = least_bounds(alloc, system)?;
+    judge_chains(alloc, system, &bounds, chains)
+}
+
+/// Sends the bounds of chains, with their status.
+fn write<K: Sink>(
+    alloc: Global,
+    system: &System,
+    chains: &[Chain],
+    sink: &mut K,
+) -> Result<u8, Stopped>
+    requires { All (IsChainIn system.now) chains.now }
+    ensures status { IfOk result (λ status. status ≡ chains_status system.now (least_of system.now) chains.now) }
+    ensures small { IfOk result (λ status. status ≤ 2) }
+    ensures sends { OnOk result (K.sent sink.new ≡ grown (K.sent sink.old) (chains_text system.now (least_of system.now) chains.now)) }
+    ensures part { OnErr result (SentPart (K.sent sink.old) (K.sent sink.new) (chains_text system.now (least_of system.now) chains.now)) }
+    ensures rises { K.faults sink.old ≤ K.faults sink.new }
+    ensures failed { result ≡ Err stopped.Sink → Rose (K.faults sink.old) (K.faults sink.new) }
+{
+    let reply = judge_listed(alloc, system, chains)?;
+    send(sink, reply.status, reply.text.as_slice())
+}
+
+/// Does what the words ask for, or sends the line of a refusal.
+fn answer<F: Files, K: Sink>(
+    alloc: Global,
+    words: &[String],
+    files: &mut F,
+    sink: &mut K,
+) -> Result<u8, Stopped>
+    ensures answered { F.told files.old ≡ true → IfOk result (λ status. status ≢ 11 → Sends (IsOutput (map string_bytes words.now) (F.held files.old)) status (K.sent sink.old) (K.sent sink.new)) }
+    ensures status { IfOk result (λ status. (status ≢ 20) × (status ≢ 30)) }
+    ensures unread { IfOk result (λ status. status ≡ 11 → IsUnread (map string_bytes words.now) (F.told files.old) (F.held files.old) (F.faults files.old) (F.faults files.new) (F.last_failed files.new)) }
+    ensures unread_line { IfOk result (λ status. status ≡ 11 → K.sent sink.new ≡ grown (K.sent sink.old) (cannot_read (F.last_failed files.new))) }
+    ensures part { F.told files.old ≡ true → OnErr result (SendsPart (IsOutput (map string_bytes words.now) (F.held files.old)) (K.sent sink.old) (K.sent sink.new) ⊎ (IsUnread (map string_bytes words.now) (F.told files.old) (F.held files.old) (F.faults files.old) (F.faults files.new) (F.last_failed files.new) × SentPart (K.sent sink.old) (K.sent sink.new) (cannot_read (F.last_failed files.new)))) }
+    ensures rises { K.faults sink.old ≤ K.faults sink.new }
+    ensures failed { result ≡ Err stopped.Sink → Rose (K.faults sink.old) (K.faults sink.new) }
+{
+    match plan(alloc, words, files) {
+        Ok(listed) => write(alloc, &listed.system, listed.chains.as_slice(), sink),
+        Err(Ended::Refused(reply)) => send(sink, reply.status, reply.text.as_slice()),
+        Err(Ended::Unread(line)) => send(sink, 11, line.as_slice()),
+        Err(Ended::Memory) => Err(Stopped::Memory),
+    }
+}
+
+/// Writes the bounds on reaction time and data age of the chains in a file, at the least solution, with the verdicts on their
+/// deadlines, and answers the status.
+///
+/// The words are those after the command: the system file and the file of chains, neither of which is empty or begins with a
+/// hyphen. The statuses: 0 with the bounds sent; 2 where one of them is missing; else 1 where a deadline is missed; 10, 12 to 14
+/// and 18 a refusal, 11 a file that couldn't be read, each with its line sent; 20 a fault of the sink; 30 want of memory.
+pub fn write_chains<F: Files, K: Sink>(
+    alloc: Global,
+    words: &[String],
+    files: &mut F,
+    sink: &mut K,
+) -> u8
+    // Over files that tell what they hold, status and bytes sent are those of the output.
+    ensures answered { F.told files.old ≡ true → IsOfOutput result → Sends (IsOutput (map string_bytes words.now) (F.held files.old)) result (K.sent sink.old) (K.sent sink.new) }
+
+    // They are so, or memory was wanting, wherever neither count of faults rose.
+    ensures complete { F.told files.old ≡ true → ¬ (Rose (F.faults files.old) (F.faults files.new)) → ¬ (Rose (K.faults sink.old) (K.faults sink.new)) → result ≢ 30 → Sends (IsOutput (map string_bytes words.now) (F.held files.old)) result (K.sent sink.old) (K.sent sink.new) }
+
+    // A named file couldn't be loaded, and its line was sent.
+    ensures unread { result ≡ 11 → IsUnread (map string_bytes words.now) (F.told files.old) (F.held files.old) (F.faults files.old) (F.faults files.new) (F.last_failed files.new) }
+    ensures unread_line { result ≡ 11 → K.sent sink.new ≡ grown (K.sent sink.old) (cannot_read (F.last_failed files.new)) }
+
+    // The sink failed.
+    ensures unsent { result ≡ 20 → Rose (K.faults sink.old) (K.faults sink.new) }
+
+    // At a fault of the sink and at want of memory a prefix of the output was sent, or of the line of a file that couldn't be loaded.
+    ensures part { F.told files.old ≡ true → (result ≡ 20) ⊎ (result ≡ 30) → SendsPart (IsOutput (map string_bytes words.now) (F.held files.old)) (K.sent sink.old) (K.sent sink.new) ⊎ (IsUnread (map string_bytes words.now) (F.told files.old) (F.held files.old) (F.faults files.old) (F.faults files.new) (F.last_failed files.new) × SentPart (K.sent sink.old) (K.sent sink.new) (cannot_read (F.last_failed files.new))) }
+{
+    match answer(alloc, words, files, sink) {
+        Ok(status) => status,
+        Err(Stopped::Sink) => 20,
+        Err(Stopped::Memory) => 30,
+    }
+}
