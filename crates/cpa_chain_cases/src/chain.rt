@@ -39,9 +39,20 @@ task = [
 ]
 "#;
 
+/// One source starts both tasks.
+const SHARED: &str = r#"format = 1
+resource = [{ name = "cpu", kind = "preemptive" }]
+source = [{ name = "s", period = 10 }]
+task = [
+  { name = "a", on = "cpu", after = "s", best = 1, worst = 2, priority = 1 },
+  { name = "b", on = "cpu", after = "s", best = 1, worst = 3, priority = 2 },
+]
+"#;
+
 /// The files that all calls are made over, and beside them `long`, which is a byte too long for a system.
-const HELD: [(&str, &str); 6] = [
+const HELD: [(&str, &str); 7] = [
     ("sys", EFFECTS),
+    ("shared", SHARED),
     ("merge", MERGE),
     ("endless", ENDLESS),
     ("none", "format = 1\n"),
@@ -55,7 +66,39 @@ type Faults = (&'static [u64], usize, &'static [u64]);
 const NONE: Faults = (&[], 4096, &[]);
 
 /// The faults of a call, its words, the status and the text.
-const CALLS: [(Faults, &[&str], u8, &str); 18] = [
+const CALLS: [(Faults, &[&str], u8, &str); 23] = [
+    // Jobs read while they run: the sensor's response drops out of the step to the filter.
+    (
+        NONE,
+        &["--while-running", "sys", "sense", "filter", "act"],
+        0,
+        "step sense first wait 9 response 3\nstep filter above wait 19 response 7\nstep act activation wait 24 response 9\nchain while-running tasks 3 reaction 44 age 25 held 49\n",
+    ),
+    // One source: the step costs nothing where jobs read while they run, and a response and a wait where they don't.
+    (
+        NONE,
+        &["shared", "a", "b", "--while-running"],
+        0,
+        "step a first wait 9 response 2\nstep b same-source wait 9 response 5\nchain while-running tasks 2 reaction 14 age 5 held 14\n",
+    ),
+    (
+        NONE,
+        &["shared", "a", "b"],
+        0,
+        "step a first wait 9 response 2\nstep b register wait 9 response 5\nchain tasks 2 reaction 25 age 16 held 25\n",
+    ),
+    (
+        NONE,
+        &["--while-running", "sys", "act", "--while-running"],
+        10,
+        "words refused\n",
+    ),
+    (
+        NONE,
+        &["sys", "--while-running", "act"],
+        10,
+        "words refused\n",
+    ),
     (
         NONE,
         &["sys", "sense", "filter", "act"],

@@ -4,6 +4,7 @@ use Rattle.cpa_model.specs.SystemLists.{SystemLists}
 use Rattle.cpa_model.specs.Rules.{IsSystem}
 use Rattle.cpa_local.specs.Solution.{least_of}
 use Rattle.cpa_local.specs.Laws.{LeastExists}
+use Rattle.cpa_effects.specs.declared.steps.Reading.TheVariants.{Anywhere}
 use Rattle.cpa_effects.specs.Laws.{IsChain, LeastSolutionsBoundChains}
 use Rattle.cpa_call.specs.Answers.{Answer}
 use Rattle.cpa_call.specs.Plans.{Held, Do, and_then, content_in, system_in}
@@ -49,5 +50,5 @@ printed-hold bound least words held answer it output plan =
       ap (λ (a : Answer). a.text) (output ∙ ap answer_to plan),
       λ k d less. let own : IsChainIn it.system (get_or it.chains k d) = chains k d less in
           let chain : IsChain it.system (get_or it.chains k d).tasks = record { some = own.some; there = own.there } in
-          record { is_chain = chain; holds = λ tr obeys near. bound it.system (least_of it.system) rules (least it.system rules) tr obeys near _ chain },
+          record { is_chain = chain; holds = λ tr obeys near. bound it.system (least_of it.system) rules (least it.system rules) tr obeys near _ chain Anywhere },
     )

@@ -18,7 +18,8 @@ use Rattle.cpa_chains.specs.declared.draft.DraftChain.{DraftChain}
 use Rattle.cpa_chains.specs.declared.refusal.ChainsRefusal.{ChainsRefusal}
 use Rattle.cpa_chains.specs.Chain.{Chain}
 use Rattle.cpa_chains.specs.Drafts.{draft_of}
-use Rattle.cpa_chains.specs.Refusals.{refused_at, first_with, is_unknown, is_count, by_entries, by_tasks, first_refusal}
+use Rattle.cpa_chains.specs.Refusals.{refused_at, first_with, is_unknown, by_entries, by_tasks, first_refusal}
+use Rattle.cpa_effects.specs.Calls.{is_count}
 use Rattle.cpa_chains.specs.Reading.{Accepted, task_of, chain_of, by_refusal, by_draft, by_document, reading_of, IsChainIn}
 
 or_none : {X : Type 0} (a b : Option X) → (a or_else b) ≡ None → (a ≡ None) × (b ≡ None)

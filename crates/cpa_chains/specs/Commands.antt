@@ -28,7 +28,7 @@ IsOutput (command ∷ words) held answer = IsOutputOf (command_of command) words
 
 -- a file that the words after a command name is the one whose load failed last
 abbrev pub IsUnreadOf : Command → List (List ℕ) → Bool → Held → ℕ → ℕ → List ℕ → Type 0
-IsUnreadOf Chain words told held before now last = effects.IsUnread words before now last
+IsUnreadOf Chain words told held before now last = effects.IsUnread (effects.call_of words).words before now last
 IsUnreadOf Chains words told held before now last = chains.IsUnread words told held before now last
 IsUnreadOf Unknown words told held before now last = ⊥
 

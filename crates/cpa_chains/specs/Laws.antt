@@ -4,6 +4,7 @@ use Rattle.cpa_model.specs.SystemLists.{SystemLists}
 use Rattle.cpa_local.specs.Solution.{least_of}
 use Rattle.cpa_trace.specs.Trace.{TraceLists, Obeys}
 use Rattle.cpa_sound.specs.BoundsHold.{SourcesStayNear}
+use Rattle.cpa_effects.specs.declared.steps.Reading.TheVariants.{Anywhere}
 use Rattle.cpa_effects.specs.Laws.{IsChain, ChainHolds}
 use Rattle.cpa_call.specs.Answers.{Answer}
 use Rattle.cpa_call.specs.Plans.{Held, Do}
@@ -11,10 +12,10 @@ use Rattle.cpa_chains.specs.Chain.{Chain}
 use Rattle.cpa_chains.specs.ChainsText.{chains_text}
 use Rattle.cpa_chains.specs.Calls.{Chains, plan_of, IsOutput}
 
--- the bounds of a chain at the least solution hold in every run whose sources stay near
+-- the bounds of a chain at the least solution hold in every run whose sources stay near, whenever its jobs read
 pub record HoldsInRuns (s : SystemLists) (c : Chain) : Type 0 where
   pub is_chain : IsChain s c.tasks
-  pub holds : (tr : TraceLists) → Obeys s tr → SourcesStayNear s tr → ChainHolds s (least_of s) tr c.tasks
+  pub holds : (tr : TraceLists) → Obeys s tr → SourcesStayNear s tr → ChainHolds Anywhere s (least_of s) tr c.tasks
 
 -- where no file is refused, the output has the bounds of the chains at the least solution, and they hold in runs
 abbrev pub PrintedChainsHold : Type 0

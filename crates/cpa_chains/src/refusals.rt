@@ -9,7 +9,8 @@ ghost use Rattle.cpa_units.specs.declared.limits.TheConstants.{MAX_PERIOD};
 ghost use Rattle.cpa_draft.specs.First.{first_place, first_known};
 ghost use Rattle.cpa_draft.specs.Numbers.{may_be_within};
 ghost use Rattle.cpa_trace.specs.Index.{IsIndex};
-ghost use Rattle.cpa_chains.specs.Refusals.{refused_at, fits, is_unknown, is_count, by_entries, by_tasks, first_refusal};
+ghost use Rattle.cpa_chains.specs.Refusals.{refused_at, fits, is_unknown, by_entries, by_tasks, first_refusal};
+ghost use Rattle.cpa_effects.specs.Calls.{is_count};
 ghost use Rattle.cpa_chains.specs.Keys.{names_of};
 
 use crate::draft::DraftChain;

@@ -16,7 +16,7 @@ use Rattle.cpa_sound.specs.RunCourse.{course_of}
 use Rattle.cpa_sound.specs.BoundsHold.{HasJob, arrival_of, SourcesStayNear, HoldIn}
 use Rattle.cpa_sound.proofs.FieldLaws.{arrival-is}
 use Rattle.cpa_effects.specs.declared.steps.Reading.{Reading}
-use Rattle.cpa_effects.specs.Bounds.{step_between, writing_wait, wait_of, task_in, last_in, backward_cost, backward, age_by, held_by}
+use Rattle.cpa_effects.specs.Bounds.{wait_of, task_in, last_in, backward, age_by, held_by}
 use Rattle.cpa_effects.specs.Effects.{Reads, HasEnded, ReadWithin, ReadsBy, IsAmidst, IsLastToEnd, HasDataOf, RunsOn, IsRunning, IsFed, IsHeld}
 use Rattle.cpa_effects.specs.Laws.{IsChain}
 use Rattle.cpa_effects.proofs.SumLaws.{within-injective, add-up, sum-last}
