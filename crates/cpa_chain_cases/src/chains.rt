@@ -276,7 +276,7 @@ const CALLS: [(Faults, &[&str], u8, &str); 16] = [
         NONE,
         &["chain", "s", "act"],
         0,
-        "step act first wait 24 response 9\nchain tasks 1 reaction 33 age 9\n",
+        "step act first wait 24 response 9\nchain tasks 1 reaction 33 age 9 held 33\n",
     ),
     (NONE, &[], 10, "words refused\n"),
     (NONE, &["Chains", "s", "c"], 10, "words refused\n"),
