@@ -23,7 +23,7 @@ import sys
 import tempfile
 import tomllib
 
-from calls import python_with
+from calls import example_systems, python_with
 
 TOP = os.path.join(os.path.dirname(os.path.abspath(__file__)), "..")
 os.chdir(TOP)
@@ -215,7 +215,7 @@ def check_tightness(page, text):
         hold(f"{page}: {name}, {kind} {what}", [told.get((name, kind, what)), ratio_of(int(seen), int(bound))], [(int(bound), int(seen)), ratio])
     # each example is in a row
     rows = {name for names in re.findall(r"^\| ([a-z_, ]+) \| \d+ \|", text, re.M) for name in names.split(", ")}
-    hold(f"{page}: its examples", sorted(rows), sorted(os.path.basename(it)[:-5] for it in glob.glob("examples/*.toml")))
+    hold(f"{page}: its examples", sorted(rows), sorted(os.path.basename(it)[:-5] for it in example_systems()))
 
 
 python = python_with("matplotlib", "jinja2")

@@ -31,6 +31,7 @@ except ImportError:
 TOP = os.path.join(os.path.dirname(os.path.abspath(__file__)), "..")
 os.chdir(TOP)
 sys.path.append("tools")
+from calls import example_systems
 from check_runs import Run, made, traced
 from report import read_report
 from runs import jobs_in, read_schedule, read_trace
@@ -257,7 +258,7 @@ def written_program(room):
 
 
 with tempfile.TemporaryDirectory() as room:
-    files = sorted(glob.glob("examples/*.toml"))
+    files = example_systems()
     formats = set()
     for file in files:
         report = file[:-5] + ".report.txt"
