@@ -25,6 +25,7 @@ import tempfile
 import time
 from collections import Counter
 
+import chain_files
 import check_runs as rules
 from calls import TOP, built
 from effect_rules import OVERLOAD, READINGS, Bounds, Observed, chains_in, near_trace, small, told_chains
@@ -68,7 +69,7 @@ class Programs:
 
     def compare_chain(self, system, bounds, chain, tally):
         for option in ((), ("--while-running",)) if self.while_running else ((),):
-            told, wrote = bounds.text_of(chain, bool(option)), self.call(self.chain, *option, *chain)
+            told, wrote = bounds.text_of(chain, "above" if option else ""), self.call(self.chain, *option, *chain)
             if told != wrote:
                 stop(f"chain {' '.join((*option, *chain))}", system, told, wrote)
             tally["texts of chain" + "".join(" " + it for it in option)] += 1
@@ -77,13 +78,23 @@ class Programs:
         if self.chains is None:
             return
         listed = [(f"c{k}", tasks, *deadlines(draw, bounds, tasks)) for k, tasks in enumerate(chains)]
-        file = os.path.join(self.folder, "chains.toml")
-        rules.write(file, file_of_chains(listed))
-        told, wrote = told_chains(bounds, listed), self.call(self.chains, file)
-        if told != wrote:
-            stop("chains", system, told, wrote)
+        self.judge(system, chain_files.text_of(listed), told_chains(bounds, listed))
         tally["files of chains"] += 1
         tally["verdicts"] += 2 * len(listed)
+        for _ in range(3):
+            text = chain_files.damaged(draw, listed)
+            refusal = chain_files.refusal_of(text, bounds.rules.tasks)
+            if refusal:
+                self.judge(system, text, refused(*refusal))
+                tally[f"files refused for reason {refusal[0]}"] += 1
+
+    def judge(self, system, text, told):
+        """What `chains` says of a file with this text."""
+        file = os.path.join(self.folder, "chains.toml")
+        rules.write(file, text)
+        wrote = self.call(self.chains, file)
+        if told != wrote:
+            stop(f"chains of the file\n{text}\n", system, told, wrote)
 
     def refuse(self, system, tally):
         """Faults of words and names."""
@@ -95,20 +106,18 @@ class Programs:
             tally["refusals"] += 1
 
 
+def refused(reason, place):
+    """The line and the status of a file of chains that is refused."""
+    if reason == "toml":
+        return "chains refused not toml\n", 19
+    return f"chains refused reason {reason} chain {place}\n", 19
+
+
 def deadlines(draw, bounds, tasks):
     """Deadlines of reaction and age: none, or near the bound."""
     for bound in (bounds.reaction(tasks), bounds.age(tasks)):
         near = 50 if bound == OVERLOAD else bound
-        yield draw.choice((None, near, max(0, near - 1), near + 1, draw.randint(0, 2 * near)))
-
-
-def file_of_chains(chains):
-    rows = ["format = 1", "chain = ["]
-    for name, tasks, reaction, age in chains:
-        both = (("reaction", reaction), ("age", age))
-        limits = "".join(f", {key} = {ticks}" for key, ticks in both if ticks is not None)
-        rows.append(f'  {{ name = "{name}", tasks = {rules.quoted(tasks)}{limits} }},')
-    return "\n".join([*rows, "]"]) + "\n"
+        yield draw.choice((None, near, max(1, near - 1), near + 1, draw.randint(1, 2 * near)))
 
 
 class Tally:
@@ -161,7 +170,7 @@ def check_run(system, bounds, chains, trace, tally):
             tally.counts[f"tools/seen.py, {reading}"] += 1
             if reading not in ("whenever", "running"):
                 continue
-            limits = bounds.limits(chain, running)
+            limits = bounds.limits(chain, "same-source" if running else "")
             registers = sum(bounds.kind(*it) == "register" for it in zip(chain, chain[1:]))
             for what, ticks in most.items():
                 name = what + (" while running" if running else "")
@@ -187,7 +196,7 @@ def check_system(draw, traces, programs, tally):
     for chain in chains:
         tally.counts["chains with overload"] += OVERLOAD in bounds.limits(chain).values()
         for it in zip([None, *chain], chain):
-            tally.counts["steps " + bounds.kind(*it, True)] += 1
+            tally.counts["steps " + bounds.kind(*it, "same-source")] += 1
     if all(bounds.latency(chain) == OVERLOAD == bounds.age(chain) for chain in chains):
         return
     for _ in range(traces):

@@ -86,7 +86,9 @@ def said(bound):
 
 
 class Bounds:
-    """The bounds of the chains of a system file. `while_running` are those for jobs that read while they run alone."""
+    """The bounds of the chains of a system file: where jobs read at any time, or `while_running` alone. Then less is
+    told by two rules: "above" where a writer goes before its reader on one processor, and with "same-source" still less
+    where one source starts both besides. The program has the first of them."""
 
     def __init__(self, text):
         self.rules = compare.System(text)
@@ -113,14 +115,14 @@ class Bounds:
         after = self.after(name)
         return self.after(before) == after and len(after) == 1 and after[0] in self.rules.sources
 
-    def kind(self, before, name, while_running=False):
+    def kind(self, before, name, while_running=""):
         if before is None:
             return "first"
         after = self.after(name)
         if before in after:
             return "activation" if after == [before] else "merge"
         if while_running and self.is_above(before, name):
-            return "same-source" if self.is_of_one_source(before, name) else "above"
+            return "same-source" if while_running == "same-source" and self.is_of_one_source(before, name) else "above"
         return "register"
 
     def forward(self, before, name, while_running):
@@ -133,22 +135,22 @@ class Bounds:
         response = 0 if kind in ("above", "same-source") else self.bound[before]
         return response + (0 if kind in ("activation", "same-source") else self.wait(before))
 
-    def latency(self, chain, while_running=False):
+    def latency(self, chain, while_running=""):
         return sum(self.forward(*it, while_running) for it in zip(chain, chain[1:])) + self.bound[chain[-1]]
 
-    def reaction(self, chain, while_running=False):
+    def reaction(self, chain, while_running=""):
         return self.wait(chain[0]) + self.latency(chain, while_running)
 
-    def age(self, chain, while_running=False):
+    def age(self, chain, while_running=""):
         return sum(self.backward(*it, while_running) for it in zip(chain, chain[1:])) + self.bound[chain[-1]]
 
-    def held(self, chain, while_running=False):
+    def held(self, chain, while_running=""):
         return self.age(chain, while_running) + self.wait(chain[-1])
 
-    def limits(self, chain, while_running=False):
+    def limits(self, chain, while_running=""):
         return {what: getattr(self, what)(chain, while_running) for what in ("latency", *ASKED)}
 
-    def text_of(self, chain, while_running=False):
+    def text_of(self, chain, while_running=""):
         """What `chain` writes, and its status."""
         rows = []
         for before, name in zip([None, *chain], chain):
@@ -171,7 +173,7 @@ def told_chains(bounds, chains):
         found = [(bounds.reaction(tasks), reaction), (bounds.age(tasks), age)]
         words = [f"{said(it[0])} deadline {'-' if it[1] is None else it[1]} {verdict(*it)}" for it in found]
         lines.append(f"chain {name} tasks {len(tasks)} reaction {words[0]} age {words[1]}\n")
-        missed += sum(verdict(*it) == "missed" for it in found)
+        missed += any(verdict(*it) == "missed" for it in found)
         overload += any(bound == OVERLOAD for bound, _ in found)
     lines.append(f"summary chains {len(chains)} overload {overload} missed {missed}\n")
     return "".join(lines), 2 if overload else 1 if missed else 0

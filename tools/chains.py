@@ -12,7 +12,8 @@ TOTAL = re.compile(
     r"chain(?: while-running)? tasks \d+ reaction (?P<reaction>\d+|overload) age (?P<age>\d+|overload)"
     r"(?: held (?P<held>\d+|overload))?"
 )
-MOST_TASKS, MOST_CHAINS, MOST_TICKS = 32, 128, (1 << 63) - 1
+NAME = re.compile(r"[A-Za-z0-9_.-]{1,64}")
+MOST_TASKS, MOST_CHAINS, MOST_TICKS = 32, 128, 1_000_000_000
 KEYS = {"name", "tasks", "reaction", "age"}
 # the status of a call whose words aren't taken: a program of before has no such command
 NO_WORDS = 10
@@ -50,16 +51,16 @@ def fault_in(entry: object, tasks: set[str]) -> str | None:
         return "is no table { name, tasks, reaction, age }"
     if other := sorted(set(entry) - KEYS):
         return f"has a key {other[0]}; the keys are name, tasks, reaction and age"
-    if not isinstance(entry.get("name"), str) or not entry["name"] or set(entry["name"]) & set(" \t\r\n"):
-        return 'wants a name without blanks: name = "brake"'
+    if not isinstance(entry.get("name"), str) or not NAME.fullmatch(entry["name"]):
+        return 'wants a name of up to 64 letters, digits, _, - and .: name = "brake"'
     several = entry.get("tasks")
     if not isinstance(several, list) or not 1 <= len(several) <= MOST_TASKS:
         return f"wants 1 to {MOST_TASKS} tasks: tasks = [\"capture\", \"act\"]"
     if unknown := [it for it in several if it not in tasks]:
         return f"names a task {unknown[0]}, which the system doesn't have"
     for key in ("reaction", "age"):
-        if key in entry and (type(entry[key]) is not int or not 0 <= entry[key] <= MOST_TICKS):
-            return f"wants whole ticks for {key}: {key} = 50000"
+        if key in entry and (type(entry[key]) is not int or not 1 <= entry[key] <= MOST_TICKS):
+            return f"wants 1 to {MOST_TICKS} ticks for {key}: {key} = 50000"
     return None
 
 
@@ -70,8 +71,8 @@ def read_chains(file: str, system: dict) -> list[Chain]:
             read = tomllib.load(it)
     except (OSError, tomllib.TOMLDecodeError) as fault:
         sys.exit(f"{file}: can't be read: {fault}")
-    entries, tasks = read.get("chain"), {it["name"] for it in system.get("task", [])}
-    if read.get("format") != 1 or set(read) - {"format", "chain"} or not isinstance(entries, list):
+    entries, tasks = read.get("chain", []), {it["name"] for it in system.get("task", [])}
+    if type(read.get("format")) is not int or read["format"] != 1 or set(read) - {"format", "chain"} or not isinstance(entries, list):
         sys.exit(f"{file}: it has to have format = 1 and chain = [{{ name = .., tasks = [..] }}], and nothing else")
     if len(entries) > MOST_CHAINS:
         sys.exit(f"{file}: there are {len(entries)} chains, and a file has {MOST_CHAINS} at most")
