@@ -71,8 +71,8 @@ def read_chains(file: str, system: dict) -> list[Chain]:
             read = tomllib.load(it)
     except (OSError, tomllib.TOMLDecodeError) as fault:
         sys.exit(f"{file}: can't be read: {fault}")
-    entries, tasks = read.get("chain", []), {it["name"] for it in system.get("task", [])}
-    if type(read.get("format")) is not int or read["format"] != 1 or set(read) - {"format", "chain"} or not isinstance(entries, list):
+    form, entries, tasks = read.get("format"), read.get("chain", []), {it["name"] for it in system.get("task", [])}
+    if type(form) is not int or form != 1 or set(read) - {"format", "chain"} or not isinstance(entries, list):
         sys.exit(f"{file}: it has to have format = 1 and chain = [{{ name = .., tasks = [..] }}], and nothing else")
     if len(entries) > MOST_CHAINS:
         sys.exit(f"{file}: there are {len(entries)} chains, and a file has {MOST_CHAINS} at most")
