@@ -1,12 +1,14 @@
 #!/usr/bin/env python3
-"""Tries the pages of tools/page.py in headless Chromium. Outside the gate; takes about a minute, and no network.
+"""Tries the pages of tools/page.py in headless Chromium. Outside the gate; takes a minute or some, and no network.
 
 For some of the examples a page is made, with a trace, a schedule and a script where there are some. It must load without an
 error and without asking for anything else, show the numbers of the report, of `simulate` and of `session`, and the load of
-each resource, sort each column both ways by mouse and by keyboard, filter, fit into a narrow window, be light and dark, and
-print. Pages of overloaded systems must tell what lies behind; what is told of random systems that are overloaded must be so:
-with a limit a hundred times as high a task that has too much work has no bound still, and each task without one has a cause.
-What page.py doesn't take is refused in a line.
+each resource and of slots, sort each column both ways by mouse and by keyboard, filter, fit into a narrow window, be light and
+dark, and print. In windows of five widths the first column of Paths leaves room for the others, the tables of a page with long
+names aren't cut from 1366 on, and the lines between their rows go on under the fixed column. Pages of overloaded systems must
+tell what lies behind; what is told of random systems that are overloaded must be so: with a limit a hundred times as high a
+task that has too much work has no bound still, and each task without one has a cause. What page.py doesn't take is refused in
+a line.
 
 A schedule that isn't among the examples is made by the step rules of check_runs.py. With --keep pictures of the pages, in
 light and dark, wide and narrow, the documents that they print, and the pages themselves stay in a folder.
@@ -24,8 +26,13 @@ import tempfile
 import tomllib
 from fractions import Fraction
 
+try:
+    import matplotlib.image
+except ImportError:
+    sys.exit("check_page.py: the package matplotlib isn't here: apt-get install python3-matplotlib, for /usr/bin/python3")
+
 from browser import Browser
-from check_runs import Run, file_of, made
+from check_runs import file_of, made, plain, replayed
 
 TOP = os.path.join(os.path.dirname(os.path.abspath(__file__)), "..")
 sys.path.append(os.path.join(TOP, "tools"))
@@ -33,7 +40,7 @@ sys.path.append(os.path.join(TOP, "tools"))
 from behind import Behind
 from report import reports_in
 from runs import jobs_in, read_schedule, read_trace
-from system import activators, execution, read_system
+from system import read_system
 
 EXAMPLES = os.path.join(TOP, "examples")
 # the examples, and whether they have a trace and a script
@@ -70,21 +77,9 @@ def told(text):
     return [it for it in lines if it[0] == "task"], [it for it in lines if it[0] == "path"]
 
 
-def plain(system):
-    """A system as check_runs.py has it."""
-    resources = {it["name"]: it | {"gap": it.get("gap", 0)} for it in system.get("resource", [])}
-    tasks = []
-    for it in system.get("task", []):
-        best, worst = execution(it, resources[it["on"]])
-        tasks.append(it | {"after": activators(it), "best": best, "worst": worst})
-    return {"resource": list(resources.values()), "source": system.get("source", []), "task": tasks, "path": system.get("path", [])}
-
-
 def schedule_of(file, trace):
     """The schedule of a run, by the step rules followed tick by tick."""
-    system, (events, executions, phases) = plain(read_system(file)), read_trace(trace)
-    whole = [{it["name"]: given.get(it["name"], none) for it in system[part]} for part, given, none in (("source", events, []), ("task", executions, []), ("resource", phases, 0))]
-    return "".join(f"{task},{start},{end}\n" for task, start, end in Run(system, whole).segments)
+    return "".join(f"{task},{start},{end}\n" for task, start, end in replayed(read_system(file), read_trace(trace)).segments)
 
 
 class Page:
@@ -320,6 +315,90 @@ def check_names(page):
     page.hold(page.run("document.activeElement.className") == "skip", "the key Tab doesn't begin at the link to the tasks")
 
 
+WIDTHS = (375, 500, 1024, 1366, 1920)
+# names, numbers and paths that take much room, a frame of 29 bits, slots
+WIDE = '''format = 2
+resource = [{ name = "unit_front", kind = "preemptive" }, { name = "backbone", kind = "tdma", gap = 500 }, { name = "can_front", kind = "can", bit = 2 }, { name = "unit_rear", kind = "preemptive" }]
+source = [{ name = "wheel_pulses", period = 800, jitter = 1600, distance = 100 }, { name = "sampling", period = 5000, jitter = 200 }, { name = "wheel_frames", period = 10000 }, { name = "radar", period = 20000, jitter = 2500 }, { name = "diagnosis", period = 100000 }, { name = "images", period = 16667 }]
+task = [
+  { name = "wheel_isr", on = "unit_front", after = "wheel_pulses", best = 12, worst = 35, priority = 1 },
+  { name = "pedal", on = "unit_front", after = "sampling", best = 250, worst = 450, priority = 2 },
+  { name = "diagnose", on = "unit_front", after = "diagnosis", best = 2000, worst = 8000, priority = 3 },
+  { name = "pedal_f", on = "can_front", after = "pedal", payload = 4, priority = 16 },
+  { name = "wheel_f", on = "can_front", after = "wheel_frames", payload = 8, priority = 2047 },
+  { name = "radar_f", on = "can_front", after = "radar", payload = 6, extended = true, priority = 2048 },
+  { name = "diag_f", on = "can_front", after = "diagnose", payload = 8, extended = true, priority = 416940273 },
+  { name = "camera_t", on = "backbone", after = "images", best = 200, worst = 240, slot = 250 },
+  { name = "joined_t", on = "backbone", after = "join", best = 60, worst = 180, slot = 350 },
+  { name = "join", on = "unit_rear", after = ["pedal_f", "wheel_f", "radar_f"], best = 20, worst = 80, priority = 4096 },
+  { name = "brake", on = "unit_rear", after = "joined_t", best = 120, worst = 300, priority = 5000 },
+]
+path = [
+  { name = "pedal_brake", tasks = ["pedal", "pedal_f", "join", "joined_t", "brake"], deadline = 12000 },
+  { name = "radar_brake", tasks = ["radar_f", "join", "joined_t", "brake"], deadline = 15000 },
+]
+'''
+WIDE_TRACE = "event,wheel_pulses,0\nevent,sampling,0\nevent,radar,0\nevent,images,0\n"
+# what tells the turn of each task, and of those with a slot what they use of it: the greatest execution over the period, by the
+# share of the cycle, of 250 + 350 + 500 ticks; what comes to joined_t has three periods
+TURNS_TOLD = ["priority 1", "priority 2", "priority 3", "priority 16", "priority 2047", "priority 0x800", "priority 0x18DA00F1", "slot 250", "slot 350", "priority 4096", "priority 5000"]
+OF_SLOT = {"camera_t": Fraction(240, 16667) / Fraction(250, 1100), "joined_t": 180 * (Fraction(1, 5000) + Fraction(1, 10000) + Fraction(1, 20000)) / Fraction(350, 1100)}
+
+
+def near(one, other):
+    return all(abs(a - b) < 0.02 for a, b in zip(one, other))
+
+
+def check_lines(page, width, room):
+    """The lines between rows go on under the fixed column, also where the table is moved beneath it: in a picture, by their colour."""
+    colour = [int(it, 16) / 255 for it in re.findall(r"[0-9a-f]{2}", page.run("getComputedStyle(document.documentElement).getPropertyValue('--line').trim()"))]
+    for table in ("path-table", "task-table"):
+        page.run(f"document.querySelector('#{table}').parentElement.scrollLeft = 60")
+        picture = os.path.join(room, "lines.png")
+        page.browser.picture(picture, width)
+        pixels = matplotlib.image.imread(picture)
+        boxes = page.run(f"[...document.querySelectorAll('#{table} tbody th')].map((it) => {{ const box = it.getBoundingClientRect(); return [box.left + scrollX, box.bottom + scrollY, box.width]; }})")
+        for place, (left, bottom, wide) in enumerate(boxes):
+            # at the fixed column's start, and right behind it
+            for x in (int(left) + 2, int(left + wide) + 2):
+                page.hold(x < width and near(pixels[round(bottom) - 1][x], colour), f"{table} in a window of {width}: no line below row {place} at {x}")
+        page.run(f"document.querySelector('#{table}').parentElement.scrollLeft = 0")
+
+
+def check_widths(page, room):
+    """What there is room for, at five widths."""
+    for width in WIDTHS:
+        page.browser.size(width)
+        page.hold(page.run("document.documentElement.scrollWidth <= innerWidth"), f"it is wider than a window of {width}")
+        wide, first = page.run("(() => { const it = document.querySelector('#path-table'); return [it.parentElement.clientWidth, it.querySelector('tbody th').getBoundingClientRect().width]; })()")
+        page.hold(first <= 0.45 * wide, f"the first column of Paths takes {first} of {wide} in a window of {width}")
+        for table in ("path-table", "task-table") if width >= 1300 else ():
+            wide, needs = page.run(f"(() => {{ const it = document.querySelector('#{table}').parentElement; return [it.clientWidth, it.scrollWidth]; }})()")
+            page.hold(needs <= wide, f"{table} is cut in a window of {width}: {needs} of {wide}")
+        check_lines(page, width, room)
+    page.browser.size(1400)
+
+
+def check_wide(room, page_of):
+    """A page whose tables take much room; identifiers in hexadecimal, and what is used of slots."""
+    file, trace = (written(os.path.join(room, "wide" + end), text) for end, text in ((".toml", WIDE), (".trace.csv", WIDE_TRACE)))
+    schedule = written(os.path.join(room, "wide.schedule.csv"), schedule_of(file, trace))
+    page = page_of("wide", file, "--trace", trace, "--schedule", schedule)
+    page.browser.look("light")
+    check_widths(page, room)
+    rows = page.rows("task-table")
+    page.hold([row[2] for row in rows] == TURNS_TOLD, f"the turns of its tasks: {[row[2] for row in rows]}")
+    loads = {row[0]: row[9].split("\n")[1:] for row in rows}
+    page.hold(loads == {row[0]: [f"{float(OF_SLOT[row[0]]) * 100:.1f} % of slot"] if row[0] in OF_SLOT else [] for row in rows}, f"what is used of slots: {loads}")
+    page.hold("the tightest path" in page.run("document.querySelector('.figures').innerText"), "the tightest path")
+    file = written(os.path.join(room, "endless.toml"), WIDE.replace("slot = 250", "slot = 5").replace("deadline = 15000 },", 'deadline = 15000 }, { name = "camera", tasks = ["camera_t"] },'))
+    page = page_of("endless", file)
+    tiles = page.run("document.querySelector('.figures').innerText")
+    page.hold("tightest" not in tiles and re.search(r"1\nof 3 paths without a bound", tiles), f"a path without a bound: {tiles}")
+    for it in page.browser.complaints():
+        page.hold(False, it)
+
+
 PRIORITY = 'format = 1\nresource = [{ name = "cpu", kind = "preemptive", limit = LIMIT }]\nsource = [{ name = "s", period = PERIOD }]\n'
 TWO = '{ name = "a", on = "cpu", after = "s", best = 6, worst = 6, priority = 1 }, { name = "b", on = "cpu", after = "s", best = 6, worst = 6, priority = 2 }'
 AFTER_B = ', { name = "c", on = "cpu", after = "b", best = 1, worst = 1, priority = 3 }'
@@ -435,6 +514,7 @@ def main():
 
         try:
             check_examples(room, words, page_of)
+            check_wide(room, page_of)
             check_cases(room, words.program, page_of)
         finally:
             browser.close()

@@ -8,10 +8,16 @@ as a chart, which must have the name of each path, and of each task where tasks 
 must take each graph. The streams of each task, from which the curve of its events is drawn, are those that its report tells,
 and the steps of a curve are where it rises. Each recorded schedule is drawn as a Gantt chart: its bars lie where the rows
 say, on the lane of their resource, with a mark where each job comes and one where it is done, and a job is red exactly where
-it is later than its bound. The jobs in schedules of random systems are those of the step rules, followed tick by tick. What isn't a report, a schedule or a picture's name is refused.
+it is later than its bound. The passage of a path that took longest is the one by the step rules, and is drawn with its stretch.
+The jobs and passages in schedules of random systems are those of the step rules, followed tick by tick. What isn't a report, a
+schedule or a picture's name is refused.
+
+Each tool tells its words without the packages that it needs beside Python's own. Where they are missing it goes on under
+Debian's Python, once, or ends with a line that says what to install; the pages name the packages of all tools.
 
     python3 bench/check_tools.py
 """
+import ast
 import glob
 import os
 import random
@@ -26,15 +32,16 @@ import xml.etree.ElementTree
 try:
     import matplotlib
 except ImportError:
-    sys.exit("check_tools.py: the package matplotlib isn't here: pip install matplotlib, or apt-get install python3-matplotlib")
+    sys.exit("check_tools.py: the package matplotlib isn't here: apt-get install python3-matplotlib, for /usr/bin/python3")
 
 TOP = os.path.join(os.path.dirname(os.path.abspath(__file__)), "..")
 os.chdir(TOP)
 sys.path.append("tools")
 from calls import example_systems
-from check_runs import Run, made, traced
+from check_runs import Run, made, passages, replayed, traced
+from packages import PACKAGES
 from report import read_report
-from runs import jobs_in, read_schedule, read_trace
+from runs import jobs_in, passages_in, read_schedule, read_trace
 from system import first_windows, input_of, most_events, read_system
 
 tried = 0
@@ -202,8 +209,31 @@ def check_gantt(room, name):
     hold(len(bars) == len(wanted) and all(abs(a - b) < 0.6 for pair in zip(bars, wanted) for a, b in zip(*pair)), f"gantt.py {name}: its bars are {bars}, and not {wanted}")
 
 
+def check_longest(room, name):
+    """The passage of each path of an example that took longest: the first of these, by the step rules, with its stretch."""
+    file, schedule, trace, report = (f"examples/{name}.{end}" for end in ("toml", "schedule.csv", "trace.csv", "report.txt"))
+    system, bounds = read_system(file), read_report(report)[1]
+    run_of_it = replayed(system, read_trace(trace))
+    rows = [(int(start), int(end)) for _, start, end in (line.split(",") for line in lines_of(schedule))]
+    for path in system.get("path", [])[:4]:
+        times = passages(run_of_it, path["tasks"])
+        if not times:
+            continue
+        took = max(times)
+        came = run_of_it.jobs[path["tasks"][0]][times.index(took)]["arrival"]
+        words = [file, schedule, "--trace", trace, "--report", report, "--longest", f"path:{path['name']}"]
+        texts, bars, _ = gantt(room, *words)
+        bound = bounds[path["name"]]["worst"]
+        told = f"path {path['name']}: {took}" + (f", bound {bound}" if bound is not None else "")
+        hold(told in texts, f"gantt.py {name} --longest {path['name']}: {texts}, and not {told}")
+        more = max(1, round(took * 0.04))
+        shown = sum(start < came + took + more and end > max(0, came - more) for start, end in rows)
+        hold(len(bars) == shown, f"gantt.py {name} --longest {path['name']}: {len(bars)} bars, and not {shown}")
+        hold(len(gantt(room, *words, "--from", "0")[1]) == len(rows), f"gantt.py {name} --longest {path['name']} --from 0: the whole run")
+
+
 def check_jobs():
-    """The jobs of random systems, by their schedules and traces."""
+    """The jobs and passages of random systems, by their schedules and traces."""
     draw = random.Random(1)
     for number in range(100):
         system = made(draw)
@@ -211,6 +241,9 @@ def check_jobs():
         run_of_it = Run(system, trace)
         jobs = jobs_in(system, [tuple(it) for it in run_of_it.segments], trace)
         hold(jobs == {name: [(it["arrival"], it["end"]) for it in several] for name, several in run_of_it.jobs.items()}, f"gantt.py: the jobs of random system {number}")
+        for path in system["path"]:
+            took = [it.took() for it in passages_in(system, jobs, trace[0], path["tasks"])]
+            hold(took == passages(run_of_it, path["tasks"]), f"gantt.py: the passages of random system {number}: {took}")
 
 
 def check_late(room):
@@ -257,6 +290,66 @@ def written_program(room):
     return program
 
 
+def is_tool(file):
+    with open(file, encoding="utf-8") as it:
+        return it.readline().startswith("#!")
+
+
+def check_help():
+    """The words of each tool, under a Python that has no packages."""
+    for file in filter(is_tool, sorted(glob.glob("tools/*.py"))):
+        done = subprocess.run([sys.executable, "-S", file, "--help"], capture_output=True, text=True, check=False)
+        hold(done.returncode == 0 and done.stdout.startswith("usage: ") and not done.stderr, f"{file} --help without packages: {done.stderr}")
+
+
+def script(room, name, text):
+    file = written(room, name, "#!/bin/sh\n" + text)
+    os.chmod(file, 0o755)
+    return file
+
+
+def check_packages(room):
+    """What a tool does whose package this Python doesn't have, where another stands for Debian's."""
+    picture = os.path.join(room, "chart.svg")
+    bare = f'exec "{sys.executable}" -S "$@"\n'
+    chart = ["tools/chart.py", "--to", picture, "examples/pedal.report.txt"]
+    page = ["tools/page.py", "--to", os.path.join(room, "page.html"), "examples/pedal.toml"]
+    hammer = ["tools/campaign.py", "hammer", "--traces", "1", "examples/pedal.toml"]
+    with_none, lying = script(room, "none", bare), script(room, "lying", f'[ "$1" = -c ] && exit 0\n{bare}')
+    nowhere = os.path.join(room, "nowhere")
+    with_all = script(room, "all", f'exec "{sys.executable}" "$@"\n')
+    for words, debian, status, said in (
+        (chart, with_none, 1, "chart.py: the package matplotlib isn't here: apt-get install python3-matplotlib; "),
+        (chart, lying, 1, "chart.py: the package matplotlib isn't here: apt-get install python3-matplotlib\n"),
+        (chart, nowhere, 1, "chart.py: the package matplotlib isn't here: "),
+        ([*page, "--trace", "examples/pedal.trace.csv"], with_none, 1, "page.py: the packages jinja2 and matplotlib aren't here: apt-get install python3-jinja2 python3-matplotlib"),
+        (page, with_none, 1, "page.py: the package jinja2 isn't here: apt-get install python3-jinja2"),
+        (hammer, with_none, 2, "campaign.py: the package distributed isn't here: apt-get install python3-distributed"),
+        (chart, with_all, 0, ""),
+    ):
+        text = f"import runpy, sys; sys.path.insert(0, 'tools'); import packages; packages.DEBIAN = {debian!r}; sys.argv = {words!r}; runpy.run_path(sys.argv[0], run_name='__main__')"
+        done = subprocess.run([sys.executable, "-S", "-c", text], capture_output=True, text=True, check=False)
+        hold(done.returncode == status and done.stderr.startswith(said) and done.stderr.count("\n") == bool(said), f"{words[0]} without packages, {debian}: {done.returncode} {done.stderr}")
+    hold(os.path.exists(picture), "chart.py doesn't go on under Debian's Python")
+
+
+def check_named():
+    """The pages name the package of each module that a tool has from elsewhere."""
+    own = {os.path.basename(it)[:-3] for it in glob.glob("tools/*.py")}
+    wanted = {"graphviz"}
+    for file in sorted(glob.glob("tools/*.py")):
+        with open(file, encoding="utf-8") as it:
+            tree = ast.parse(it.read())
+        names = {it.name.split(".")[0] for node in ast.walk(tree) if isinstance(node, ast.Import) for it in node.names}
+        names |= {node.module.split(".")[0] for node in ast.walk(tree) if isinstance(node, ast.ImportFrom)}
+        # dask comes with distributed
+        wanted |= {PACKAGES.get(it, f"the package of {it}, which tools/packages.py doesn't have") for it in names - own - set(sys.stdlib_module_names) - {"dask"}}
+    for page in ("README.md", "docs/TUTORIAL.md"):
+        with open(page, encoding="utf-8") as it:
+            lines = re.findall(r"apt-get install ([a-z0-9 -]+)", it.read())
+        hold(any(wanted <= set(line.split()) for line in lines), f"{page}: it has no line with {sorted(wanted)}")
+
+
 with tempfile.TemporaryDirectory() as room:
     files = example_systems()
     formats = set()
@@ -275,8 +368,12 @@ with tempfile.TemporaryDirectory() as room:
     check_curves(room)
     for schedule in sorted(glob.glob("examples/*.schedule.csv")):
         check_gantt(room, os.path.basename(schedule).removesuffix(".schedule.csv"))
+        check_longest(room, os.path.basename(schedule).removesuffix(".schedule.csv"))
     check_late(room)
     check_jobs()
+    check_help()
+    check_packages(room)
+    check_named()
     hold(formats == {1, 2}, "examples/ has systems of both formats")
     for session in sorted(glob.glob("examples/*.session.txt")):
         # the last report is drawn, whose tasks may be others than before

@@ -1,11 +1,6 @@
 #!/usr/bin/env python3
 """Draws a schedule as a Gantt chart: a lane a resource, a colour a task, and who ran there when.
 
-    python3 tools/gantt.py examples/pedal.toml examples/pedal.schedule.csv --to pedal.svg
-    python3 tools/gantt.py examples/pedal.toml examples/pedal.schedule.csv --trace examples/pedal.trace.csv \\
-        --report examples/pedal.report.txt --from 0 --until 6000 --longest report --to pedal.svg
-    ./lokwurmi schedule FILE TRACE | python3 tools/gantt.py FILE - --trace TRACE --to run.png
-
 FILE is a system file, SCHEDULE has rows TASK,START,END as `lokwurmi audit` reads them and `lokwurmi schedule` writes them; -
 stands for what comes in. Where it is absent, `lokwurmi schedule` is called with --trace. The picture's name ends with .svg,
 .png or .pdf. The tasks of a path have its colour, as tools/graph.py draws it, lighter from task to task.
@@ -13,7 +8,12 @@ stands for what comes in. Where it is absent, `lokwurmi schedule` is called with
 With a trace, the one that the schedule is of, triangles show when jobs came (above the lane) and when they were done (below
 it), and TDMA slots stand where the trace's phases put them; without one the phases are 0. With a report of `lokwurmi analyse`
 as well, a job that took longer than its bound, or that isn't done though its bound is past, is framed in red, with a red line
-from its bound on. --longest marks the job of a task that took longest. --from and --until cut a part out.
+from its bound on. --from and --until cut a part out.
+
+--longest marks the job of a task that took longest, or the passage of a path that did: its jobs are framed, with a line for each
+from where it came to its end, and one for the whole below. Of a path only that stretch is drawn, and of a task where the run is
+more than 20 times as long, unless --from or --until say otherwise. Of several that took as long it is the first. Where a task
+and a path have one name, it is the task's, and path:NAME that of the path.
 """
 import argparse
 import os
@@ -21,9 +21,10 @@ import sys
 from typing import NamedTuple
 
 from colours import PALE, hues, letters_on, shades
+from packages import need
 from program import add_program, schedule_by
 from report import read_report
-from runs import jobs_in, read_schedule, read_trace, schedule_in
+from runs import jobs_in, passages_in, read_schedule, read_trace, schedule_in
 from system import read_system
 
 try:
@@ -31,17 +32,28 @@ try:
     from matplotlib.collections import LineCollection, PatchCollection
     from matplotlib.lines import Line2D
     from matplotlib.patches import Patch, Rectangle
+
+    matplotlib.use("Agg")
+    import matplotlib.pyplot as plt
 except ImportError:
-    sys.exit("gantt.py: the package matplotlib isn't here: pip install matplotlib, or apt-get install python3-matplotlib")
+    # told by `need`, after words that ask for help
+    pass
 
-matplotlib.use("Agg")
-import matplotlib.pyplot as plt
-
+EXAMPLES = """examples:
+  python3 tools/gantt.py examples/pedal.toml examples/pedal.schedule.csv --to pedal.svg
+  python3 tools/gantt.py examples/pedal.toml examples/pedal.schedule.csv --trace examples/pedal.trace.csv \\
+      --report examples/pedal.report.txt --from 0 --until 6000 --longest torque --to pedal.svg
+  ./lokwurmi schedule FILE TRACE | python3 tools/gantt.py FILE - --trace TRACE --to run.png
+  python3 tools/worst.py FILE --path NAME --to worst.csv
+  python3 tools/gantt.py FILE --trace worst.csv --longest NAME --to worst.png
+      the passage of a path that takes longest in the trace that was found"""
 # a picture's own ink and paper, which tools/page.py takes for those of the page
 INK, PAPER, FAINT, LATE = "#1c2733", "#fefefe", "#9aa5b1", "#c0392b"
 MOST_SEGMENTS, MOST_SLOTS, MOST_NAMES = 20000, 400, 24
 # the bars, the slots behind them, and where the marks of jobs are, in parts of a lane
 BAR, BAND, CAME, DONE, BELOW = 0.44, 0.68, -0.34, 0.34, 0.5
+# the stretch of what took longest is drawn with so much of it on either side, where the run is more than so many times as long
+MARGIN, LONG = 0.04, 20
 
 
 class Job(NamedTuple):
@@ -54,6 +66,17 @@ class Job(NamedTuple):
     last: int
     after: int
     bound: int | None
+
+
+class Longest(NamedTuple):
+    """What took longest: the name of a task or a path, its jobs, when the first came and the last was done, and the bound."""
+
+    name: str
+    jobs: list
+    came: int
+    done: int
+    bound: int | None
+    is_path: bool
 
 
 class Chart(NamedTuple):
@@ -158,25 +181,60 @@ def draw_late(axes, chart):
         axes.text(min(it.last, chart.until), y + BELOW, f"{it.name}: {took}, bound {it.bound}", ha="right", va="center", fontsize=6.5, color=LATE, zorder=6)
 
 
-def draw_longest(axes, chart, name):
-    """A line from where the job of a task that took longest came to its end, and a dotted one to its bound."""
-    job = max((it for it in jobs_of(chart.jobs, name, chart.bounds, 0) if it.done is not None), key=lambda it: it.done - it.came, default=None)
-    if job is None:
-        sys.exit(f"{name}: no job of it is done")
-    draw_outline(axes, chart, job, INK)
-    came, done, bound, y = job.came, job.done, job.bound, chart.place()[name] + BELOW
+def longest_in(system, jobs, bounds, events, name):
+    """The job of a task, or the passage of a path, that took longest: the first of these."""
+    ways = {it["name"]: it["tasks"] for it in system.get("path", [])}
+    is_path = name.startswith("path:") or name not in jobs
+    of_tasks, of_paths = bounds
+    if not is_path:
+        several = [it for it in jobs_of(jobs, name, of_tasks, 0) if it.done is not None]
+        it = max(several, key=lambda it: it.done - it.came, default=None)
+        return it and Longest(name, [it], it.came, it.done, it.bound, False)
+    name = name.removeprefix("path:")
+    passage = max(passages_in(system, jobs, events, ways[name]), key=lambda it: it.took(), default=None)
+    if passage is None or passage.done is None:
+        return None
+    way = [list(jobs_of(jobs, task, of_tasks, 0))[place] for task, place in zip(ways[name], passage.places)]
+    return Longest(name, way, passage.came, passage.done, of_paths.get(name), True)
+
+
+def draw_span(axes, came, done, bound, y, text, whole=False):
+    """A line from where something came to its end, and a dotted one to its bound, with a text in its middle; of a whole passage
+    the bound may be outside of the picture."""
     end = done if bound is None else max(done, came + bound)
     axes.plot([came, done], [y, y], color=INK, linewidth=1.2, marker="|", markersize=6, zorder=6)
     if end > done:
         axes.plot([done, end], [y, y], color=INK, linewidth=1, linestyle=":", zorder=6)
         axes.plot([end], [y], color=INK, marker="|", markersize=6, zorder=6)
-    axes.text((came + end) / 2, y, f"{name}: {done - came}" + (f", bound {bound}" if bound is not None else ""), ha="center", va="center", fontsize=7, color=INK, zorder=7, bbox={"facecolor": PAPER, "edgecolor": "none", "pad": 1.2}, clip_on=True)
+    if text:
+        look = {"facecolor": PAPER, "edgecolor": "none", "pad": 1.2}
+        axes.text((came + (done if whole else end)) / 2, y, text, ha="center", va="center", fontsize=7, color=INK, zorder=7, bbox=look, clip_on=True)
 
 
-def draw_frame(axes, chart):
+def draw_longest(axes, chart, longest, unit):
+    """What took longest: each job is framed, with a line of its own, and of a path one more below all lanes for the whole."""
+    told = f"{longest.done - longest.came}" + (f", bound {longest.bound}" if longest.bound is not None else "")
+    if not longest.is_path:
+        draw_outline(axes, chart, longest.jobs[0], INK)
+        draw_span(axes, longest.came, longest.done, longest.bound, chart.place()[longest.name] + BELOW, f"{longest.name}: {told}")
+        return
+    for job in longest.jobs:
+        draw_outline(axes, chart, job, INK)
+        names = (f"{job.name}: {job.done - job.came}", str(job.done - job.came))
+        # a letter is about 4.4 points wide
+        text = next((it for it in names if (job.done - job.came) / unit > 4.4 * (len(it) + 2)), "")
+        draw_span(axes, job.came, job.done, None, chart.place()[job.name] + BELOW, text)
+    for before, after in zip(longest.jobs, longest.jobs[1:]):
+        ends = [chart.place()[it.name] + BELOW for it in (before, after)]
+        axes.plot([after.came] * 2, ends, color=INK, linewidth=0.8, linestyle=(0, (2, 2)), zorder=1.5)
+    draw_span(axes, longest.came, longest.done, longest.bound, len(chart.lanes()) - 0.1, f"path {longest.name}: {told}", whole=True)
+
+
+def draw_frame(axes, chart, below=0.0):
+    """The lanes, and below them room for as many parts of one."""
     lanes = chart.lanes()
     axes.set_xlim(chart.start, max(chart.until, chart.start + 1))
-    axes.set_ylim(len(lanes) - 0.36, -0.58)
+    axes.set_ylim(len(lanes) - 0.36 + below, -0.58)
     axes.set_yticks(range(len(lanes)), [f"{it['name']}\n{it['kind']}" for it in lanes], fontsize=8, color=INK)
     axes.hlines([k + 0.5 for k in range(len(lanes) - 1)], chart.start, chart.until, color=FAINT, linewidth=0.4, alpha=0.6)
     axes.set_xlabel("ticks", fontsize=8, color=INK)
@@ -225,30 +283,32 @@ def chart_of(system, schedule, trace=None, bounds=None, start=None, until=None):
 
 
 def drawn(chart, width=10.0, longest=None):
-    """The figure of a chart."""
+    """The figure of a chart, with what took longest in it."""
     # words stay words, and the same schedule gives the same picture
     plt.rcParams.update({"svg.fonttype": "none", "svg.hashsalt": "lokwurmi", "font.family": "DejaVu Sans", "hatch.linewidth": 0.6})
     colour = shades(chart.system)
-    figure, axes = plt.subplots(figsize=(width, 0.62 * max(1, len(chart.lanes())) + 1.25), layout="constrained")
+    unit = (chart.until - chart.start) / (width * 72)
+    below = 0.5 if longest and longest.is_path else 0.0
+    figure, axes = plt.subplots(figsize=(width, 0.62 * (max(1, len(chart.lanes())) + below) + 1.25), layout="constrained")
     draw_slots(axes, chart, colour)
-    draw_bars(axes, chart, colour, (chart.until - chart.start) / (width * 72))
+    draw_bars(axes, chart, colour, unit)
     draw_jobs(axes, chart, colour)
     draw_late(axes, chart)
     if longest:
-        draw_longest(axes, chart, longest)
-    draw_frame(axes, chart)
+        draw_longest(axes, chart, longest, unit)
+    draw_frame(axes, chart, below)
     draw_legend(axes, chart, colour, width)
     return figure
 
 
 def asked_for():
-    reader = argparse.ArgumentParser(description=__doc__, formatter_class=argparse.RawDescriptionHelpFormatter)
+    reader = argparse.ArgumentParser(description=__doc__, formatter_class=argparse.RawDescriptionHelpFormatter, epilog=EXAMPLES)
     reader.add_argument("file", metavar="FILE", help="a system file")
     reader.add_argument("schedule", metavar="SCHEDULE", nargs="?", help="rows TASK,START,END, or - for the standard input; what lokwurmi schedule writes of the trace if absent")
     reader.add_argument("--trace", metavar="TRACE", help="the trace that the schedule is of: marks when jobs came and were done")
     reader.add_argument("--report", metavar="REPORT", help="what lokwurmi analyse wrote: marks jobs later than their bounds; wants --trace")
-    reader.add_argument("--longest", metavar="TASK", help="marks the job of this task that took longest; wants --trace")
-    reader.add_argument("--from", metavar="T", type=int, dest="start", default=0, help="the first tick that is drawn; 0 if absent")
+    reader.add_argument("--longest", metavar="NAME", help="marks the job of this task that took longest, or the passage of this path; wants --trace")
+    reader.add_argument("--from", metavar="T", type=int, dest="start", help="the first tick that is drawn; 0 if absent")
     reader.add_argument("--until", metavar="T", type=int, help="the tick at which the picture ends; that of the schedule if absent")
     reader.add_argument("--to", metavar="PICTURE", required=True, help="a name that ends with .svg, .png or .pdf")
     add_program(reader)
@@ -260,16 +320,36 @@ def asked_for():
             sys.exit(f"gantt.py: --{name} wants --trace, which tells when jobs came")
     if not (words.schedule or words.trace):
         sys.exit("gantt.py: name a SCHEDULE, or a trace by --trace, whose schedule `lokwurmi schedule` writes")
-    if words.start < 0 or words.until is not None and words.until <= words.start:
+    start = words.start or 0
+    if start < 0 or words.until is not None and words.until <= start:
         sys.exit("gantt.py: the time from --from to --until has no tick")
     return words
 
 
+def check_longest(name, system):
+    """Ends the tool where no task and no path has the name."""
+    tasks, paths = ({it["name"] for it in system.get(part, [])} for part in ("task", "path"))
+    if name not in tasks | paths and name.removeprefix("path:") not in paths:
+        there = ", ".join(sorted(paths)) or "none"
+        sys.exit(f"{name}: the system has no task of this name, and no path; its paths are {there}")
+
+
+def stretch(longest, start, until, last):
+    """From when to when is drawn, where that isn't said: the stretch of what took longest, of a path, or in a long run."""
+    whole = last - (start or 0) if until is None else until - (start or 0)
+    took = longest.done - longest.came if longest else 0
+    if not longest or start is not None or until is not None or not (longest.is_path or whole > LONG * took):
+        return start, until
+    more = max(1, round(MARGIN * took))
+    return max(0, longest.came - more), min(last, longest.done + more)
+
+
 def main():
     words = asked_for()
+    need("matplotlib")
     system = read_system(words.file)
-    if words.longest and words.longest not in {it["name"] for it in system.get("task", [])}:
-        sys.exit(f"{words.longest}: the system has no task of this name")
+    if words.longest:
+        check_longest(words.longest, system)
     if words.schedule:
         schedule = read_schedule(words.schedule, system)
     else:
@@ -277,11 +357,18 @@ def main():
         if text is None:
             sys.exit(f"{words.program}: it doesn't take `schedule FILE TRACE`: name a SCHEDULE")
         schedule = schedule_in(text, "lokwurmi schedule", system)
-    bounds = {name: it["worst"] for name, it in read_report(words.report)[0].items()} if words.report else None
-    chart = chart_of(system, schedule, words.trace and read_trace(words.trace), bounds, words.start, words.until)
+    report = read_report(words.report) if words.report else ({}, {})
+    bounds = [{name: it["worst"] for name, it in part.items()} for part in report]
+    trace, longest, start, until = words.trace and read_trace(words.trace), None, words.start, words.until
+    if words.longest:
+        longest = longest_in(system, jobs_in(system, schedule, trace), bounds, trace[0], words.longest)
+        if longest is None:
+            sys.exit(f"{words.longest}: no job of it is done")
+        start, until = stretch(longest, start, until, max((end for _, _, end in schedule), default=1))
+    chart = chart_of(system, schedule, trace, bounds[0], start, until)
     if len(chart.rows) > MOST_SEGMENTS:
         sys.exit(f"{words.schedule or words.trace}: there are {len(chart.rows)} segments in this time, and a picture takes {MOST_SEGMENTS}: cut a part out by --from and --until")
-    drawn(chart, longest=words.longest).savefig(words.to, metadata={"Date": None} if words.to.endswith(".svg") else None)
+    drawn(chart, longest=longest).savefig(words.to, metadata={"Date": None} if words.to.endswith(".svg") else None)
 
 
 if __name__ == "__main__":

@@ -24,6 +24,7 @@ from fractions import Fraction
 from behind import Behind
 from colours import hues, hues_of_sources, letters_on, shades
 from graph import graph
+from packages import need
 from program import add_program, schedule_by, written_by
 from report import reports_in, seen_in
 from runs import read, read_schedule, read_trace, schedule_in
@@ -32,7 +33,8 @@ from system import activators, read_system, sources_of
 try:
     import jinja2
 except ImportError:
-    sys.exit("page.py: the package jinja2 isn't here: pip install jinja2, or apt-get install python3-jinja2")
+    # told by `need`, after words that ask for help
+    pass
 
 HERE = os.path.dirname(os.path.abspath(__file__))
 # why an edit isn't made, by its number
@@ -48,6 +50,16 @@ LETTERS = 70
 
 def percent(share):
     return f"{float(share) * 100:.1f}"
+
+
+def rank(task, resource):
+    """What tells who goes first, as a word, a number and how that is told: an identifier of a frame that takes more than 11 bits
+    is told in hexadecimal, as other tools do."""
+    if "priority" not in task:
+        return {"by": "slot", "turn": task["slot"], "told": str(task["slot"])}
+    number = task["priority"]
+    is_long = resource["kind"] == "can" and number > 0x7FF
+    return {"by": "priority", "turn": number, "told": f"0x{number:X}" if is_long else str(number)}
 
 
 def label(name, bound, share):
@@ -103,9 +115,9 @@ class System:
         for name, task in self.tasks.items():
             found, sources = self.found_tasks[name], [self.sources[it] for it in sources_of(self.raw, name)]
             observed = seen[0][name] if seen else None
-            load = self.behind.load(name)
+            load, resource = self.behind.load(name), self.resources[task["on"]]
             rows.append({
-                "name": name, "on": task["on"], "after": activators(task), "by": "priority" if "priority" in task else "slot", "turn": task.get("priority", task.get("slot")), "hue": hue.get(name),
+                "name": name, "on": task["on"], "after": activators(task), "rank": rank(task, resource), "hue": hue.get(name), "of_slot": load / self.behind.room(name) if resource["kind"] == "tdma" else None,
                 "input": f"{found['streams']} streams" if found["streams"] > 1 else str(found["period"]), "period": min(it["period"] for it in sources), "jitter": found["jitter"], "distance": found["distance"],
                 "streams": sources if found["streams"] > 1 else [], "unbounded": self.behind.is_unbounded(name), "paths": [path for path, it in self.paths.items() if name in it["tasks"]],
                 "least": found["best"], "greatest": self.behind.greatest[name], "load": percent(load), "value": float(load), "worst": found["worst"], "seen": observed, "deadline": self.tightest(name, observed and observed["worst"]),
@@ -242,7 +254,7 @@ def page_of(words):
     room.filters["percent"] = percent
     return room.get_template("page.html").render(
         file=os.path.basename(words.file), system=system, graph=picture, chains=chains, resources=system.resource_rows(), tasks=system.task_rows(seen), paths=paths,
-        overload=len(over), missed=sum(it["verdict"] == "missed" for it in paths), unknown=sum(it["verdict"] == "unknown" for it in paths), with_deadline=sum(it["deadline"] is not None for it in paths),
+        endless=sum(it["worst"] is None for it in paths), overload=len(over), missed=sum(it["verdict"] == "missed" for it in paths), unknown=sum(it["verdict"] == "unknown" for it in paths), with_deadline=sum(it["deadline"] is not None for it in paths),
         causes=causes, over=over, run=run, changes=changes_of(words, system) if words.session else None,
     )
 
@@ -269,6 +281,7 @@ def asked_for():
 
 def main():
     words = asked_for()
+    need("jinja2", *(["matplotlib"] if words.trace else []))
     text = page_of(words)
     with open(words.to, "w", encoding="utf-8") as it:
         it.write(text)
