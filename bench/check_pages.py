@@ -247,7 +247,8 @@ with tempfile.TemporaryDirectory() as room:
     hold("docs/TUTORIAL.md: pedal.toml", tomllib.loads(files["pedal.toml"]), tomllib.loads(read("examples/pedal.toml")))
     keys = read("docs/FILES.md").split("## The system")[1].split("### Several activators")[0]
     told, wide = numbers(keys), numbers(keys) | shown(page)
-    for part in re.split(r"^##+ ", page, flags=re.M):
+    # a heading begins with the number of its step
+    for part in re.split(r"^##+ (?:\d+\. )?", page, flags=re.M):
         told |= check_figures("docs/TUTORIAL.md", part, told | shown(part), wide | told)
 section = {}
 for page, title in (("examples/README.md", "## Several activators"), ("docs/ANALYSIS.md", "## Several streams")):
