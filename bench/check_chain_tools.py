@@ -128,7 +128,8 @@ def check_worst(room, program):
         done = run("worst.py", *words, "--what", what)
         seen = replayed(system, read_trace(trace))
         most = effect_rules.Observed(seen.system, seen, "whenever").greatest(tasks)[0][what]
-        hold(f" {what} seen {most} bound " in done.stdout, f"worst.py --what {what}: {done.stdout}{done.stderr}, {most}")
+        told = f" {what} seen {most} bound " in done.stdout
+        hold(told, f"worst.py --what {what}: {done.stdout}{done.stderr}, in the trace {most}")
         hold(gaps_in(system, read_trace(trace)[0]) == [], f"worst.py --what {what}: a source doesn't stay near")
 
 

@@ -1,4 +1,4 @@
-"""The chains of a file on a page, for tools/page.py: their bounds, deadlines and verdicts, and what a run shows of them."""
+"""The chains of a file on a page, for tools/page.py: bounds, deadlines and verdicts, and what a run shows of them."""
 import re
 import sys
 from fractions import Fraction

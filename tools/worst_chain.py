@@ -3,7 +3,8 @@
 Its traces obey and their sources stay near, so that the bounds of `lokwurmi chain` hold in their runs: the k-th event
 of a source comes k periods after its start, and up to its jitter later. The search shifts sources so that a reader just
 misses what is written, that events of other tasks come with a job of the chain, and that events come late from one on,
-and keeps what is later. """
+and keeps what is later.
+"""
 import os
 import random
 import sys
@@ -16,7 +17,7 @@ from program import LAUNCHER, TOP, call
 from progress import Progress
 from runs import read_trace, schedule_in
 from seen import Late, Run, seen_of
-from system import activators, execution, read_system, sources_of
+from system import execution, read_system, sources_of
 
 BUILT = os.path.join(TOP, "crates/cpa_schedule/out/cpa_schedule")
 MOST_EVENTS = 4000
@@ -24,8 +25,8 @@ MOST_EVENTS = 4000
 KEPT = 6
 # how long a trace is for a chain without a bound
 UNBOUNDED = 100_000
-# the status of a run that would be too long
-TOO_LONG = 16
+# the status of a run that would be too long, and that of a search that was interrupted
+TOO_LONG, INTERRUPTED = 16, 130
 
 
 @dataclass
@@ -181,7 +182,7 @@ class ChainSearch:
     """The search for one chain: for its reaction, its age, or how long its data is held."""
 
     def __init__(self, options, tasks: list[str], folder: str):
-        self.options, self.tasks, self.what = options, tasks, options.what
+        self.options, self.tasks, self.what, self.status = options, tasks, options.what, 0
         self.system = read_system(options.file)
         bounds = bounds_by(options.program, options.file, tasks)
         self.bound = bounds.totals.get(self.what) if bounds else None
@@ -226,6 +227,7 @@ class ChainSearch:
                 if seen == self.bound or time.monotonic() > ends:
                     break
         except KeyboardInterrupt:
+            self.status = INTERRUPTED
             print("worst.py: interrupted: what is written was seen by then", file=sys.stderr)
         progress.clear()
         return pool[0] if pool else None
@@ -275,7 +277,7 @@ def perform_chain(options, folder: str) -> int:
     if options.to:
         write(options.to, search.maker.rows(found.plan))
     print(told(search, found, options.to), flush=True)
-    return 0
+    return search.status
 
 
 def write(file: str, rows: list[str]) -> None:
