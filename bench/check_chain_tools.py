@@ -2,11 +2,10 @@
 """Tries what tools/ tell and draw of chains that read registers. Outside the gate; needs matplotlib, and no network.
 
 `lokwurmi` is a stand-in by the plain rules of effect_rules.py and check_runs.py, so that nothing is built. What
-tools/effects.py tells of the example of a camera and a brake must be what the rules see of its run, by each rule of
-reading; where a source stays away it must say so, and what is beyond a bound must be told. tools/graph.py has a dotted
-line for each register, tools/gantt.py the latest reaction and the oldest data with their jobs, and what
-tools/worst.py finds must be seen in the trace that it writes, whose sources stay near. What isn't taken is told in a
-line.
+tools/effects.py tells of runs of a small system must be what the rules see of them, by each rule of reading; where a
+source stays away it must say so, and what is beyond a bound must be told. tools/graph.py has a dotted line for each
+register, tools/gantt.py the latest reaction and the oldest data, and what tools/worst.py finds must be seen in the
+trace that it writes, whose sources stay near. What isn't taken is told in a line.
 
     python3 bench/check_chain_tools.py
     python3 bench/check_chain_tools.py --rules chain FILE TASK..     # the stand-in
@@ -28,7 +27,11 @@ from runs import read_trace
 from seen import READINGS, gaps_in
 from system import activators, read_system
 
-FILE, TRACE, CHAINS = (f"examples/camera_brake{end}" for end in (".toml", ".trace.csv", ".chains.toml"))
+ENDS = (".toml", ".chains.toml", ".schedule.csv", ".trace.csv")
+FILE, CHAINS, SCHEDULE, TRACE = (f"examples/camera_brake{end}" for end in ENDS)
+# a system whose runs are short enough to be followed tick by tick, and its chains that are tried
+SMALL = "examples/effects.toml"
+SMALL_CHAINS = (("sense", "filter", "act"), ("sense", "act"), ("act", "sense", "filter"))
 PYTHON = python_with("matplotlib") or sys.exit("check_chain_tools.py: the package matplotlib isn't here")
 tried, faults = 0, []
 
@@ -57,28 +60,27 @@ def run(tool, *words, **more):
     return subprocess.run([PYTHON, f"tools/{tool}", *words], capture_output=True, text=True, check=False, **more)
 
 
-def without_image(room):
-    """The trace without its second image."""
-    with open(TRACE, encoding="ascii") as it:
-        lines = it.read().splitlines()
-    second = [it for it in lines if it.startswith("event,image,")][1]
-    file = os.path.join(room, "away.csv")
+def trace_in(room, left_out=None):
+    """A trace of the small system whose sources stay near, or with an event of `slow` left out."""
+    rows = [f"event,fast,{time}" for time in range(3, 140, 10)]
+    rows += [f"event,slow,{time}" for time in range(4, 140, 20) if time != left_out]
+    file = os.path.join(room, f"trace{left_out}.csv")
     with open(file, "w", encoding="ascii") as it:
-        it.write("\n".join(it for it in lines if it != second) + "\n")
+        it.write("".join(row + "\n" for row in [*rows, "exec,sense,1", "exec,filter,2", "exec,act,1"]))
     return file
 
 
-def check_told(program, tasks):
+def check_told(program, trace, tasks):
     """The table of effects.py: the numbers by each rule of reading, and the bounds."""
-    done = run("effects.py", FILE, TRACE, *tasks, "--program", program)
+    done = run("effects.py", SMALL, trace, *tasks, "--program", program)
     hold(done.returncode == 0 and "all sources stay near" in done.stdout, f"effects.py {tasks}: {done.stderr}")
-    seen = replayed(read_system(FILE), read_trace(TRACE))
+    seen = replayed(read_system(SMALL), read_trace(trace))
     for reading, words in READINGS.items():
-        most = effect_rules.Observed(seen.system, seen, reading).greatest(tuple(tasks))[0]
+        most = effect_rules.Observed(seen.system, seen, reading).greatest(tasks)[0]
         row = re.search(rf"^  jobs read {words}  +(\d+) \S+ +(\d+) \S+ +(\d+) \S+$", done.stdout, re.M)
         wanted = [most[it] for it in effect_rules.ASKED]
-        hold(row and [int(it) for it in row.groups()] == wanted, f"{tasks} read {words}")
-    with open(FILE, encoding="utf-8") as it:
+        hold(row and [int(it) for it in row.groups()] == wanted, f"{tasks} read {words}: {wanted}\n{done.stdout}")
+    with open(SMALL, encoding="utf-8") as it:
         limits = effect_rules.Bounds(it.read()).limits(tasks)
     row = re.search(r"^  bound in every run +(\d+) +(\d+) +(\d+)$", done.stdout, re.M)
     wanted = [limits[it] for it in effect_rules.ASKED]
@@ -86,17 +88,18 @@ def check_told(program, tasks):
 
 
 def check_effects(room, program):
+    trace = trace_in(room)
+    for tasks in SMALL_CHAINS:
+        check_told(program, trace, tasks)
     with open(CHAINS, "rb") as it:
-        chains = tomllib.load(it)["chain"]
-    for it in chains:
-        check_told(program, it["tasks"])
-    done = run("effects.py", FILE, TRACE, "--chains", CHAINS, "--program", program, "--late", "none")
-    hold(re.findall(r"^chain (\w+):", done.stdout, re.M) == [it["name"] for it in chains], "effects.py --chains")
-    done = run("effects.py", FILE, without_image(room), *chains[0]["tasks"], "--program", program)
-    hold("source image doesn't stay near" in done.stdout and "MAY BE BEYOND" in done.stdout, done.stdout)
-    hold(done.returncode == 0, "effects.py, where a source stays away")
-    less = {"env": os.environ | {"LESS": "1"}}
-    done = run("effects.py", FILE, TRACE, "slip", "act", "--program", program, **less)
+        names = [it["name"] for it in tomllib.load(it)["chain"]]
+    words = ["--chains", CHAINS, "--schedule", SCHEDULE, "--program", program, "--late", "none"]
+    done = run("effects.py", FILE, TRACE, *words)
+    hold(re.findall(r"^chain (\w+):", done.stdout, re.M) == names, f"effects.py --chains: {done.stderr}")
+    done = run("effects.py", SMALL, trace_in(room, 64), *SMALL_CHAINS[0], "--program", program)
+    hold("source slow doesn't stay near: events at 44 and 84, 20 apart at most" in done.stdout, done.stdout)
+    hold("MAY BE BEYOND" in done.stdout and done.returncode == 0, "effects.py, where a source stays away")
+    done = run("effects.py", SMALL, trace, *SMALL_CHAINS[0], "--program", program, env=os.environ | {"LESS": "1"})
     hold("BEYOND THE BOUND: reaction" in done.stdout and done.returncode == 1, f"beyond: {done.stdout}")
 
 
@@ -107,22 +110,25 @@ def check_pictures(room, program):
     steps = {step for it in chains for step in zip(it["tasks"], it["tasks"][1:]) if step[0] not in after[step[1]]}
     text = run("graph.py", "--registers", CHAINS, FILE).stdout
     hold(set(re.findall(r'"task (\S+)" -> "task (\S+)" \[style = "dotted"', text)) == steps, "graph.py --registers")
-    picture = os.path.join(room, "chain.svg")
+    picture, trace = os.path.join(room, "chain.svg"), trace_in(room)
+    seen = replayed(read_system(SMALL), read_trace(trace))
     for reading, words in READINGS.items():
-        done = run("gantt.py", FILE, "--trace", TRACE, "--chains", CHAINS, "--chain", "brake", "--reading", reading,
-                   "--program", program, "--to", picture)
-        seen = replayed(read_system(FILE), read_trace(TRACE))
-        most = effect_rules.Observed(seen.system, seen, reading).greatest(tuple(chains[0]["tasks"]))[0]
+        asked = ["--chain", ",".join(SMALL_CHAINS[0]), "--reading", reading, "--program", program, "--to", picture]
+        done = run("gantt.py", SMALL, "--trace", trace, *asked)
+        most = effect_rules.Observed(seen.system, seen, reading).greatest(SMALL_CHAINS[0])[0]
         with open(picture, encoding="utf-8") as it:
             text = it.read()
         for what in ("reaction", "age"):
             told = f"{what} {most[what]} of " in text and f"where jobs read {words}" in text
             hold(told, f"gantt.py, {what}, {reading}: {done.stderr}")
+    named = ["--chains", CHAINS, "--chain", "slip", "--program", program, "--to", picture]
+    done = run("gantt.py", FILE, SCHEDULE, "--trace", TRACE, *named)
+    hold(done.returncode == 0, f"gantt.py --chains: {done.stderr}")
 
 
 def check_worst(room, program):
-    trace, tasks = os.path.join(room, "late.csv"), ("sense", "filter", "act")
-    words = ["examples/effects.toml", "--chain", ",".join(tasks), "--tries", "60", "--to", trace, "--program", program]
+    trace, tasks = os.path.join(room, "late.csv"), SMALL_CHAINS[0]
+    words = [SMALL, "--chain", ",".join(tasks), "--tries", "30", "--to", trace, "--program", program]
     system = read_system(words[0])
     for what in effect_rules.ASKED:
         done = run("worst.py", *words, "--what", what)
@@ -135,7 +141,7 @@ def check_worst(room, program):
 
 def check_refused(room, program):
     """Words that aren't taken, with what is said."""
-    bad = os.path.join(room, "bad.toml")
+    bad, drawn = os.path.join(room, "bad.toml"), [FILE, SCHEDULE, "--trace", TRACE, "--to", "x.svg"]
     with open(bad, "w", encoding="utf-8") as it:
         it.write('format = 1\nchain = [{ name = "a", tasks = ["act"], reaction = 0 }]\n')
     for tool, words, said in (
@@ -143,8 +149,8 @@ def check_refused(room, program):
         ("effects.py", [FILE, TRACE, "nobody"], "has no task nobody"),
         ("effects.py", [FILE, TRACE, "--chains", bad], "bad.toml: chain 1 wants 1 to 1000000000 ticks for reaction"),
         ("effects.py", [FILE, TRACE, "--chains", "nothing.toml"], "nothing.toml: can't be read"),
-        ("gantt.py", [FILE, "--trace", TRACE, "--chain", "act,no", "--to", "x.svg"], "has no task no"),
-        ("gantt.py", [FILE, "--trace", TRACE, "--chains", CHAINS, "--chain", "no", "--to", "x.svg"], "is no chain no"),
+        ("gantt.py", [*drawn, "--chain", "act,no"], "has no task no"),
+        ("gantt.py", [*drawn, "--chains", CHAINS, "--chain", "no"], "is no chain no"),
         ("gantt.py", [FILE, "x.csv", "--chain", "act", "--to", "x.svg"], "--chain wants --trace"),
         ("worst.py", [FILE, "--chain", "act,no"], "has no task no"),
     ):

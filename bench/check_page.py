@@ -42,6 +42,7 @@ sys.path.append(os.path.join(TOP, "tools"))
 from behind import Behind
 from report import reports_in
 from runs import jobs_in, read_schedule, read_trace
+from seen import Run, seen_of
 from system import read_system
 
 EXAMPLES = os.path.join(TOP, "examples")
@@ -476,28 +477,35 @@ def check_chains(room, page_of):
         bounds = effect_rules.Bounds(it.read())
     with open(listed, "rb") as it:
         chains = tomllib.load(it)["chain"]
-    schedule = written(os.path.join(room, "camera_brake.csv"), schedule_of(file, trace))
+    schedule = example("camera_brake", ".schedule.csv")
     page = page_of("camera_brake", file, "--chains", listed, "--trace", trace, "--schedule", schedule)
     page.browser.size(1400)
-    run = replayed(read_system(file), read_trace(trace))
-    observed, rows = effect_rules.Observed(run.system, run, "whenever"), page.table("chain-table")
-    wanted = []
+    system, rows, wanted = read_system(file), page.table("chain-table"), []
+    # what this finds is held against the plain rules by check_effects.py
+    run = Run(system, read_schedule(schedule, system), read_trace(trace))
     for it in chains:
-        tasks = tuple(it["tasks"])
-        limits, seen = bounds.limits(tasks), observed.greatest(tasks)[0]
+        limits, seen = bounds.limits(it["tasks"]), seen_of(run, it["tasks"], "whenever").latest
         for what in ("reaction", "age"):
-            deadline = it.get(what)
-            wanted.append([it["name"], what, str(limits[what]), "–" if deadline is None else str(deadline), effect_rules.verdict(limits[what], deadline), str(seen[what])])
-    page.hold([[row[key] for key in ("Chain", "Of", "Bound", "Deadline", "Verdict", "Seen")] for row in rows] == wanted, f"the chains are {rows}")
+            deadline = "–" if it.get(what) is None else str(it[what])
+            verdict, latest = effect_rules.verdict(limits[what], it.get(what)), str(seen[what].ticks())
+            wanted.append([it["name"], what, str(limits[what]), deadline, verdict, latest])
+    columns = ("Chain", "Of", "Bound", "Deadline", "Verdict", "Seen")
+    page.hold([[row[key] for key in columns] for row in rows] == wanted, f"the chains are {rows}")
     check_parts(page, rows)
-    page.hold("In this run all sources keep to that" in page.run("document.querySelector('#chains').innerText"), "the premise isn't told to be there")
-    with open(trace, encoding="ascii") as it:
-        lines = it.read().splitlines()
-    images = [it for it in lines if it.startswith("event,image,")]
-    away = written(os.path.join(room, "away.csv"), "\n".join(it for it in lines if it != images[1]) + "\n")
-    schedule = written(os.path.join(room, "away_run.csv"), schedule_of(file, away))
-    page = page_of("camera_brake_away", file, "--chains", listed, "--trace", away, "--schedule", schedule)
-    page.hold("In this run image stays away" in page.run("document.querySelector('#chains').innerText"), "a source that stays away isn't told")
+    words = page.run("document.querySelector('#chains').innerText")
+    page.hold("In this run all sources keep to that" in words, "the premise isn't told to be there")
+    check_away(room, page_of)
+
+
+def check_away(room, page_of):
+    """A run in which a source stays away: `slow` has a period of 20 ticks."""
+    chains = 'format = 1\nchain = [{ name = "all", tasks = ["sense", "filter", "act"] }]\n'
+    listed, trace = written(os.path.join(room, "all.toml"), chains), os.path.join(room, "away.csv")
+    written(trace, "event,fast,0\nevent,fast,10\nevent,slow,0\nevent,slow,50\n")
+    schedule = written(os.path.join(room, "away_run.csv"), schedule_of(example("effects", ".toml"), trace))
+    page = page_of("away", example("effects", ".toml"), "--chains", listed, "--trace", trace, "--schedule", schedule)
+    words = page.run("document.querySelector('#chains').innerText")
+    page.hold("In this run slow stays away: its events at 0 and 50 may be 20 apart at most." in words, words)
 
 
 def check_parts(page, rows):
