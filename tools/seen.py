@@ -242,6 +242,6 @@ def gaps_in(system: dict, events: dict[str, list[int]]) -> list[Gap]:
             if time - n * period > least + jitter:
                 found.append(Gap(it["name"], events[it["name"]][place], time, (n - place) * period + jitter))
                 break
-            if time - n * period < least:
+            if time - n * period <= least:
                 least, place = time - n * period, n
     return found
