@@ -1,5 +1,6 @@
 """Calls of programs, timed: shared by the scripts of this folder."""
 import contextlib
+import glob
 import os
 import subprocess
 import sys
@@ -7,6 +8,11 @@ import tempfile
 import time
 
 TOP = os.path.join(os.path.dirname(os.path.abspath(__file__)), "..")
+
+
+def example_systems():
+    """The system files of examples/, beside which files of chains stand, as named from the top folder."""
+    return sorted(it for it in glob.glob("examples/*.toml", root_dir=TOP) if not it.endswith(".chains.toml"))
 
 
 def built(crate):

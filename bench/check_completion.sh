@@ -100,6 +100,8 @@ ask "" slack missing.toml ""
 ask "" slack two.toml a ""
 ask "" generate ""
 for system in "$top"/examples/*.toml; do
+  # beside the systems files of chains stand
+  [[ $system != *.chains.toml ]] || continue
   for part in resource task; do
     # beside a reader of TOML
     names=$(_lokwurmi_names "$part" "$system" | sort -u | tr '\n' ' ')

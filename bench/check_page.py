@@ -7,7 +7,8 @@ each resource and of slots, sort each column both ways by mouse and by keyboard,
 dark, and print. In windows of five widths the first column of Paths leaves room for the others, the tables of a page with long
 names aren't cut from 1366 on, and the lines between their rows go on under the fixed column. Pages of overloaded systems must
 tell what lies behind; what is told of random systems that are overloaded must be so: with a limit a hundred times as high a
-task that has too much work has no bound still, and each task without one has a cause. What page.py doesn't take is refused in
+task that has too much work has no bound still, and each task without one has a cause. A page with a file of chains shows their
+bounds and verdicts, what they are the sum of, and where a source of the run stays away. What page.py doesn't take is refused in
 a line.
 
 A schedule that isn't among the examples is made by the step rules of check_runs.py. With --keep pictures of the pages, in
@@ -31,6 +32,7 @@ try:
 except ImportError:
     sys.exit("check_page.py: the package matplotlib isn't here: apt-get install python3-matplotlib, for /usr/bin/python3")
 
+import effect_rules
 from browser import Browser
 from check_runs import file_of, made, plain, replayed
 
@@ -40,6 +42,7 @@ sys.path.append(os.path.join(TOP, "tools"))
 from behind import Behind
 from report import reports_in
 from runs import jobs_in, read_schedule, read_trace
+from seen import Run, seen_of
 from system import read_system
 
 EXAMPLES = os.path.join(TOP, "examples")
@@ -457,12 +460,63 @@ def check_refusals(room, program):
         ("can't be called", [two, "--to", page, "--program", os.path.join(room, "nothing")]),
         ("status 14: system refused reason 13 file 0", [bad, "--to", page]),
         ("status 16", [two, "--to", page, "--trace", trace]),
+        ("chain 1 names a task capture, which the system doesn't have", [two, "--to", page, "--chains", example("camera_brake", ".chains.toml")]),
         ("the system has no task a", [chains, "--to", page, "--trace", trace, "--schedule", schedule]),
     ):
         words += [] if "--program" in words else ["--program", program]
         done = subprocess.run([sys.executable, os.path.join(TOP, "tools", "page.py"), *words], capture_output=True, text=True, check=False)
         hold(done.returncode == 1 and said in done.stderr, f"page.py {words}: {done.returncode} {done.stderr}")
     hold(not os.path.exists(page), "a page is written though something is refused")
+
+
+def check_chains(room, page_of):
+    """A page with chains: their bounds, deadlines and verdicts by the plain rules, the parts of each bar, what the run shows, and
+    that it is told where a source stays away."""
+    file, listed, trace = (example("camera_brake", end) for end in (".toml", ".chains.toml", ".trace.csv"))
+    with open(file, encoding="utf-8") as it:
+        bounds = effect_rules.Bounds(it.read())
+    with open(listed, "rb") as it:
+        chains = tomllib.load(it)["chain"]
+    schedule = example("camera_brake", ".schedule.csv")
+    page = page_of("camera_brake", file, "--chains", listed, "--trace", trace, "--schedule", schedule)
+    page.browser.size(1400)
+    system, rows, wanted = read_system(file), page.table("chain-table"), []
+    # what this finds is held against the plain rules by check_effects.py
+    run = Run(system, read_schedule(schedule, system), read_trace(trace))
+    for it in chains:
+        limits, seen = bounds.limits(it["tasks"]), seen_of(run, it["tasks"], "whenever").latest
+        for what in ("reaction", "age"):
+            deadline = "–" if it.get(what) is None else str(it[what])
+            verdict, latest = effect_rules.verdict(limits[what], it.get(what)), str(seen[what].ticks())
+            wanted.append([it["name"], what, str(limits[what]), deadline, verdict, latest])
+    columns = ("Chain", "Of", "Bound", "Deadline", "Verdict", "Seen")
+    page.hold([[row[key] for key in columns] for row in rows] == wanted, f"the chains are {rows}")
+    check_parts(page, rows)
+    words = page.run("document.querySelector('#chains').innerText")
+    page.hold("In this run all sources keep to that" in words, "the premise isn't told to be there")
+    check_away(room, page_of)
+
+
+def check_away(room, page_of):
+    """A run in which a source stays away: `slow` has a period of 20 ticks."""
+    chains = 'format = 1\nchain = [{ name = "all", tasks = ["sense", "filter", "act"] }]\n'
+    listed, trace = written(os.path.join(room, "all.toml"), chains), os.path.join(room, "away.csv")
+    written(trace, "event,fast,0\nevent,fast,10\nevent,slow,0\nevent,slow,50\n")
+    schedule = written(os.path.join(room, "away_run.csv"), schedule_of(example("effects", ".toml"), trace))
+    page = page_of("away", example("effects", ".toml"), "--chains", listed, "--trace", trace, "--schedule", schedule)
+    words = page.run("document.querySelector('#chains').innerText")
+    page.hold("In this run slow stays away: its events at 0 and 50 may be 20 apart at most." in words, words)
+
+
+def check_parts(page, rows):
+    """The parts of each bar of a chain: as long as what they tell, and their sum is the bound."""
+    for place, row in enumerate(rows):
+        bar = f"document.querySelectorAll('#chain-table .chain')[{place}]"
+        ticks = [int(it.split()[-1]) for it in page.run(f"{bar}.getAttribute('aria-label')").split(", ")]
+        widths = page.run(f"[...{bar}.querySelectorAll('i')].map((it) => it.getBoundingClientRect().width)")
+        page.hold(sum(ticks) == int(row["Bound"]), f"the parts of {row['Chain']}, {row['Of']}: {ticks}")
+        per = sum(widths) / sum(ticks)
+        page.hold(all(abs(width - it * per) < 2 for it, width in zip(ticks, widths)), f"the bar of {row['Chain']}, {row['Of']}: {widths}")
 
 
 def check_examples(room, words, page_of):
@@ -515,6 +569,7 @@ def main():
         try:
             check_examples(room, words, page_of)
             check_wide(room, page_of)
+            check_chains(room, page_of)
             check_cases(room, words.program, page_of)
         finally:
             browser.close()

@@ -4,7 +4,8 @@ each edit that it shows as refused. docs/TUTORIAL.md is followed from its first 
 reader write are written, added to and changed, and each call is made with the files as they are by then; at its end they are
 those of examples/. Each call of a tool of tools/ in a block of a page, that writes a picture or a page of docs/, is made once
 more, and must write what stands there: the same tables, and pictures that say the same. The tables of docs/TIGHTNESS.md are
-worked out from the traces of examples/worst/, which are replayed. Outside the gate.
+worked out from the traces of examples/worst/, which are replayed; those of chains must have sources that stay near. Outside
+the gate.
 
 Of docs/TUTORIAL.md, and of the sections that tell of examples with several activators, the figures in the text are held too:
 each number above 10 stands in a block or a table of its section of the page, in the files of those examples, or in what
@@ -23,9 +24,15 @@ import sys
 import tempfile
 import tomllib
 
-from calls import python_with
+from calls import example_systems, python_with
 
 TOP = os.path.join(os.path.dirname(os.path.abspath(__file__)), "..")
+sys.path.append(os.path.join(TOP, "tools"))
+
+from runs import read_trace, schedule_in
+from seen import Run, gaps_in, seen_of
+from system import read_system
+
 os.chdir(TOP)
 tried = 0
 faults = []
@@ -194,6 +201,19 @@ def latest(name):
     return [(kind, what, int(bound), found.get((kind, what), 0)) for kind, what, bound in report]
 
 
+def latest_of_chain(name, tasks, what):
+    """The bound of a chain of an example, and the latest that its traces in examples/worst/ show, all of whose sources stay near."""
+    file, seen = f"examples/{name}.toml", 0
+    system = read_system(file)
+    for trace in sorted(glob.glob(f"examples/worst/{name}.chain*.csv")):
+        events = read_trace(trace)
+        hold(f"{trace}: its sources stay near", gaps_in(system, events[0]), [])
+        run = Run(system, schedule_in(call("schedule", file, trace), trace, system), events)
+        late = seen_of(run, tasks, "whenever").latest[what]
+        seen = max(seen, late.ticks() if late else 0)
+    return int(re.search(rf"\b{what} (\d+)", call("chain", file, *tasks).splitlines()[-1])[1]), seen
+
+
 def ratio_of(seen, bound):
     """In four digits, rounded down: 1.0000 only where the bound is reached."""
     return f"{seen * 10_000 // bound / 10_000:.4f}"
@@ -213,9 +233,12 @@ def check_tightness(page, text):
             hold(f"{page}: {names}, {kind} {what}", told.get((names, kind, what)), (int(bound), int(seen)))
     for name, kind, what, bound, seen, ratio in re.findall(r"^\| (\w+) \| (task|path) `([\w.]+)` \| (\d+) \| (\d+) \| (\S+) \|", text, re.M):
         hold(f"{page}: {name}, {kind} {what}", [told.get((name, kind, what)), ratio_of(int(seen), int(bound))], [(int(bound), int(seen)), ratio])
+    for name, chain, what, bound, seen, ratio in re.findall(r"^\| (\w+) \| chain `([\w, ]+)`, (\w+) \| (\d+) \| (\d+) \| (\S+) \|", text, re.M):
+        found = latest_of_chain(name, chain.split(", "), what)
+        hold(f"{page}: {name}, {what} of {chain}", [found, ratio_of(int(seen), int(bound))], [(int(bound), int(seen)), ratio])
     # each example is in a row
     rows = {name for names in re.findall(r"^\| ([a-z_, ]+) \| \d+ \|", text, re.M) for name in names.split(", ")}
-    hold(f"{page}: its examples", sorted(rows), sorted(os.path.basename(it)[:-5] for it in glob.glob("examples/*.toml")))
+    hold(f"{page}: its examples", sorted(rows), sorted(os.path.basename(it)[:-5] for it in example_systems()))
 
 
 python = python_with("matplotlib", "jinja2")
@@ -247,7 +270,8 @@ with tempfile.TemporaryDirectory() as room:
     hold("docs/TUTORIAL.md: pedal.toml", tomllib.loads(files["pedal.toml"]), tomllib.loads(read("examples/pedal.toml")))
     keys = read("docs/FILES.md").split("## The system")[1].split("### Several activators")[0]
     told, wide = numbers(keys), numbers(keys) | shown(page)
-    for part in re.split(r"^##+ ", page, flags=re.M):
+    # a heading begins with the number of its step
+    for part in re.split(r"^##+ (?:\d+\. )?", page, flags=re.M):
         told |= check_figures("docs/TUTORIAL.md", part, told | shown(part), wide | told)
 section = {}
 for page, title in (("examples/README.md", "## Several activators"), ("docs/ANALYSIS.md", "## Several streams")):

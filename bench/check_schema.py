@@ -14,6 +14,8 @@ import re
 import sys
 import tomllib
 
+from calls import example_systems
+
 try:
     import jsonschema
 except ImportError:
@@ -40,7 +42,7 @@ schema = json.loads(read("docs", "lokwurmi.schema.json"))
 jsonschema.Draft7Validator.check_schema(schema)
 validator = jsonschema.Draft7Validator(schema)
 
-examples = sorted(it for it in os.listdir(os.path.join(TOP, "examples")) if it.endswith(".toml"))
+examples = [os.path.basename(it) for it in example_systems()]
 for name in examples:
     text = read("examples", name)
     hold(text.startswith(FIRST_LINE), f"examples/{name}: its first line doesn't name the schema")

@@ -37,6 +37,7 @@ except ImportError:
 TOP = os.path.join(os.path.dirname(os.path.abspath(__file__)), "..")
 os.chdir(TOP)
 sys.path.append("tools")
+from calls import example_systems
 from check_runs import Run, made, passages, replayed, traced
 from packages import PACKAGES
 from report import read_report
@@ -350,7 +351,7 @@ def check_named():
 
 
 with tempfile.TemporaryDirectory() as room:
-    files = sorted(it for it in glob.glob("examples/*.toml") if not it.endswith(".chains.toml"))
+    files = example_systems()
     formats = set()
     for file in files:
         report = file[:-5] + ".report.txt"

@@ -7,7 +7,6 @@ whose tasks have up to three activators, `hammer` must write what `simulate` doe
 
     python3 bench/compare_made.py [NUMBER to begin with, 0 if absent]
 """
-import glob
 import os
 import subprocess
 import sys
@@ -15,6 +14,7 @@ import tempfile
 import tomllib
 
 import compare as plain
+from calls import example_systems
 
 TOP = os.path.join(os.path.dirname(os.path.abspath(__file__)), "..")
 PROGRAM = os.path.join(TOP, "crates/cpa_cli/out/cpa_cli")
@@ -141,11 +141,9 @@ def main():
                 told = f"load number {number} size {size} bounds {bounds}\n{report.splitlines()[-1]}\n"
                 compare(f"load {number} {size}", call("load", number, size), (told, status))
                 systems += 1
-        for example in sorted(glob.glob(os.path.join(TOP, "examples/*.toml"))):
-            if example.endswith(".chains.toml"):
-                continue
+        for example in example_systems():
             for traces in (1, 4, 7):
-                hammer(example, begin + traces, traces, trace)
+                hammer(os.path.join(TOP, example), begin + traces, traces, trace)
                 hammered += 1
         for place in range(begin, begin + 40):
             with open(file, "w", encoding="ascii") as it:

@@ -16,7 +16,8 @@ tell() {
   fi
 }
 for system in *.toml; do
-  [[ $system == *.chains.toml ]] && continue
+  # beside the systems files of chains stand
+  [[ $system != *.chains.toml ]] || continue
   tell "$system" "${system%.toml}.report.txt" analyse "$system"
 done
 for trace in *.trace.csv; do
@@ -38,6 +39,8 @@ for script in *.script.txt; do
 done
 tell "chain of effects.toml" effects.chain.txt chain effects.toml sense filter act
 tell "chains of effects.toml" effects.chains.txt chains effects.toml effects.chains.toml
+tell "chain of camera_brake.toml" camera_brake.chain.txt chain camera_brake.toml capture detect send request decide act
+tell "camera_brake.chains.toml" camera_brake.chains.txt chains camera_brake.toml camera_brake.chains.toml
 # made_system.toml is what was made, with a head before it
 tell "generate 42 1" <(grep -v '^#' made_system.toml) generate 42 1
 tell "load 42 1" made_system.load.txt load 42 1

@@ -14,17 +14,25 @@ from its bound on. --from and --until cut a part out.
 from where it came to its end, and one for the whole below. Of a path only that stretch is drawn, and of a task where the run is
 more than 20 times as long, unless --from or --until say otherwise. Of several that took as long it is the first. Where a task
 and a path have one name, it is the task's, and path:NAME that of the path.
+
+--chain marks a chain of tasks, each of which reads what the one before wrote last, or one of a file of chains by its name: its
+latest reaction in the run, in crimson, and its oldest data, dashed in green. Their jobs are framed, an arrow leads from the end of
+each, which writes, to where the next one reads, and a line below shows the whole, beside the bound that `lokwurmi chain` tells.
+When jobs read isn't in a schedule: --reading says by which rule they are taken to.
 """
 import argparse
 import os
 import sys
 from typing import NamedTuple
 
+from arrows import Marked, draw_marked, marked_in
+from chains import bounds_by, read_chains
 from colours import PALE, hues, letters_on, shades
 from packages import need
 from program import add_program, schedule_by
 from report import read_report
 from runs import jobs_in, passages_in, read_schedule, read_trace, schedule_in
+from seen import READINGS, Run
 from system import read_system
 
 try:
@@ -46,7 +54,9 @@ EXAMPLES = """examples:
   ./lokwurmi schedule FILE TRACE | python3 tools/gantt.py FILE - --trace TRACE --to run.png
   python3 tools/worst.py FILE --path NAME --to worst.csv
   python3 tools/gantt.py FILE --trace worst.csv --longest NAME --to worst.png
-      the passage of a path that takes longest in the trace that was found"""
+      the passage of a path that takes longest in the trace that was found
+  python3 tools/gantt.py FILE --trace TRACE --chain capture,detect,send --reading start --to chain.png
+  python3 tools/gantt.py FILE --trace TRACE --chains CHAINS --chain brake --to chain.png"""
 # a picture's own ink and paper, which tools/page.py takes for those of the page
 INK, PAPER, FAINT, LATE = "#1c2733", "#fefefe", "#9aa5b1", "#c0392b"
 MOST_SEGMENTS, MOST_SLOTS, MOST_NAMES = 20000, 400, 24
@@ -282,13 +292,13 @@ def chart_of(system, schedule, trace=None, bounds=None, start=None, until=None):
     return Chart(system, rows, jobs, late, trace[2] if trace else {}, bounds or {}, start, until)
 
 
-def drawn(chart, width=10.0, longest=None):
-    """The figure of a chart, with what took longest in it."""
+def drawn(chart, width=10.0, longest=None, run=None, marked=()):
+    """The figure of a chart, with what took longest in it, and what is marked of a chain in its run."""
     # words stay words, and the same schedule gives the same picture
     plt.rcParams.update({"svg.fonttype": "none", "svg.hashsalt": "lokwurmi", "font.family": "DejaVu Sans", "hatch.linewidth": 0.6})
     colour = shades(chart.system)
     unit = (chart.until - chart.start) / (width * 72)
-    below = 0.5 if longest and longest.is_path else 0.0
+    below = (0.5 if longest and longest.is_path else 0.0) + 0.45 * len(marked)
     figure, axes = plt.subplots(figsize=(width, 0.62 * (max(1, len(chart.lanes())) + below) + 1.25), layout="constrained")
     draw_slots(axes, chart, colour)
     draw_bars(axes, chart, colour, unit)
@@ -296,6 +306,7 @@ def drawn(chart, width=10.0, longest=None):
     draw_late(axes, chart)
     if longest:
         draw_longest(axes, chart, longest, unit)
+    draw_marked(axes, chart.place(), run, marked, len(chart.lanes()) - 0.1 + (0.5 if longest and longest.is_path else 0.0))
     draw_frame(axes, chart, below)
     draw_legend(axes, chart, colour, width)
     return figure
@@ -308,6 +319,9 @@ def asked_for():
     reader.add_argument("--trace", metavar="TRACE", help="the trace that the schedule is of: marks when jobs came and were done")
     reader.add_argument("--report", metavar="REPORT", help="what lokwurmi analyse wrote: marks jobs later than their bounds; wants --trace")
     reader.add_argument("--longest", metavar="NAME", help="marks the job of this task that took longest, or the passage of this path; wants --trace")
+    reader.add_argument("--chain", metavar="TASK,TASK..", help="marks the latest reaction of this chain and its oldest data; wants --trace")
+    reader.add_argument("--chains", metavar="CHAINS", help="a file of chains: --chain is the name of one")
+    reader.add_argument("--reading", choices=READINGS, default="whenever", help="when jobs of the chain are taken to read (whenever)")
     reader.add_argument("--from", metavar="T", type=int, dest="start", help="the first tick that is drawn; 0 if absent")
     reader.add_argument("--until", metavar="T", type=int, help="the tick at which the picture ends; that of the schedule if absent")
     reader.add_argument("--to", metavar="PICTURE", required=True, help="a name that ends with .svg, .png or .pdf")
@@ -315,9 +329,11 @@ def asked_for():
     words = reader.parse_args()
     if os.path.splitext(words.to)[1] not in (".svg", ".png", ".pdf"):
         sys.exit(f"{words.to}: a picture's name ends with .svg, .png or .pdf")
-    for name in ("report", "longest"):
+    for name in ("report", "longest", "chain"):
         if getattr(words, name) and not words.trace:
             sys.exit(f"gantt.py: --{name} wants --trace, which tells when jobs came")
+    if words.chains and not words.chain:
+        sys.exit("gantt.py: --chains wants --chain, the name of one of them")
     if not (words.schedule or words.trace):
         sys.exit("gantt.py: name a SCHEDULE, or a trace by --trace, whose schedule `lokwurmi schedule` writes")
     start = words.start or 0
@@ -332,6 +348,40 @@ def check_longest(name, system):
     if name not in tasks | paths and name.removeprefix("path:") not in paths:
         there = ", ".join(sorted(paths)) or "none"
         sys.exit(f"{name}: the system has no task of this name, and no path; its paths are {there}")
+
+
+def chain_in(words, system):
+    """The tasks of the chain that is asked for."""
+    if words.chains:
+        chains = {it.name: it.tasks for it in read_chains(words.chains, system)}
+        if words.chain not in chains:
+            sys.exit(f"{words.chains}: there is no chain {words.chain}; it has {', '.join(chains) or 'none'}")
+        return chains[words.chain]
+    tasks, names = words.chain.split(","), {it["name"] for it in system.get("task", [])}
+    if unknown := [it for it in tasks if it not in names]:
+        sys.exit(f"{words.file}: the system has no task {unknown[0]}")
+    return tasks
+
+
+def marked_of(words, system, run):
+    """What is marked of the chain: nothing where none is asked for."""
+    if not words.chain:
+        return []
+    tasks = chain_in(words, system)
+    bounds = bounds_by(words.program, words.file, tasks)
+    marked = marked_in(run, tasks, words.reading, bounds.totals if bounds else {}, READINGS[words.reading])
+    if not marked:
+        sys.exit(f"{' '.join(tasks)}: nothing of the chain is seen in this run")
+    return marked
+
+
+def stretch_of_chain(marked: list[Marked], start, until, last):
+    """From when to when is drawn, where that isn't said: the stretch of what is marked."""
+    if not marked or start is not None or until is not None:
+        return start, until
+    first, end = min(it.late.since for it in marked), max(it.late.until for it in marked)
+    more = max(1, round(MARGIN * (end - first)))
+    return max(0, first - more), min(last, end + more)
 
 
 def stretch(longest, start, until, last):
@@ -365,10 +415,13 @@ def main():
         if longest is None:
             sys.exit(f"{words.longest}: no job of it is done")
         start, until = stretch(longest, start, until, max((end for _, _, end in schedule), default=1))
+    run = Run(system, schedule, trace) if words.chain else None
+    marked = marked_of(words, system, run)
+    start, until = stretch_of_chain(marked, start, until, max((end for _, _, end in schedule), default=1))
     chart = chart_of(system, schedule, trace, bounds[0], start, until)
     if len(chart.rows) > MOST_SEGMENTS:
         sys.exit(f"{words.schedule or words.trace}: there are {len(chart.rows)} segments in this time, and a picture takes {MOST_SEGMENTS}: cut a part out by --from and --until")
-    drawn(chart, longest=longest).savefig(words.to, metadata={"Date": None} if words.to.endswith(".svg") else None)
+    drawn(chart, longest=longest, run=run, marked=marked).savefig(words.to, metadata={"Date": None} if words.to.endswith(".svg") else None)
 
 
 if __name__ == "__main__":

@@ -1,7 +1,7 @@
 #!/usr/bin/env python3
 """Draws a system file as a graph for Graphviz: resources as boxes, with their tasks, and who activates whom.
 
-    python3 tools/graph.py [--chains] [--to PICTURE] FILE [REPORT]
+    python3 tools/graph.py [--chains] [--registers CHAINS] [--to PICTURE] FILE [REPORT]
 
 FILE is a system file that `lokwurmi analyse` accepts, REPORT what it wrote of it. A task that any one of several activators
 starts has a line to it from each, and so has a double edge; where several streams come to a task, it tells how many. The
@@ -9,7 +9,8 @@ links of a path have its colour: that of the first path that has them. With a re
 greatest time and its verdict; a task without a bound, and the tasks of a path that misses its deadline, are marked. Without
 --to the graph is written in Graphviz's language dot; with it Graphviz draws the picture, whose name ends
 with .svg, .png or .pdf. With --chains tasks are left out that neither activate another nor are activated by one, and a
-resource tells how many these are.
+resource tells how many these are. With --registers a dotted line leads to each task of a chain of the file CHAINS that isn't
+started by the one before it but reads what that one wrote last.
 """
 import argparse
 import os
@@ -17,11 +18,14 @@ import shutil
 import subprocess
 import sys
 
+from chains import Chain, read_chains
 from colours import HUES, hues
 from report import read_report
 from system import activators, execution, read_system
 
 OVERLOADED, MISSED = "#f5b7b1", "#fbe3b5"
+# the line from who writes a register to who reads it
+READ = 'style = "dotted", penwidth = 1.8, color = "#1c2733", arrowhead = "open"'
 
 
 def quoted(text):
@@ -52,12 +56,20 @@ def source_label(source):
     return label
 
 
-def graph(system, report, chains):
+def registers_in(tasks: dict, chains: list[Chain]) -> list[tuple[str, str]]:
+    """Who reads what whom wrote, where the one before doesn't start it: a writer and a reader each, once."""
+    steps = [step for chain in chains for step in zip(chain.tasks, chain.tasks[1:])]
+    return list(dict.fromkeys((before, name) for before, name in steps if before not in activators(tasks[name])))
+
+
+def graph(system, report, chains, registers=()):
     resources = {it["name"]: it for it in system.get("resource", [])}
     tasks = {it["name"]: it for it in system.get("task", [])}
     found_tasks, found_paths = report or ({}, {})
     activates = {before for it in tasks.values() for before in activators(it)}
     drawn = {name for name, it in tasks.items() if not chains or name in activates or any(before in tasks for before in activators(it))}
+    reads = registers_in(tasks, registers)
+    drawn |= {name for step in reads for name in step}
     streams = streams_of(tasks)
     hue, links, missed = hues(system), {}, set()
     for place, path in enumerate(system.get("path", [])):
@@ -102,6 +114,8 @@ def graph(system, report, chains):
         for before in activators(tasks[name]) if name in drawn else ():
             look = f' [color = "{links[before, name]}", penwidth = 1.6]' if (before, name) in links else ""
             lines.append(f"  {quoted('task ' + before)} -> {quoted('task ' + name)}{look};")
+    for before, name in reads:
+        lines.append(f"  {quoted('task ' + before)} -> {quoted('task ' + name)} [{READ}];")
     for place, path in enumerate(system.get("path", [])):
         text = path["name"]
         if found := found_paths.get(text):
@@ -117,11 +131,14 @@ def graph(system, report, chains):
 def main():
     reader = argparse.ArgumentParser(description="Draws a system file as a graph for Graphviz.")
     reader.add_argument("--chains", action="store_true", help="leave out tasks that stand alone")
+    reader.add_argument("--registers", metavar="CHAINS", help="a file of chains: who reads what whom wrote")
     reader.add_argument("--to", metavar="PICTURE", help="draw it: a name that ends with .svg, .png or .pdf")
     reader.add_argument("file", metavar="FILE", help="a system file")
     reader.add_argument("report", metavar="REPORT", nargs="?", help="what lokwurmi analyse wrote of it")
     words = reader.parse_args()
-    text = graph(read_system(words.file), words.report and read_report(words.report), words.chains)
+    system = read_system(words.file)
+    registers = read_chains(words.registers, system) if words.registers else []
+    text = graph(system, words.report and read_report(words.report), words.chains, registers)
     if not words.to:
         sys.stdout.write(text)
         return

@@ -4,11 +4,13 @@
     python3 tools/page.py examples/car_network.toml --to car.html
     python3 tools/page.py examples/pedal.toml --trace examples/pedal.trace.csv --to pedal.html
     python3 tools/page.py examples/crossing_chains.toml --session examples/crossing_chains.script.txt --to chains.html
+    python3 tools/page.py examples/camera_brake.toml --chains examples/camera_brake.chains.toml --to brake.html
 
 The page has the graph of the system, the load of its resources, its paths and tasks with their bounds, and what lies behind
 each bound that is `overload`. With --trace it shows what `lokwurmi simulate` observes, beside the bounds, and the run as a
 Gantt chart: that of --schedule, or of what `lokwurmi schedule` writes of the trace. With --session it shows what each report
-of that script changed. Tables are sorted and filtered in the browser, which needs no network for it.
+of that script changed. With --chains it has the reaction times and data ages of the chains of that file, beside their deadlines,
+and with --trace what the run shows of them. Tables are sorted and filtered in the browser, which needs no network for it.
 
 It needs Jinja2, Graphviz, and matplotlib for the Gantt chart: apt-get install python3-jinja2 graphviz python3-matplotlib
 """
@@ -25,6 +27,7 @@ from behind import Behind
 from colours import hues, hues_of_sources, letters_on, shades
 from graph import graph
 from packages import need
+from page_chains import chains_of
 from program import add_program, schedule_by, written_by
 from report import reports_in, seen_in
 from runs import read, read_schedule, read_trace, schedule_in
@@ -151,12 +154,12 @@ def inline(svg):
     return re.sub(r"<metadata>.*?</metadata>", "", re.sub(r"<!--.*?-->\n?", "", svg, flags=re.S), flags=re.S)
 
 
-def picture_of_graph(system):
-    """The graph, and whether tasks that stand alone are left out."""
+def picture_of_graph(system, registers):
+    """The graph, with who reads what whom wrote in some chains, and whether tasks that stand alone are left out."""
     if not shutil.which("dot"):
         sys.exit("page.py: Graphviz isn't here, whose program is dot: apt-get install graphviz")
     chains = len(system.tasks) > MOST_DRAWN
-    text = graph(system.raw, (system.found_tasks, system.found_paths), chains)
+    text = graph(system.raw, (system.found_tasks, system.found_paths), chains, registers)
     done = subprocess.run(["dot", "-Tsvg"], input=text, capture_output=True, text=True, check=False)
     if done.returncode:
         sys.exit(f"dot: {done.stderr.strip()}")
@@ -186,7 +189,7 @@ def picture_of_run(system, schedule, trace, start, until):
 def run_of(words, system):
     """What a trace shows: the observed responses, and a Gantt chart where there is a schedule."""
     seen = seen_in(written_by(words.program, "simulate", words.file, words.trace).splitlines(), words.trace)
-    run = {"name": os.path.basename(words.trace), "end": seen[2], "jobs": sum(it["jobs"] for it in seen[0].values()), "chart": None, "audit": None}
+    run = {"name": os.path.basename(words.trace), "end": seen[2], "jobs": sum(it["jobs"] for it in seen[0].values()), "chart": None, "audit": None, "of": None}
     if words.schedule:
         schedule = read_schedule(words.schedule, system.raw)
         run["audit"] = written_by(words.program, "audit", words.file, words.trace, words.schedule).strip()
@@ -196,7 +199,8 @@ def run_of(words, system):
             print(f"page.py: without a Gantt chart, as {words.program} doesn't take `schedule FILE TRACE`: name a schedule by --schedule", file=sys.stderr)
             return seen, run
         schedule = schedule_in(text, "lokwurmi schedule", system.raw)
-    run["chart"] = picture_of_run(system, schedule, read_trace(words.trace), words.start, words.until)
+    run["of"] = (schedule, read_trace(words.trace))
+    run["chart"] = picture_of_run(system, *run["of"], words.start, words.until)
     return seen, run
 
 
@@ -247,7 +251,8 @@ def page_of(words):
     """The text of the page."""
     system = System(words.file, words.program)
     seen, run = run_of(words, system) if words.trace else (None, None)
-    picture, chains = picture_of_graph(system)
+    effects = chains_of(words, system, run) if words.chains else None
+    picture, chains = picture_of_graph(system, effects["read"] if effects else [])
     causes, over = system.behind.causes()
     paths = system.path_rows(seen)
     room = jinja2.Environment(loader=jinja2.FileSystemLoader(os.path.join(HERE, "templates")), autoescape=True, trim_blocks=True, lstrip_blocks=True, undefined=jinja2.StrictUndefined)
@@ -255,7 +260,7 @@ def page_of(words):
     return room.get_template("page.html").render(
         file=os.path.basename(words.file), system=system, graph=picture, chains=chains, resources=system.resource_rows(), tasks=system.task_rows(seen), paths=paths,
         endless=sum(it["worst"] is None for it in paths), overload=len(over), missed=sum(it["verdict"] == "missed" for it in paths), unknown=sum(it["verdict"] == "unknown" for it in paths), with_deadline=sum(it["deadline"] is not None for it in paths),
-        causes=causes, over=over, run=run, changes=changes_of(words, system) if words.session else None,
+        causes=causes, over=over, run=run, chains_told=effects, changes=changes_of(words, system) if words.session else None,
     )
 
 
@@ -267,6 +272,7 @@ def asked_for():
     reader.add_argument("--schedule", metavar="SCHEDULE", help="a recorded schedule for the Gantt chart; that of the run under the trace if absent")
     reader.add_argument("--from", metavar="T", type=int, dest="start", default=0, help="the first tick of the Gantt chart; 0 if absent")
     reader.add_argument("--until", metavar="T", type=int, help="the tick at which the Gantt chart ends")
+    reader.add_argument("--chains", metavar="CHAINS", help="a file of chains that read registers: their bounds and deadlines, and what the trace shows of them")
     reader.add_argument("--session", metavar="SCRIPT", help="a script: what each of its reports changed")
     add_program(reader)
     words = reader.parse_args()

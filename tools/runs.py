@@ -59,19 +59,32 @@ def read_trace(file):
     return events, executions, phases
 
 
-def ends_in(segments, executions, greatest):
-    """When the jobs of a task were done, by its segments: each job takes its execution, and the one before goes first."""
-    ends, left = [], None
+def parts_in(segments, executions, greatest):
+    """What each job of a task ran, by its segments, each from when to before when, and whether it is done by them: each job takes
+    its execution, and the one before goes first."""
+    jobs, left = [], 0
     for start, end in segments:
         while start < end:
-            if left is None:
-                left = executions[len(ends)] if len(ends) < len(executions) else greatest
-            ran = min(left, end - start)
-            start, left = start + ran, left - ran
             if left == 0:
-                ends.append(start)
-                left = None
-    return ends
+                left = executions[len(jobs)] if len(jobs) < len(executions) else greatest
+                jobs.append([])
+            ran = min(left, end - start)
+            jobs[-1].append((start, start + ran))
+            start, left = start + ran, left - ran
+    return [(parts, left == 0 or place + 1 < len(jobs)) for place, parts in enumerate(jobs)]
+
+
+def ends_in(segments, executions, greatest):
+    """When the jobs of a task were done, by its segments."""
+    return [parts[-1][1] for parts, is_done in parts_in(segments, executions, greatest) if is_done]
+
+
+def segments_of(schedule, tasks):
+    """The segments of each task, in order."""
+    segments = {name: [] for name in tasks}
+    for name, start, end in schedule:
+        segments[name].append((start, end))
+    return {name: sorted(several) for name, several in segments.items()}
 
 
 def jobs_in(system, schedule, trace):
@@ -80,11 +93,9 @@ def jobs_in(system, schedule, trace):
     events, executions, _ = trace
     resources = {it["name"]: it for it in system.get("resource", [])}
     tasks = {it["name"]: it for it in system.get("task", [])}
-    segments, ends = {name: [] for name in tasks}, {}
-    for name, start, end in schedule:
-        segments[name].append((start, end))
+    segments, ends = segments_of(schedule, tasks), {}
     for name, task in tasks.items():
-        ends[name] = ends_in(sorted(segments[name]), executions.get(name, []), execution(task, resources[task["on"]])[1])
+        ends[name] = ends_in(segments[name], executions.get(name, []), execution(task, resources[task["on"]])[1])
     jobs = {}
     for name, task in tasks.items():
         came = sorted(time for before in activators(task) for time in (ends[before] if before in tasks else events.get(before, [])))

@@ -16,6 +16,9 @@ A line `late` tells which job was late and when, in the trace that --to or --kee
 which its task was activated, when that was, and when the job ended; of a path from when to when the passage lasted, and its jobs.
 With --all, --keep writes as few and as short traces as do to show all that was seen: FOLDER/NAME.worst1.csv and so on for
 NAME.toml. A row that was bettered by the search for another is written once more at the end.
+
+With --chain it looks for a late reaction of a chain whose tasks read what the one before wrote last, or with --what age for old
+data, beside the bound of `lokwurmi chain`. All its traces have sources that stay near, as that bound wants it.
 """
 import argparse
 import concurrent.futures
@@ -35,7 +38,9 @@ from program import LAUNCHER, TOP, add_program, schedule_by, written_by
 from progress import Progress
 from report import reports_in
 from runs import jobs_in, passages_in, read_trace, schedule_in
+from seen import ASKED, READINGS
 from system import activators, execution, read_system
+from worst_chain import perform_chain
 
 EXAMPLES = """examples:
   python3 tools/worst.py examples/long_window.toml b --to worst.trace.csv
@@ -46,6 +51,8 @@ EXAMPLES = """examples:
       a table of all tasks and paths
   python3 tools/worst.py examples/gateway.toml --all --keep traces
       the table, and the traces that show it
+  python3 tools/worst.py examples/effects.toml --chain sense,filter,act --what age --to old.trace.csv
+      a trace under which a chain that reads registers has data as old as can be found
 
 The trace is drawn by tools/gantt.py FILE --trace TRACE --longest NAME. More: docs/TIGHTNESS.md"""
 
@@ -505,6 +512,9 @@ def asked_for():
     parser.add_argument("task", nargs="?", help="the task whose response is to be late")
     parser.add_argument("--path", help="a path that is to take long, in place of a task; its N tasks are looked at before: N + 1 searches")
     parser.add_argument("--all", action="store_true", help="all tasks and paths that have a bound, in a table")
+    parser.add_argument("--chain", metavar="TASK,TASK..", help="a chain whose tasks read what the one before wrote last")
+    parser.add_argument("--what", choices=ASKED, default="reaction", help="what of the chain is to be late (reaction)")
+    parser.add_argument("--reading", choices=READINGS, default="whenever", help="when jobs of the chain are taken to read (whenever)")
     parser.add_argument("--to", metavar="TRACE", help="writes the trace to this file")
     parser.add_argument("--keep", metavar="FOLDER", help="writes the traces of --all into this folder")
     parser.add_argument("--tries", type=int, default=2000, help="how many traces are tried in a search (2000)")
@@ -513,10 +523,10 @@ def asked_for():
     parser.add_argument("--jobs", type=int, default=os.cpu_count(), help="how many traces are replayed side by side")
     add_program(parser)
     options = parser.parse_args()
-    if (options.task is not None) + (options.path is not None) + options.all != 1:
-        parser.error("name a task, or --path NAME, or --all")
+    if (options.task is not None) + (options.path is not None) + (options.chain is not None) + options.all != 1:
+        parser.error("name a task, or --path NAME, or --all, or --chain TASK,TASK..")
     if options.all and options.to:
-        parser.error("--to wants one task or path")
+        parser.error("--to wants one task, path or chain")
     if options.keep and not options.all:
         parser.error("--keep wants --all")
     if options.jobs < 1 or options.tries < 1 or options.seconds <= 0:
@@ -625,7 +635,7 @@ def main():
     signal.signal(signal.SIGTERM, signal.default_int_handler)
     try:
         with tempfile.TemporaryDirectory() as folder:
-            status = perform(options, folder)
+            status = perform_chain(options, folder) if options.chain else perform(options, folder)
     except KeyboardInterrupt:
         print("worst.py: interrupted", file=sys.stderr)
         status = 130
