@@ -24,7 +24,10 @@ from calls import TOP, built, python_with
 
 PYTHON = python_with("canmatrix", "lxml", "can")
 if PYTHON is None:
-    sys.exit("check_imports.py: canmatrix or python-can isn't here: apt-get install python3-canmatrix python3-lxml python3-can")
+    sys.exit(
+        "check_imports.py: canmatrix or python-can isn't here: apt-get install python3-canmatrix python3-lxml"
+        " python3-can"
+    )
 if PYTHON != sys.executable:
     os.execv(PYTHON, [PYTHON, *sys.argv])
 
@@ -50,13 +53,18 @@ def hold(is_so, what):
 
 
 def run(tool, *words):
-    return subprocess.run([PYTHON, os.path.join("tools", tool), *map(str, words)], capture_output=True, text=True, check=False)
+    return subprocess.run(
+        [PYTHON, os.path.join("tools", tool), *map(str, words)], capture_output=True, text=True, check=False
+    )
 
 
 def said_by(tool, *words):
     """What a call says where it is refused, with status 1 or 2 and nothing of the inside of Python."""
     done = run(tool, *words)
-    hold(done.returncode in (1, 2) and done.stdout == "" and "Traceback" not in done.stderr, f"{tool} {words}: {done.returncode} {done.stderr}")
+    hold(
+        done.returncode in (1, 2) and done.stdout == "" and "Traceback" not in done.stderr,
+        f"{tool} {words}: {done.returncode} {done.stderr}",
+    )
     return done.stderr
 
 
@@ -72,13 +80,20 @@ def system_of(text):
 def matrix_of(frames):
     """A bus of frames, each a name, an identifier, whether it has 29 bits, bytes, a cycle in milliseconds, and attributes."""
     matrix = canmatrix.CanMatrix()
-    for key, define in (("GenMsgCycleTime", "INT 0 3600000"), ("GenMsgDelayTime", "INT 0 3600000"), ("JitterMs", "FLOAT 0 100000"), ("DeadlineMs", "FLOAT 0 100000")):
+    for key, define in (
+        ("GenMsgCycleTime", "INT 0 3600000"),
+        ("GenMsgDelayTime", "INT 0 3600000"),
+        ("JitterMs", "FLOAT 0 100000"),
+        ("DeadlineMs", "FLOAT 0 100000"),
+    ):
         matrix.add_frame_defines(key, define)
         matrix.add_define_default(key, "0")
     matrix.add_frame_defines("GenMsgSendType", 'ENUM "Cyclic","Spontaneous","CyclicAndSpontaneous"')
     matrix.add_define_default("GenMsgSendType", '"Cyclic"')
     for name, identifier, extended, size, cycle, attributes in frames:
-        frame = canmatrix.Frame(name, arbitration_id=canmatrix.ArbitrationId(identifier, extended=extended), size=size, cycle_time=cycle)
+        frame = canmatrix.Frame(
+            name, arbitration_id=canmatrix.ArbitrationId(identifier, extended=extended), size=size, cycle_time=cycle
+        )
         for key, value in attributes.items():
             frame.add_attribute(key, str(value))
         if size:
@@ -104,7 +119,17 @@ def sae_frames():
     with open("examples/sae_can.toml", "rb") as it:
         system = tomllib.load(it)
     sources = {it["name"]: it for it in system["source"]}
-    return [(it["name"], it["priority"], False, it["payload"], sources[it["after"]]["period"] // 1000, {"JitterMs": sources[it["after"]]["jitter"] / 1000}) for it in system["task"]]
+    return [
+        (
+            it["name"],
+            it["priority"],
+            False,
+            it["payload"],
+            sources[it["after"]]["period"] // 1000,
+            {"JitterMs": sources[it["after"]]["jitter"] / 1000},
+        )
+        for it in system["task"]
+    ]
 
 
 def check_sae(room):
@@ -114,17 +139,49 @@ def check_sae(room):
     files = [dumped(room, "sae.dbc", matrix_of(sae_frames())), "examples/sae_can.dbc"]
     for file in files:
         system = os.path.join(room, "sae.toml")
-        done = run("from_network.py", f"can={file}", "--bitrate", 125000, "--jitter-attribute", "JitterMs", "--to", system)
-        hold(done.returncode == 0 and analysed(system) == (0, report), f"the SAE benchmark by {file}: {done.stderr} {analysed(system)}")
+        done = run(
+            "from_network.py", f"can={file}", "--bitrate", 125000, "--jitter-attribute", "JitterMs", "--to", system
+        )
+        hold(
+            done.returncode == 0 and analysed(system) == (0, report),
+            f"the SAE benchmark by {file}: {done.stderr} {analysed(system)}",
+        )
     # a bit is 10 ticks, all else is 1.25 times as many
-    done = run("from_network.py", f"can={files[0]}", "--bitrate", 125000, "--jitter-attribute", "JitterMs", "--tick", "800ns", "--to", system)
-    wanted = [[f"{int(word) * 5 // 4}" if word.isdigit() else word for word in line.split()] for line in report.splitlines()[:-1]]
-    hold([line.split() for line in analysed(system)[1].splitlines()[:-1]] == wanted, f"the SAE benchmark by ticks of 800 ns: {done.stderr}")
+    done = run(
+        "from_network.py",
+        f"can={files[0]}",
+        "--bitrate",
+        125000,
+        "--jitter-attribute",
+        "JitterMs",
+        "--tick",
+        "800ns",
+        "--to",
+        system,
+    )
+    wanted = [
+        [f"{int(word) * 5 // 4}" if word.isdigit() else word for word in line.split()]
+        for line in report.splitlines()[:-1]
+    ]
+    hold(
+        [line.split() for line in analysed(system)[1].splitlines()[:-1]] == wanted,
+        f"the SAE benchmark by ticks of 800 ns: {done.stderr}",
+    )
     # without jitter, by formats that have none
     for name, matrices in (("sae.sym", matrix_of(sae_frames())), ("sae.kcd", {"can": matrix_of(sae_frames())})):
         bounds = [line.split()[-1] for line in report.splitlines() if line.startswith("task ")]
-        done = run("from_network.py", f"can={dumped(room, name, matrices)}" if name.endswith("sym") else dumped(room, name, matrices), "--bitrate", 125000, "--to", system)
-        hold([line.split()[-1] for line in analysed(system)[1].splitlines() if line.startswith("task ")] == bounds, f"the SAE benchmark by {name}: {done.stderr}")
+        done = run(
+            "from_network.py",
+            f"can={dumped(room, name, matrices)}" if name.endswith("sym") else dumped(room, name, matrices),
+            "--bitrate",
+            125000,
+            "--to",
+            system,
+        )
+        hold(
+            [line.split()[-1] for line in analysed(system)[1].splitlines() if line.startswith("task ")] == bounds,
+            f"the SAE benchmark by {name}: {done.stderr}",
+        )
 
 
 def bits_on_bus(identifier, extended):
@@ -138,10 +195,23 @@ def random_frames(draw, kinds):
     frames, taken = [], set()
     for place in range(draw.randint(1, 30)):
         extended = draw.choice(kinds)
-        identifier = draw.choice((draw.randrange(1 << 29), draw.randrange(40) << 18 | draw.choice((0, draw.randrange(3))))) if extended else draw.choice((draw.randrange(1 << 11), draw.randrange(40)))
+        identifier = (
+            draw.choice((draw.randrange(1 << 29), draw.randrange(40) << 18 | draw.choice((0, draw.randrange(3)))))
+            if extended
+            else draw.choice((draw.randrange(1 << 11), draw.randrange(40)))
+        )
         if (identifier, extended) not in taken:
             taken.add((identifier, extended))
-            frames.append((f"f{place}", identifier, extended, draw.randint(0, 8), draw.choice((5, 10, 20, 25, 50, 100, 1000)), {"JitterMs": draw.choice((0, 0.1, 2.5, 30, 400))}))
+            frames.append(
+                (
+                    f"f{place}",
+                    identifier,
+                    extended,
+                    draw.randint(0, 8),
+                    draw.choice((5, 10, 20, 25, 50, 100, 1000)),
+                    {"JitterMs": draw.choice((0, 0.1, 2.5, 30, 400))},
+                )
+            )
     return frames
 
 
@@ -158,7 +228,9 @@ def check_random(room, count):
         tasks, sources = {it["name"]: it for it in system["task"]}, {it["name"]: it for it in system["source"]}
         hold(set(tasks) == {it[0] for it in frames} and len(sources) == len(tasks), what)
         for name, identifier, extended, size, cycle, attributes in frames:
-            source = {"name": f"{name}.queued", "period": cycle * 1000} | ({"jitter": round(attributes["JitterMs"] * 1000)} if attributes["JitterMs"] else {})
+            source = {"name": f"{name}.queued", "period": cycle * 1000} | (
+                {"jitter": round(attributes["JitterMs"] * 1000)} if attributes["JitterMs"] else {}
+            )
             hold(sources[f"{name}.queued"] == source, f"{what} {name}: {sources[f'{name}.queued']}")
             least, greatest = least_and_greatest(size, extended)
             if bit.denominator == 1:
@@ -166,19 +238,31 @@ def check_random(room, count):
             else:
                 length = {"best": int(least * bit), "worst": -int(-greatest * bit // 1)}
                 hold(length["best"] <= least * bit and length["worst"] >= greatest * bit, f"{what}: lengths of {name}")
-            hold({key: it for key, it in tasks[name].items() if key not in ("name", "on", "after", "priority")} == length, f"{what} {name}: {tasks[name]}")
+            hold(
+                {key: it for key, it in tasks[name].items() if key not in ("name", "on", "after", "priority")}
+                == length,
+                f"{what} {name}: {tasks[name]}",
+            )
         order = sorted(frames, key=lambda it: bits_on_bus(it[1], it[2]))
         hold([it[0] for it in order] == sorted(tasks, key=lambda it: tasks[it]["priority"]), f"{what}: its order")
-        hold(len({it["priority"] for it in tasks.values()}) == len(tasks) and all(0 <= it["priority"] <= 536_870_911 for it in tasks.values()), f"{what}: its priorities")
+        hold(
+            len({it["priority"] for it in tasks.values()}) == len(tasks)
+            and all(0 <= it["priority"] <= 536_870_911 for it in tasks.values()),
+            f"{what}: its priorities",
+        )
         with open(os.path.join(room, "random.toml"), "w", encoding="ascii") as it:
             it.write(text)
         hold(analysed(os.path.join(room, "random.toml"))[0] in (0, 1, 2), f"{what}: it isn't accepted")
         with open(os.path.join(room, "random.toml"), "w", encoding="ascii") as it:
             it.write(text)
-        hold({it["name"]: (it["tasks"], it["deadline"]) for it in system["path"]} == {it[0]: ([it[0]], it[4] * 1000) for it in frames}, f"{what}: its paths")
+        hold(
+            {it["name"]: (it["tasks"], it["deadline"]) for it in system["path"]}
+            == {it[0]: ([it[0]], it[4] * 1000) for it in frames},
+            f"{what}: its paths",
+        )
 
 
-DBC = '''VERSION ""
+DBC = """VERSION ""
 BU_: Gate Motor
 BO_ 256 Speed: 8 Motor
  SG_ v : 0|16@1+ (1,0) [0|0] "" Gate
@@ -236,7 +320,7 @@ BA_ "GenMsgCycleTime" BO_ 266 60;
 BA_ "GenSigCycleTime" SG_ 266 v 20;
 BA_ "GenSigCycleTime" SG_ 266 w 30;
 BA_ "GenMsgCycleTime" BO_ 267 2.5;
-'''
+"""
 
 
 def written(room, name, text, encoding="utf-8"):
@@ -251,57 +335,177 @@ def check_features(room):
     file = written(room, "car.dbc", DBC % "0")
     system, told, text = imported(file, "--bitrate", 500000, "--deadline-attribute", "DeadlineMs")
     periods = {it["name"].removesuffix(".queued"): it["period"] for it in system["source"]}
-    hold(periods == {"Speed": 10_000, "Extras": 20_000, "OnEvents": 40_000, "Bursts": 30_000, "Fast": 100_000, "Muxed": 100_000, "Long": 100_000, "Signals": 10_000, "Uneven": 2500}, f"periods: {periods}")
+    hold(
+        periods
+        == {
+            "Speed": 10_000,
+            "Extras": 20_000,
+            "OnEvents": 40_000,
+            "Bursts": 30_000,
+            "Fast": 100_000,
+            "Muxed": 100_000,
+            "Long": 100_000,
+            "Signals": 10_000,
+            "Uneven": 2500,
+        },
+        f"periods: {periods}",
+    )
     deadlines = {it["name"]: it["deadline"] for it in system["path"]}
     hold(deadlines["Speed"] == 7000 and deadlines["Extras"] == 20_000, f"deadlines: {deadlines}")
     hold({it["name"]: it["payload"] for it in system["task"]}["Long"] == 4, "a frame that is as long as its signals")
     for line in (
-        "of bus car 9 of 13 frames are taken", "no cycle time, and no least distance is told (--others TIME takes these in): Diagnosis", "more than 8 bytes: CAN FD, or several frames of a transport protocol: Big",
-        "CAN FD, whose bits are of two lengths: Flexible", "no frame, but signals that are in none: VECTOR__INDEPENDENT_SIG_MSG", "period by GenMsgCycleTimeFast: Extras",
-        "period by the least distance of the database (GenMsgDelayTime), as there is no cycle time: OnEvents", "so the least distance and not the cycle time: Bursts",
-        "but the database has no least distance (--others): Fast", "one frame a cycle, whatever its multiplexer has; where each value is sent in each cycle: --multiplexed each: Muxed",
-        "period by the cycle times of its signals: Signals", "is queued exactly once a period",
+        "of bus car 9 of 13 frames are taken",
+        "no cycle time, and no least distance is told (--others TIME takes these in): Diagnosis",
+        "more than 8 bytes: CAN FD, or several frames of a transport protocol: Big",
+        "CAN FD, whose bits are of two lengths: Flexible",
+        "no frame, but signals that are in none: VECTOR__INDEPENDENT_SIG_MSG",
+        "period by GenMsgCycleTimeFast: Extras",
+        "period by the least distance of the database (GenMsgDelayTime), as there is no cycle time: OnEvents",
+        "so the least distance and not the cycle time: Bursts",
+        "but the database has no least distance (--others): Fast",
+        (
+            "one frame a cycle, whatever its multiplexer has; where each value is sent in each cycle: --multiplexed"
+            " each: Muxed"
+        ),
+        "period by the cycle times of its signals: Signals",
+        "is queued exactly once a period",
     ):
-        hold(line in told and line in " ".join(it.lstrip("# ") for it in text.splitlines()), f"what is told: {line}: {told}")
-    system, told, _ = imported(file, "--bitrate", 500000, "--others", "15ms", "--multiplexed", "each", "--jitter", "10%", "--deadline", "50%")
+        hold(
+            line in told and line in " ".join(it.lstrip("# ") for it in text.splitlines()),
+            f"what is told: {line}: {told}",
+        )
+    system, told, _ = imported(
+        file, "--bitrate", 500000, "--others", "15ms", "--multiplexed", "each", "--jitter", "10%", "--deadline", "50%"
+    )
     sources = {it["name"].removesuffix(".queued"): (it["period"], it["jitter"]) for it in system["source"]}
-    hold(sources["Diagnosis"] == (15_000, 1500) and sources["Fast"] == (15_000, 1500) and sources["Bursts"] == (30_000, 3000) and sources["Uneven"] == (2500, 250), f"--others: {sources}")
+    hold(
+        sources["Diagnosis"] == (15_000, 1500)
+        and sources["Fast"] == (15_000, 1500)
+        and sources["Bursts"] == (30_000, 3000)
+        and sources["Uneven"] == (2500, 250),
+        f"--others: {sources}",
+    )
     hold(sources["Muxed"] == (33_333, 10_000 + 2 * 33_333), f"--multiplexed each: {sources}")
     hold({it["name"]: it["deadline"] for it in system["path"]}["Uneven"] == 1250, "--deadline 50%")
-    system, told, _ = imported(file, "--bitrate", 500000, "--multiplexed", "out", "--deadline", "none", "--without", "S*", "--jitter", "0.5ms")
-    hold({it["name"] for it in system["task"]} == {"Extras", "OnEvents", "Bursts", "Fast", "Long", "Uneven"} and not any("deadline" in it for it in system["path"]) and all(it["jitter"] == 500 for it in system["source"]), f"--without: {system}")
+    system, told, _ = imported(
+        file, "--bitrate", 500000, "--multiplexed", "out", "--deadline", "none", "--without", "S*", "--jitter", "0.5ms"
+    )
+    hold(
+        {it["name"] for it in system["task"]} == {"Extras", "OnEvents", "Bursts", "Fast", "Long", "Uneven"}
+        and not any("deadline" in it for it in system["path"])
+        and all(it["jitter"] == 500 for it in system["source"]),
+        f"--without: {system}",
+    )
     hold("multiplexed (--multiplexed): Muxed" in told and "by --without: Speed, Signals" in told, f"--without: {told}")
     system, told, _ = imported(written(room, "defaults.dbc", DBC % "50"), "--bitrate", 500000)
-    hold({it["name"]: it["period"] for it in system["source"]}.get("Diagnosis.queued") == 50_000 and "period by the default of GenMsgCycleTime: Diagnosis" in told, f"a default: {told}")
+    hold(
+        {it["name"]: it["period"] for it in system["source"]}.get("Diagnosis.queued") == 50_000
+        and "period by the default of GenMsgCycleTime: Diagnosis" in told,
+        f"a default: {told}",
+    )
     system, told, _ = imported(file, "--bitrate", 500000, "--fast", "100")
-    hold({it["name"]: it["period"] for it in system["source"]}["Uneven.queued"] == 2499 and {it["name"]: it["period"] for it in system["source"]}["Speed.queued"] == 9999 and "shorter by 100 millionths" in told, f"--fast: {told}")
-    system, told, _ = imported(written(room, "flexible.dbc", DBC % "0" + 'BA_DEF_ "BusType" STRING;\nBA_DEF_DEF_ "BusType" "CAN FD";\n'), "--bitrate", 500000, "--without", "Flexible")
+    hold(
+        {it["name"]: it["period"] for it in system["source"]}["Uneven.queued"] == 2499
+        and {it["name"]: it["period"] for it in system["source"]}["Speed.queued"] == 9999
+        and "shorter by 100 millionths" in told,
+        f"--fast: {told}",
+    )
+    system, told, _ = imported(
+        written(room, "flexible.dbc", DBC % "0" + 'BA_DEF_ "BusType" STRING;\nBA_DEF_DEF_ "BusType" "CAN FD";\n'),
+        "--bitrate",
+        500000,
+        "--without",
+        "Flexible",
+    )
     hold("all are taken as classical ones" not in told, f"a bus of CAN FD: {told}")
-    system, told, _ = imported(written(room, "flexible.dbc", (DBC % "0").replace('BA_ "VFrameFormat" BO_ 265 14;\n', '') + 'BA_DEF_ "BusType" STRING;\nBA_DEF_DEF_ "BusType" "CAN FD";\n'), "--bitrate", 500000)
+    system, told, _ = imported(
+        written(
+            room,
+            "flexible.dbc",
+            (DBC % "0").replace('BA_ "VFrameFormat" BO_ 265 14;\n', "")
+            + 'BA_DEF_ "BusType" STRING;\nBA_DEF_DEF_ "BusType" "CAN FD";\n',
+        ),
+        "--bitrate",
+        500000,
+    )
     hold("all are taken as classical ones" in told, f"a bus of CAN FD: {told}")
     system, told, _ = imported(file, "--bitrate", 500000, "--tick", "10us", "--bus", "car", "--without", "Uneven")
-    hold({it["name"]: it["best"] for it in system["task"]}["Speed"] == 22 and "with --tick 2us none is" in told, f"--tick 10us: {told}")
+    hold(
+        {it["name"]: it["best"] for it in system["task"]}["Speed"] == 22 and "with --tick 2us none is" in told,
+        f"--tick 10us: {told}",
+    )
 
 
 def check_several(room):
     """Several buses, names, and what is forwarded."""
-    front = [("Speed", 0x100, False, 8, 10, {}), ("Doors closed", 0x7, False, 2, 100, {}), ("Doors-closed", 0x8, False, 2, 100, {}), ("Türen", 0x9, False, 1, 100, {}), ("y" * 80, 0x10, False, 1, 100, {})]
-    back = [("Lamps2", 3 << 18, True, 1, 50, {}), ("Speed", 0x100 << 18, True, 8, 10, {}), ("Lamps", 0x3, False, 1, 50, {})]
+    front = [
+        ("Speed", 0x100, False, 8, 10, {}),
+        ("Doors closed", 0x7, False, 2, 100, {}),
+        ("Doors-closed", 0x8, False, 2, 100, {}),
+        ("Türen", 0x9, False, 1, 100, {}),
+        ("y" * 80, 0x10, False, 1, 100, {}),
+    ]
+    back = [
+        ("Lamps2", 3 << 18, True, 1, 50, {}),
+        ("Speed", 0x100 << 18, True, 8, 10, {}),
+        ("Lamps", 0x3, False, 1, 50, {}),
+    ]
     file = dumped(room, "two.kcd", {"front": matrix_of(front), "back": matrix_of(back)})
     system, told, text = imported(file, "--bitrate", 500000, "--bitrate", "back=125000", "--jitter", "1%")
-    names = ["front.Doors_closed", "front.Doors-closed", "front.Turen", "front." + "y" * 51, "front.Speed", "back.Lamps", "back.Lamps2", "back.Speed"]
-    hold(sorted(it["name"] for it in system["task"]) == sorted(names), f"names: {[it['name'] for it in system['task']]}")
+    names = [
+        "front.Doors_closed",
+        "front.Doors-closed",
+        "front.Turen",
+        "front." + "y" * 51,
+        "front.Speed",
+        "back.Lamps",
+        "back.Lamps2",
+        "back.Speed",
+    ]
+    hold(
+        sorted(it["name"] for it in system["task"]) == sorted(names), f"names: {[it['name'] for it in system['task']]}"
+    )
     hold({it["name"]: it["bit"] for it in system["resource"]} == {"front": 2, "back": 8}, "bits of two buses")
-    hold("'Doors closed' is front.Doors_closed" in told and "'Türen' is front.Turen" in told and "one that a gateway passes on comes with more jitter: --forward front.Speed=back.Speed" in told, told)
-    hold("those of 11 bits times 262144" not in text and "bus back: priorities are the order of the identifiers" in text, "a bus with two identifiers of one number")
-    hold([it["name"] for it in sorted((it for it in system["task"] if it["on"] == "back"), key=lambda it: it["priority"])] == ["back.Lamps", "back.Lamps2", "back.Speed"], "11 bits go before 29")
-    system, told, _ = imported(file, "--bitrate", 500000, "--forward", "front.Speed=back.Speed", "--without", "back.Lamps2")
+    hold(
+        "'Doors closed' is front.Doors_closed" in told
+        and "'Türen' is front.Turen" in told
+        and "one that a gateway passes on comes with more jitter: --forward front.Speed=back.Speed" in told,
+        told,
+    )
+    hold(
+        "those of 11 bits times 262144" not in text and "bus back: priorities are the order of the identifiers" in text,
+        "a bus with two identifiers of one number",
+    )
+    hold(
+        [
+            it["name"]
+            for it in sorted((it for it in system["task"] if it["on"] == "back"), key=lambda it: it["priority"])
+        ]
+        == ["back.Lamps", "back.Lamps2", "back.Speed"],
+        "11 bits go before 29",
+    )
+    system, told, _ = imported(
+        file, "--bitrate", 500000, "--forward", "front.Speed=back.Speed", "--without", "back.Lamps2"
+    )
     tasks = {it["name"]: it for it in system["task"]}
-    hold(tasks["back.Speed"]["after"] == "front.Speed" and tasks["back.Lamps"]["priority"] == 3 << 18 and tasks["back.Speed"]["priority"] == 0x100 << 18 and not any("back.Speed" in it["name"] for it in system["source"]), f"--forward: {tasks}")
-    hold({"name": "front.Speed-back.Speed", "tasks": ["front.Speed", "back.Speed"]} in system["path"] and "a gateway passes on at once" in told, f"--forward: {system['path']}")
+    hold(
+        tasks["back.Speed"]["after"] == "front.Speed"
+        and tasks["back.Lamps"]["priority"] == 3 << 18
+        and tasks["back.Speed"]["priority"] == 0x100 << 18
+        and not any("back.Speed" in it["name"] for it in system["source"]),
+        f"--forward: {tasks}",
+    )
+    hold(
+        {"name": "front.Speed-back.Speed", "tasks": ["front.Speed", "back.Speed"]} in system["path"]
+        and "a gateway passes on at once" in told,
+        f"--forward: {system['path']}",
+    )
     spaced = dumped(room, "spaced.kcd", {"Body CAN": matrix_of(front[:1])})
     system, told, _ = imported(spaced, "--bitrate", "Body_CAN=500000")
-    hold(system["resource"][0]["name"] == "Body_CAN" and "another name: 'Body CAN' is Body_CAN" in told, f"a bus of another name: {told}")
+    hold(
+        system["resource"][0]["name"] == "Body_CAN" and "another name: 'Body CAN' is Body_CAN" in told,
+        f"a bus of another name: {told}",
+    )
     system, told, _ = imported(file, "--bitrate", 500000, "--bus", "front")
     hold([it["name"] for it in system["resource"]] == ["front"] and "a bus that --bus doesn't name: back" in told, told)
     # a message of a KCD file that has an interval, and no word on what triggers it
@@ -312,7 +516,10 @@ def check_several(room):
         message.attrib.pop("triggered")
     tree.write(os.path.join(room, "plain.kcd"))
     system, told, _ = imported(os.path.join(room, "plain.kcd"))
-    hold(len(system["task"]) == 8 and "sent on events" not in told and {it["bit"] for it in system["resource"]} == {4}, f"a plain KCD file: {told}")
+    hold(
+        len(system["task"]) == 8 and "sent on events" not in told and {it["bit"] for it in system["resource"]} == {4},
+        f"a plain KCD file: {told}",
+    )
     first, second = dumped(room, "first.dbc", matrix_of(front[:1])), dumped(room, "second.dbc", matrix_of(back[1:2]))
     system, told, _ = imported(first, f"other={second}", "--bitrate", "first=500000", "--bitrate", "other=250000")
     hold([it["name"] for it in system["task"]] == ["first.Speed", "other.Speed"], f"two files: {told}")
@@ -320,27 +527,53 @@ def check_several(room):
 
 def check_arxml(room):
     """A file of AUTOSAR: bit rate and cycle times."""
-    file = dumped(room, "plain.arxml", {"body": matrix_of([("a", 0x10, False, 8, 0, {}), ("b", 0x12345, True, 3, 0, {}), ("c", 0x12, False, 3, 0, {})])})
+    file = dumped(
+        room,
+        "plain.arxml",
+        {
+            "body": matrix_of(
+                [("a", 0x10, False, 8, 0, {}), ("b", 0x12345, True, 3, 0, {}), ("c", 0x12, False, 3, 0, {})]
+            )
+        },
+    )
     tree = lxml.etree.parse(file)
     space = tree.getroot().nsmap[None]
-    made = lambda parent, name, text=None: parent.append(it := lxml.etree.Element(f"{{{space}}}{name}")) or (setattr(it, "text", text) or it)
+    made = lambda parent, name, text=None: parent.append(it := lxml.etree.Element(f"{{{space}}}{name}")) or (
+        setattr(it, "text", text) or it
+    )
     for pdu in tree.getroot().iter(f"{{{space}}}SIGNAL-I-PDU", f"{{{space}}}I-SIGNAL-I-PDU"):
         name = pdu.findtext(f"{{{space}}}SHORT-NAME").removeprefix("PDU_")
         if name == "c":
             continue
         timing = made(made(pdu, "I-PDU-TIMING-SPECIFICATIONS"), "I-PDU-TIMING")
         made(timing, "MINIMUM-DELAY", "0.005")
-        cyclic = made(made(made(timing, "TRANSMISSION-MODE-DECLARATION"), "TRANSMISSION-MODE-TRUE-TIMING"), "CYCLIC-TIMING")
+        cyclic = made(
+            made(made(timing, "TRANSMISSION-MODE-DECLARATION"), "TRANSMISSION-MODE-TRUE-TIMING"), "CYCLIC-TIMING"
+        )
         made(made(cyclic, "TIME-PERIOD"), "VALUE", {"a": "0.02", "b": "0.1"}[name])
     tree.write(os.path.join(room, "timed.arxml"))
     system, told, _ = imported(os.path.join(room, "timed.arxml"), "--bitrate", 500000)
-    hold({it["name"]: it["period"] for it in system["source"]} == {"FRAME_a.queued": 20_000, "FRAME_b.queued": 100_000} and "no cycle time, and no least distance is told (--others TIME takes these in): FRAME_c" in told, f"an ARXML file: {system} {told}")
-    hold({it["name"]: it.get("extended") for it in system["task"]} == {"FRAME_a": None, "FRAME_b": True}, f"an ARXML file: {system}")
+    hold(
+        {it["name"]: it["period"] for it in system["source"]} == {"FRAME_a.queued": 20_000, "FRAME_b.queued": 100_000}
+        and "no cycle time, and no least distance is told (--others TIME takes these in): FRAME_c" in told,
+        f"an ARXML file: {system} {told}",
+    )
+    hold(
+        {it["name"]: it.get("extended") for it in system["task"]} == {"FRAME_a": None, "FRAME_b": True},
+        f"an ARXML file: {system}",
+    )
 
 
 def check_clusters(room):
     """An ARXML file of two clusters, which share a frame that has another identifier on each."""
-    file = dumped(room, "clusters.arxml", {"a": matrix_of([("Speed", 0x100, False, 8, 0, {}), ("Own", 0x50, False, 2, 0, {})]), "b": matrix_of([("Other", 0x60, False, 8, 0, {}), ("Lamps", 0x61, True, 1, 0, {})])})
+    file = dumped(
+        room,
+        "clusters.arxml",
+        {
+            "a": matrix_of([("Speed", 0x100, False, 8, 0, {}), ("Own", 0x50, False, 2, 0, {})]),
+            "b": matrix_of([("Other", 0x60, False, 8, 0, {}), ("Lamps", 0x61, True, 1, 0, {})]),
+        },
+    )
     tree = lxml.etree.parse(file)
     refs = {it.text: it for it in tree.getroot().iter("{*}FRAME-REF")}
     refs["/Frame/FRAME_Other"].text = "/Frame/FRAME_Speed"
@@ -348,19 +581,34 @@ def check_clusters(room):
     for name, other in (("clusters.arxml", "Other"), ("shared.arxml", "Speed")):
         system, told, _ = imported(os.path.join(room, name), "--bitrate", 500000, "--others", "50ms")
         found = {it["name"]: (it["on"], it["priority"], it.get("extended", False)) for it in system.get("task", [])}
-        hold(found == {"a.FRAME_Speed": ("a", 0x100, False), "a.FRAME_Own": ("a", 0x50, False), f"b.FRAME_{other}": ("b", 0x60 << 18, False), "b.FRAME_Lamps": ("b", 0x61, True)}, f"{name}: {found} {told}")
+        hold(
+            found
+            == {
+                "a.FRAME_Speed": ("a", 0x100, False),
+                "a.FRAME_Own": ("a", 0x50, False),
+                f"b.FRAME_{other}": ("b", 0x60 << 18, False),
+                "b.FRAME_Lamps": ("b", 0x61, True),
+            },
+            f"{name}: {found} {told}",
+        )
 
 
 def check_shipped(room):
     """Databases that come with canmatrix: none of this project's."""
     folder = os.path.dirname(canmatrix.__file__)
-    files = sorted(glob.glob(os.path.join(folder, "**", "*.dbc"), recursive=True) + glob.glob(os.path.join(folder, "**", "*.arxml"), recursive=True))
+    files = sorted(
+        glob.glob(os.path.join(folder, "**", "*.dbc"), recursive=True)
+        + glob.glob(os.path.join(folder, "**", "*.arxml"), recursive=True)
+    )
     hold(bool(files), "canmatrix brings databases with it")
     for file in files:
         done = run("from_network.py", file, "--bitrate", 250000, "--others", "1s")
         hold("Traceback" not in done.stderr and done.returncode in (0, 1), f"{file}: {done.stderr}")
         if done.returncode == 0:
-            hold(analysed(written(room, "shipped.toml", done.stdout))[0] in (0, 1, 2), f"{file}: its system isn't accepted")
+            hold(
+                analysed(written(room, "shipped.toml", done.stdout))[0] in (0, 1, 2),
+                f"{file}: its system isn't accepted",
+            )
         else:
             hold(done.stderr.strip() != "", f"{file}: why it is refused")
 
@@ -392,7 +640,18 @@ def check_refused(room):
         ("canmatrix reads no files with this ending", [written(room, "some.txt", "x"), "--bitrate", 500000]),
         ("canmatrix can't read it", [written(room, "some.arxml", "x"), "--bitrate", 500000]),
         ("two buses have the name one: name them", [one, one, "--bitrate", 500000]),
-        ("which no frame has", [written(room, "minus.sym", 'FormatVersion=5.0\nTitle="x"\n\n{SENDRECEIVE}\n\n[a]\nID=-03h\nDLC=1\nCycleTime=10\n'), "--bitrate", 500000]),
+        (
+            "which no frame has",
+            [
+                written(
+                    room,
+                    "minus.sym",
+                    'FormatVersion=5.0\nTitle="x"\n\n{SENDRECEIVE}\n\n[a]\nID=-03h\nDLC=1\nCycleTime=10\n',
+                ),
+                "--bitrate",
+                500000,
+            ],
+        ),
         ("no frame is taken", [one, "--bitrate", 500000, "--without", "*"]),
         ("can't be written", [one, "--bitrate", 500000, "--to", os.path.join(room, "nowhere", "x.toml")]),
     ):
@@ -401,18 +660,42 @@ def check_refused(room):
 
 
 def check_words():
-    hold(time_of("250us") == 250_000 and time_of("0.5ms") == 500_000 and text_of(Fraction(1500)) == "1.5us" and common(Fraction(1000), Fraction(1250)) == 250 and common(Fraction(800), Fraction(1, 3)) == Fraction(1, 3), "times")
+    hold(
+        time_of("250us") == 250_000
+        and time_of("0.5ms") == 500_000
+        and text_of(Fraction(1500)) == "1.5us"
+        and common(Fraction(1000), Fraction(1250)) == 250
+        and common(Fraction(800), Fraction(1, 3)) == Fraction(1, 3),
+        "times",
+    )
     taken = set()
-    hold([named(it, taken, 5) for it in ("a b", "a-b", "a+b", "aaaaaa", "aaaaab", "-x", "", "ß")] == ["a_b", "a-b", "a_b_2", "aaaaa", "aaa_2", "_-x", "_", "__2"], f"names: {taken}")
+    hold(
+        [named(it, taken, 5) for it in ("a b", "a-b", "a+b", "aaaaaa", "aaaaab", "-x", "", "ß")]
+        == ["a_b", "a-b", "a_b_2", "aaaaa", "aaa_2", "_-x", "_", "__2"],
+        f"names: {taken}",
+    )
     for size in range(9):
-        hold(least_and_greatest(size, False) == (47 + 8 * size, 55 + 10 * size) == execution({"payload": size}, {}) and least_and_greatest(size, True) == (67 + 8 * size, 80 + 10 * size) == execution({"payload": size, "extended": True}, {}), f"the lengths of a frame of {size} bytes")
+        hold(
+            least_and_greatest(size, False) == (47 + 8 * size, 55 + 10 * size) == execution({"payload": size}, {})
+            and least_and_greatest(size, True)
+            == (67 + 8 * size, 80 + 10 * size)
+            == execution({"payload": size, "extended": True}, {}),
+            f"the lengths of a frame of {size} bytes",
+        )
     # k frames in each cycle, at any times within the jitter, are what --multiplexed each makes of them
     draw = random.Random(6)
     for _ in range(200):
         period, count, jitter = draw.randint(5, 60), draw.randint(1, 5), draw.choice((0, draw.randint(0, 150)))
-        times = sorted(cycle * period + draw.choice((0, jitter, draw.randint(0, jitter))) for cycle in range(12) for _ in range(count))
+        times = sorted(
+            cycle * period + draw.choice((0, jitter, draw.randint(0, jitter)))
+            for cycle in range(12)
+            for _ in range(count)
+        )
         each = period // count
-        hold(obeys(times, each, jitter + (count - 1) * each, 0), f"{count} frames in each cycle of {period}, with jitter {jitter}: {times}")
+        hold(
+            obeys(times, each, jitter + (count - 1) * each, 0),
+            f"{count} frames in each cycle of {period}, with jitter {jitter}: {times}",
+        )
     hold(plain("Türsteuergerät (links)") == "Tursteuergerat_links_", "a name without its marks")
 
 
@@ -433,13 +716,20 @@ def random_times(draw):
         elif kind == 3:  # a clock that drifts
             times.append(at + place * period - place // 7)
         else:  # pauses
-            times.append((times[-1] if times else at) + period * draw.choice((1,) * 30 + (7,)) + draw.choice((0, 1, -1)))
+            times.append(
+                (times[-1] if times else at) + period * draw.choice((1,) * 30 + (7,)) + draw.choice((0, 1, -1))
+            )
     return sorted(times)
 
 
 def obeys(times, period, jitter, distance):
     """By each pair."""
-    return all(b - a >= max(0, (k - i) * distance, (k - i) * period - jitter) for i, a in enumerate(times) for k, b in enumerate(times) if i < k)
+    return all(
+        b - a >= max(0, (k - i) * distance, (k - i) * period - jitter)
+        for i, a in enumerate(times)
+        for k, b in enumerate(times)
+        if i < k
+    )
 
 
 def breach_of(times, period, jitter, distance, begin=0):
@@ -456,7 +746,16 @@ def log_of(room, name, frames):
     file = os.path.join(room, name)
     with can.Logger(file) as it:
         for at, identifier, extended, size, channel in frames:
-            it.on_message_received(can.Message(timestamp=1_700_000_000 + at / 1e6, arbitration_id=identifier, is_extended_id=extended, dlc=size, data=bytes(size), channel=channel))
+            it.on_message_received(
+                can.Message(
+                    timestamp=1_700_000_000 + at / 1e6,
+                    arbitration_id=identifier,
+                    is_extended_id=extended,
+                    dlc=size,
+                    data=bytes(size),
+                    channel=channel,
+                )
+            )
     return file
 
 
@@ -490,10 +789,20 @@ def check_fits(room, count):
             if jitter < 0:
                 continue
             model = f'{{ name = "s", period = {it["period"]}, jitter = {jitter}, distance = {it.get("distance", 0)} }}'
-            file = written(room, "fit.toml", f'format = 1\nresource = [{{ name = "r", kind = "preemptive" }}]\nsource = [{model}]\ntask = [{{ name = "t", on = "r", after = "s", best = 1, worst = 1, priority = 1 }}]\n')
+            file = written(
+                room,
+                "fit.toml",
+                (
+                    f'format = 1\nresource = [{{ name = "r", kind = "preemptive" }}]\nsource = [{model}]\ntask = [{{'
+                    ' name = "t", on = "r", after = "s", best = 1, worst = 1, priority = 1 }]\n'
+                ),
+            )
             done = subprocess.run([PROGRAM, "simulate", file, trace], capture_output=True, text=True, check=False)
             wanted = breach_of(times, it["period"], jitter, it.get("distance", 0))
-            hold(wanted is None if done.returncode == 0 else done.stdout == f"trace disobeys source s times {wanted}\n", f"simulate of frame {identifier}: {done.stdout} where {wanted} is expected")
+            hold(
+                wanted is None if done.returncode == 0 else done.stdout == f"trace disobeys source s times {wanted}\n",
+                f"simulate of frame {identifier}: {done.stdout} where {wanted} is expected",
+            )
             hold(done.returncode == (17 if less else 0), f"simulate of frame {identifier}: {done.stdout}")
 
 
@@ -506,7 +815,10 @@ def bus_run(draw, system, until):
         source = next(it for it in system["source"] if it["name"] == task["after"])
         jitter = source.get("jitter", 0)
         begin = draw.randint(0, source["period"])
-        queue += [(begin + at + draw.choice((0, jitter, draw.randint(0, jitter))), task["priority"], task["name"]) for at in range(0, until, source["period"])]
+        queue += [
+            (begin + at + draw.choice((0, jitter, draw.randint(0, jitter))), task["priority"], task["name"])
+            for at in range(0, until, source["period"])
+        ]
     queue.sort()
     waiting, now, place, found = [], 0, 0, []
     while place < len(queue) or waiting:
@@ -534,81 +846,189 @@ def check_runs(room, count):
             continue
         bounds = {line.split()[1]: int(line.split()[-1]) for line in report.splitlines() if line.startswith("task ")}
         found = bus_run(draw, system, 3_000_000)
-        hold(all(response <= bounds[name] for _, name, response in found), f"run {number}: a response is above its bound")
+        hold(
+            all(response <= bounds[name] for _, name, response in found), f"run {number}: a response is above its bound"
+        )
         frames = {name: (identifier, extended, size) for name, identifier, extended, size, _, _ in frames}
-        log = log_of(room, draw.choice(("bus.log", "bus.asc", "bus.blf")), [(at, *frames[name], 0) for at, name, _ in found])
+        log = log_of(
+            room, draw.choice(("bus.log", "bus.asc", "bus.blf")), [(at, *frames[name], 0) for at, name, _ in found]
+        )
         database = ["--database", f"b={os.path.join(room, 'bus.dbc')}"]
         words = database if "order of the identifiers" in text else draw.choice(([], database))
         done = run("from_log.py", log, "--system", file, "--program", PROGRAM, *words)
         lines = done.stdout.splitlines()
-        hold(done.returncode == 0 and lines and lines[-1] == "summary beyond 0 strange 0" and not done.stderr, f"run {number}: {done.stdout} {done.stderr}")
-        hold(sum(" within " in line for line in lines) == len(system["task"]) and lines[-2].endswith(" rough 0"), f"run {number}: {lines}")
+        hold(
+            done.returncode == 0 and lines and lines[-1] == "summary beyond 0 strange 0" and not done.stderr,
+            f"run {number}: {done.stdout} {done.stderr}",
+        )
+        hold(
+            sum(" within " in line for line in lines) == len(system["task"]) and lines[-2].endswith(" rough 0"),
+            f"run {number}: {lines}",
+        )
         # a source that sends one frame more than it may, as soon as the bus is free
         name = draw.choice(sorted(frames))
         source = next(it for it in system["source"] if it["name"] == f"{name}.queued")
         vary = bounds[name] - (least_and_greatest(frames[name][2], frames[name][1])[0] * 2)
         more = (source.get("jitter", 0) + vary) // (source["period"] - 200) + 2
         last = found[-1][0]
-        dense = [(at, *frames[one], 0) for at, one, _ in found] + [(last + 200 * place, *frames[name], 0) for place in range(1, more + 1)]
+        dense = [(at, *frames[one], 0) for at, one, _ in found] + [
+            (last + 200 * place, *frames[name], 0) for place in range(1, more + 1)
+        ]
         log = log_of(room, "dense.log", dense)
         done = run("from_log.py", log, "--system", file, "--program", PROGRAM, *words)
         begin = found[0][0]
         least = least_and_greatest(frames[name][2], frames[name][1])[0] * 2
-        times = [at - begin for at, one, _ in found if one == name] + [last + 200 * place - begin for place in range(1, more + 1)]
-        wanted = breach_of(times, source["period"], source.get("jitter", 0) + vary, max(-vary, least), len(times) - more)
-        hold(done.returncode == 4 and f"beyond output times {wanted}\n" in done.stdout, f"denser run {number}: {done.stdout} where {wanted} is expected")
+        times = [at - begin for at, one, _ in found if one == name] + [
+            last + 200 * place - begin for place in range(1, more + 1)
+        ]
+        wanted = breach_of(
+            times, source["period"], source.get("jitter", 0) + vary, max(-vary, least), len(times) - more
+        )
+        hold(
+            done.returncode == 4 and f"beyond output times {wanted}\n" in done.stdout,
+            f"denser run {number}: {done.stdout} where {wanted} is expected",
+        )
 
 
 def check_logs(room):
     """Channels, names, and what isn't taken."""
-    database = dumped(room, "names.dbc", matrix_of([("Speed", 0x10, False, 2, 10, {}), ("Lamps", 0x20, False, 1, 20, {})]))
+    database = dumped(
+        room, "names.dbc", matrix_of([("Speed", 0x10, False, 2, 10, {}), ("Lamps", 0x20, False, 1, 20, {})])
+    )
     system = os.path.join(room, "names.toml")
     run("from_network.py", f"b={database}", "--bitrate", 500000, "--to", system)
-    base = [(at, 0x10, False, 2, "can0") for at in range(0, 100_000, 10_000)] + [(at, 0x20, False, 1, "can1") for at in range(300, 100_000, 20_000)]
+    base = [(at, 0x10, False, 2, "can0") for at in range(0, 100_000, 10_000)] + [
+        (at, 0x20, False, 1, "can1") for at in range(300, 100_000, 20_000)
+    ]
     base.sort()
     log = log_of(room, "two.log", base)
     done = run("from_log.py", log)
-    hold([it["name"] for it in system_of(done.stdout)["source"]] == ["can0.x010.seen", "can1.x020.seen"], f"two channels: {done.stdout}")
+    hold(
+        [it["name"] for it in system_of(done.stdout)["source"]] == ["can0.x010.seen", "can1.x020.seen"],
+        f"two channels: {done.stdout}",
+    )
     done = run("from_log.py", log, "--database", f"b={database}", "--bus", "b=can0", "--period", "database")
-    hold([(it["name"], it["period"], it["distance"]) for it in system_of(done.stdout)["source"]][0] == ("Speed.seen", 10_000, 10_000) and "cycle time 10000" in done.stdout, f"names: {done.stdout}")
+    hold(
+        [(it["name"], it["period"], it["distance"]) for it in system_of(done.stdout)["source"]][0]
+        == ("Speed.seen", 10_000, 10_000)
+        and "cycle time 10000" in done.stdout,
+        f"names: {done.stdout}",
+    )
     done = run("from_log.py", log, "--system", system, "--bus", "b=can0", "--program", PROGRAM)
-    hold(done.returncode == 0 and "frame Lamps absent" in done.stdout and "frame Speed frames 10 period 10000 jitter 0 distance 10000 input 0 0 output 154 126 within input" in done.stdout, f"one channel of two: {done.stdout}")
-    done = run("from_log.py", log, "--system", system, "--bus", "b=can1", "--program", PROGRAM, "--database", f"b={database}")
+    hold(
+        done.returncode == 0
+        and "frame Lamps absent" in done.stdout
+        and "frame Speed frames 10 period 10000 jitter 0 distance 10000 input 0 0 output 154 126 within input"
+        in done.stdout,
+        f"one channel of two: {done.stdout}",
+    )
+    done = run(
+        "from_log.py", log, "--system", system, "--bus", "b=can1", "--program", PROGRAM, "--database", f"b={database}"
+    )
     hold(done.returncode == 0 and "frame Speed absent" in done.stdout, f"by a database: {done.stdout}")
-    strange = log_of(room, "strange.log", [(at, *it[1:4], "can0") for at, *it in [(it[0], *it) for it in base]] + [(200_000, 0x30, False, 8, "can0"), (200_400, 0x10, False, 8, "can0"), (200_410, 0x20, False, 1, "can0")])
+    strange = log_of(
+        room,
+        "strange.log",
+        [(at, *it[1:4], "can0") for at, *it in [(it[0], *it) for it in base]]
+        + [(200_000, 0x30, False, 8, "can0"), (200_400, 0x10, False, 8, "can0"), (200_410, 0x20, False, 1, "can0")],
+    )
     done = run("from_log.py", strange, "--system", system, "--program", PROGRAM)
-    hold(done.returncode == 4 and "unknown 0x030 frames 1 payload 8" in done.stdout and "longer Speed payload 8 beyond 2" in done.stdout and "rough 100" in done.stdout and "up to 100 ticks sooner" in done.stderr, f"a strange log: {done.stdout} {done.stderr}")
+    hold(
+        done.returncode == 4
+        and "unknown 0x030 frames 1 payload 8" in done.stdout
+        and "longer Speed payload 8 beyond 2" in done.stdout
+        and "rough 100" in done.stdout
+        and "up to 100 ticks sooner" in done.stderr,
+        f"a strange log: {done.stdout} {done.stderr}",
+    )
     report = written(room, "names.report.txt", analysed(system)[1])
     hold(run("from_log.py", strange, "--system", system, "--report", report).stdout == done.stdout, "--report")
     # a recorder whose clock is slow by 1000 millionths
-    slow = log_of(room, "slow.log", [(at * 999 // 1000, 0x10, False, 2, "can0") for at in range(0, 100_000_000, 10_000)])
+    slow = log_of(
+        room, "slow.log", [(at * 999 // 1000, 0x10, False, 2, "can0") for at in range(0, 100_000_000, 10_000)]
+    )
     done = run("from_log.py", slow, "--system", system, "--program", PROGRAM)
-    hold(done.returncode == 4 and "frame Speed frames 10000 period 10000 jitter 99990 distance 9990 input 0 0 output" in done.stdout, f"a slow clock: {done.stdout}")
+    hold(
+        done.returncode == 4
+        and "frame Speed frames 10000 period 10000 jitter 99990 distance 9990 input 0 0 output" in done.stdout,
+        f"a slow clock: {done.stdout}",
+    )
     hold(run("from_log.py", slow, "--system", system, "--program", PROGRAM, "--drift", 1010).returncode == 0, "--drift")
-    early = log_of(room, "early.log", [(at - (at // 10_000 % 2) * 700, 0x10, False, 2, "can0") for at in range(0, 1_000_000, 10_000)])
+    early = log_of(
+        room,
+        "early.log",
+        [(at - (at // 10_000 % 2) * 700, 0x10, False, 2, "can0") for at in range(0, 1_000_000, 10_000)],
+    )
     done = run("from_log.py", early, "--system", system, "--program", PROGRAM)
     hold(done.returncode == 4 and "jitter 700 distance 9300 input" in done.stdout, f"early frames: {done.stdout}")
-    hold("within input" in run("from_log.py", early, "--system", system, "--program", PROGRAM, "--rough", 700).stdout, "--rough")
+    hold(
+        "within input" in run("from_log.py", early, "--system", system, "--program", PROGRAM, "--rough", 700).stdout,
+        "--rough",
+    )
     # to the tick: one that needs the jitter of a model, and one that needs a tick more
     tight = os.path.join(room, "tight.toml")
     run("from_network.py", f"b={database}", "--bitrate", 500000, "--jitter", "700.1us", "--to", tight)
-    for early, verdict in ((701, "within input"), (702, "within output"), (855, "within output"), (856, "beyond output")):
-        exact = log_of(room, "tight.log", [(at - (at // 10_000 % 2) * early, 0x10, False, 2, "can0") for at in range(0, 200_000, 10_000)])
+    for early, verdict in (
+        (701, "within input"),
+        (702, "within output"),
+        (855, "within output"),
+        (856, "beyond output"),
+    ):
+        exact = log_of(
+            room,
+            "tight.log",
+            [(at - (at // 10_000 % 2) * early, 0x10, False, 2, "can0") for at in range(0, 200_000, 10_000)],
+        )
         done = run("from_log.py", exact, "--system", tight, "--program", PROGRAM)
-        hold(f"jitter {early} distance {10_000 - early} input 701 0 output 855 126 {verdict}" in done.stdout, f"a jitter of {early}: {done.stdout}")
+        hold(
+            f"jitter {early} distance {10_000 - early} input 701 0 output 855 126 {verdict}" in done.stdout,
+            f"a jitter of {early}: {done.stdout}",
+        )
     wide = log_of(room, "wide.log", [(at, 0x10, False, 2, "can0") for at in range(0, 200_000, 20_000)])
     done = run("from_log.py", wide, "--database", f"b={database}", "--period", "database")
-    hold([(it["period"], it.get("jitter", 0), it["distance"]) for it in system_of(done.stdout)["source"]] == [(10_000, 0, 10_000)], f"gaps above the period: {done.stdout}")
+    hold(
+        [(it["period"], it.get("jitter", 0), it["distance"]) for it in system_of(done.stdout)["source"]]
+        == [(10_000, 0, 10_000)],
+        f"gaps above the period: {done.stdout}",
+    )
     # frames of other kinds
     other = os.path.join(room, "other.log")
     with can.Logger(other) as it:
         for place in range(6):
-            it.on_message_received(can.Message(timestamp=1_700_000_000 + place / 100, arbitration_id=0x10, is_extended_id=False, dlc=2, data=bytes(2), channel="can0", is_remote_frame=place == 1, is_error_frame=place == 2, is_fd=place == 3, is_rx=place != 4))
+            it.on_message_received(
+                can.Message(
+                    timestamp=1_700_000_000 + place / 100,
+                    arbitration_id=0x10,
+                    is_extended_id=False,
+                    dlc=2,
+                    data=bytes(2),
+                    channel="can0",
+                    is_remote_frame=place == 1,
+                    is_error_frame=place == 2,
+                    is_fd=place == 3,
+                    is_rx=place != 4,
+                )
+            )
     done = run("from_log.py", other)
-    hold(all(it in done.stderr for it in ("1 error frames: after an error a frame is sent again", "1 remote frames aren't taken", "1 CAN FD frames aren't taken", "1 frames of the recorder itself are taken")) and "3 frames" in done.stdout, f"other frames: {done.stdout} {done.stderr}")
+    hold(
+        all(
+            it in done.stderr
+            for it in (
+                "1 error frames: after an error a frame is sent again",
+                "1 remote frames aren't taken",
+                "1 CAN FD frames aren't taken",
+                "1 frames of the recorder itself are taken",
+            )
+        )
+        and "3 frames" in done.stdout,
+        f"other frames: {done.stdout} {done.stderr}",
+    )
     for said, words in (
         ("which bus is which channel", [log, "--system", system, "--program", PROGRAM]),
-        ("the log has no such channel; it has can0, can1", [log, "--system", system, "--bus", "b=can7", "--program", PROGRAM]),
+        (
+            "the log has no such channel; it has can0, can1",
+            [log, "--system", system, "--bus", "b=can7", "--program", PROGRAM],
+        ),
         ("there is no such bus; there are b", [log, "--system", system, "--bus", "c=can0", "--program", PROGRAM]),
         ("write it as BUS=CHANNEL", [log, "--bus", "b"]),
         ("--report wants --system", [log, "--report", report]),
@@ -622,9 +1042,33 @@ def check_logs(room):
         ("there is no frame in it", [written(room, "empty.log", "")]),
         ("a line of the log is broken", [written(room, "huge.log", "(1.5) can0 010#00\n(1e300) can0 010#00\n")]),
         ("a line of the log is broken", [written(room, "nan.log", "(1.5) can0 010#00\n(nan) can0 010#00\n")]),
-        ("times are relative to the line before", [written(room, "relative.asc", "date Fri Nov 1 10:00:00.000 am 2024\nbase hex timestamps relative\nno internal events logged\n0.1 1 10 Rx d 1 00\n0.1 1 10 Rx d 1 00\n")]),
-        ("no frame of channel can0 has the identifier of a task on can: its priorities are no identifiers", [log_of(room, "far.log", [(0, 0x700, False, 1, "can0")]), "--system", "examples/sae_can.toml", "--report", "examples/sae_can.report.txt"]),
-        ("it has no CAN bus", [log, "--system", "examples/two_tasks.toml", "--report", "examples/two_tasks.report.txt"]),
+        (
+            "times are relative to the line before",
+            [
+                written(
+                    room,
+                    "relative.asc",
+                    (
+                        "date Fri Nov 1 10:00:00.000 am 2024\nbase hex timestamps relative\nno internal events"
+                        " logged\n0.1 1 10 Rx d 1 00\n0.1 1 10 Rx d 1 00\n"
+                    ),
+                )
+            ],
+        ),
+        (
+            "no frame of channel can0 has the identifier of a task on can: its priorities are no identifiers",
+            [
+                log_of(room, "far.log", [(0, 0x700, False, 1, "can0")]),
+                "--system",
+                "examples/sae_can.toml",
+                "--report",
+                "examples/sae_can.report.txt",
+            ],
+        ),
+        (
+            "it has no CAN bus",
+            [log, "--system", "examples/two_tasks.toml", "--report", "examples/two_tasks.report.txt"],
+        ),
     ):
         told = said_by("from_log.py", *words)
         hold(said in told, f"from_log.py {words}: {told}")
@@ -634,22 +1078,49 @@ def check_chains(room):
     """Logs of the proved program's own runs, of buses whose frames come after tasks of processors: what `schedule` writes, as logs."""
     draw = random.Random(5)
     for number in range(4):
-        file = written(room, "made.toml", subprocess.run([PROGRAM, "generate", str(number), "12"], capture_output=True, text=True, check=True).stdout)
+        file = written(
+            room,
+            "made.toml",
+            subprocess.run([PROGRAM, "generate", str(number), "12"], capture_output=True, text=True, check=True).stdout,
+        )
         with open(file, "rb") as it:
             system = tomllib.load(it)
         rows = []
         for it in system["source"]:
-            times = [place * it["period"] + draw.choice((0, it.get("jitter", 0), draw.randint(0, it.get("jitter", 0)))) for place in range(10)]
+            times = [
+                place * it["period"] + draw.choice((0, it.get("jitter", 0), draw.randint(0, it.get("jitter", 0))))
+                for place in range(10)
+            ]
             rows += [f"event,{it['name']},{time}" for time in sorted(times)]
-        rows += [f"exec,{it['name']},{draw.choice((it['best'], it['worst'], draw.randint(it['best'], it['worst'])))}" for it in system["task"] for _ in range(10)]
-        done = subprocess.run([SCHEDULE, file, written(room, "made.csv", "".join(f"{it}\n" for it in rows))], capture_output=True, text=True, check=False)
+        rows += [
+            f"exec,{it['name']},{draw.choice((it['best'], it['worst'], draw.randint(it['best'], it['worst'])))}"
+            for it in system["task"]
+            for _ in range(10)
+        ]
+        done = subprocess.run(
+            [SCHEDULE, file, written(room, "made.csv", "".join(f"{it}\n" for it in rows))],
+            capture_output=True,
+            text=True,
+            check=False,
+        )
         hold(done.returncode == 0 and done.stdout, f"schedule of made system {number}: {done.stdout}")
         tasks = {it["name"]: it for it in system["task"]}
-        ends = [(int(end), tasks[name]) for name, _, end in (line.split(",") for line in done.stdout.splitlines()) if tasks[name]["on"].startswith("b")]
-        log = log_of(room, "made.blf", [(at, it["priority"], False, 8, int(it["on"][1:])) for at, it in sorted(ends, key=lambda it: it[0])])
+        ends = [
+            (int(end), tasks[name])
+            for name, _, end in (line.split(",") for line in done.stdout.splitlines())
+            if tasks[name]["on"].startswith("b")
+        ]
+        log = log_of(
+            room,
+            "made.blf",
+            [(at, it["priority"], False, 8, int(it["on"][1:])) for at, it in sorted(ends, key=lambda it: it[0])],
+        )
         done = run("from_log.py", log, "--system", file, "--program", PROGRAM, "--bus", "b0=0", "--bus", "b1=1")
         lines = [line for line in done.stdout.splitlines() if line.startswith("frame ")]
-        hold(done.returncode == 0 and len(lines) == 12 and all(" within " in line for line in lines), f"made system {number}: {done.stdout} {done.stderr}")
+        hold(
+            done.returncode == 0 and len(lines) == 12 and all(" within " in line for line in lines),
+            f"made system {number}: {done.stdout} {done.stderr}",
+        )
         hold(sum(int(line.split()[3]) for line in lines) == len(ends), f"made system {number}: its frames")
 
 
@@ -661,14 +1132,25 @@ def check_can_utils(room):
     wanted = run("from_log.py", "examples/sae_can.log", *words).stdout.replace("channel can0", "channel 0")
     for options, more in (([], []), (["-n"], []), (["-f"], ["--classical"])):
         file = os.path.join(room, "other.asc")
-        subprocess.run(["log2asc", *options, "-I", "examples/sae_can.log", "-O", file, "can0"], check=True, capture_output=True)
+        subprocess.run(
+            ["log2asc", *options, "-I", "examples/sae_can.log", "-O", file, "can0"], check=True, capture_output=True
+        )
         done = run("from_log.py", file, *words, *more)
-        hold(done.stdout == wanted and done.returncode == 0 and not done.stderr, f"log2asc {options}: {done.stdout} {done.stderr}")
-    hold("436 CAN FD frames aren't taken; where the log has classical ones" in said_by("from_log.py", file, *words), "frames in lines of CAN FD")
+        hold(
+            done.stdout == wanted and done.returncode == 0 and not done.stderr,
+            f"log2asc {options}: {done.stdout} {done.stderr}",
+        )
+    hold(
+        "436 CAN FD frames aren't taken; where the log has classical ones" in said_by("from_log.py", file, *words),
+        "frames in lines of CAN FD",
+    )
     # times of four digits are rough by less than a hundred ticks
     subprocess.run(["log2asc", "-4", "-I", "examples/sae_can.log", "-O", file, "can0"], check=True, capture_output=True)
     done = run("from_log.py", file, *words, "--rough", "100")
-    hold(done.returncode == 0 and "frames 436 rough 60" in done.stdout and not done.stderr, f"log2asc -4: {done.stdout} {done.stderr}")
+    hold(
+        done.returncode == 0 and "frames 436 rough 60" in done.stdout and not done.stderr,
+        f"log2asc -4: {done.stdout} {done.stderr}",
+    )
 
 
 def check_page(room):
@@ -678,9 +1160,19 @@ def check_page(room):
     done = run("from_log.py", "examples/sae_can.log", "--database", "can=examples/sae_can.dbc")
     shown = [line for line in page.splitlines() if line.startswith("  { name")]
     hold(shown and all(f"{line}\n" in done.stdout for line in shown), f"docs/NETWORKS.md: {shown} of {done.stdout}")
-    done = run("from_log.py", "examples/sae_can.log", "--system", "examples/sae_can.toml", "--report", "examples/sae_can.report.txt")
+    done = run(
+        "from_log.py",
+        "examples/sae_can.log",
+        "--system",
+        "examples/sae_can.toml",
+        "--report",
+        "examples/sae_can.report.txt",
+    )
     shown = [line for line in page.splitlines() if line.startswith("frame ")]
-    hold(shown and done.stdout.splitlines()[:len(shown)] == shown and done.returncode == 0, f"docs/NETWORKS.md: {shown} of {done.stdout}")
+    hold(
+        shown and done.stdout.splitlines()[: len(shown)] == shown and done.returncode == 0,
+        f"docs/NETWORKS.md: {shown} of {done.stdout}",
+    )
     draw = random.Random(4)
     clean = [place * 1000 + draw.randint(0, 50) for place in range(400)]
     missing = [it for place, it in enumerate(clean) if place not in (77, 200, 201, 202, 350)]
@@ -688,17 +1180,39 @@ def check_page(room):
     bursts = [place * 3000 + more * 20 for place in range(100) for more in range(3)]
     every = {1: clean, 2: missing, 3: off, 4: bursts, 5: [place * 4 + place // 2 for place in range(100)], 6: [0, 0, 0]}
     frames = sorted((at, identifier) for identifier, times in every.items() for at in times)
-    done = run("from_log.py", log_of(room, "periods.log", [(at, identifier, False, 0, "can0") for at, identifier in frames]))
-    found = {it["name"]: (it["period"], it.get("jitter", 0), it.get("distance", 0)) for it in system_of(done.stdout)["source"]}
-    hold(all(found[f"x00{k}.seen"][0] == 1000 and found[f"x00{k}.seen"][1] <= 50 for k in (1, 2, 3)), f"periods: {found}")
-    hold(990 <= found["x004.seen"][0] <= 1000 and found["x004.seen"][2] == 20 and found["x006.seen"] == (1, 2, 0), f"bursts: {found}")
+    done = run(
+        "from_log.py", log_of(room, "periods.log", [(at, identifier, False, 0, "can0") for at, identifier in frames])
+    )
+    found = {
+        it["name"]: (it["period"], it.get("jitter", 0), it.get("distance", 0))
+        for it in system_of(done.stdout)["source"]
+    }
+    hold(
+        all(found[f"x00{k}.seen"][0] == 1000 and found[f"x00{k}.seen"][1] <= 50 for k in (1, 2, 3)), f"periods: {found}"
+    )
+    hold(
+        990 <= found["x004.seen"][0] <= 1000 and found["x004.seen"][2] == 20 and found["x006.seen"] == (1, 2, 0),
+        f"bursts: {found}",
+    )
 
 
 def main():
     count = int(sys.argv[1]) if len(sys.argv) > 1 else 60
     check_words()
     with tempfile.TemporaryDirectory() as room:
-        for one in (check_sae, check_features, check_several, check_arxml, check_clusters, check_shipped, check_refused, check_logs, check_chains, check_can_utils, check_page):
+        for one in (
+            check_sae,
+            check_features,
+            check_several,
+            check_arxml,
+            check_clusters,
+            check_shipped,
+            check_refused,
+            check_logs,
+            check_chains,
+            check_can_utils,
+            check_page,
+        ):
             one(room)
         for one in (check_random, check_fits, check_runs):
             one(room, count)

@@ -53,7 +53,10 @@ MOST_TIME = 2**53
 NOTES = {
     "error frames": ": after an error a frame is sent again, which no bound counts",
     "remote frames": " aren't taken",
-    "CAN FD frames": " aren't taken; where the log has classical ones among them, as newer .asc files have them in python-can: --classical",
+    "CAN FD frames": (
+        " aren't taken; where the log has classical ones among them, as newer .asc files have them in python-can:"
+        " --classical"
+    ),
     "frames of the recorder itself": " are taken as others are",
     "frames before an earlier one of their channel": ": all are sorted by their times",
 }
@@ -99,14 +102,20 @@ def messages_in(file: str) -> Iterator["can.Message"]:
         reader = can.LogReader(file)
         for number, message in enumerate(reader, 1):
             if getattr(reader, "timestamps_format", None) == "relative":
-                sys.exit(f"{file}: its times are relative to the line before, which python-can takes as absolute: write it anew with absolute times")
+                sys.exit(
+                    f"{file}: its times are relative to the line before, which python-can takes as absolute: write it"
+                    " anew with absolute times"
+                )
             if number % 50_000 == 0:
                 progress(f"{file}: {number} frames are read")
             yield message
     except OSError as fault:
         sys.exit(f"{file}: can't be read: {fault.strerror or fault}")
     except Exception as fault:  # whatever the reader of this format raises
-        sys.exit(f"{file}: python-can can't read it: {type(fault).__name__}: {fault}. It reads .log as `candump -l` or `candump -L` write it, .asc, .blf, .trc, .csv and .db, and these with .gz behind")
+        sys.exit(
+            f"{file}: python-can can't read it: {type(fault).__name__}: {fault}. It reads .log as `candump -l` or"
+            " `candump -L` write it, .asc, .blf, .trc, .csv and .db, and these with .gz behind"
+        )
     finally:
         progress("")
 
@@ -131,7 +140,10 @@ def read_log(file: str, tick: Fraction, drift: float, classical: bool) -> Log:
         begins = message.timestamp if begins is None else begins
         after = (message.timestamp - begins) * per_second
         if not abs(after) < MOST_TIME:
-            sys.exit(f"{file}: a frame has the time {message.timestamp} s, where the first has {begins} s: a line of the log is broken, or the tick is too short")
+            sys.exit(
+                f"{file}: a frame has the time {message.timestamp} s, where the first has {begins} s: a line of the log"
+                " is broken, or the tick is too short"
+            )
         at = round(after)
         channel, key = str(message.channel), (message.arbitration_id, bool(message.is_extended_id))
         if at < latest.get(channel, at):
@@ -208,7 +220,11 @@ def first_breach(times: Sequence[int], stream: tuple[int, int, int]) -> Optional
         late = place * period - time
         low = late if low is None else min(low, late)
         if late - low > jitter or place and time - times[place - 1] < distance:
-            return next((first, time) for before, first in enumerate(times) if time - first < max((place - before) * period - jitter, (place - before) * distance))
+            return next(
+                (first, time)
+                for before, first in enumerate(times)
+                if time - first < max((place - before) * period - jitter, (place - before) * distance)
+            )
     return None
 
 
@@ -219,7 +235,10 @@ def source_line(name: str, key: Key, seen: Seen, told_period: Optional[int], tol
     jitter, distance = ahead(seen.times, period), min(min(gaps), period)
     rest = "".join(f", {word} = {value}" for word, value in (("jitter", jitter), ("distance", distance)) if value)
     cycle = f", cycle time {told}" if told else ""
-    return f'  {{ name = "{name}", period = {period}{rest} }}, # {shown(key)}, {len(seen.times)} frames, gaps {min(gaps)} to {max(gaps)}, later by up to {behind(seen.times, period)}{cycle}'
+    return (
+        f'  {{ name = "{name}", period = {period}{rest} }}, # {shown(key)}, {len(seen.times)} frames, gaps'
+        f" {min(gaps)} to {max(gaps)}, later by up to {behind(seen.times, period)}{cycle}"
+    )
 
 
 class Names:
@@ -234,6 +253,7 @@ class Names:
             return
         # canmatrix is needed here alone
         from networks import read_buses
+
         for one in read_buses(words.database):
             self.by_bus[one.name] = {}
             for frame in one.frames:
@@ -260,7 +280,10 @@ def channels_of(words: argparse.Namespace, log: Log, buses: list[str]) -> dict[s
         return told
     if len(buses) == 1 and len(log.channels) == 1:
         return {buses[0]: next(iter(log.channels))}
-    sys.exit(f"which bus is which channel? --bus BUS=CHANNEL tells; the buses are {', '.join(buses)}, and the channels {', '.join(sorted(log.channels))}")
+    sys.exit(
+        f"which bus is which channel? --bus BUS=CHANNEL tells; the buses are {', '.join(buses)}, and the channels"
+        f" {', '.join(sorted(log.channels))}"
+    )
 
 
 def identifiers_of(system: dict, bus: str) -> dict[Key, str]:
@@ -278,14 +301,23 @@ def identifiers_of(system: dict, bus: str) -> dict[Key, str]:
 
 def made(words: argparse.Namespace, log: Log, names: Names) -> None:
     """Prints sources for what the log has."""
-    print(f"# The frames of {words.log.encode('ascii', 'backslashreplace').decode()} as they were received. A tick is {float(words.tick):.12g} ns; the log has {log.last} of them.")
+    print(
+        f"# The frames of {words.log.encode('ascii', 'backslashreplace').decode()} as they were received. A tick is"
+        f" {float(words.tick):.12g} ns; the log has {log.last} of them."
+    )
     print("source = [")
     for channel, frames in sorted(log.channels.items()):
-        for key, seen in sorted(frames.items(), key=lambda it: (it[0][0] >> 18, True, it[0][0]) if it[0][1] else (it[0][0], False, 0)):
+        for key, seen in sorted(
+            frames.items(), key=lambda it: (it[0][0] >> 18, True, it[0][0]) if it[0][1] else (it[0][0], False, 0)
+        ):
             name = names.of(channel, key)
             progress(f"{name}: {len(seen.times)} frames")
             told = names.cycles.get(name)
-            line = f"  # {name}, {shown(key)}: {len(seen.times)} frames tell no period" if len(seen.times) < 3 else source_line(f"{name}.seen", key, seen, told if words.period == "database" else None, told)
+            line = (
+                f"  # {name}, {shown(key)}: {len(seen.times)} frames tell no period"
+                if len(seen.times) < 3
+                else source_line(f"{name}.seen", key, seen, told if words.period == "database" else None, told)
+            )
             progress("")
             print(line)
     print("]")
@@ -293,13 +325,19 @@ def made(words: argparse.Namespace, log: Log, names: Names) -> None:
 
 def rough(events: Iterable[tuple[int, Key]], least: dict[Key, int]) -> int:
     """By how many ticks at most a frame was received sooner after the one before than it can be long."""
-    return max((least[key] - (time - before) for (before, _), (time, key) in pairwise(events) if key in least), default=0)
+    return max(
+        (least[key] - (time - before) for (before, _), (time, key) in pairwise(events) if key in least), default=0
+    )
 
 
 def compare(words: argparse.Namespace, log: Log, names: Names) -> int:
     """Prints what the log says of a system, and answers the status."""
     system = read_system(words.system)
-    tasks, _ = read_report(words.report) if words.report else reports_in(written_by(words.program, "analyse", words.system).splitlines(), words.system)[-1][:2]
+    tasks, _ = (
+        read_report(words.report)
+        if words.report
+        else reports_in(written_by(words.program, "analyse", words.system).splitlines(), words.system)[-1][:2]
+    )
     bounds = {name: it["worst"] for name, it in tasks.items()}
     resources = {it["name"]: it for it in system.get("resource", []) if it["kind"] == "can"}
     by_name = {it["name"]: it for it in system.get("task", [])}
@@ -309,13 +347,24 @@ def compare(words: argparse.Namespace, log: Log, names: Names) -> int:
     for bus, channel in channels_of(words, log, list(resources)).items():
         frames, known = log.channels[channel], {}
         if words.database:
-            known = {key: name for key, name in names.by_bus.get(bus, next(iter(names.by_bus.values())) if len(names.by_bus) == 1 else {}).items() if name in by_name and by_name[name]["on"] == bus}
+            known = {
+                key: name
+                for key, name in names.by_bus.get(
+                    bus, next(iter(names.by_bus.values())) if len(names.by_bus) == 1 else {}
+                ).items()
+                if name in by_name and by_name[name]["on"] == bus
+            }
         known = known or identifiers_of(system, bus)
         if not any(key in frames for key in known):
-            sys.exit(f"{words.system}: no frame of channel {channel} has the identifier of a task on {bus}: {'--database names another' if words.database else 'its priorities are no identifiers: name the --database'}")
+            sys.exit(
+                f"{words.system}: no frame of channel {channel} has the identifier of a task on {bus}:"
+                f" {'--database names another' if words.database else 'its priorities are no identifiers: name the --database'}"
+            )
         lengths = {key: execution(by_name[name], resources[bus]) for key, name in known.items()}
         for key, name in sorted(known.items(), key=lambda it: by_name[it[1]]["priority"]):
-            verdict = verdict_of(name, frames.get(key), lengths[key][0], input_of(system, bounds, name), bounds.get(name), words.rough)
+            verdict = verdict_of(
+                name, frames.get(key), lengths[key][0], input_of(system, bounds, name), bounds.get(name), words.rough
+            )
             beyond += " beyond output " in verdict
             print(verdict)
             if key in frames and frames[key].size > by_name[name].get("payload", 8):
@@ -327,12 +376,21 @@ def compare(words: argparse.Namespace, log: Log, names: Names) -> int:
         short = max(0, rough(log.every(channel), {key: length[0] for key, length in lengths.items()}))
         print(f"bus {bus} channel {channel} frames {sum(len(it.times) for it in frames.values())} rough {short}")
         if short > words.rough:
-            print(f"bus {bus}: frames were received up to {short} ticks sooner after the one before than they are long: the times are rough, which --rough takes into account, or the bit rate or the tick is another", file=sys.stderr)
+            print(
+                (
+                    f"bus {bus}: frames were received up to {short} ticks sooner after the one before than they are"
+                    " long: the times are rough, which --rough takes into account, or the bit rate or the tick is"
+                    " another"
+                ),
+                file=sys.stderr,
+            )
     print(f"summary beyond {beyond} strange {strange}")
     return 4 if beyond or strange else 0
 
 
-def verdict_of(name: str, seen: Optional[Seen], least: int, streams: Optional[list], bound: Optional[int], rough_by: int) -> str:
+def verdict_of(
+    name: str, seen: Optional[Seen], least: int, streams: Optional[list], bound: Optional[int], rough_by: int
+) -> str:
     """The line of a frame."""
     if seen is None:
         return f"frame {name} absent"
@@ -343,7 +401,10 @@ def verdict_of(name: str, seen: Optional[Seen], least: int, streams: Optional[li
     period, jitter, distance = streams[0]
     gaps = gaps_of(seen.times)
     behind_it = (period, jitter + bound - least, max(distance - (bound - least), least))
-    line = f"frame {name} frames {len(seen.times)} period {period} jitter {ahead(seen.times, period)} distance {min(gaps, default=period)} input {jitter} {distance} output {behind_it[1]} {behind_it[2]}"
+    line = (
+        f"frame {name} frames {len(seen.times)} period {period} jitter {ahead(seen.times, period)} distance"
+        f" {min(gaps, default=period)} input {jitter} {distance} output {behind_it[1]} {behind_it[2]}"
+    )
     if not first_breach(seen.times, (period, jitter + rough_by, max(0, distance - rough_by))):
         return f"{line} within input"
     breach = first_breach(seen.times, (period, behind_it[1] + rough_by, behind_it[2] - rough_by))
@@ -369,13 +430,54 @@ def asked_for() -> argparse.Namespace:
     reader.add_argument("log", metavar="LOG", help="a recorded log")
     reader.add_argument("--system", metavar="SYSTEM", help="a system file that the log is held against")
     reader.add_argument("--report", metavar="REPORT", help="what lokwurmi analyse wrote of it; it is called if absent")
-    reader.add_argument("--database", metavar="DATABASE", action="append", default=[], help="a database with the names of the frames, all as for tools/from_network.py; if absent a system's priorities are identifiers")
-    reader.add_argument("--bus", metavar="BUS=CHANNEL", type=bus_of, action="append", default=[], help="which channel of the log a bus is; needed where there are several")
-    reader.add_argument("--tick", metavar="TIME", type=tick_of, default=time_of("1us"), help="the time of a tick, that of the system; 1us if absent")
-    reader.add_argument("--period", choices=("log", "database"), default="log", help="whose periods the sources get; the log's if absent")
-    reader.add_argument("--classical", action="store_true", help="takes frames of CAN FD with at most 8 bytes as classical ones")
-    reader.add_argument("--rough", metavar="TICKS", type=int, default=0, help="by how much the times of the log may be late; 0 if absent")
-    reader.add_argument("--drift", metavar="PPM", type=float, default=0, help="by how many millionths the clock of the recorder may be slower than that of a sender; 0 if absent")
+    reader.add_argument(
+        "--database",
+        metavar="DATABASE",
+        action="append",
+        default=[],
+        help=(
+            "a database with the names of the frames, all as for tools/from_network.py; if absent a system's priorities"
+            " are identifiers"
+        ),
+    )
+    reader.add_argument(
+        "--bus",
+        metavar="BUS=CHANNEL",
+        type=bus_of,
+        action="append",
+        default=[],
+        help="which channel of the log a bus is; needed where there are several",
+    )
+    reader.add_argument(
+        "--tick",
+        metavar="TIME",
+        type=tick_of,
+        default=time_of("1us"),
+        help="the time of a tick, that of the system; 1us if absent",
+    )
+    reader.add_argument(
+        "--period",
+        choices=("log", "database"),
+        default="log",
+        help="whose periods the sources get; the log's if absent",
+    )
+    reader.add_argument(
+        "--classical", action="store_true", help="takes frames of CAN FD with at most 8 bytes as classical ones"
+    )
+    reader.add_argument(
+        "--rough",
+        metavar="TICKS",
+        type=int,
+        default=0,
+        help="by how much the times of the log may be late; 0 if absent",
+    )
+    reader.add_argument(
+        "--drift",
+        metavar="PPM",
+        type=float,
+        default=0,
+        help="by how many millionths the clock of the recorder may be slower than that of a sender; 0 if absent",
+    )
     add_program(reader)
     words = reader.parse_args()
     if words.report and not words.system:
@@ -391,7 +493,10 @@ def main() -> None:
     words = asked_for()
     log = read_log(words.log, words.tick, words.drift, words.classical)
     if not log.channels:
-        sys.exit(f"{words.log}: there is no frame in it that can be taken" + "".join(f"; {count} {what}{NOTES.get(what, '')}" for what, count in log.counts.items()))
+        sys.exit(
+            f"{words.log}: there is no frame in it that can be taken"
+            + "".join(f"; {count} {what}{NOTES.get(what, '')}" for what, count in log.counts.items())
+        )
     for what, count in log.counts.items():
         print(f"{words.log}: {count} {what}{NOTES.get(what, '')}", file=sys.stderr)
     names = Names(words, log)

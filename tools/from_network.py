@@ -23,7 +23,20 @@ from dataclasses import dataclass, field
 from fractions import Fraction
 from typing import Any, Callable, Optional
 
-from networks import LONGEST, MOST_PRIORITY, QUEUED, Bus, Frame, comment, entry, least_and_greatest, number_of, plain, priorities, read_buses
+from networks import (
+    LONGEST,
+    MOST_PRIORITY,
+    QUEUED,
+    Bus,
+    Frame,
+    comment,
+    entry,
+    least_and_greatest,
+    number_of,
+    plain,
+    priorities,
+    read_buses,
+)
 from times import UNITS, common, text_of, time_of
 
 MOST_TICKS, MOST_EXECUTION, MOST_BIT, MOST_LIMIT = 1_000_000_000, 1_000_000, 1_000, 10_000_000
@@ -49,7 +62,11 @@ class Report:
     def lines(self, most: int) -> list[str]:
         """What is to be said, with so many names of a kind at most."""
         found = list(self.heads)
-        for head, part in (("left out; the bounds hold while it isn't sent:", self.left), ("taken otherwise than the database has it:", self.changed), ("assumed:", self.assumed)):
+        for head, part in (
+            ("left out; the bounds hold while it isn't sent:", self.left),
+            ("taken otherwise than the database has it:", self.changed),
+            ("assumed:", self.assumed),
+        ):
             if part:
                 found.append(head)
             for what, names in part.items():
@@ -94,7 +111,10 @@ class Importer:
         pairs = [forward_of(it, buses) for it in words.forward]
         self.forwards = dict(pairs)
         if len(self.forwards) < len(pairs):
-            sys.exit("--forward: two frames are passed on as one; a task of several activators has to be written by hand (format 2)")
+            sys.exit(
+                "--forward: two frames are passed on as one; a task of several activators has to be written by hand"
+                " (format 2)"
+            )
         self.taken: dict[str, list[Taken]] = {}
         self.bits: dict[str, Fraction] = {}
 
@@ -103,12 +123,16 @@ class Importer:
         told = {name: rate for name, rate in self.words.bitrate}
         unknown = [name for name in told if name and name not in {it.name for it in self.buses}]
         if unknown:
-            sys.exit(f"--bitrate {unknown[0]}: there is no such bus; there are {', '.join(it.name for it in self.buses)}")
+            sys.exit(
+                f"--bitrate {unknown[0]}: there is no such bus; there are {', '.join(it.name for it in self.buses)}"
+            )
         rate = told.get(bus.name) or told.get("") or bus.bitrate
         if not rate:
             sys.exit(f"{bus.file}: the bit rate of bus {bus.name} isn't told: --bitrate {bus.name}=500000")
         if bus.bitrate and bus.bitrate != rate:
-            self.report.add(self.report.changed, f"bus {bus.name} has {rate} bit/s, and {bus.bitrate} in the database", "")
+            self.report.add(
+                self.report.changed, f"bus {bus.name} has {rate} bit/s, and {bus.bitrate} in the database", ""
+            )
         return rate
 
     def bit(self, bus: Bus) -> Fraction:
@@ -116,10 +140,19 @@ class Importer:
         rate, tick = self.bitrate(bus), self.words.tick
         bit = Fraction(UNITS["s"], rate) / tick
         if math.ceil(bit) > MOST_BIT:
-            sys.exit(f"a bit of bus {bus.name} takes {float(bit):g} ticks, and {MOST_BIT} is the most: take a longer --tick")
+            sys.exit(
+                f"a bit of bus {bus.name} takes {float(bit):g} ticks, and {MOST_BIT} is the most: take a longer --tick"
+            )
         if bit.denominator > 1:
             whole = common(tick, bit * tick)
-            self.report.add(self.report.changed, f"a bit of bus {bus.name} takes {float(bit):g} ticks: lengths are rounded, the least down and the greatest up; with --tick {text_of(whole)} none is", "")
+            self.report.add(
+                self.report.changed,
+                (
+                    f"a bit of bus {bus.name} takes {float(bit):g} ticks: lengths are rounded, the least down and the"
+                    f" greatest up; with --tick {text_of(whole)} none is"
+                ),
+                "",
+            )
         return bit
 
     def is_left(self, frame: Frame) -> Optional[str]:
@@ -142,7 +175,11 @@ class Importer:
         """The least time from one of these frames to the next, without jitter, in nanoseconds, and what tells it."""
         others = self.words.others or Fraction(0)
         if not frame.cycle:
-            return (frame.delay, "the least distance of the database (GenMsgDelayTime), as there is no cycle time") if frame.delay else (others, "--others, as there is no cycle time")
+            return (
+                (frame.delay, "the least distance of the database (GenMsgDelayTime), as there is no cycle time")
+                if frame.delay
+                else (others, "--others, as there is no cycle time")
+            )
         if frame.is_spontaneous:
             between = frame.delay or others
             if between and between < frame.cycle:
@@ -154,7 +191,10 @@ class Importer:
         report, tick = self.report, self.words.tick
         exact, why = self.least_period(frame)
         if not 0 <= frame.identifier < (1 << 29 if frame.extended else 1 << 11) or frame.size < 0:
-            sys.exit(f"{frame.name}: the database gives it the identifier {frame.identifier} and {frame.size} bytes, which no frame has: mend it, or --without {frame.name}")
+            sys.exit(
+                f"{frame.name}: the database gives it the identifier {frame.identifier} and {frame.size} bytes, which"
+                f" no frame has: mend it, or --without {frame.name}"
+            )
         if frame.told != frame.name.removeprefix(f"{frame.bus}."):
             report.add(report.changed, "another name", f"{frame.told!r} is {frame.name}")
         if len(frame.senders) > 1:
@@ -162,7 +202,14 @@ class Importer:
         if why:
             report.add(report.changed, f"period by {why}", frame.name)
         elif frame.is_spontaneous and not frame.delay and not self.words.others:
-            report.add(report.assumed, f"no frame comes on an event, which the send type {frame.send_type} allows, but the database has no least distance (--others)", frame.name)
+            report.add(
+                report.assumed,
+                (
+                    f"no frame comes on an event, which the send type {frame.send_type} allows, but the database has no"
+                    " least distance (--others)"
+                ),
+                frame.name,
+            )
         period = min(int(exact * (1 - self.words.fast / 1_000_000) / tick), MOST_TICKS)
         if period and not self.words.fast and Fraction(period) != exact / tick:
             report.add(report.changed, "its period is rounded down", f"{frame.name} from {text_of(exact)}")
@@ -177,19 +224,40 @@ class Importer:
         bits = least_and_greatest(frame.size, frame.extended)
         least, greatest = math.floor(bits[0] * bit), math.ceil(bits[1] * bit)
         if not 1 <= least or greatest > MOST_EXECUTION:
-            sys.exit(f"{frame.name}: it takes {float(bits[0] * bit):g} to {float(bits[1] * bit):g} ticks, and 1 to {MOST_EXECUTION} are possible: take another --tick")
+            sys.exit(
+                f"{frame.name}: it takes {float(bits[0] * bit):g} to {float(bits[1] * bit):g} ticks, and 1 to"
+                f" {MOST_EXECUTION} are possible: take another --tick"
+            )
         deadline = self.deadline(frame, exact)
-        self.taken.setdefault(frame.bus, []).append(Taken(frame, period, jitter, deadline, forwarded or frame.name + QUEUED, least, greatest, bit.denominator == 1))
+        self.taken.setdefault(frame.bus, []).append(
+            Taken(
+                frame, period, jitter, deadline, forwarded or frame.name + QUEUED, least, greatest, bit.denominator == 1
+            )
+        )
 
     def multiplexed(self, frame: Frame, period: int, jitter: int) -> tuple[int, int]:
         """The period and the jitter of a frame of several values, each of which may be sent once a cycle, all at one time."""
         if self.words.multiplexed == "once" or frame.values < 2:
-            self.report.add(self.report.assumed, "one frame a cycle, whatever its multiplexer has; where each value is sent in each cycle: --multiplexed each", frame.name)
+            self.report.add(
+                self.report.assumed,
+                (
+                    "one frame a cycle, whatever its multiplexer has; where each value is sent in each cycle:"
+                    " --multiplexed each"
+                ),
+                frame.name,
+            )
             return period, jitter
         each = period // frame.values
         if not each:
-            sys.exit(f"{frame.name}: a part of its period for each of {frame.values} values is less than a tick: take a shorter --tick")
-        self.report.add(self.report.changed, "each value of the multiplexer is sent in each cycle, maybe all at one time", f"{frame.name}: {frame.values} values")
+            sys.exit(
+                f"{frame.name}: a part of its period for each of {frame.values} values is less than a tick: take a"
+                " shorter --tick"
+            )
+        self.report.add(
+            self.report.changed,
+            "each value of the multiplexer is sent in each cycle, maybe all at one time",
+            f"{frame.name}: {frame.values} values",
+        )
         return each, jitter + (frame.values - 1) * each
 
     def jitter(self, frame: Frame, period: Fraction) -> int:
@@ -236,9 +304,17 @@ class Importer:
             taken = self.taken.setdefault(bus.name, [])
             self.hold_apart(bus, taken)
             if words.fast:
-                report.add(report.changed, f"periods of bus {bus.name} are shorter by {words.fast} millionths, as clocks may be fast", "")
+                report.add(
+                    report.changed,
+                    f"periods of bus {bus.name} are shorter by {words.fast} millionths, as clocks may be fast",
+                    "",
+                )
             if taken and not any(it.jitter for it in taken) and words.jitter == ("time", 0):
-                report.add(report.assumed, f"each frame of bus {bus.name} is queued exactly once a period; a sender that doesn't: --jitter", "")
+                report.add(
+                    report.assumed,
+                    f"each frame of bus {bus.name} is queued exactly once a period; a sender that doesn't: --jitter",
+                    "",
+                )
         self.forwarded()
         for bus in self.buses:
             if bus.name in self.taken:
@@ -255,7 +331,10 @@ class Importer:
             while first in self.forwards:
                 first = self.forwards[first]
             load += Fraction(it.greatest, periods[first])
-        self.report.heads.append(f"{bus.file}: of bus {bus.name} {len(taken)} of {len(bus.frames)} frames are taken, which load it by {float(load) * 100:.1f} % at most")
+        self.report.heads.append(
+            f"{bus.file}: of bus {bus.name} {len(taken)} of {len(bus.frames)} frames are taken, which load it by"
+            f" {float(load) * 100:.1f} % at most"
+        )
         if load > 1:
             self.report.heads.append("  that is more than the bus can take: some bounds will be overload")
 
@@ -265,7 +344,10 @@ class Importer:
         for it in taken:
             other = found.setdefault((it.frame.identifier, it.frame.extended), it.frame.name)
             if other != it.frame.name:
-                sys.exit(f"{bus.file}: {other} and {it.frame.name} have the identifier {it.frame.shown}, so that the bus can't choose between them: leave one out, as --without {it.frame.name}")
+                sys.exit(
+                    f"{bus.file}: {other} and {it.frame.name} have the identifier {it.frame.shown}, so that the bus"
+                    f" can't choose between them: leave one out, as --without {it.frame.name}"
+                )
 
     def forwarded(self) -> None:
         """Whether what is forwarded is there."""
@@ -274,7 +356,11 @@ class Importer:
             for it in (before, name):
                 if it not in names:
                     sys.exit(f"--forward {before}={name}: {it} is left out")
-            self.report.add(self.report.assumed, "a gateway passes on at once; where it takes time, put a task in between", f"{name} after {before}")
+            self.report.add(
+                self.report.assumed,
+                "a gateway passes on at once; where it takes time, put a task in between",
+                f"{name} after {before}",
+            )
             way, at = {name}, before
             while at in self.forwards:
                 if at in way:
@@ -290,7 +376,14 @@ class Importer:
                 found.setdefault(it.frame.told, []).append(it.frame.name)
         for names in found.values():
             if len(names) > 1 and not any(it in self.forwards for it in names):
-                self.report.add(self.report.assumed, f"frames of one name on several buses are sent by themselves; one that a gateway passes on comes with more jitter: --forward {names[0]}={names[1]}", " and ".join(names))
+                self.report.add(
+                    self.report.assumed,
+                    (
+                        "frames of one name on several buses are sent by themselves; one that a gateway passes on"
+                        f" comes with more jitter: --forward {names[0]}={names[1]}"
+                    ),
+                    " and ".join(names),
+                )
 
     def count(self) -> None:
         tasks = sum(len(it) for it in self.taken.values())
@@ -300,13 +393,38 @@ class Importer:
         paths = sources + 2 * len(self.forwards)
         if sources > MOST_SOURCES or tasks > MOST_TASKS or paths > MOST_SOURCES or len(self.taken) > MOST_RESOURCES:
             each = ", ".join(f"{name} has {len(it)}" for name, it in self.taken.items())
-            sys.exit("\n".join([*self.report.lines(MOST_NAMES), f"{sources} sources, {tasks} tasks and {paths} paths are too many: a system has {MOST_SOURCES}, {MOST_TASKS} and {MOST_SOURCES} at most. Of the frames {each}: --bus BUS takes one bus alone, --without 'PATTERN' leaves frames out"]))
+            sys.exit(
+                "\n".join(
+                    [
+                        *self.report.lines(MOST_NAMES),
+                        (
+                            f"{sources} sources, {tasks} tasks and {paths} paths are too many: a system has"
+                            f" {MOST_SOURCES}, {MOST_TASKS} and {MOST_SOURCES} at most. Of the frames {each}: --bus BUS"
+                            " takes one bus alone, --without 'PATTERN' leaves frames out"
+                        ),
+                    ]
+                )
+            )
 
     def text(self) -> str:
         """The system file."""
         tick = self.words.tick
-        told = [f"Written by tools/from_network.py. A tick is {text_of(tick)}.", *self.report.lines(MOST_SOURCES * MOST_RESOURCES)]
-        lines = [comment(part) for it in told for part in textwrap.wrap(it.lstrip(), WIDTH, initial_indent=" " * (len(it) - len(it.lstrip())), subsequent_indent="    ", break_long_words=False, break_on_hyphens=False)]
+        told = [
+            f"Written by tools/from_network.py. A tick is {text_of(tick)}.",
+            *self.report.lines(MOST_SOURCES * MOST_RESOURCES),
+        ]
+        lines = [
+            comment(part)
+            for it in told
+            for part in textwrap.wrap(
+                it.lstrip(),
+                WIDTH,
+                initial_indent=" " * (len(it) - len(it.lstrip())),
+                subsequent_indent="    ",
+                break_long_words=False,
+                break_on_hyphens=False,
+            )
+        ]
         limit = None if tick >= UNITS["us"] else min(math.ceil(UNITS["s"] / tick), MOST_LIMIT)
         resources, sources, tasks, paths = [], [], [], []
         for name, taken in self.taken.items():
@@ -319,7 +437,11 @@ class Importer:
                 frame = it.frame
                 if frame.name not in self.forwards:
                     sources.append(entry(name=it.after, period=it.period, jitter=it.jitter or None))
-                length = {"payload": frame.size, "extended": True if frame.extended else None} if it.by_payload else {"best": it.least, "worst": it.greatest}
+                length = (
+                    {"payload": frame.size, "extended": True if frame.extended else None}
+                    if it.by_payload
+                    else {"best": it.least, "worst": it.greatest}
+                )
                 tasks.append(entry(name=frame.name, on=name, after=it.after, **length, priority=numbers[frame.name]))
                 paths.append(entry(name=frame.name, tasks=[frame.name], deadline=it.deadline))
         before = {name for name in self.forwards.values()}
@@ -343,7 +465,10 @@ def forward_of(word: str, buses: list[Bus]) -> tuple[str, str]:
         sys.exit(f"--forward {word}: write it as FROM=TO, two frames")
     for it in names:
         if it not in known:
-            sys.exit(f"--forward {word}: there is no frame {it}; a frame of several buses is named as in the system, BUS.FRAME")
+            sys.exit(
+                f"--forward {word}: there is no frame {it}; a frame of several buses is named as in the system,"
+                " BUS.FRAME"
+            )
     return names[1], names[0]
 
 
@@ -362,30 +487,102 @@ def millionths(word: str) -> Fraction:
 
 def word_of(reader: Callable[[str], Any]) -> Callable[[str], Any]:
     """For argparse, whose message is that of the fault."""
+
     def read(word: str) -> Any:
         try:
             return reader(word)
         except ValueError as fault:
             raise argparse.ArgumentTypeError(str(fault)) from fault
+
     return read
 
 
 def asked_for() -> argparse.Namespace:
     reader = argparse.ArgumentParser(description=__doc__, formatter_class=argparse.RawDescriptionHelpFormatter)
-    reader.add_argument("database", metavar="DATABASE", nargs="+", help="a database; NAME=FILE gives its bus a name, which is that of the file if absent")
+    reader.add_argument(
+        "database",
+        metavar="DATABASE",
+        nargs="+",
+        help="a database; NAME=FILE gives its bus a name, which is that of the file if absent",
+    )
     reader.add_argument("--to", metavar="SYSTEM", help="the system file; the standard output if absent")
-    reader.add_argument("--bitrate", metavar="[BUS=]BITS", type=rate_of, action="append", default=[], help="bits per second, of all buses or of one; what the database tells if absent")
-    reader.add_argument("--tick", metavar="TIME", type=word_of(time_of), default=time_of("1us"), help="the time of a tick; 1us if absent")
-    reader.add_argument("--jitter", metavar="JITTER", type=word_of(share_or_time), default=("time", Fraction(0)), help="by how much a frame is queued late: a time, or a part of the period as 10%%; 0 if absent")
-    reader.add_argument("--jitter-attribute", metavar="NAME", help="an attribute of frames in the database that tells it in milliseconds")
-    reader.add_argument("--fast", metavar="PPM", type=word_of(millionths), default=Fraction(0), help="by how many millionths the clock of a sender may be fast, which makes its periods shorter; 0 if absent")
-    reader.add_argument("--deadline", metavar="DEADLINE", default="100%", help="a time, a part of the period, or none; 100%% if absent. It counts from when the frame is queued")
-    reader.add_argument("--deadline-attribute", metavar="NAME", help="an attribute of frames in the database that tells it in milliseconds")
-    reader.add_argument("--others", metavar="TIME", type=word_of(time_of), help="takes frames without a cycle time: the least time between two of each; and that of frames that are sent on events too")
-    reader.add_argument("--multiplexed", choices=("once", "each", "out"), default="once", help="how many multiplexed frames come in a cycle: one, one for each value, or leave them out; once if absent")
-    reader.add_argument("--without", metavar="FRAME", action="append", default=[], help="leaves a frame out; a pattern with * leaves several")
-    reader.add_argument("--bus", metavar="BUS", action="append", default=[], help="takes this bus alone; may stand several times")
-    reader.add_argument("--forward", metavar="FROM=TO", action="append", default=[], help="frame TO of another bus is queued when FROM is received by a gateway")
+    reader.add_argument(
+        "--bitrate",
+        metavar="[BUS=]BITS",
+        type=rate_of,
+        action="append",
+        default=[],
+        help="bits per second, of all buses or of one; what the database tells if absent",
+    )
+    reader.add_argument(
+        "--tick",
+        metavar="TIME",
+        type=word_of(time_of),
+        default=time_of("1us"),
+        help="the time of a tick; 1us if absent",
+    )
+    reader.add_argument(
+        "--jitter",
+        metavar="JITTER",
+        type=word_of(share_or_time),
+        default=("time", Fraction(0)),
+        help="by how much a frame is queued late: a time, or a part of the period as 10%%; 0 if absent",
+    )
+    reader.add_argument(
+        "--jitter-attribute",
+        metavar="NAME",
+        help="an attribute of frames in the database that tells it in milliseconds",
+    )
+    reader.add_argument(
+        "--fast",
+        metavar="PPM",
+        type=word_of(millionths),
+        default=Fraction(0),
+        help="by how many millionths the clock of a sender may be fast, which makes its periods shorter; 0 if absent",
+    )
+    reader.add_argument(
+        "--deadline",
+        metavar="DEADLINE",
+        default="100%",
+        help="a time, a part of the period, or none; 100%% if absent. It counts from when the frame is queued",
+    )
+    reader.add_argument(
+        "--deadline-attribute",
+        metavar="NAME",
+        help="an attribute of frames in the database that tells it in milliseconds",
+    )
+    reader.add_argument(
+        "--others",
+        metavar="TIME",
+        type=word_of(time_of),
+        help=(
+            "takes frames without a cycle time: the least time between two of each; and that of frames that are sent on"
+            " events too"
+        ),
+    )
+    reader.add_argument(
+        "--multiplexed",
+        choices=("once", "each", "out"),
+        default="once",
+        help="how many multiplexed frames come in a cycle: one, one for each value, or leave them out; once if absent",
+    )
+    reader.add_argument(
+        "--without",
+        metavar="FRAME",
+        action="append",
+        default=[],
+        help="leaves a frame out; a pattern with * leaves several",
+    )
+    reader.add_argument(
+        "--bus", metavar="BUS", action="append", default=[], help="takes this bus alone; may stand several times"
+    )
+    reader.add_argument(
+        "--forward",
+        metavar="FROM=TO",
+        action="append",
+        default=[],
+        help="frame TO of another bus is queued when FROM is received by a gateway",
+    )
     words = reader.parse_args()
     try:
         words.deadline = None if words.deadline == "none" else share_or_time(words.deadline)

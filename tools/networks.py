@@ -33,7 +33,10 @@ try:
         import canmatrix.formats
         import lxml.etree
 except ImportError:
-    sys.exit("the package canmatrix isn't here: apt-get install python3-canmatrix python3-lxml, or pip install canmatrix[arxml,kcd]")
+    sys.exit(
+        "the package canmatrix isn't here: apt-get install python3-canmatrix python3-lxml, or pip install"
+        " canmatrix[arxml,kcd]"
+    )
 SAID.clear()
 
 # a name in a system file, and how long that of a frame may be, so that its source's fits too
@@ -65,7 +68,9 @@ class Frame:
     @property
     def order(self) -> tuple[int, bool, int]:
         """By this the bus chooses: the first 11 bits of the identifier; of two that have them alike, the one that has no more; then the rest."""
-        return (self.identifier >> 18, True, self.identifier & 0x3FFFF) if self.extended else (self.identifier, False, 0)
+        return (
+            (self.identifier >> 18, True, self.identifier & 0x3FFFF) if self.extended else (self.identifier, False, 0)
+        )
 
     @property
     def shown(self) -> str:
@@ -75,7 +80,10 @@ class Frame:
     @property
     def is_spontaneous(self) -> bool:
         """Whether its send type says that it is sent on events too."""
-        return any(it in self.send_type.lower() for it in ("spontan", "event", "trigger", "change", "write", "demand", "ifactive", "repetit"))
+        return any(
+            it in self.send_type.lower()
+            for it in ("spontan", "event", "trigger", "change", "write", "demand", "ifactive", "repetit")
+        )
 
 
 @dataclass
@@ -166,13 +174,19 @@ def complete_arxml(file: str, matrices: dict[str, Any]) -> None:
             continue
         read = {frame.name: frame for frame in matrix.frames}
         for it in cluster.iter("{*}CAN-FRAME-TRIGGERING"):
-            name, number = it.findtext("{*}FRAME-REF") or it.findtext("{*}SHORT-NAME") or "", it.findtext("{*}IDENTIFIER")
+            name, number = it.findtext("{*}FRAME-REF") or it.findtext("{*}SHORT-NAME") or "", it.findtext(
+                "{*}IDENTIFIER"
+            )
             name = name.strip().rsplit("/", 1)[-1]
             if name in read and number:
                 frames.append(copy.copy(read[name]))
-                frames[-1].arbitration_id = canmatrix.ArbitrationId(int(number), extended=it.findtext("{*}CAN-ADDRESSING-MODE") == "EXTENDED")
+                frames[-1].arbitration_id = canmatrix.ArbitrationId(
+                    int(number), extended=it.findtext("{*}CAN-ADDRESSING-MODE") == "EXTENDED"
+                )
             elif number:
-                matrix.load_errors.append(ValueError(f"frame {name} of bus {cluster.findtext('{*}SHORT-NAME')} is triggered, and isn't read"))
+                matrix.load_errors.append(
+                    ValueError(f"frame {name} of bus {cluster.findtext('{*}SHORT-NAME')} is triggered, and isn't read")
+                )
         matrix.frames = frames
 
 
@@ -194,7 +208,13 @@ def matrices_in(file: str) -> tuple[dict[str, Any], list[str]]:
         if sys.stderr.isatty():
             sys.stderr.write("\r\033[K")
     if found is None:
-        known = ", ".join(sorted("." + ending for it, ending in canmatrix.formats.extensionMapping.items() if "load" in canmatrix.formats.supportedFormats.get(it, [])))
+        known = ", ".join(
+            sorted(
+                "." + ending
+                for it, ending in canmatrix.formats.extensionMapping.items()
+                if "load" in canmatrix.formats.supportedFormats.get(it, [])
+            )
+        )
         sys.exit(f"{file}: canmatrix reads no files with this ending; it reads {known}")
     try:
         if file.lower().endswith(".kcd"):
@@ -213,10 +233,20 @@ def matrices_in(file: str) -> tuple[dict[str, Any], list[str]]:
 def frame_of(frame: Any, matrix: Any, bus: str, name: str) -> Frame:
     cycle, why = cycle_of(frame, matrix)
     return Frame(
-        bus=bus, name=name, told=frame.name, identifier=int(frame.arbitration_id.id or 0), extended=bool(frame.arbitration_id.extended), size=bytes_of(frame),
-        is_fd=bool(frame.is_fd), values=max(1, len(frame.get_multiplexer_values)) if frame.is_multiplexed else 0, cycle=cycle, cycle_by=why,
-        delay=number_of(attribute(frame, matrix, "GenMsgDelayTime")) * UNITS["ms"], send_type=str(attribute(frame, matrix, "GenMsgSendType") or ""),
-        attributes={key: attribute(frame, matrix, key) for key in [*frame.attributes, *matrix.frame_defines]}, senders=list(frame.transmitters),
+        bus=bus,
+        name=name,
+        told=frame.name,
+        identifier=int(frame.arbitration_id.id or 0),
+        extended=bool(frame.arbitration_id.extended),
+        size=bytes_of(frame),
+        is_fd=bool(frame.is_fd),
+        values=max(1, len(frame.get_multiplexer_values)) if frame.is_multiplexed else 0,
+        cycle=cycle,
+        cycle_by=why,
+        delay=number_of(attribute(frame, matrix, "GenMsgDelayTime")) * UNITS["ms"],
+        send_type=str(attribute(frame, matrix, "GenMsgSendType") or ""),
+        attributes={key: attribute(frame, matrix, key) for key in [*frame.attributes, *matrix.frame_defines]},
+        senders=list(frame.transmitters),
     )
 
 
@@ -229,7 +259,9 @@ def read_buses(words: Iterable[str]) -> list[Bus]:
         for key, matrix in matrices.items():
             if matrix.type == canmatrix.matrix_class.CAN:
                 parts = [name, key if len(matrices) > 1 or not name else ""]
-                found.append((".".join(it for it in parts if it) or os.path.basename(file).split(".")[0], file, matrix, said))
+                found.append(
+                    (".".join(it for it in parts if it) or os.path.basename(file).split(".")[0], file, matrix, said)
+                )
             else:
                 said.append(f"{key}: no CAN bus")
     buses: list[Bus] = []
@@ -247,8 +279,12 @@ def read_buses(words: Iterable[str]) -> list[Bus]:
             before = f"{bus}." if len(found) > 1 else ""
             frames.append(frame_of(frame, matrix, bus, named(before + frame.name, taken, LONGEST - len(QUEUED))))
         if "FD" in str(matrix.attribute("BusType") or "") and not any(it.is_fd for it in frames):
-            said.append("the bus is one of CAN FD, and of no frame it is told whether it is: all are taken as classical ones")
-        rate = max(number_of(it) for it in (matrix.baudrate, matrix.attribute("Baudrate"), matrix.attribute("baudrate")))
+            said.append(
+                "the bus is one of CAN FD, and of no frame it is told whether it is: all are taken as classical ones"
+            )
+        rate = max(
+            number_of(it) for it in (matrix.baudrate, matrix.attribute("Baudrate"), matrix.attribute("baudrate"))
+        )
         buses.append(Bus(bus, told, file, int(rate) if rate >= LEAST_RATE else 0, frames, said))
     if not buses:
         sys.exit(f"{' '.join(words)}: there is no CAN bus in it")
@@ -263,7 +299,9 @@ def priorities(frames: list[Frame]) -> tuple[dict[str, int], str]:
     found = {it.name: it.identifier if it.extended else it.identifier << 18 for it in frames}
     if len(set(found.values())) == len(frames):
         return found, "priorities are identifiers, those of 11 bits times 262144"
-    return {it.name: place for place, it in enumerate(sorted(frames, key=lambda it: it.order), 1)}, "priorities are the order of the identifiers"
+    return {
+        it.name: place for place, it in enumerate(sorted(frames, key=lambda it: it.order), 1)
+    }, "priorities are the order of the identifiers"
 
 
 def least_and_greatest(size: int, extended: bool) -> tuple[int, int]:
@@ -286,4 +324,6 @@ def written(value: Any) -> str:
 
 def comment(line: str) -> str:
     """A line of a file as a comment, with what isn't ASCII written out."""
-    return ("# " + "".join(it if it.isprintable() else " " for it in line).encode("ascii", "backslashreplace").decode()).rstrip()
+    return (
+        "# " + "".join(it if it.isprintable() else " " for it in line).encode("ascii", "backslashreplace").decode()
+    ).rstrip()
