@@ -25,7 +25,7 @@ import tomllib
 from fractions import Fraction
 
 from browser import Browser
-from check_runs import Run, file_of, made
+from check_runs import file_of, made, plain, replayed
 
 TOP = os.path.join(os.path.dirname(os.path.abspath(__file__)), "..")
 sys.path.append(os.path.join(TOP, "tools"))
@@ -33,7 +33,7 @@ sys.path.append(os.path.join(TOP, "tools"))
 from behind import Behind
 from report import reports_in
 from runs import jobs_in, read_schedule, read_trace
-from system import activators, execution, read_system
+from system import read_system
 
 EXAMPLES = os.path.join(TOP, "examples")
 # the examples, and whether they have a trace and a script
@@ -70,21 +70,9 @@ def told(text):
     return [it for it in lines if it[0] == "task"], [it for it in lines if it[0] == "path"]
 
 
-def plain(system):
-    """A system as check_runs.py has it."""
-    resources = {it["name"]: it | {"gap": it.get("gap", 0)} for it in system.get("resource", [])}
-    tasks = []
-    for it in system.get("task", []):
-        best, worst = execution(it, resources[it["on"]])
-        tasks.append(it | {"after": activators(it), "best": best, "worst": worst})
-    return {"resource": list(resources.values()), "source": system.get("source", []), "task": tasks, "path": system.get("path", [])}
-
-
 def schedule_of(file, trace):
     """The schedule of a run, by the step rules followed tick by tick."""
-    system, (events, executions, phases) = plain(read_system(file)), read_trace(trace)
-    whole = [{it["name"]: given.get(it["name"], none) for it in system[part]} for part, given, none in (("source", events, []), ("task", executions, []), ("resource", phases, 0))]
-    return "".join(f"{task},{start},{end}\n" for task, start, end in Run(system, whole).segments)
+    return "".join(f"{task},{start},{end}\n" for task, start, end in replayed(read_system(file), read_trace(trace)).segments)
 
 
 class Page:

@@ -15,9 +15,12 @@ import random
 import sys
 import tempfile
 
-from calls import built
+from calls import TOP, built
 
 import subprocess
+
+sys.path.append(os.path.join(TOP, "tools"))
+from system import activators, execution
 
 # another script may take the step rules from here, and call no program
 PROGRAM = built("cpa_cli") if __name__ == "__main__" else None
@@ -222,6 +225,22 @@ class Run:
         self.see()
         while self.goes_on():
             self.tick(going)
+
+
+def plain(system):
+    """A system, as a file has it, in the form that `made` gives."""
+    resources = {it["name"]: it | {"gap": it.get("gap", 0)} for it in system.get("resource", [])}
+    tasks = []
+    for it in system.get("task", []):
+        best, worst = execution(it, resources[it["on"]])
+        tasks.append(it | {"after": activators(it), "best": best, "worst": worst})
+    return {"resource": list(resources.values()), "source": system.get("source", []), "task": tasks, "path": system.get("path", [])}
+
+
+def replayed(system, trace):
+    """The run of a system, as a file has it, under what a trace has: events, executions and phases."""
+    it, parts = plain(system), zip(("source", "task", "resource"), trace, ([], [], 0))
+    return Run(it, [{one["name"]: given.get(one["name"], none) for one in it[part]} for part, given, none in parts])
 
 
 def passages(run, way):

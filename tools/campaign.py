@@ -40,19 +40,17 @@ import tomllib
 import uuid
 import zlib
 
+from grids import MOST_PRIORITY, Wrong, columns_of, fronted, read_grid, row_of, script_of
+from packages import need
+from progress import span
+
 try:
     import distributed
     from dask.system import CPU_COUNT
+    from distributed import WorkerPlugin
 except ImportError:
-    # the Python that comes first may be another than Debian's, for which the package is installed
-    DEBIAN = "/usr/bin/python3"
-    if os.path.exists(DEBIAN) and os.path.realpath(sys.executable) != os.path.realpath(DEBIAN) and "LOKWURMI_AGAIN" not in os.environ:
-        os.environ["LOKWURMI_AGAIN"] = "1"
-        os.execv(DEBIAN, [DEBIAN, *sys.argv])
-    print("campaign.py: Dask distributed isn't here: apt-get install python3-distributed", file=sys.stderr)
-    sys.exit(2)
-
-from grids import MOST_PRIORITY, Wrong, columns_of, fronted, read_grid, row_of, script_of
+    # told by `need`, after words that ask for help
+    WorkerPlugin = object
 
 TOP = os.path.join(os.path.dirname(os.path.abspath(__file__)), "..")
 MOST_TRACES, MOST_NUMBER = 10_000, 4_294_967_295
@@ -97,7 +95,7 @@ def take_processor():
     return None, contextlib.nullcontext()
 
 
-class Sent(distributed.WorkerPlugin):
+class Sent(WorkerPlugin):
     """The program and the system file, which each worker writes down when it gets them, those that come later too.
 
     At the end of the campaign what still runs there is killed, and the files go.
@@ -266,12 +264,6 @@ class Kept:
 
 
 # ---- how far it is
-
-
-def span(seconds):
-    if seconds < 100:
-        return f"{seconds:.0f} s"
-    return f"{seconds / 60:.0f} min" if seconds < 6000 else f"{seconds / 3600:.1f} h"
 
 
 class Progress:
@@ -671,6 +663,7 @@ def interrupted(number, frame):
 
 def main():
     words = read_words()
+    need("distributed", status=2)
     for it in (signal.SIGTERM, signal.SIGHUP):
         signal.signal(it, interrupted)
     try:

@@ -12,17 +12,19 @@ import argparse
 import os
 import sys
 
+from packages import need
 from report import read_report
 
 try:
     import matplotlib
     from matplotlib.patches import Patch
     from matplotlib.lines import Line2D
-except ImportError:
-    sys.exit("chart.py: the package matplotlib isn't here: pip install matplotlib, or apt-get install python3-matplotlib")
 
-matplotlib.use("Agg")
-import matplotlib.pyplot as plt
+    matplotlib.use("Agg")
+    import matplotlib.pyplot as plt
+except ImportError:
+    # told by `need`, after words that ask for help
+    pass
 
 LEAST, GREATEST, MISSED, NONE = "#9dbfd9", "#3f7cac", "#d9822b", "#c0392b"
 HUES = ["#3f7cac", "#5b9a68", "#8a6bb1", "#a3862a", "#2a8c8c", "#7d6b5d", "#6f8c1f", "#5b6770"]
@@ -77,6 +79,7 @@ def main():
     reader.add_argument("--paths", action="store_true", help="leave out the tasks")
     reader.add_argument("report", metavar="REPORT", help="what lokwurmi analyse wrote")
     words = reader.parse_args()
+    need("matplotlib")
     tasks, paths = read_report(words.report)
     picture = words.to or os.path.splitext(words.report)[0] + ".svg"
     if os.path.splitext(picture)[1] not in (".svg", ".png", ".pdf"):

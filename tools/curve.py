@@ -11,16 +11,18 @@ import argparse
 import os
 import sys
 
+from packages import need
 from report import read_report
 from system import activators, first_windows, input_of, most_events, read_system
 
 try:
     import matplotlib
-except ImportError:
-    sys.exit("curve.py: the package matplotlib isn't here: pip install matplotlib, or apt-get install python3-matplotlib")
 
-matplotlib.use("Agg")
-import matplotlib.pyplot as plt
+    matplotlib.use("Agg")
+    import matplotlib.pyplot as plt
+except ImportError:
+    # told by `need`, after words that ask for help
+    pass
 
 HUES = ["#3f7cac", "#d9a441", "#5b9a68", "#8a6bb1", "#2a8c8c", "#a83254"]
 
@@ -69,6 +71,7 @@ def main():
     reader.add_argument("report", metavar="REPORT", help="what lokwurmi analyse wrote of it")
     reader.add_argument("task", metavar="TASK", help="the name of a task in it")
     words = reader.parse_args()
+    need("matplotlib")
     picture = words.to or words.task + ".svg"
     if os.path.splitext(picture)[1] not in (".svg", ".png", ".pdf"):
         sys.exit(f"{picture}: a picture's name ends with .svg, .png or .pdf")

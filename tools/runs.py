@@ -2,6 +2,7 @@
 import csv
 import io
 import sys
+from typing import NamedTuple
 
 from system import activators, execution
 
@@ -89,3 +90,45 @@ def jobs_in(system, schedule, trace):
         came = sorted(time for before in activators(task) for time in (ends[before] if before in tasks else events.get(before, [])))
         jobs[name] = [(time, ends[name][place] if place < len(ends[name]) else None) for place, time in enumerate(came)]
     return jobs
+
+
+class Passage(NamedTuple):
+    """A job of a path's first task and the jobs that it leads to: when it came, when the last one was done, None where that isn't
+    so, and the place of each among the jobs of its task, as far as there are any."""
+
+    came: int
+    done: int | None
+    places: tuple[int, ...]
+
+    def took(self) -> int:
+        return -1 if self.done is None else self.done - self.came
+
+
+def causes_in(system: dict, jobs: dict, events: dict) -> dict:
+    """What has started each job of each task, in the order in which they came: the name of a source or a task, and the place of
+    the event or the job there. What starts jobs at one time stands in the order of the tasks and then of the sources."""
+    tasks, sources = ([it["name"] for it in system.get(part, [])] for part in ("task", "source"))
+    order = {name: place for place, name in enumerate([*tasks, *sources])}
+    times = {name: events.get(name, []) for name in sources}
+    times |= {name: [done for _, done in jobs[name] if done is not None] for name in tasks}
+    found = {}
+    for task in system.get("task", []):
+        came = [(time, order[it], place, it) for it in activators(task) for place, time in enumerate(times[it])]
+        found[task["name"]] = [(it, place) for _, _, place, it in sorted(came)]
+    return found
+
+
+def passages_in(system: dict, jobs: dict, events: dict, way: list[str]) -> list[Passage]:
+    """The passages of a path, whose tasks are `way`, in the order in which their first jobs came."""
+    causes = causes_in(system, jobs, events)
+    place_of = {task: {cause: place for place, cause in enumerate(causes[task])} for task in way}
+    found = []
+    for first, (came, _) in enumerate(jobs[way[0]]):
+        places = [first]
+        for before, task in zip(way, way[1:]):
+            place = place_of[task].get((before, places[-1]))
+            if place is None:
+                break
+            places.append(place)
+        found.append(Passage(came, jobs[way[-1]][places[-1]][1] if len(places) == len(way) else None, tuple(places)))
+    return found

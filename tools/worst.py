@@ -2,19 +2,20 @@
 """Looks for a trace under which a task answers as late, or a path takes as long, as can be found, and shows how near that comes
 to the bound.
 
-    python3 tools/worst.py examples/long_window.toml b --to worst.trace.csv
-    python3 tools/worst.py examples/crossing_chains.toml --path pa
-    python3 tools/worst.py examples/sae_can.toml --all
-    python3 tools/worst.py examples/gateway.toml --all --keep traces
-
 What is printed as seen is exact: `lokwurmi simulate` replays the trace, whose events and executions obey the system, and by what
 it proves no run is later than the bound. Where the two are equal, the bound can't be lower. Where they aren't, either the bound
 isn't reached by any run, or the search hasn't found the run.
 
 The search begins with what is known of worst cases on the four kinds of resource, and then changes phases, jitter, executions
 and the phases of TDMA cycles, and keeps what is later. It makes so many tries (--tries), so that the same call gives the same
-answer for the same --seed; --seconds ends it before, and then it says so. With --all, --keep writes as few and as short traces
-as do to show all that was seen: FOLDER/NAME.worst1.csv and so on for NAME.toml.
+answer for the same --seed; --seconds ends it before, and then it says so. A path is looked at after each of its tasks, and begins
+with what was found for these: with N tasks it takes N + 1 searches. An interrupt ends the search as well; what was seen by then
+is written, and the status is 130.
+
+A line `late` tells which job was late and when, in the trace that --to or --keep writes: the number of the job in the order in
+which its task was activated, when that was, and when the job ended; of a path from when to when the passage lasted, and its jobs.
+With --all, --keep writes as few and as short traces as do to show all that was seen: FOLDER/NAME.worst1.csv and so on for
+NAME.toml. A row that was bettered by the search for another is written once more at the end.
 """
 import argparse
 import concurrent.futures
@@ -22,20 +23,38 @@ import itertools
 import os
 import random
 import re
+import signal
 import statistics
 import subprocess
 import sys
 import tempfile
+import threading
 import time
 
-from program import LAUNCHER, TOP, add_program, written_by
+from program import LAUNCHER, TOP, add_program, schedule_by, written_by
+from progress import Progress
 from report import reports_in
+from runs import jobs_in, passages_in, read_trace, schedule_in
 from system import activators, execution, read_system
+
+EXAMPLES = """examples:
+  python3 tools/worst.py examples/long_window.toml b --to worst.trace.csv
+      a trace under which a job of b is as late as can be found, and which job that is
+  python3 tools/worst.py examples/crossing_chains.toml --path pa
+      how long a path may take; its tasks are looked at first
+  python3 tools/worst.py examples/sae_can.toml --all
+      a table of all tasks and paths
+  python3 tools/worst.py examples/gateway.toml --all --keep traces
+      the table, and the traces that show it
+
+The trace is drawn by tools/gantt.py FILE --trace TRACE --longest NAME. More: docs/TIGHTNESS.md"""
 
 # what the script lokwurmi calls, which is called many times here
 BUILT = os.path.join(TOP, "crates/cpa_cli/out/cpa_cli")
 LATEST = 10_000_000
 MOST_ROWS = 20_000
+# how many plans are replayed between two looks at the clock
+TOGETHER = 32
 
 
 def stop(text):
@@ -47,7 +66,7 @@ class System:
 
     def __init__(self, path):
         read = read_system(path)
-        self.path = path
+        self.path, self.read = path, read
         self.resources = {r["name"]: r for r in read.get("resource", [])}
         self.sources = {s["name"]: s for s in read.get("source", [])}
         self.tasks = {t["name"]: dict(t) for t in read.get("task", [])}
@@ -71,6 +90,10 @@ class System:
 
     def cycle(self, resource):
         return sum(self.tasks[name]["slot"] for name in self.on(resource)) + self.resources[resource].get("gap", 0)
+
+    def rings(self):
+        """The TDMA resources that have tasks."""
+        return [name for name, it in self.resources.items() if it["kind"] == "tdma" and self.on(name)]
 
     def rivals(self, name):
         """The tasks that may delay this one, and of them those of lower priority on a bus."""
@@ -96,6 +119,16 @@ class Plan:
 
     def copy(self):
         return Plan(self.start, self.used, self.long, {task: set(jobs) for task, jobs in self.turned.items()}, self.phase)
+
+    def without(self, system, names):
+        """The plan without some sources. What is left comes sooner where the first event goes, and cycles with it."""
+        fewer = self.copy()
+        for name in names:
+            del fewer.start[name]
+        sooner = min(fewer.start.values(), default=0) - min(self.start.values(), default=0)
+        for name in system.rings():
+            fewer.phase[name] = (self.phase.get(name, 0) + sooner) % system.cycle(name)
+        return fewer
 
 
 def events_of(system, plan, span):
@@ -127,9 +160,11 @@ def rows_of(system, plan, span):
             continue
         count = min(sum(len(events.get(source, ())) for source, _ in system.streams(name)), MOST_ROWS)
         long, turned = plan.long.get(name), plan.turned.get(name, ())
-        for k in range(count):
-            greatest = (long is None or k < long) != (k in turned)
-            rows.append(f"exec,{name},{task['worst'] if greatest else task['best']}")
+        greatest = [(long is None or k < long) != (k in turned) for k in range(count)]
+        while greatest and greatest[-1]:
+            # a job without a row takes the greatest
+            greatest.pop()
+        rows += [f"exec,{name},{task['worst'] if it else task['best']}" for it in greatest]
     rows += [f"phase,{name},{at}" for name, at in plan.phase.items()]
     return rows
 
@@ -143,14 +178,17 @@ class Judge:
     """Replays plans by `simulate`, several side by side."""
 
     def __init__(self, system, folder, jobs, program):
-        self.system, self.folder, self.pool, self.count = system, folder, concurrent.futures.ThreadPoolExecutor(jobs), 0
-        self.program = BUILT if program == LAUNCHER and os.access(BUILT, os.X_OK) else program
+        self.system, self.folder, self.pool = system, folder, concurrent.futures.ThreadPoolExecutor(jobs)
+        self.program, self.scheduler = BUILT if program == LAUNCHER and os.access(BUILT, os.X_OK) else program, program
+        # once it is set, plans of a search aren't replayed any more
+        self.interrupt = threading.Event()
 
     def seen(self, number, plan, span):
         """The greatest response of each task and time of each path that was seen."""
         trace = os.path.join(self.folder, f"{number}.csv")
         write(trace, rows_of(self.system, plan, span))
-        run = subprocess.run([self.program, "simulate", self.system.path, trace], capture_output=True, text=True, check=False)
+        # a group of its own: an interrupt of the terminal is for this script alone
+        run = subprocess.run([self.program, "simulate", self.system.path, trace], capture_output=True, text=True, check=False, process_group=0)
         os.remove(trace)
         if run.returncode == 16:
             return {}
@@ -160,8 +198,23 @@ class Judge:
         return {(kind, name): int(worst) for kind, name, worst in found}
 
     def all(self, plans, span):
-        self.count += len(plans)
-        return list(self.pool.map(lambda it: self.seen(it[0], it[1], span), enumerate(plans)))
+        """What is seen of each plan of a search; nothing of those that an interrupt leaves out."""
+        return list(self.pool.map(lambda it: {} if self.interrupt.is_set() else self.seen(it[0], it[1], span), enumerate(plans)))
+
+    def shows(self, plan, span, wanted):
+        """Whether a plan shows what is wanted: the latest of some tasks and paths."""
+        answer = self.seen("one", plan, span)
+        return all(answer.get(what) == worst for what, worst in wanted.items())
+
+    def jobs(self, rows):
+        """The times of the events of a trace, and its jobs; None where the program has no command `schedule`."""
+        trace = os.path.join(self.folder, "trace.csv")
+        write(trace, rows)
+        text = schedule_by(self.scheduler, self.system.path, trace)
+        if text is None:
+            return None
+        read = read_trace(trace)
+        return read[0], jobs_in(self.system.read, schedule_in(text, "lokwurmi schedule", self.system.read), read)
 
 
 def travel_of(system, bounds, way, which):
@@ -272,8 +325,7 @@ def change(system, plan, rng, sources, tasks):
             turned = new.turned.setdefault(rng.choice(tasks), set())
             turned ^= {rng.randint(0, rng.choice((2, 8, 30)))}
         else:
-            rings = [name for name, one in system.resources.items() if one["kind"] == "tdma" and system.on(name)]
-            if rings:
+            if rings := system.rings():
                 name = rng.choice(rings)
                 new.phase[name] = (new.phase.get(name, 0) + rng.choice((-1, 1, rng.randrange(system.cycle(name))))) % system.cycle(name)
     return new
@@ -292,45 +344,103 @@ class Best:
                     self.found[what] = (worst, plan, span)
 
 
-def search(system, judge, best, target, bounds, options, rng, ends):
-    """Looks for a plan that is late for a task or a path. Whether it was ended by the clock."""
-    kind, name = target
-    last = name if kind == "task" else system.paths[name]["tasks"][-1]
-    links = [name] if kind == "task" else system.paths[name]["tasks"]
-    reach = {one for task in links for _, way in system.streams(task) for one in way} | set(links)
-    bound = bounds.get(target)
-    near = {other for task in reach for other in sum(system.rivals(task), [])} | reach
-    near |= {one for task in near for _, way in system.streams(task) for one in way}
-    sources = sorted({source for task in near for source, _ in system.streams(task)})
-    tasks = sorted(task for task in near if system.tasks[task]["best"] < system.tasks[task]["worst"])
-    of_tasks = {one: bounds.get(("task", one)) for one in system.tasks}
-    longest = sum(of_tasks.get(one) or 10 * system.tasks[one]["worst"] for one in reach)
-    span = min(15 * longest + 100, LATEST)
-    plans = path_plans(system, links, of_tasks) if len(links) > 1 else []
-    plans += [plan for task in dict.fromkeys([last, *links]) for plan in known_plans(system, task, of_tasks)]
-    made, pool = 0, []
-    while True:
-        answers = judge.all(plans, span)
-        made += len(plans)
-        best.take(plans, answers, span)
-        pool += [(answer.get(target, -1), plan) for plan, answer in zip(plans, answers)]
-        pool.sort(key=lambda it: -it[0])
-        pool = pool[:6]
-        progress(f"{kind} {name}: seen {best.found.get(target, (0,))[0]} of {'overload' if bound is None else bound}, {made} of {options.tries} tries")
-        if bound is not None and best.found.get(target, (0,))[0] >= bound or made >= options.tries:
-            return False
-        if time.monotonic() > ends:
+class Scope:
+    """What a search for a task or a path looks at: the tasks along the way, those that may delay them, and their sources."""
+
+    def __init__(self, system, target, bounds):
+        kind, name = target
+        self.links = [name] if kind == "task" else system.paths[name]["tasks"]
+        self.bounds = {one: bounds.get(("task", one)) for one in system.tasks}
+        reach = {one for task in self.links for _, way in system.streams(task) for one in way} | set(self.links)
+        near = {other for task in reach for other in sum(system.rivals(task), [])} | reach
+        near |= {one for task in near for _, way in system.streams(task) for one in way}
+        self.sources = sorted({source for task in near for source, _ in system.streams(task)})
+        self.tasks = sorted(task for task in near if system.tasks[task]["best"] < system.tasks[task]["worst"])
+        self.span = min(15 * sum(self.bounds.get(one) or 10 * system.tasks[one]["worst"] for one in reach) + 100, LATEST)
+
+    def first_plans(self, system, target, best):
+        """What is tried first: what is known to be bad, and for a path what was found for its tasks and for itself by then."""
+        plans = path_plans(system, self.links, self.bounds) if len(self.links) > 1 else []
+        plans += [plan for task in dict.fromkeys([self.links[-1], *self.links]) for plan in known_plans(system, task, self.bounds)]
+        if target[0] == "path":
+            plans += [best.found[it][1] for it in (target, *(("task", one) for one in self.links)) if it in best.found]
+        return plans
+
+
+class Search:
+    """The searches for some tasks and paths, one after the other."""
+
+    def __init__(self, system, judge, bounds, options, targets):
+        self.system, self.judge, self.bounds, self.options, self.targets = system, judge, bounds, options, targets
+        self.best, self.progress, self.cut, self.place = Best(), Progress("worst.py"), 0, 0
+
+    def show(self, target, made, tries, ends):
+        """How far it is."""
+        seen, bound = self.best.found.get(target, (0,))[0], self.bounds.get(target)
+        left = self.progress.left((self.place + made / tries) / len(self.targets), ends)
+        of = "overload" if bound is None else bound
+        where = f"{self.place + 1} of {len(self.targets)}, {' '.join(target)}"
+        self.progress.show(f"{where}: seen {seen} of {of}, {made} of {tries} tries{left}")
+
+    def is_over(self, target, made, ends):
+        """Whether a search is over: the bound is reached, it was interrupted, or the clock ended it, which is counted."""
+        bound = self.bounds.get(target)
+        if bound is not None and self.best.found.get(target, (0,))[0] >= bound or self.judge.interrupt.is_set():
             return True
-        plans = [change(system, pool[min(int(rng.expovariate(0.7)), len(pool) - 1)][1], rng, sources, tasks) for _ in range(32)]
+        if made and time.monotonic() > ends:
+            self.cut += 1
+            return True
+        return False
+
+    def look_for(self, target, ends, last):
+        """Looks for a plan that is late for a task or a path until a time; by `last` all searches end."""
+        scope, made, pool = Scope(self.system, target, self.bounds), 0, []
+        # of its own, so that a target is looked for alike whatever else is asked for
+        rng = random.Random(f"{self.options.seed} {' '.join(target)}")
+        plans = scope.first_plans(self.system, target, self.best)
+        while not self.is_over(target, made, ends) and (plans or made < self.options.tries):
+            if not plans:
+                picks = [pool[min(int(rng.expovariate(0.7)), len(pool) - 1)][1] for _ in range(TOGETHER)]
+                plans = [change(self.system, it, rng, scope.sources, scope.tasks) for it in picks]
+            some, plans = plans[:TOGETHER], plans[TOGETHER:]
+            answers = self.judge.all(some, scope.span)
+            made += len(some)
+            self.best.take(some, answers, scope.span)
+            pool += [(answer.get(target, -1), plan) for plan, answer in zip(some, answers)]
+            pool = sorted(pool, key=lambda it: -it[0])[:6]
+            self.show(target, made, max(self.options.tries, made + len(plans)), last)
+
+    def run(self):
+        """Makes each search, and tells of each target as it was looked for."""
+        began, seconds = time.monotonic(), self.options.seconds
+        for self.place, target in enumerate(self.targets):
+            self.look_for(target, began + seconds * (self.place + 1) / len(self.targets), began + seconds)
+            self.progress.clear()
+            yield target
+            if self.judge.interrupt.is_set():
+                return
 
 
-def shortest(judge, plan, span, shows):
-    """The rows of the shortest trace of a plan, as found by halving the time that it goes on, that still shows what it does."""
+def needed(judge, plan, span, wanted, names):
+    """The plan without those of some sources that it doesn't need to show what is wanted, as found by leaving out several."""
+    if len(names) < len(plan.start):
+        fewer = plan.without(judge.system, names)
+        if judge.shows(fewer, span, wanted):
+            return fewer
+    if len(names) == 1:
+        return plan
+    half = len(names) // 2
+    return needed(judge, needed(judge, plan, span, wanted, names[:half]), span, wanted, names[half:])
+
+
+def shortest(judge, plan, span, wanted):
+    """The rows of a short trace of a plan that still shows what is wanted: without sources that it doesn't need, and as short as
+    is found by halving the time that it goes on."""
+    plan = needed(judge, plan, span, wanted, sorted(plan.start))
     least, most = 0, span
-    while most - least > max(1, span // 100):
+    while most - least > 1:
         middle = (least + most) // 2
-        answer = judge.all([plan], middle)[0]
-        if all(answer.get(what, -1) == worst for what, worst in shows.items()):
+        if judge.shows(plan, middle, wanted):
             most = middle
         else:
             least = middle
@@ -338,21 +448,42 @@ def shortest(judge, plan, span, shows):
 
 
 def cover(judge, best, targets):
-    """As few traces as are found to do to show the latest of each target: the plan that shows most of what is left comes first."""
+    """As few traces as are found to do to show the latest of each target, each with what it shows: the plan that shows most of
+    what is left comes first."""
     plans = {id(best.found[what][1]): best.found[what][1:] for what in targets if what in best.found}
-    answers = {key: judge.all([plan], span)[0] for key, (plan, span) in plans.items()}
+    answers = {key: judge.seen("one", plan, span) for key, (plan, span) in plans.items()}
     left = {what: best.found[what][0] for what in targets if what in best.found}
     while left:
         shows = {key: {what: worst for what, worst in left.items() if answer.get(what) == worst} for key, answer in answers.items()}
         key = max(shows, key=lambda it: len(shows[it]))
-        yield shortest(judge, *plans[key], shows[key])
+        yield shortest(judge, *plans[key], shows[key]), shows[key]
         left = {what: worst for what, worst in left.items() if what not in shows[key]}
 
 
-def progress(text):
-    if sys.stderr.isatty():
-        sys.stderr.write("\r\033[K" + text)
-        sys.stderr.flush()
+def late_in(system, events, jobs, target):
+    """Which job of a task, or which passage of a path, takes longest in a run, the first of these, and from when to when. Jobs are
+    counted from 1 on."""
+    kind, name = target
+    if kind == "task":
+        took = [-1 if done is None else done - came for came, done in jobs[name]]
+        place = took.index(max(took))
+        return f"task {name} job {place + 1} from {jobs[name][place][0]} to {jobs[name][place][1]}"
+    way = system.paths[name]["tasks"]
+    several = passages_in(system.read, jobs, events, way)
+    place = max(range(len(several)), key=lambda it: several[it].took())
+    it = several[place]
+    on_way = ",".join(f"{task}:{number + 1}" for task, number in zip(way, it.places))
+    return f"path {name} passage {place + 1} from {it.came} to {it.done} jobs {on_way}"
+
+
+def tell_late(judge, rows, targets, trace=None):
+    """A line for each target that a trace shows: which job is late there, and when."""
+    found = judge.jobs(rows)
+    if found is None:
+        print(f"worst.py: which job is late isn't told, as {judge.scheduler} has no command `schedule`", file=sys.stderr)
+        return
+    for target in targets:
+        say(f"late {late_in(judge.system, *found, target)}" + (f" trace {trace}" if trace else ""))
 
 
 def ratio_of(seen, bound):
@@ -368,15 +499,15 @@ def line(what, seen, bound):
 
 
 def asked_for():
-    parser = argparse.ArgumentParser(description=__doc__, formatter_class=argparse.RawDescriptionHelpFormatter)
+    parser = argparse.ArgumentParser(description=__doc__, formatter_class=argparse.RawDescriptionHelpFormatter, epilog=EXAMPLES)
     parser.add_argument("file", help="a system file")
     parser.add_argument("task", nargs="?", help="the task whose response is to be late")
-    parser.add_argument("--path", help="a path that is to take long, in place of a task")
+    parser.add_argument("--path", help="a path that is to take long, in place of a task; its N tasks are looked at before: N + 1 searches")
     parser.add_argument("--all", action="store_true", help="all tasks and paths that have a bound, in a table")
     parser.add_argument("--to", metavar="TRACE", help="writes the trace to this file")
     parser.add_argument("--keep", metavar="FOLDER", help="writes the traces of --all into this folder")
-    parser.add_argument("--tries", type=int, default=2000, help="how many traces are tried for a task or a path (2000)")
-    parser.add_argument("--seconds", type=float, default=60, help="ends the search after this time (60)")
+    parser.add_argument("--tries", type=int, default=2000, help="how many traces are tried in a search (2000)")
+    parser.add_argument("--seconds", type=float, default=60, help="ends the searches after this time (60)")
     parser.add_argument("--seed", type=int, default=1, help="another number looks in other places (1)")
     parser.add_argument("--jobs", type=int, default=os.cpu_count(), help="how many traces are replayed side by side")
     add_program(parser)
@@ -398,56 +529,105 @@ def report_of(path, program):
     return {("task", name): it["worst"] for name, it in tasks.items()} | {("path", name): it["worst"] for name, it in paths.items()}
 
 
-def targets_of(options, bounds):
-    """What is asked for: one task or path, or all that have a bound."""
+def targets_of(options, bounds, system):
+    """What is searched for: one task, or a path after its tasks, or all that have a bound; and what of it is told."""
     if options.all:
-        return [what for what, bound in bounds.items() if bound is not None]
+        every = [what for what, bound in bounds.items() if bound is not None]
+        return every, every
     target = ("task", options.task) if options.path is None else ("path", options.path)
+    kind, name = target
     if target not in bounds:
-        kind, name = target
         stop(f"{options.file} has no {kind} {name}; it has {', '.join(sorted(one for what, one in bounds if what == kind)) or 'none'}")
-    return [target]
+    before = [("task", one) for one in system.paths[name]["tasks"]] if kind == "path" else []
+    return [*dict.fromkeys(before), target], [target]
 
 
-def tell(best, targets, bounds, is_all):
-    """A line for each target, and for all of them one more."""
-    ratios = []
-    for target in targets:
-        seen = best.found.get(target, (0,))[0]
-        print(line(target, seen, bounds[target]))
-        if bounds[target] is not None:
-            ratios.append(seen / bounds[target])
-    if is_all and ratios:
-        print(f"middle ratio {statistics.median(ratios):.4f}, least {min(ratios):.4f}, {sum(ratio == 1 for ratio in ratios)} of {len(ratios)} bounds reached")
+def say(text):
+    """A line of the table, as soon as it is there."""
+    print(text, flush=True)
 
 
-def keep(options, judge, best, targets):
-    """Writes the traces that are asked for."""
-    if options.to and targets[0] in best.found:
-        write(options.to, rows_of(judge.system, *best.found[targets[0]][1:]))
+def tell(search, told):
+    """A line for each target that is told, when it was looked for, and once more where another search saw more; what was seen."""
+    rows = {}
+    for target in search.run():
+        if target in told and target in search.best.found:
+            rows[target] = search.best.found[target][0]
+            say(line(target, rows[target], search.bounds[target]))
+    for target, seen in rows.items():
+        if search.best.found[target][0] > seen:
+            rows[target] = search.best.found[target][0]
+            say(line(target, rows[target], search.bounds[target]))
+    return rows
+
+
+def tell_sum(rows, bounds):
+    """What the table comes to."""
+    ratios = [seen / bounds[target] for target, seen in rows.items() if bounds[target]]
+    if ratios:
+        reached = sum(ratio == 1 for ratio in ratios)
+        say(f"middle ratio {statistics.median(ratios):.4f}, least {min(ratios):.4f}, {reached} of {len(ratios)} bounds reached")
+
+
+def keep(options, judge, best, rows):
+    """Writes the traces that are asked for, and tells which jobs are late in them."""
     if options.keep:
         os.makedirs(options.keep, exist_ok=True)
         name = os.path.splitext(os.path.basename(options.file))[0]
-        for number, rows in enumerate(cover(judge, best, targets), 1):
-            write(os.path.join(options.keep, f"{name}.worst{number}.csv"), rows)
+        for number, (trace, shown) in enumerate(cover(judge, best, rows), 1):
+            to = os.path.join(options.keep, f"{name}.worst{number}.csv")
+            write(to, trace)
+            tell_late(judge, trace, shown, to)
+    if not options.all:
+        for target, seen in rows.items():
+            trace = shortest(judge, *best.found[target][1:], {target: seen})
+            if options.to:
+                write(options.to, trace)
+            tell_late(judge, trace, [target], options.to)
+
+
+def perform(options, folder):
+    """The whole of a call; its status."""
+    bounds, system = report_of(options.file, options.program), System(options.file)
+    targets, told = targets_of(options, bounds, system)
+    judge = Judge(system, folder, options.jobs, options.program)
+
+    def interrupted(*_):
+        # what was seen by then is told and kept; a second interrupt ends that too
+        if judge.interrupt.is_set():
+            raise KeyboardInterrupt
+        judge.interrupt.set()
+
+    for it in (signal.SIGINT, signal.SIGTERM):
+        signal.signal(it, interrupted)
+    search = Search(system, judge, bounds, options, targets)
+    rows = tell(search, told)
+    if options.all and not judge.interrupt.is_set():
+        tell_sum(rows, bounds)
+    keep(options, judge, search.best, rows)
+    if judge.interrupt.is_set():
+        print(f"worst.py: interrupted in search {search.place + 1} of {len(targets)}: what is written was seen by then", file=sys.stderr)
+        return 130
+    if search.cut:
+        print(f"the clock ended the search of {search.cut} of {len(targets)}: another call may see more (--seconds)", file=sys.stderr)
+    return 0
 
 
 def main():
     options = asked_for()
-    with tempfile.TemporaryDirectory() as folder:
-        bounds = report_of(options.file, options.program)
-        system = System(options.file)
-        targets = targets_of(options, bounds)
-        judge, best, rng = Judge(system, folder, options.jobs, options.program), Best(), random.Random(options.seed)
-        began, cut = time.monotonic(), 0
-        for place, target in enumerate(targets):
-            ends = began + options.seconds * (place + 1) / len(targets)
-            cut += search(system, judge, best, target, bounds, options, rng, ends)
-        progress("")
-        tell(best, targets, bounds, options.all)
-        keep(options, judge, best, targets)
-        if cut:
-            print(f"the clock ended the search of {cut} of {len(targets)}: another call may see more (--seconds)", file=sys.stderr)
+    # before the search there is nothing to keep
+    signal.signal(signal.SIGTERM, signal.default_int_handler)
+    try:
+        with tempfile.TemporaryDirectory() as folder:
+            status = perform(options, folder)
+    except KeyboardInterrupt:
+        print("worst.py: interrupted", file=sys.stderr)
+        status = 130
+    except BrokenPipeError:
+        # who reads the table has enough of it
+        os.dup2(os.open(os.devnull, os.O_WRONLY), sys.stdout.fileno())
+        status = 1
+    sys.exit(status)
 
 
 if __name__ == "__main__":

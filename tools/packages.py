@@ -1,0 +1,58 @@
+"""Packages that a tool needs beside Python's own library: told in a line where one is missing, and where they are installed for
+Debian's Python alone, the tool goes on there."""
+import importlib
+import os
+import shutil
+import subprocess
+import sys
+
+# Debian installs its packages for this Python, which needn't be the one that comes first
+DEBIAN = "/usr/bin/python3"
+# the package of Debian that has a module
+PACKAGES = {"distributed": "python3-distributed", "jinja2": "python3-jinja2", "matplotlib": "python3-matplotlib"}
+# set for the process that goes on there, so that it doesn't do so again
+AGAIN = "LOKWURMI_AGAIN"
+
+
+def is_here(module: str) -> bool:
+    """Whether this Python has a module."""
+    try:
+        importlib.import_module(module)
+    except ImportError:
+        return False
+    return True
+
+
+def is_debian() -> bool:
+    """Whether this is Debian's Python."""
+    return os.environ.get(AGAIN) == str(os.getpid()) or os.path.realpath(sys.executable) == os.path.realpath(DEBIAN)
+
+
+def has_debian(modules: tuple[str, ...]) -> bool:
+    """Whether Debian's Python has the modules, and is new enough for the tools."""
+    try:
+        return not subprocess.run([DEBIAN, "-c", "import " + ", ".join(("tomllib", *modules))], capture_output=True, check=False).returncode
+    except OSError:
+        return False
+
+
+def remedy(missing: list[str]) -> str:
+    """The command that installs modules on this machine."""
+    if not (shutil.which("apt-get") and os.path.exists(DEBIAN)):
+        return f"{shutil.which('python3') or sys.executable} -m pip install {' '.join(missing)}"
+    then = "" if is_debian() else f"; {DEBIAN}, for which that is, is used then"
+    return f"apt-get install {' '.join(PACKAGES[it] for it in missing)}{then}"
+
+
+def need(*modules: str, status: int = 1) -> None:
+    """Comes back where this Python has the modules. Otherwise the tool goes on under Debian's Python where that has them, or ends
+    with a line that says what to install."""
+    missing = [it for it in modules if not is_here(it)]
+    if not missing:
+        return
+    if not is_debian() and has_debian(modules):
+        os.environ[AGAIN] = str(os.getpid())
+        os.execv(DEBIAN, [DEBIAN, *sys.argv])
+    what = f"the package {missing[0]} isn't" if len(missing) == 1 else f"the packages {' and '.join(missing)} aren't"
+    print(f"{os.path.basename(sys.argv[0])}: {what} here: {remedy(missing)}", file=sys.stderr)
+    sys.exit(status)
