@@ -5,23 +5,28 @@
 top=$(cd "$(dirname "${BASH_SOURCE[0]}")/.." && pwd) || exit 1
 program=$top/crates/cpa_cli/out/cpa_cli
 schedule=$top/crates/cpa_schedule/out/cpa_schedule
+chain=$top/crates/cpa_chain/out/cpa_chain
 work=$(mktemp -d) || exit 1
 trap 'rm -rf "$work"' EXIT
 cd "$work" || exit 1
 [ -x "$program" ] || "$top/lokwurmi" analyse "$top/examples/two_tasks.toml" >first || exit 1
 [ -x "$schedule" ] || "$top/lokwurmi" schedule "$top/examples/crossing_chains".{toml,trace.csv} >first || exit 1
+[ -x "$chain" ] || "$top/lokwurmi" chain "$top/examples/effects.toml" sense >first || exit 1
 cp "$top/examples/two_tasks.toml" two.toml
 cp "$top/examples/car_network.toml" car.toml
 wrong=0
 
 # Makes a call with a stack of 256 KB, and says whether its status is the one that is wanted, and whether the last line of its
-# text begins so. The words of the call come after these two; of `schedule` they go to its own program.
+# text begins so. The words of the call come after these two; `schedule`, `chain` and `chains` have their own programs.
 answers() {
   local status=$1 last=$2
   shift 2
   words=$*
   local call=("$program" "$@")
-  [ "$1" != schedule ] || call=("$schedule" "${@:2}")
+  case $1 in
+  schedule) call=("$schedule" "${@:2}") ;;
+  chain | chains) call=("$chain" "$@") ;;
+  esac
   (ulimit -s 256 && exec "${call[@]}") >text 2>errors
   got=$?
   line=$(tail -n 1 text)
@@ -76,6 +81,15 @@ expect_status 20 $? 'a full disk, audit'
 expect_status 20 $? 'a full disk, schedule'
 "$schedule" two.toml >/dev/full
 expect_status 20 $? 'a full disk, refused words of schedule'
+"$chain" chain two.toml a b >/dev/full
+expect_status 20 $? 'a full disk, chain'
+"$chain" chain two.toml zz >/dev/full
+expect_status 20 $? 'a full disk, a refused task of chain'
+printf 'format = 1\nchain = [{ name = "c", tasks = ["a", "b"] }]\n' >pair
+"$chain" chains two.toml pair >/dev/full
+expect_status 20 $? 'a full disk, chains'
+"$chain" chains two.toml >/dev/full
+expect_status 20 $? 'a full disk, refused words of chains'
 "$program" help >/dev/full
 expect_status 20 $? 'a full disk, refused words'
 
@@ -96,6 +110,19 @@ expect 18 'assign refused 1' assign two.toml $'c\npu'
 expect 18 'slack refused 1' slack two.toml sa
 expect 10 'words refused' slack two.toml $'\xff'
 expect 10 'words refused' schedule two.toml $'\xff'
+expect 11 'cannot read folder' chain folder a
+expect 11 'cannot read none' chain none a
+expect 11 'cannot read folder' chains folder none
+expect 11 'cannot read none' chains two.toml none
+expect 11 'cannot read folder' chains two.toml folder
+expect 18 'chain refused 2' chain two.toml a sb
+expect 18 'chain refused 1' chain two.toml "$(printf '%0100000d' 0)"
+expect 10 'words refused' chain two.toml $'\xff'
+expect 10 'words refused' chain two.toml
+expect 10 'words refused' chains two.toml
+expect 10 'words refused' chains two.toml pair pair
+expect 0 'chain tasks 32' chain two.toml $(yes a | head -n 32)
+expect 10 'words refused' chain two.toml $(yes a | head -n 33)
 if [ "$(id -u)" != 0 ]; then
   : >closed && chmod 0 closed
   expect 11 'cannot read closed' analyse closed
@@ -162,6 +189,18 @@ write("chains", "".join(text))
 write("end.toml", 'format = 1\n[[resource]]\nname = "r"\nkind = "preemptive"\n[[source]]\nname = "s"\nperiod = 1000000000\n'
       '[[task]]\nname = "t"\non = "r"\nafter = "s"\nbest = 1000000\nworst = 1000000\npriority = 1\n')
 write("end.csv", "event,s,10000000\nexec,t,1000000\n")
+
+# ---- files of chains
+def many_chains(count, tasks):
+    return "format = 1\n" + "".join(f'[[chain]]\nname = "c{k}"\ntasks = [{tasks}]\nreaction = 1000000000\n' for k in range(count))
+
+steps = ", ".join(f'"t{k}"' for k in range(31, -1, -1))
+write("most_chains", many_chains(128, steps))
+write("more_chains", many_chains(129, '"t0"'))
+write("long_chain", many_chains(1, steps + ', "t0"'))
+write("same_names", ('format = 1\nchain = [\n' + '{name="a",tasks=["a"]},\n' * (most // 23))[:most - 2] .rsplit("\n", 1)[0] + "\n]\n")
+write("unnamed", "format = 1\n" + "[[chain]]\n" * (most // 10 - 2))
+write("wide_chain", 'format = 1\n[[chain]]\nname = "c"\ntasks = [' + '"a",' * ((most - 60) // 4) + "]\n")
 
 # ---- lists of activators
 head = 'format=2\nresource=[{name="c",kind="preemptive"}]\nsource=[{name="s",period=9}]\ntask=[\n'
@@ -302,6 +341,20 @@ expect 19 'schedule refused row 1 malformed' audit two.toml rows commas
 expect 19 'schedule refused row 1 malformed' audit two.toml rows fields
 expect 16 'trace refused too many' audit two.toml many late
 
+# ---- files of chains
+for file in brackets nested braces tables; do expect 13 "not TOML $file" chains two.toml "$file"; done
+for file in sections feeds comment string; do expect 18 'chains refused reason 1 file 0' chains two.toml "$file"; done
+expect 12 'too long longer' chains two.toml longer
+expect 12 'too long longer' chains longer pair
+# waits of two periods and more, beside deadlines of one
+expect 1 'summary chains 128 overload 0 missed 128' chains chains most_chains
+expect 18 'chains refused reason 5 chain 1' chains two.toml most_chains
+expect 18 'chains refused reason 12 chain 129' chains chains more_chains
+expect 18 'chains refused reason 11 chain 1' chains chains long_chain
+expect 18 'chains refused reason 4 chain 2' chains two.toml same_names
+expect 18 'chains refused reason 1 chain 1' chains two.toml unnamed
+expect 18 'chains refused reason 11 chain 1' chains two.toml wide_chain
+
 # ---- lists of activators
 expect 14 'system refused reason 7 task 33' analyse chain
 expect 14 'system refused reason 7 task 1' analyse chain_back
@@ -353,6 +406,9 @@ expect 0 'summary tasks 1 overload 0' buffers end.toml end.csv
 printf 't,10000000,11000000\n' >end.ran
 expect 0 'audit same segments 1' audit end.toml end.csv end.ran
 expect 0 't,10000000,11000000' schedule end.toml end.csv
+expect 0 'chain tasks 32 reaction' chain chains t{0..31}
+expect 0 'chain tasks 32 reaction' chain joined_chains t{31..0}
+for kind in preemptive round-robin tdma can; do expect 0 'chain tasks 32 reaction' chain "crowd_$kind" t{480..511}; done
 for kind in preemptive round-robin tdma can; do expect 0 'summary tasks 512 overload 0' buffers "crowd_$kind" /dev/null; done
 expect 0 'summary tasks 512 overload 0' buffers chains /dev/null --workers 64
 expect 4 'audit wrong segment 1 expected none' audit two.toml /dev/null ran

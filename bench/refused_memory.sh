@@ -7,6 +7,7 @@
 top=$(cd "$(dirname "${BASH_SOURCE[0]}")/.." && pwd) || exit 1
 program=$top/crates/cpa_cli/out/cpa_cli
 schedule=$top/crates/cpa_schedule/out/cpa_schedule
+chain=$top/crates/cpa_chain/out/cpa_chain
 tests=$top/crates/cpa_bound_cases/out/cpa_bound_cases_tests
 work=$(mktemp -d) || exit 1
 trap 'rm -rf "$work"' EXIT
@@ -77,13 +78,17 @@ if [ "$*" = edit_without_memory ]; then
 fi
 [ -x "$program" ] || "$top/lokwurmi" analyse "$top/examples/two_tasks.toml" >"$work/first" || exit 1
 [ -x "$schedule" ] || "$top/lokwurmi" schedule "$top/examples/crossing_chains".{toml,trace.csv} >"$work/first" || exit 1
+[ -x "$chain" ] || "$top/lokwurmi" chain "$top/examples/effects.toml" sense >"$work/first" || exit 1
 
-# Each allocation of a call in turn, at most so many, every so manieth. The words after `schedule` go to its own program.
+# Each allocation of a call in turn, at most so many, every so manieth. `schedule`, `chain` and `chains` have their own programs.
 try() {
   local most=$1 step=$2 status size n got sent wanting=0 without=0
   shift 2
   local call=("$program" "$@")
-  [ "$1" != schedule ] || call=("$schedule" "${@:2}")
+  case $1 in
+  schedule) call=("$schedule" "${@:2}") ;;
+  chain | chains) call=("$chain" "$@") ;;
+  esac
   "${call[@]}" >"$work/whole"
   status=$?
   size=$(stat -c %s "$work/whole")
@@ -135,6 +140,10 @@ printf '%s\n' 'format = 1' 'resource = [{ name = "p", kind = "preemptive" }, { n
 # Edits of a system with several activators: some are made, and the first and the last of the removals are refused.
 printf 'remove m\nadd o cpu m 1 2 3\nsource sb 25 0 0\nreport\nexec m 1 2\nadd r q o 1 1 9\nremove r\nremove n\n' >"$work/lists.txt"
 printf 'm,0,3\nm,3,6\nn,3,5\nn,6,8\n' >"$work/lists.csv"
+# Chains of the same system, with a deadline that is met and one that is missed; and one with a task that isn't there.
+printf '%s\n' 'format = 1' 'chain = [{ name = "c", tasks = ["m", "n"], reaction = 1000, age = 1 }, { name = "d", tasks = ["n", "m"] }]' \
+  >"$work/joined.chains.toml"
+printf '%s\n' 'format = 1' 'chain = [{ name = "c", tasks = ["m"] }, { name = "d", tasks = ["n", "zz"] }]' >"$work/unknown.chains.toml"
 try 100000 1 analyse two_tasks.toml
 try 100000 1 analyse car_network.toml
 try 100000 1 analyse crossing_chains.toml --workers 2
@@ -168,6 +177,12 @@ try 100000 1 slack two_activators.toml n --workers 2
 try 100000 1 buffers two_activators.toml two_activators.trace.csv
 try 100000 1 audit two_activators.toml two_activators.trace.csv "$work/lists.csv"
 try 100000 1 schedule two_activators.toml two_activators.trace.csv
+try 100000 1 chain effects.toml sense filter act
+try 100000 1 chain two_activators.toml m n m
+try 100000 1 chain overload.toml zz
+try 100000 1 chains effects.toml effects.chains.toml
+try 100000 1 chains two_activators.toml "$work/joined.chains.toml"
+try 100000 1 chains two_activators.toml "$work/unknown.chains.toml"
 try 1000 7 slack car_network.toml sense0
 try 1000 7 generate 1 128
 try 1000 7 load 1 128

@@ -1,71 +1,39 @@
-"""Reads what `lokwurmi analyse`, `lokwurmi session` and `lokwurmi simulate` write, for the tools beside it."""
-import re
+"""Reads what `lokwurmi analyse`, `lokwurmi session` and `lokwurmi simulate` write, for the tools beside it.
+
+The lines are read by the Python package of this repository; here a text that is none ends the tool.
+"""
+import os
 import sys
 
-TASK = re.compile(r"task (?P<name>\S+) (?P<on>\S+) (?:period (?P<period>\d+) jitter (?P<jitter>\d+|overload) distance (?P<distance>\d+|overload)|streams (?P<streams>\d+)) best (?P<best>\d+) worst (?P<worst>\d+|overload)")
-PATH = re.compile(r"path (?P<name>\S+) best (?P<best>\d+) worst (?P<worst>\d+|overload) deadline (?P<deadline>\d+|-) (?P<verdict>met|missed|unknown|none)")
-SUMMARY = re.compile(r"summary tasks \d+ overload \d+ missed \d+")
-REFUSED = re.compile(r"line (\d+) refused (\d)")
-SEEN_TASK = re.compile(r"task (\S+) jobs (\d+) done (\d+) worst (\d+|none)")
-SEEN_PATH = re.compile(r"path (\S+) passages (\d+) worst (\d+|none)")
-SEEN_SUMMARY = re.compile(r"summary jobs (\d+) done (\d+) end (\d+)")
+sys.path.insert(1, os.path.join(os.path.dirname(os.path.dirname(os.path.abspath(__file__))), "python", "src"))
+from lokwurmi import lines  # noqa: E402
+from lokwurmi.errors import Unreadable  # noqa: E402
+from lokwurmi.lines import PATH, SUMMARY, TASK  # noqa: E402, F401
 
 
-def number(word):
-    """A number, or None for `overload`, for `none` and for no deadline."""
-    return int(word) if word.isdigit() else None
-
-
-def task_in(it):
-    """What a task's line says. Where it has several streams, it has no period, no jitter and no distance."""
-    period, jitter, distance = (word and number(word) for word in it.group("period", "jitter", "distance"))
-    streams = int(it["streams"] or 1)
-    return {"on": it["on"], "period": period, "jitter": jitter, "distance": distance, "streams": streams, "best": int(it["best"]), "worst": number(it["worst"])}
-
-
-def reports_in(lines, file):
+def reports_in(rows, file):
     """The reports of some lines, in order: the tasks and the paths of each, dictionaries by name, and which edits were refused
     before it, the reason by the number of the line."""
-    found, tasks, paths, refused = [], {}, {}, {}
-    for place, line in enumerate(lines, 1):
-        if it := TASK.fullmatch(line):
-            tasks[it["name"]] = task_in(it)
-        elif it := PATH.fullmatch(line):
-            paths[it["name"]] = {"best": int(it["best"]), "worst": number(it["worst"]), "deadline": number(it["deadline"]), "verdict": it["verdict"]}
-        elif SUMMARY.fullmatch(line):
-            found.append((tasks, paths, refused))
-            tasks, paths, refused = {}, {}, {}
-        elif it := REFUSED.fullmatch(line):
-            refused[int(it[1])] = int(it[2])
-        else:
-            sys.exit(f"{file}: line {place} is no line of a report: {line}")
-    if not found or tasks or paths:
-        sys.exit(f"{file}: there is no whole report; its last line begins with summary")
-    return found
+    return read_by(lines.reports_in, rows, file)
+
+
+def seen_in(rows, file):
+    """What `simulate` observed: the tasks and the paths, each a dictionary by name, and the end of the run."""
+    return read_by(lines.seen_in, rows, file)
+
+
+def read_by(read, rows, file):
+    try:
+        return read(rows)
+    except Unreadable as fault:
+        sys.exit(f"{file}: {fault}")
 
 
 def read_report(file):
     """The tasks and the paths of the last report in the file, each a dictionary by name."""
     try:
         with open(file, encoding="ascii") as it:
-            lines = it.read().splitlines()
+            rows = it.read().splitlines()
     except (OSError, UnicodeDecodeError) as fault:
         sys.exit(f"{file}: can't be read: {fault}")
-    return reports_in(lines, file)[-1][:2]
-
-
-def seen_in(lines, file):
-    """What `simulate` observed: the tasks and the paths, each a dictionary by name, and the end of the run."""
-    tasks, paths, end = {}, {}, None
-    for place, line in enumerate(lines, 1):
-        if it := SEEN_TASK.fullmatch(line):
-            tasks[it[1]] = {"jobs": int(it[2]), "done": int(it[3]), "worst": number(it[4])}
-        elif it := SEEN_PATH.fullmatch(line):
-            paths[it[1]] = {"passages": int(it[2]), "worst": number(it[3])}
-        elif it := SEEN_SUMMARY.fullmatch(line):
-            end = int(it[3])
-        else:
-            sys.exit(f"{file}: line {place} is no line of a run: {line}")
-    if end is None:
-        sys.exit(f"{file}: there is no whole run; its last line begins with summary")
-    return tasks, paths, end
+    return reports_in(rows, file)[-1][:2]

@@ -10,9 +10,11 @@ mod searches;
 mod traces;
 
 use bounds::Rivals;
+use cpa_fix::Round;
 use cpa_io::RealFiles;
 use cpa_model::System;
 use cpa_units::Bound;
+use cpa_workers::{NoGate, Shared};
 use searches::run_once;
 use std::alloc::Global;
 use std::rt::Clock;
@@ -40,7 +42,10 @@ fn time_searches<R: Clock + Print + Threads + Sync>(
     times: &str,
     workers: &str,
     system: &Option<System>,
-) -> io::Result<()> {
+) -> io::Result<()>
+where
+    Shared<NoGate>: Round<R>,
+{
     let workers: u32 = workers.parse().unwrap_or(0);
     let times: u64 = times.parse().unwrap_or(1);
     let mut least = u128::MAX;

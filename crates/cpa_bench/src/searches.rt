@@ -12,7 +12,7 @@ use cpa_workers::{Gate, NoGate, Shared};
 use std::alloc::Global;
 use std::thread::Threads;
 
-fn search<H: Threads + Sync, R: Round>(
+fn search<H: Sync, R: Round<H>>(
     rt: &H,
     alloc: Global,
     system: &System,
@@ -34,7 +34,7 @@ fn search_with<H: Threads + Sync, G: Gate>(
     gate: G,
 ) -> Result<(), NoMemory>
 where
-    Shared<G>: Round,
+    Shared<G>: Round<H>,
     requires { (1 ≤ workers) × (workers ≤ 64) }
 {
     search(rt, alloc, system, &mut Shared::new(workers, gate))
@@ -46,12 +46,15 @@ pub fn run_once<H: Threads + Sync>(
     alloc: Global,
     system: &Option<System>,
     workers: u32,
-) -> Result<(), NoMemory> {
+) -> Result<(), NoMemory>
+where
+    Shared<NoGate>: Round<H>,
+{
     let Some(system) = system else {
         return crowd(alloc);
     };
     if workers == 0 {
-        search(rt, alloc, system, &mut OneByOne)
+        search(&(), alloc, system, &mut OneByOne)
     } else {
         search_with(rt, alloc, system, workers.min(64), NoGate)
     }

@@ -10,7 +10,6 @@ use cpa_units::Bound::{Overload, Within};
 use cpa_units::{Bound, TaskId, Vector};
 use std::alloc::{AllocError, Global};
 use std::test::Fail;
-use std::thread::Threads;
 
 /// Two chains that cross on `p` and `q` and meet two fixed points, and a task alone on `r`.
 const NARROW: &str = r#"format = 1
@@ -289,28 +288,17 @@ const CASES: [Case; 17] = [
 ];
 
 /// A session on a system, whose tasks it marks. The trail has room for 512 tasks.
-fn start<H: Threads + Sync>(
-    rt: &H,
-    alloc: Global,
-    text: &str,
-    trail: &mut Trail,
-) -> Result<Session, Fail>
+fn start(alloc: Global, text: &str, trail: &mut Trail) -> Result<Session, Fail>
     requires { 512 ≤ trail.old.room }
 {
     let system = read_system(alloc, text.as_bytes())?;
-    Ok(Session::start(rt, alloc, system, &mut OneByOne, trail)?)
+    Ok(Session::start(&(), alloc, system, &mut OneByOne, trail)?)
 }
 
 /// Makes an edit, and answers the rule that it breaks, else 0. The trail is left with the marks of the edit.
-fn make<H: Threads + Sync>(
-    rt: &H,
-    alloc: Global,
-    session: &mut Session,
-    edit: &Edit,
-    trail: &mut Trail,
-) -> Result<u8, Fail> {
+fn make(alloc: Global, session: &mut Session, edit: &Edit, trail: &mut Trail) -> Result<u8, Fail> {
     *trail = Trail::with_room(alloc, 512)?;
-    match session.edit(rt, alloc, edit, &mut OneByOne, trail) {
+    match session.edit(&(), alloc, edit, &mut OneByOne, trail) {
         Ok(()) => Ok(0),
         Err(EditFault::Refused(EditRefusal(number))) => Ok(number),
         Err(EditFault::Memory) => Err(Fail::from(AllocError)),
@@ -340,14 +328,14 @@ fn has_tasks(session: &Session, tasks: &[(u64, Bound)]) -> bool {
     system.tasks() == bounds.len() && tasks.len() == bounds.len() as usize
 }
 
-fn is_met<H: Threads + Sync>(rt: &H, alloc: Global, case: &Case) -> Result<bool, Fail> {
+fn is_met(alloc: Global, case: &Case) -> Result<bool, Fail> {
     let script = read_script(alloc, case.script.as_bytes())?;
     let mut trail = Trail::with_room(alloc, 512)?;
-    let mut session = start(rt, alloc, case.system, &mut trail)?;
+    let mut session = start(alloc, case.system, &mut trail)?;
     let mut broken = 0;
     for k in 0..script.len() {
         if let Step::Change(edit) = script.step(k) {
-            broken = make(rt, alloc, &mut session, edit, &mut trail)?;
+            broken = make(alloc, &mut session, edit, &mut trail)?;
         }
     }
     Ok(broken == case.broken && has_marks(&trail, case.marks) && has_tasks(&session, case.tasks))
@@ -356,7 +344,7 @@ fn is_met<H: Threads + Sync>(rt: &H, alloc: Global, case: &Case) -> Result<bool,
 #[test]
 fn edits(rt: HostRuntime) -> Result<(), Fail> {
     for case in &CASES {
-        assert!(rt; is_met(&rt, rt.alloc(), case)?, "{}", case.script);
+        assert!(rt; is_met(rt.alloc(), case)?, "{}", case.script);
     }
     Ok(())
 }
@@ -374,16 +362,11 @@ fn are_equal(first: &Vector, second: &Vector) -> bool {
 
 /// Makes an edit. Where it meets want of memory, tells whether the session is as before: the file of its system, which stands
 /// for all four lists of it, and all bounds.
-fn edits_or_keeps<H: Threads + Sync>(
-    rt: &H,
-    alloc: Global,
-    session: &mut Session,
-    edit: &Edit,
-) -> Result<bool, Fail> {
+fn edits_or_keeps(alloc: Global, session: &mut Session, edit: &Edit) -> Result<bool, Fail> {
     let bounds = session.bounds().copy(alloc)?;
     let file = print_system(alloc, session.system())?;
     let mut trail = Trail::with_room(alloc, 512)?;
-    match session.edit(rt, alloc, edit, &mut OneByOne, &mut trail) {
+    match session.edit(&(), alloc, edit, &mut OneByOne, &mut trail) {
         Err(EditFault::Memory) => {
             let now = print_system(alloc, session.system())?;
             Ok(now.as_slice() == file.as_slice() && are_equal(session.bounds(), &bounds))
@@ -399,11 +382,11 @@ fn edits_or_keeps<H: Threads + Sync>(
 fn edit_without_memory(rt: HostRuntime) -> Result<(), Fail> {
     let alloc = rt.alloc();
     let script = read_script(alloc, SESSION_REPORTS.as_bytes())?;
-    let mut session = start(&rt, alloc, TWO_TASKS, &mut Trail::with_room(alloc, 512)?)?;
+    let mut session = start(alloc, TWO_TASKS, &mut Trail::with_room(alloc, 512)?)?;
     let mut right = true;
     for k in 0..script.len() {
         if let Step::Change(edit) = script.step(k) {
-            right = right && edits_or_keeps(&rt, alloc, &mut session, edit)?;
+            right = right && edits_or_keeps(alloc, &mut session, edit)?;
         }
     }
     assert!(rt; right);

@@ -6,7 +6,6 @@ use cpa_slack::{find_slack, slack_text};
 use cpa_units::TaskId;
 use std::alloc::Global;
 use std::test::Fail;
-use std::thread::Threads;
 
 /// The example of Davis et al.
 const DAVIS_BUS: &str = r#"format = 1
@@ -62,8 +61,7 @@ const CASES: [(&str, &str, u32, &str); 6] = [
 const B_BY_14: &str = "path = [{ name = 'd', tasks = ['b'], deadline = 14 }]";
 
 /// The line of a task; nothing where there is no such task.
-fn line<H: Threads + Sync>(
-    rt: &H,
+fn line(
     alloc: Global,
     (system, paths, task, _): &(&str, &str, u32, &str),
 ) -> Result<Vec<u8>, Fail> {
@@ -73,14 +71,14 @@ fn line<H: Threads + Sync>(
         return Ok(Vec::new(alloc));
     }
     let mut trail = Trail::with_room(alloc, 512)?;
-    let slack = find_slack(rt, alloc, &system, task, &mut OneByOne, &mut trail)?;
+    let slack = find_slack(&(), alloc, &system, task, &mut OneByOne, &mut trail)?;
     Ok(slack_text(alloc, &system, task, &slack)?)
 }
 
 #[test]
 fn tells_what_comes_next(rt: HostRuntime) -> Result<(), Fail> {
     for case in &CASES {
-        let text = line(&rt, rt.alloc(), case)?;
+        let text = line(rt.alloc(), case)?;
         assert!(rt; text.as_slice() == case.3.as_bytes(), "{}", case.3);
     }
     Ok(())

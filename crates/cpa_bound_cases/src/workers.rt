@@ -12,13 +12,12 @@ use gates::{FREE, IN_TURN, MEET, held};
 use std::alloc::Global;
 use std::sync::atomic::Ordering::SeqCst;
 use std::test::Fail;
-use std::thread::Threads;
 
 /// The bounds of the tasks.
 const BOUNDS: [Bound; 5] = [Overload, Overload, Overload, Overload, Within(4)];
 
 /// Whether a search by these rounds finds the bounds of the tasks.
-fn finds_bounds<H: Threads + Sync, R: Round>(
+fn finds_bounds<H: Sync, R: Round<H>>(
     rt: &H,
     alloc: Global,
     system: &System,
@@ -36,7 +35,7 @@ fn finds_bounds<H: Threads + Sync, R: Round>(
 }
 
 /// The bound of the first task in the reading of the second resource, after a round over all.
-fn seen_by_second<H: Threads + Sync, R: Round>(
+fn seen_by_second<H: Sync, R: Round<H>>(
     rt: &H,
     alloc: Global,
     system: &System,

@@ -28,5 +28,5 @@ fn main(rt: HostRuntime) -> ExitCode {
     };
     let mut sink = RealSink::new(io::writer(&rt));
     let mut files = RealFiles::new(&rt, alloc);
-    ExitCode::from(cpa_effects::write_chain(&rt, alloc, words.as_slice(), &mut files, &mut sink))
+    ExitCode::from(cpa_effects::write_chain(alloc, words.as_slice(), &mut files, &mut sink))
 }

@@ -11,7 +11,6 @@ use cpa_session::Session;
 use cpa_units::{TaskId, Vector};
 use std::alloc::{AllocError, Global};
 use std::test::Fail;
-use std::thread::Threads;
 
 /// Three chains over resources of all four kinds, in a cycle, and a task that nothing reads.
 const FOUR_KINDS: &str = r#"format = 1
@@ -92,27 +91,22 @@ fn are_equal(first: &Vector, second: &Vector) -> bool {
 }
 
 /// Makes an edit, and tells whether it was made and whether the bounds aren't those of a fresh analysis.
-fn edit_beside<H: Threads + Sync>(
-    rt: &H,
-    alloc: Global,
-    session: &mut Session,
-    edit: &Edit,
-) -> Result<(bool, bool), Fail> {
+fn edit_beside(alloc: Global, session: &mut Session, edit: &Edit) -> Result<(bool, bool), Fail> {
     let mut trail = Trail::with_room(alloc, 512)?;
-    let made = match session.edit(rt, alloc, edit, &mut OneByOne, &mut trail) {
+    let made = match session.edit(&(), alloc, edit, &mut OneByOne, &mut trail) {
         Ok(()) => true,
         Err(EditFault::Refused(_)) => false,
         Err(EditFault::Memory) => return Err(Fail::from(AllocError)),
     };
-    let fresh = search(rt, alloc, session.system(), &mut OneByOne)?;
+    let fresh = search(&(), alloc, session.system(), &mut OneByOne)?;
     Ok((made, !are_equal(&fresh.bounds, session.bounds())))
 }
 
 /// The session of a system that is read.
-fn start<H: Threads + Sync>(rt: &H, alloc: Global, text: &str) -> Result<Session, Fail> {
+fn start(alloc: Global, text: &str) -> Result<Session, Fail> {
     let system = read_system(alloc, text.as_bytes())?;
     let mut trail = Trail::with_room(alloc, 512)?;
-    let session = Session::start(rt, alloc, system, &mut OneByOne, &mut trail)?;
+    let session = Session::start(&(), alloc, system, &mut OneByOne, &mut trail)?;
     Ok(session)
 }
 
@@ -126,17 +120,13 @@ fn script_of(alloc: Global, trial: &Trial) -> Result<Script, Fail> {
 }
 
 /// How many of the edits were made, and after how many the bounds weren't those of a fresh analysis.
-fn edits_beside<H: Threads + Sync>(
-    rt: &H,
-    alloc: Global,
-    trial: &Trial,
-) -> Result<(u64, u64), Fail> {
+fn edits_beside(alloc: Global, trial: &Trial) -> Result<(u64, u64), Fail> {
     let script = script_of(alloc, trial)?;
-    let mut session = start(rt, alloc, trial.system)?;
+    let mut session = start(alloc, trial.system)?;
     let (mut edits, mut others) = (0u64, 0u64);
     for k in 0..script.len() {
         if let Step::Change(edit) = script.step(k) {
-            let (made, other) = edit_beside(rt, alloc, &mut session, edit)?;
+            let (made, other) = edit_beside(alloc, &mut session, edit)?;
             edits = edits.saturating_add(u64::from(made));
             others = others.saturating_add(u64::from(other));
         }
@@ -147,14 +137,14 @@ fn edits_beside<H: Threads + Sync>(
 #[test]
 fn bounds_are_those_of_fresh_analyses(rt: HostRuntime) -> Result<(), Fail> {
     let alloc = rt.alloc();
-    let first = edits_beside(&rt, alloc, &TRIALS[0])?;
-    let second = edits_beside(&rt, alloc, &TRIALS[1])?;
+    let first = edits_beside(alloc, &TRIALS[0])?;
+    let second = edits_beside(alloc, &TRIALS[1])?;
     assert!(rt; first == (259, 0) && second == (259, 0));
     Ok(())
 }
 
 /// Makes the first edit of a script in a session of its own, by rounds of this kind, and answers the trail with its marks.
-pub fn edit_once<H: Threads + Sync, R: Round>(
+pub fn edit_once<H: Sync, R: Round<H>>(
     rt: &H,
     alloc: Global,
     system: &str,
@@ -163,7 +153,7 @@ pub fn edit_once<H: Threads + Sync, R: Round>(
 ) -> Result<Trail, Fail> {
     let script = read_script(alloc, script.as_bytes())?;
     let mut trail = Trail::with_room(alloc, 512)?;
-    let mut session = start(rt, alloc, system)?;
+    let mut session = start(alloc, system)?;
     if script.len() > 0 {
         if let Step::Change(edit) = script.step(0) {
             session.edit(rt, alloc, edit, round, &mut trail)?;

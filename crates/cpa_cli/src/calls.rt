@@ -2,10 +2,11 @@
 
 ghost use Rattle.std.specs.Prelude.{◌≤◌};
 
+use cpa_fix::Round;
 use cpa_io::{MemoryFiles, MemorySink};
 use cpa_run::{run, run_with};
 use cpa_units::ResId;
-use cpa_workers::Gate;
+use cpa_workers::{Gate, NoGate, Shared};
 use std::alloc::{AllocError, Global};
 use std::process::Abort;
 use std::test::Fail;
@@ -71,7 +72,10 @@ pub fn call<R: AllocGlobal + Threads + Sync>(
     texts: &[(&str, &str)],
     other: Option<(&str, &[u8])>,
     faults: &Faults,
-) -> Result<(u8, MemorySink), AllocError> {
+) -> Result<(u8, MemorySink), AllocError>
+where
+    Shared<NoGate>: Round<R>,
+{
     let alloc = rt.alloc();
     let puts = Vec::from_slice(alloc, faults.puts)?;
     let loads = Vec::from_slice(alloc, faults.loads)?;
@@ -83,13 +87,16 @@ pub fn call<R: AllocGlobal + Threads + Sync>(
 }
 
 /// The same without faults, with rounds through a gate.
-pub fn call_with<R: AllocGlobal + Threads + Sync>(
+pub fn call_with<R: AllocGlobal + Threads + Sync, G: Gate>(
     rt: &R,
     words: &[&str],
     option: &[&str],
     texts: &[(&str, &str)],
-    gate: Box<dyn Gate>,
-) -> Result<(u8, MemorySink), AllocError> {
+    gate: G,
+) -> Result<(u8, MemorySink), AllocError>
+where
+    Shared<G>: Round<R>,
+{
     let alloc = rt.alloc();
     let given = given_words(alloc, words, option)?;
     let held = held_files(alloc, texts, None)?;
@@ -136,30 +143,51 @@ pub const NO_OPTION: Options = &[&[]];
 pub const WORKERS: Options = &[&["--workers", "1"], &["--workers", "2"], &["--workers=8"]];
 
 /// Whether a call of a table answers as it tells, with an option; where there is one, also where all workers come.
-fn answers<R: AllocGlobal + Threads + Sync>(
+fn answers<R: AllocGlobal + Threads + Sync, G: Gate>(
     rt: &R,
     (words, texts, status, pieces): &Call,
     option: &[&str],
-) -> Result<bool, AllocError> {
+    gate: G,
+) -> Result<bool, AllocError>
+where
+    Shared<NoGate>: Round<R>,
+    Shared<G>: Round<R>,
+{
     let (seen, sink) = call(rt, words, option, texts, None, &NO_FAULTS)?;
     let right = seen == *status && is_joined(sink.sent(), pieces);
     if option.is_empty() {
         return Ok(right);
     }
-    let gate: Box<dyn Gate> = Box::new(rt.alloc(), Open)?;
     let (seen, sink) = call_with(rt, words, option, texts, gate)?;
     Ok(right && seen == *status && is_joined(sink.sent(), pieces))
 }
 
-/// Tries each call of a table with each of the options.
-pub fn try_calls<R: AllocGlobal + Threads + Sync + Abort>(
+/// Gates that hold nobody, enough for a table of calls.
+pub fn open_gates(alloc: Global) -> Result<Vec<Box<dyn Gate>>, AllocError> {
+    let mut gates: Vec<Box<dyn Gate>> = Vec::new(alloc);
+    for _ in 0..200 {
+        gates.push(Box::new(alloc, Open)?)?;
+    }
+    Ok(gates)
+}
+
+/// Tries each call of a table with each of the options, each with a gate of its own.
+pub fn try_calls<R: AllocGlobal + Threads + Sync + Abort, G: Gate>(
     rt: &R,
     calls: &[Call],
     options: Options,
-) -> Result<(), Fail> {
+    mut gates: Vec<G>,
+) -> Result<(), Fail>
+where
+    Shared<NoGate>: Round<R>,
+    Shared<G>: Round<R>,
+{
     for it in calls {
         for option in options {
-            let right = answers(rt, it, option)?;
+            let right = match gates.pop() {
+                Some(gate) => answers(rt, it, option, gate)?,
+                None => false,
+            };
             assert!(rt; right, "{:?}", it.3);
         }
     }
@@ -189,7 +217,10 @@ fn long_file(alloc: Global, first: &[u8], row: &[u8], rows: u32) -> Result<Vec<u
 pub fn try_long_calls<R: AllocGlobal + Threads + Sync + Abort>(
     rt: &R,
     calls: &[LongCall],
-) -> Result<(), Fail> {
+) -> Result<(), Fail>
+where
+    Shared<NoGate>: Round<R>,
+{
     for (words, texts, (name, first, row, rows), status, text) in calls {
         let long = long_file(rt.alloc(), first, row, *rows)?;
         let other = Some((*name, long.as_slice()));

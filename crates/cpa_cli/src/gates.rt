@@ -3,6 +3,7 @@
 use crate::anew::edit_once;
 use crate::calls::call_with;
 use crate::cases::{CROSSING_CHAINS, CROSSING_CHAINS_REPORT, ENDLESS_JITTER};
+use cpa_fix::Round;
 use cpa_units::ResId;
 use cpa_workers::{Gate, Shared};
 use std::alloc::{AllocError, Global};
@@ -93,12 +94,15 @@ fn edit_meets(rt: HostRuntime) -> Result<(), Fail> {
 }
 
 /// How often each of three resources is analysed in a call, over a system held as `sys` and a script or a trace held as `scr`.
-fn count_calls<R: AllocGlobal + Threads + Sync>(
+fn count_calls<R: AllocGlobal + Threads + Sync, G: Gate>(
     rt: &R,
     words: &[&str],
     script: &str,
-) -> Result<[u64; 3], AllocError> {
-    let (gate, seen) = new_gate(rt.alloc(), false)?;
+    (gate, seen): (G, Arc<Seen>),
+) -> Result<[u64; 3], AllocError>
+where
+    Shared<G>: Round<R>,
+{
     let texts: &[(&str, &str)] = &[("sys", ENDLESS_JITTER), ("scr", script)];
     call_with(rt, words, &[], texts, gate)?;
     let [first, second, third] = &seen.came;
@@ -108,9 +112,14 @@ fn count_calls<R: AllocGlobal + Threads + Sync>(
 /// An edit of the task that stands alone has no other resource analysed again.
 #[test]
 fn edit_spares_rest(rt: HostRuntime) -> Result<(), Fail> {
-    let whole = count_calls(&rt, &["analyse", "sys", "--workers", "1"], "")?;
+    let whole = count_calls(
+        &rt,
+        &["analyse", "sys", "--workers", "1"],
+        "",
+        new_gate(rt.alloc(), false)?,
+    )?;
     let words: &[&str] = &["session", "sys", "scr", "--workers", "1"];
-    let edited = count_calls(&rt, words, "exec c 2 5\n")?;
+    let edited = count_calls(&rt, words, "exec c 2 5\n", new_gate(rt.alloc(), false)?)?;
     assert!(rt;
         whole[0] > 0 && edited[0] == whole[0] && edited[1] == whole[1] && edited[2] > whole[2]
     );
@@ -120,9 +129,24 @@ fn edit_spares_rest(rt: HostRuntime) -> Result<(), Fail> {
 /// The rounds of the other calls with workers come through the gate that they are handed, too.
 #[test]
 fn other_rounds_are_seen(rt: HostRuntime) -> Result<(), Fail> {
-    let load = count_calls(&rt, &["load", "1", "1", "--workers", "2"], "")?;
-    let slack = count_calls(&rt, &["slack", "sys", "c", "--workers", "2"], "")?;
-    let buffers = count_calls(&rt, &["buffers", "sys", "scr", "--workers", "2"], "")?;
+    let load = count_calls(
+        &rt,
+        &["load", "1", "1", "--workers", "2"],
+        "",
+        new_gate(rt.alloc(), false)?,
+    )?;
+    let slack = count_calls(
+        &rt,
+        &["slack", "sys", "c", "--workers", "2"],
+        "",
+        new_gate(rt.alloc(), false)?,
+    )?;
+    let buffers = count_calls(
+        &rt,
+        &["buffers", "sys", "scr", "--workers", "2"],
+        "",
+        new_gate(rt.alloc(), false)?,
+    )?;
     assert!(rt; load[0] > 0 && slack[0] > 0 && buffers[0] > 0);
     Ok(())
 }

@@ -4,8 +4,10 @@ ghost use Rattle.std.specs.Prelude.{false, None, string_bytes};
 
 use crate::calls::{Faults, NO_FAULTS, call, given_words, is_joined};
 use crate::cases::{LONG_WINDOW, TWO_TASKS};
+use cpa_fix::Round;
 use cpa_io::{Files, LoadFault, Sink, SinkFault};
 use cpa_run::run;
+use cpa_workers::{NoGate, Shared};
 use std::alloc::Global;
 use std::test::Fail;
 use std::thread::Threads;
@@ -46,7 +48,10 @@ fn names_each_file<R: AllocGlobal + Threads + Sync>(
     words: &[&str],
     names: &[&str],
     status: u8,
-) -> Result<bool, Fail> {
+) -> Result<bool, Fail>
+where
+    Shared<NoGate>: Round<R>,
+{
     let (_, whole) = call(rt, words, &[], HELD, None, &NO_FAULTS)?;
     for load in 0..=names.len() {
         let faults = Faults {
@@ -85,7 +90,10 @@ fn sends_prefixes<R: AllocGlobal + Threads + Sync>(
     rt: &R,
     words: &[&str],
     loads: &[u64],
-) -> Result<bool, Fail> {
+) -> Result<bool, Fail>
+where
+    Shared<NoGate>: Round<R>,
+{
     let faults = Faults {
         loads,
         piece: 4096,
@@ -113,7 +121,10 @@ fn sends_prefixes<R: AllocGlobal + Threads + Sync>(
 }
 
 /// Whether a call sends the same in pieces of one byte.
-fn sends_bytes<R: AllocGlobal + Threads + Sync>(rt: &R, words: &[&str]) -> Result<bool, Fail> {
+fn sends_bytes<R: AllocGlobal + Threads + Sync>(rt: &R, words: &[&str]) -> Result<bool, Fail>
+where
+    Shared<NoGate>: Round<R>,
+{
     let bytes = Faults {
         loads: &[],
         piece: 1,

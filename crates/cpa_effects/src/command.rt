@@ -25,7 +25,6 @@ use cpa_model::System;
 use cpa_text::Text;
 use cpa_units::{NoMemory, TaskId, Vector};
 use std::alloc::Global;
-use std::thread::Threads;
 
 /// A chain of tasks of a system.
 #[derive(Drop)]
@@ -121,24 +120,19 @@ fn plan<F: Files>(alloc: Global, words: &[String], files: &mut F) -> Result<Chai
 }
 
 /// The bounds of the least solution.
-fn least_bounds<H: Threads + Sync>(
-    rt: &H,
-    alloc: Global,
-    system: &System,
-) -> Result<Vector, NoMemory>
+fn least_bounds(alloc: Global, system: &System) -> Result<Vector, NoMemory>
     ensures least { IfOk result (λ x. x ≡ least_of system.now) }
     ensures vector { IfOk result (λ x. IsVector system.now x) }
 {
     let start = floor(alloc, system)?;
     let kept = Readings::none(alloc, system)?;
     let mut trail = Trail::with_room(alloc, system.tasks())?;
-    let solution = solve(rt, alloc, system, start, kept, &mut OneByOne, &mut trail)?;
+    let solution = solve(&(), alloc, system, start, kept, &mut OneByOne, &mut trail)?;
     Ok(solution.bounds)
 }
 
 /// Sends the bounds of a chain, with their status.
-fn write<H: Threads + Sync, K: Sink>(
-    rt: &H,
+fn write<K: Sink>(
     alloc: Global,
     system: &System,
     tasks: &[TaskId],
@@ -154,14 +148,13 @@ fn write<H: Threads + Sync, K: Sink>(
     ensures rises { K.faults sink.old ≤ K.faults sink.new }
     ensures failed { result ≡ Err stopped.Sink → Rose (K.faults sink.old) (K.faults sink.new) }
 {
-    let bounds = least_bounds(rt, alloc, system)?;
+    let bounds = least_bounds(alloc, system)?;
     let text = chain_text(alloc, system, &bounds, tasks)?;
     send(sink, status(system, &bounds, tasks), text.as_slice())
 }
 
 /// Does what the words ask for, or sends the line of a refusal.
-fn answer<H: Threads + Sync, F: Files, K: Sink>(
-    rt: &H,
+fn answer<F: Files, K: Sink>(
     alloc: Global,
     words: &[String],
     files: &mut F,
@@ -176,7 +169,7 @@ fn answer<H: Threads + Sync, F: Files, K: Sink>(
     ensures failed { result ≡ Err stopped.Sink → Rose (K.faults sink.old) (K.faults sink.new) }
 {
     match plan(alloc, words, files) {
-        Ok(chained) => write(rt, alloc, &chained.system, chained.tasks.as_slice(), sink),
+        Ok(chained) => write(alloc, &chained.system, chained.tasks.as_slice(), sink),
         Err(Ended::Refused(reply)) => send(sink, reply.status, reply.text.as_slice()),
         Err(Ended::Unread(line)) => send(sink, 11, line.as_slice()),
         Err(Ended::Memory) => Err(Stopped::Memory),
@@ -188,8 +181,7 @@ fn answer<H: Threads + Sync, F: Files, K: Sink>(
 /// The words are those after the program's name: the system file and 1 to 32 names of tasks, none of which is empty or begins
 /// with a hyphen. The statuses: 0 with the bounds sent; 2 where one of them is missing; 10, 12 to 14 and 18 a refusal, 11 a file
 /// that couldn't be read, each with its line sent; 20 a fault of the sink; 30 want of memory.
-pub fn write_chain<H: Threads + Sync, F: Files, K: Sink>(
-    rt: &H,
+pub fn write_chain<F: Files, K: Sink>(
     alloc: Global,
     words: &[String],
     files: &mut F,
@@ -211,7 +203,7 @@ pub fn write_chain<H: Threads + Sync, F: Files, K: Sink>(
     // At a fault of the sink and at want of memory a prefix of the output was sent, or of the line of a file that couldn't be loaded.
     ensures part { F.told files.old ≡ true → (result ≡ 20) ⊎ (result ≡ 30) → SendsPart (IsOutput (map string_bytes words.now) (F.held files.old)) (K.sent sink.old) (K.sent sink.new) ⊎ (IsUnread (map string_bytes words.now) (F.faults files.old) (F.faults files.new) (F.last_failed files.new) × SentPart (K.sent sink.old) (K.sent sink.new) (cannot_read (F.last_failed files.new))) }
 {
-    match answer(rt, alloc, words, files, sink) {
+    match answer(alloc, words, files, sink) {
         Ok(status) => status,
         Err(Stopped::Sink) => 20,
         Err(Stopped::Memory) => 30,

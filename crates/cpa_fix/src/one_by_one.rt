@@ -13,16 +13,15 @@ use cpa_local::Trail;
 use cpa_model::System;
 use cpa_units::{NoMemory, ResId, ResSet, Vector};
 use std::alloc::Global;
-use std::thread::Threads;
 
 /// Analyses one resource after another, in their order.
 #[derive(Clone, Copy, Debug)]
 pub struct OneByOne;
 
-impl Round for OneByOne {
-    fn round<H: Threads + Sync>(
+impl<H> Round<H> for OneByOne {
+    fn round(
         &mut self,
-        rt: &H,
+        _rt: &H,
         alloc: Global,
         system: &System,
         x: &mut Vector,

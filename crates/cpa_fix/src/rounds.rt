@@ -13,10 +13,10 @@ use cpa_local::Trail;
 use cpa_model::System;
 use cpa_units::{NoMemory, ResSet, Vector};
 use std::alloc::Global;
-use std::thread::Threads;
 
-/// Analyses each dirty resource, in any order and by any number of workers.
-pub trait Round {
+/// Analyses each dirty resource, in any order and by any number of workers. A round is handed an `H`: one by several
+/// workers takes what starts threads, and one on the calling thread takes anything.
+pub trait Round<H> {
     /// One round: raises bounds on the members of `dirty`, none above the least solution, and keeps a
     /// reading of each of them, sound and nowhere below the vector at the start. A round may start at a
     /// vector of the system nowhere above the least solution, with sound readings and a trail that has
@@ -25,7 +25,7 @@ pub trait Round {
     /// After Ok other bounds and readings are as before, and the trail has the marks that it had and
     /// those of all tasks on members. Where memory is refused the vector hasn't fallen and is nowhere
     /// above the least solution, and new marks are of tasks on members; nothing is said of readings.
-    fn round<H: Threads + Sync>(
+    fn round(
         &mut self,
         rt: &H,
         alloc: Global,
@@ -35,7 +35,7 @@ pub trait Round {
         readings: &mut Readings,
         trail: &mut Trail,
     ) -> Result<(), NoMemory>
-        requires threads { IsSync H.row }
+        requires handle { IsSync H.row }
         requires start { MayStart system.now x.old readings.old trail.old }
         requires in_range { (r : ℕ) → Members dirty r → r < length system.now.resources }
         ensures risen { IsRisen system.now x.old x.new }

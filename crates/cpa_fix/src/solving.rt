@@ -20,7 +20,6 @@ use cpa_local::Trail;
 use cpa_model::System;
 use cpa_units::{Bound, NoMemory, ResId, ResSet, Vector};
 use std::alloc::Global;
-use std::thread::Threads;
 
 /// The least solution, with a reading of each resource.
 #[derive(Debug, Drop)]
@@ -35,7 +34,7 @@ pub struct Solution {
 ///
 /// All tasks on resources that were dirty at the start are then marked. New marks are of tasks on
 /// resources in their cone alone, also where memory is refused; start and readings are given up then.
-pub fn solve<H: Threads + Sync, R: Round>(
+pub fn solve<H: Sync, R: Round<H>>(
     rt: &H,
     alloc: Global,
     system: &System,
@@ -59,7 +58,7 @@ pub fn solve<H: Threads + Sync, R: Round>(
 /// The same, where resources beyond `reach` are known to be clean at the start, and `reach` has every
 /// resource that reads a member: only members are looked at, and the readings of others are kept. The
 /// table tells what each resource reads.
-pub fn solve_within<H: Threads + Sync, R: Round>(
+pub fn solve_within<H: Sync, R: Round<H>>(
     rt: &H,
     alloc: Global,
     system: &System,

@@ -108,3 +108,26 @@ pub fn hammer<R: Threads + Sync>(
     }
     Ok(total)
 }
+
+/// The same on the calling thread, one run after the other.
+pub fn hammer_one_by_one(
+    alloc: Global,
+    system: &System,
+    x: &Vector,
+    number: u64,
+    traces: u64,
+) -> Result<Seen, NoMemory>
+    requires long { length x.now ≡ length system.now.tasks }
+    requires few { traces ≤ MAX_TRACES }
+    ensures value { IfOk result (λ seen. seen ≡ seen_over system.now x.now number (range_with_len 0 traces)) }
+    ensures belongs { IfOk result (λ seen. length seen.tallies ≡ length system.now.tasks) }
+    ensures none { IsClosed system.now x.now → IfOk result (λ seen. seen.beyond ≡ 0) }
+{
+    system.has_rules();
+    let mut total = Seen::none(alloc, system.tasks())?;
+    for k in 0..traces {
+        let one = see(alloc, system, x, number, k);
+        total = add(alloc, &total, &one)?;
+    }
+    Ok(total)
+}

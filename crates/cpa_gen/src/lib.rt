@@ -10,7 +10,7 @@ mod systems;
 mod texts;
 mod traces;
 
-pub use hammering::hammer;
+pub use hammering::{hammer, hammer_one_by_one};
 pub use laws::{made_systems_have_laws, made_traces_have_laws};
 pub use seen::{Seen, Tally};
 pub use systems::make_system;

@@ -13,6 +13,7 @@ use Rattle.cpa_call.specs.Lines.{words_refused}
 use Rattle.cpa_call.specs.Plans.{Held, Plan, Do, Refuse, and_then, system_in}
 use Rattle.cpa_call.proofs.SendLaws.{part-reply}
 use Rattle.cpa_run.specs.Plan.{plan_for, plan_of, script_in}
+use Rattle.cpa_run.specs.declared.work.Work.{Work}
 use Rattle.cpa_run.specs.declared.work.Work.TheVariants as work
 use Rattle.cpa_run.specs.Output.{IsAnswerTo, IsOutput, SendsSome}
 
@@ -24,11 +25,14 @@ pub plan-none : (words : List (List ℕ)) (held : Held) → None ≡ accepted wo
 unfolding plan_of
 plan-none words held e = rw (← e) refl
 
--- the line of a refusal is the output
+-- the line of a refusal is the answer
+pub refused-by : (plan : Plan Work) (e : Ended) (r : Reply) (text : List ℕ) → IsEndOf plan e → e ≡ Refused r → text ≡ r.text.items → IsAnswerTo plan (reply r.status text)
+refused-by plan e r text end is same =
+    let refused : plan ≡ Refuse r.status r.text.items = subst (IsEndOf plan) is end in
+    subst (λ p. IsAnswerTo p (reply r.status text)) (sym refused) (ap (reply r.status) same)
+
 pub refused-answer : (words : List (List ℕ)) (held : Held) (e : Ended) (r : Reply) (text : List ℕ) → IsEndOf (plan_of words held) e → e ≡ Refused r → text ≡ r.text.items → IsOutput words held (reply r.status text)
-refused-answer words held e r text end is same =
-    let plan : plan_of words held ≡ Refuse r.status r.text.items = subst (IsEndOf (plan_of words held)) is end in
-    subst (λ p. IsAnswerTo p (reply r.status text)) (sym plan) (ap (reply r.status) same)
+refused-answer words held = refused-by (plan_of words held)
 
 -- a part of the line of a refusal
 pub refused-part : (words : List (List ℕ)) (held : Held) (e : Ended) (r : Reply) (text : List ℕ) (before now : Option (List ℕ)) → IsEndOf (plan_of words held) e → e ≡ Refused r → text ≡ r.text.items

@@ -8,10 +8,9 @@ use cpa_local::{Trail, floor};
 use cpa_model::System;
 use cpa_units::{NoMemory, Vector};
 use std::alloc::Global;
-use std::thread::Threads;
 
 /// The bounds of the least solution, in ticks, by rounds of this kind.
-pub fn least_bounds<H: Threads + Sync, R: Round>(
+pub fn least_bounds<H: Sync, R: Round<H>>(
     rt: &H,
     alloc: Global,
     system: &System,

@@ -29,7 +29,7 @@ fn answer<H: Threads + Sync, F: Files, K: Sink, G: Gate>(
     gate: G,
 ) -> Result<u8, Stopped>
 where
-    Shared<G>: Round,
+    Shared<G>: Round<H>,
     ensures answered { F.told files.old ≡ true → IfOk result (λ status. status ≢ 11 → Sends (IsOutput (map string_bytes words.now) (F.held files.old)) status (K.sent sink.old) (K.sent sink.new)) }
     ensures status { IfOk result (λ status. (status ≢ 20) × (status ≢ 30)) }
     ensures unread { IfOk result (λ status. status ≡ 11 → IsUnread (map string_bytes words.now) (F.told files.old) (F.held files.old) (F.faults files.old) (F.faults files.new) (F.last_failed files.new)) }
@@ -59,6 +59,8 @@ pub fn run<H: Threads + Sync, F: Files, K: Sink>(
     files: &mut F,
     sink: &mut K,
 ) -> u8
+where
+    Shared<NoGate>: Round<H>,
     // Over files that tell what they hold, status and bytes sent are those of the output.
     ensures answered { F.told files.old ≡ true → IsOfOutput result → Sends (IsOutput (map string_bytes words.now) (F.held files.old)) result (K.sent sink.old) (K.sent sink.new) }
 
@@ -90,7 +92,7 @@ pub fn run_with<H: Threads + Sync, F: Files, K: Sink, G: Gate>(
     gate: G,
 ) -> u8
 where
-    Shared<G>: Round,
+    Shared<G>: Round<H>,
     // Over files that tell what they hold, status and bytes sent are those of the output.
     ensures answered { F.told files.old ≡ true → IsOfOutput result → Sends (IsOutput (map string_bytes words.now) (F.held files.old)) result (K.sent sink.old) (K.sent sink.new) }
 

@@ -311,7 +311,7 @@ fn plan_audit<F: Files>(
 }
 
 /// What a command asks for.
-fn plan_command<F: Files>(alloc: Global, files: &mut F, command: Command) -> Result<Work, Ended>
+pub fn plan_command<F: Files>(alloc: Global, files: &mut F, command: Command) -> Result<Work, Ended>
     requires { IsWithin (asked command) }
     ensures planned { F.told files.old ≡ true → IfOk result (λ work. plan_for (F.held files.old) (asked command.entry) ≡ Do work) }
     ensures limits { IfOk result IsWithinLimits }

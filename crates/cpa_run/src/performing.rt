@@ -40,7 +40,7 @@ use std::alloc::Global;
 use std::thread::Threads;
 
 /// Sends the report of a system.
-fn analyse<H: Threads + Sync, R: Round, K: Sink>(
+fn analyse<H: Sync, R: Round<H>, K: Sink>(
     rt: &H,
     alloc: Global,
     system: &System,
@@ -92,7 +92,7 @@ fn generate<K: Sink>(alloc: Global, number: u64, size: u32, sink: &mut K) -> Res
 }
 
 /// Sends the summary of a made system's analysis.
-fn load<H: Threads + Sync, R: Round, K: Sink>(
+fn load<H: Sync, R: Round<H>, K: Sink>(
     rt: &H,
     alloc: Global,
     number: u64,
@@ -130,8 +130,30 @@ fn hammer<H: Threads + Sync, K: Sink>(
     ensures failed { result ≡ Err stopped.Sink → Rose (K.faults sink.old) (K.faults sink.new) }
 {
     system.has_rules();
-    let bounds = least_bounds(rt, alloc, system, &mut OneByOne)?;
+    let bounds = least_bounds(&(), alloc, system, &mut OneByOne)?;
     let seen = cpa_gen::hammer(rt, alloc, system, &bounds, number, traces)?;
+    let text = hammer_text(alloc, system, &bounds, &seen)?;
+    send(sink, 0, text.as_slice())
+}
+
+/// The same, where all runs are on the calling thread.
+fn hammer_one_by_one<K: Sink>(
+    alloc: Global,
+    system: &System,
+    number: u64,
+    traces: u64,
+    sink: &mut K,
+) -> Result<u8, Stopped>
+    requires { AreTraces traces }
+    ensures sends { IfOk result (λ status. Sends (IsHammered system.now number traces) status (K.sent sink.old) (K.sent sink.new)) }
+    ensures status { IfOk result IsOfOutput }
+    ensures part { OnErr result (SendsPart (IsHammered system.now number traces) (K.sent sink.old) (K.sent sink.new)) }
+    ensures rises { K.faults sink.old ≤ K.faults sink.new }
+    ensures failed { result ≡ Err stopped.Sink → Rose (K.faults sink.old) (K.faults sink.new) }
+{
+    system.has_rules();
+    let bounds = least_bounds(&(), alloc, system, &mut OneByOne)?;
+    let seen = cpa_gen::hammer_one_by_one(alloc, system, &bounds, number, traces)?;
     let text = hammer_text(alloc, system, &bounds, &seen)?;
     send(sink, 0, text.as_slice())
 }
@@ -172,7 +194,7 @@ fn assign<K: Sink>(alloc: Global, system: &System, res: ResId, sink: &mut K) -> 
 }
 
 /// Sends by how much a task may grow.
-fn slack<H: Threads + Sync, R: Round, K: Sink>(
+fn slack<H: Sync, R: Round<H>, K: Sink>(
     rt: &H,
     alloc: Global,
     system: &System,
@@ -195,7 +217,7 @@ fn slack<H: Threads + Sync, R: Round, K: Sink>(
 }
 
 /// Sends how many jobs wait under a trace, and how many can.
-fn buffers<H: Threads + Sync, R: Round, K: Sink>(
+fn buffers<H: Sync, R: Round<H>, K: Sink>(
     rt: &H,
     alloc: Global,
     system: &System,
@@ -267,8 +289,8 @@ fn workers_of(work: &Work) -> u32
     }
 }
 
-/// Does the work by rounds of this kind, and sends what comes of it.
-fn perform_by<H: Threads + Sync, R: Round, K: Sink>(
+/// Does the work by rounds of this kind, all runs under made traces on the calling thread, and sends what comes of it.
+pub fn perform_by<H: Sync, R: Round<H>, K: Sink>(
     rt: &H,
     alloc: Global,
     work: Work,
@@ -294,7 +316,7 @@ fn perform_by<H: Threads + Sync, R: Round, K: Sink>(
             system,
             number,
             traces,
-        } => hammer(rt, alloc, &system, number, traces, sink),
+        } => hammer_one_by_one(alloc, &system, number, traces, sink),
         Work::Assign { system, res } => assign(alloc, &system, res, sink),
         Work::Slack { system, task, .. } => slack(rt, alloc, &system, task, round, sink),
         Work::Buffers { system, trace, .. } => buffers(rt, alloc, &system, &trace, round, sink),
@@ -306,7 +328,8 @@ fn perform_by<H: Threads + Sync, R: Round, K: Sink>(
     }
 }
 
-/// Does the work, and sends what comes of it. Workers pass the gate before each analysis.
+/// Does the work, and sends what comes of it. Workers pass the gate before each analysis, and runs under made traces are
+/// on several threads.
 pub fn perform<H: Threads + Sync, K: Sink, G: Gate>(
     rt: &H,
     alloc: Global,
@@ -315,7 +338,7 @@ pub fn perform<H: Threads + Sync, K: Sink, G: Gate>(
     gate: G,
 ) -> Result<u8, Stopped>
 where
-    Shared<G>: Round,
+    Shared<G>: Round<H>,
     requires { IsWithinLimits work }
     ensures sends { IfOk result (λ status. Sends (IsDone work) status (K.sent sink.old) (K.sent sink.new)) }
     ensures status { IfOk result IsOfOutput }
@@ -323,6 +346,15 @@ where
     ensures rises { K.faults sink.old ≤ K.faults sink.new }
     ensures failed { result ≡ Err stopped.Sink → Rose (K.faults sink.old) (K.faults sink.new) }
 {
-    let mut round = Shared::new(workers_of(&work), gate);
-    perform_by(rt, alloc, work, &mut round, sink)
+    match work {
+        Work::Hammer {
+            system,
+            number,
+            traces,
+        } => hammer(rt, alloc, &system, number, traces, sink),
+        other => {
+            let mut round = Shared::new(workers_of(&other), gate);
+            perform_by(rt, alloc, other, &mut round, sink)
+        }
+    }
 }

@@ -19,11 +19,10 @@ use cpa_local::Trail;
 use cpa_model::System;
 use cpa_session::Session;
 use std::alloc::Global;
-use std::thread::Threads;
 
 /// Takes a step of a script, which stands in a line: sends a report, or makes an edit and sends the line of one that is
 /// refused.
-fn take_step<H: Threads + Sync, R: Round, K: Sink>(
+fn take_step<H: Sync, R: Round<H>, K: Sink>(
     rt: &H,
     alloc: Global,
     session: &mut Session,
@@ -60,7 +59,7 @@ fn take_step<H: Threads + Sync, R: Round, K: Sink>(
 
 /// Sends the text of each step in turn, and at the end one more report, whose status it answers. Each report is sent before
 /// the next step is taken.
-pub fn run_session<H: Threads + Sync, R: Round, K: Sink>(
+pub fn run_session<H: Sync, R: Round<H>, K: Sink>(
     rt: &H,
     alloc: Global,
     system: System,

@@ -15,7 +15,6 @@ use cpa_model::System;
 use cpa_units::limits::MAX_EXECUTION;
 use cpa_units::{Bound, NoMemory, PathId, TaskId, Vector};
 use std::alloc::Global;
-use std::thread::Threads;
 
 /// Whether a path takes at most its deadline by these bounds, if it has one.
 fn path_holds(system: &System, path: PathId, x: &Vector) -> bool
@@ -47,7 +46,7 @@ fn all_hold(system: &System, x: &Vector) -> bool
 
 /// The least solution of a system, searched for from a vector nowhere above it. The system is analysed
 /// whole: every task of it is marked. Where memory is refused, too, new marks are of its tasks alone.
-fn least<H: Threads + Sync, R: Round>(
+fn least<H: Sync, R: Round<H>>(
     rt: &H,
     alloc: Global,
     system: &System,
@@ -73,7 +72,7 @@ fn least<H: Threads + Sync, R: Round>(
 /// By how much the greatest execution of a task may grow, in ticks, while each path with a deadline
 /// takes at most that in the least solution. The trail has room for 512 tasks. The system is analysed
 /// whole: every task of it is marked. Where memory is refused, too, new marks are of its tasks alone.
-pub fn find_slack<H: Threads + Sync, R: Round>(
+pub fn find_slack<H: Sync, R: Round<H>>(
     rt: &H,
     alloc: Global,
     system: &System,
@@ -103,7 +102,7 @@ pub fn find_slack<H: Threads + Sync, R: Round>(
 }
 
 /// The most ticks up to `most` with which all holds, where it does without any.
-fn most_ticks<H: Threads + Sync, R: Round>(
+fn most_ticks<H: Sync, R: Round<H>>(
     rt: &H,
     alloc: Global,
     system: &System,
@@ -139,7 +138,7 @@ fn most_ticks<H: Threads + Sync, R: Round>(
 
 /// The same by a copy of the system and its least solution. Each search begins at the least solution
 /// with the most ticks that are known to hold by then, at first that without any.
-fn halve<H: Threads + Sync, R: Round>(
+fn halve<H: Sync, R: Round<H>>(
     rt: &H,
     alloc: Global,
     system: &System,
@@ -178,7 +177,7 @@ fn halve<H: Threads + Sync, R: Round>(
 
 /// Whether all holds with so many ticks more. If so, a vector from which the search may begin becomes
 /// the least solution with them, else it stays.
-fn holds_with<H: Threads + Sync, R: Round>(
+fn holds_with<H: Sync, R: Round<H>>(
     rt: &H,
     alloc: Global,
     system: &System,

@@ -5,7 +5,6 @@ use cpa_io::{MemoryFiles, MemorySink};
 use cpa_units::limits::MAX_SYSTEM_FILE;
 use std::alloc::{AllocError, Global};
 use std::test::Fail;
-use std::thread::Threads;
 
 /// A filter reads what a sensor wrote last, and starts an actuator.
 const EFFECTS: &str = r#"format = 1
@@ -130,12 +129,7 @@ fn held(alloc: Global) -> Result<Vec<(String, Vec<u8>)>, AllocError> {
 }
 
 /// The status and the bytes sent of a call.
-fn call<H: Threads + Sync>(
-    rt: &H,
-    alloc: Global,
-    words: &[&str],
-    faults: &Faults,
-) -> Result<(u8, MemorySink), AllocError> {
+fn call(alloc: Global, words: &[&str], faults: &Faults) -> Result<(u8, MemorySink), AllocError> {
     let (loads, piece, puts) = *faults;
     let mut given = Vec::new(alloc);
     for word in words {
@@ -143,7 +137,7 @@ fn call<H: Threads + Sync>(
     }
     let mut files = MemoryFiles::new(alloc, held(alloc)?, Vec::from_slice(alloc, loads)?);
     let mut sink = MemorySink::new(alloc, piece.max(1), Vec::from_slice(alloc, puts)?);
-    let status = write_chain(rt, alloc, given.as_slice(), &mut files, &mut sink);
+    let status = write_chain(alloc, given.as_slice(), &mut files, &mut sink);
     Ok((status, sink))
 }
 
@@ -152,7 +146,7 @@ fn answers_chains(rt: HostRuntime) -> Result<(), Fail> {
     let alloc = rt.alloc();
     let mut wrong = None;
     for (k, (faults, words, status, text)) in CALLS.iter().enumerate() {
-        let (answer, sink) = call(&rt, alloc, words, faults)?;
+        let (answer, sink) = call(alloc, words, faults)?;
         if answer != *status || sink.sent() != text.as_bytes() {
             wrong = Some(k);
         }
@@ -162,7 +156,7 @@ fn answers_chains(rt: HostRuntime) -> Result<(), Fail> {
 }
 
 /// The status of a call that names a task so many times.
-fn repeat<H: Threads + Sync>(rt: &H, alloc: Global, count: u32) -> Result<u8, AllocError> {
+fn repeat(alloc: Global, count: u32) -> Result<u8, AllocError> {
     let mut given = Vec::new(alloc);
     given.push(String::from_str(alloc, "sys")?)?;
     for _ in 0..count {
@@ -170,15 +164,15 @@ fn repeat<H: Threads + Sync>(rt: &H, alloc: Global, count: u32) -> Result<u8, Al
     }
     let mut files = MemoryFiles::new(alloc, held(alloc)?, Vec::new(alloc));
     let mut sink = MemorySink::new(alloc, 4096, Vec::new(alloc));
-    Ok(write_chain(rt, alloc, given.as_slice(), &mut files, &mut sink))
+    Ok(write_chain(alloc, given.as_slice(), &mut files, &mut sink))
 }
 
 /// A chain has 32 tasks at most.
 #[test]
 fn counts_tasks(rt: HostRuntime) -> Result<(), Fail> {
     let alloc = rt.alloc();
-    let most = repeat(&rt, alloc, 32)?;
-    let more = repeat(&rt, alloc, 33)?;
+    let most = repeat(alloc, 32)?;
+    let more = repeat(alloc, 33)?;
     assert!(rt; most == 0 && more == 10, "{most} {more}");
     Ok(())
 }

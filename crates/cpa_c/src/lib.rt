@@ -1,0 +1,308 @@
+//! The functions of lokwurmi.h.
+#![tactic(auto)]
+
+ghost use Rattle.std.specs.Prelude.{◌≡◌, ◌≢◌, [], codes, length};
+ghost use Rattle.std.specs.Result.{IsOkAnd};
+ghost use Rattle.cpa_words.specs.Words.{Analyse, Session, Simulate, Generate, Hammer, Assign, Slack, Buffers, Audit, AreTraces, IsNumber, IsSize, IsWithin};
+ghost use Rattle.cpa_words.specs.Commands.{asked};
+ghost use Rattle.cpa_run.specs.Plan.{plan_for};
+ghost use Rattle.cpa_run.specs.Output.{IsAnswerTo};
+ghost use Rattle.cpa_memory.specs.Held.{held_in, held_of};
+ghost use Rattle.cpa_c.specs.Given.{Gives, over};
+
+use cpa_call::ended::Reply;
+use cpa_memory::{SCHEDULE, SCRIPT, SYSTEM, TRACE, Texts, call};
+use cpa_units::NoMemory;
+use cpa_units::limits::{MAX_NUMBER, MAX_SIZE, MAX_TRACES};
+use cpa_words::Command;
+use std::alloc::Global;
+
+/// Want of memory.
+const NO_MEMORY: u8 = 30;
+
+/// A number that is out of its range, or a name that is no text.
+const REFUSED: u8 = 10;
+
+/// Copies a text to the beginning of a buffer, as far as there is room.
+fn put(text: &[u8], out: &mut [u8])
+    ensures { out.new ≡ over text.now out.old }
+{
+    let count = text.len().min(out.len());
+    out[..count].copy_from_slice(&text[..count]);
+}
+
+/// Gives a reply to the caller.
+fn give(reply: Result<Reply, NoMemory>, out: &mut [u8], used: &mut usize) -> u8
+    ensures told { result ≢ 30 → IsOkAnd reply (λ r. (result ≡ r.status) × (used.new ≡ length r.text.items) × (out.new ≡ over r.text.items out.old)) }
+{
+    match reply {
+        Ok(reply) => {
+            put(reply.text.as_slice(), out);
+            *used = reply.text.len();
+            reply.status
+        }
+        Err(NoMemory) => {
+            *used = 0;
+            NO_MEMORY
+        }
+    }
+}
+
+/// Gives the answer to a command over texts.
+fn answer(alloc: Global, command: Command, texts: Texts, out: &mut [u8], used: &mut usize) -> u8
+    requires { IsWithin (asked command) }
+    ensures { result ≢ 30 → Gives (IsAnswerTo (plan_for (held_in texts.entry) (asked command.entry))) result out.old out.new used.new }
+{
+    give(call(alloc, command, texts), out, used)
+}
+
+/// Gives no text, where a number is out of its range or a name is no text.
+fn refuse(used: &mut usize) -> u8
+    ensures status { result ≡ 10 }
+    ensures used { used.new ≡ 0 }
+{
+    *used = 0;
+    REFUSED
+}
+
+/// The version of these functions: it rises where one of them changes.
+#[unsafe(no_mangle)]
+pub extern "C" fn lokwurmi_version() -> u32
+    ensures { result ≡ 1 }
+{
+    1
+}
+
+/// The report of a system, or the line by which its file is refused.
+#[unsafe(no_mangle)]
+pub extern "C" fn lokwurmi_analyse(
+    alloc: Global,
+    system: &[u8],
+    out: &mut [u8],
+    used: &mut usize,
+) -> u8
+    ensures told { result ≢ 30 → Gives (IsAnswerTo (plan_for (held_of system.now [] [] []) (Analyse (codes "system") 1))) result out.old out.new used.new }
+{
+    let texts = Texts {
+        system,
+        script: b"",
+        trace: b"",
+        schedule: b"",
+    };
+    let command = Command::Analyse {
+        file: SYSTEM,
+        workers: 1,
+    };
+    answer(alloc, command, texts, out, used)
+}
+
+/// The reports of a system under a script, and a line for each edit that is refused.
+#[unsafe(no_mangle)]
+pub extern "C" fn lokwurmi_session(
+    alloc: Global,
+    system: &[u8],
+    script: &[u8],
+    out: &mut [u8],
+    used: &mut usize,
+) -> u8
+    ensures told { result ≢ 30 → Gives (IsAnswerTo (plan_for (held_of system.now script.now [] []) (Session (codes "system") (codes "script") 1))) result out.old out.new used.new }
+{
+    let texts = Texts {
+        system,
+        script,
+        trace: b"",
+        schedule: b"",
+    };
+    let command = Command::Session {
+        file: SYSTEM,
+        script: SCRIPT,
+        workers: 1,
+    };
+    answer(alloc, command, texts, out, used)
+}
+
+/// What is observed of a system under a trace.
+#[unsafe(no_mangle)]
+pub extern "C" fn lokwurmi_simulate(
+    alloc: Global,
+    system: &[u8],
+    trace: &[u8],
+    out: &mut [u8],
+    used: &mut usize,
+) -> u8
+    ensures told { result ≢ 30 → Gives (IsAnswerTo (plan_for (held_of system.now [] trace.now []) (Simulate (codes "system") (codes "trace")))) result out.old out.new used.new }
+{
+    let texts = Texts {
+        system,
+        script: b"",
+        trace,
+        schedule: b"",
+    };
+    let command = Command::Simulate {
+        file: SYSTEM,
+        trace: TRACE,
+    };
+    answer(alloc, command, texts, out, used)
+}
+
+/// How many jobs of a system wait under a trace, and how many can.
+#[unsafe(no_mangle)]
+pub extern "C" fn lokwurmi_buffers(
+    alloc: Global,
+    system: &[u8],
+    trace: &[u8],
+    out: &mut [u8],
+    used: &mut usize,
+) -> u8
+    ensures told { result ≢ 30 → Gives (IsAnswerTo (plan_for (held_of system.now [] trace.now []) (Buffers (codes "system") (codes "trace") 1))) result out.old out.new used.new }
+{
+    let texts = Texts {
+        system,
+        script: b"",
+        trace,
+        schedule: b"",
+    };
+    let command = Command::Buffers {
+        file: SYSTEM,
+        trace: TRACE,
+        workers: 1,
+    };
+    answer(alloc, command, texts, out, used)
+}
+
+/// Whether a schedule is that of a system under a trace.
+#[unsafe(no_mangle)]
+pub extern "C" fn lokwurmi_audit(
+    alloc: Global,
+    system: &[u8],
+    trace: &[u8],
+    schedule: &[u8],
+    out: &mut [u8],
+    used: &mut usize,
+) -> u8
+    ensures told { result ≢ 30 → Gives (IsAnswerTo (plan_for (held_of system.now [] trace.now schedule.now) (Audit (codes "system") (codes "trace") (codes "schedule")))) result out.old out.new used.new }
+{
+    let texts = Texts {
+        system,
+        script: b"",
+        trace,
+        schedule,
+    };
+    let command = Command::Audit {
+        file: SYSTEM,
+        trace: TRACE,
+        schedule: SCHEDULE,
+    };
+    answer(alloc, command, texts, out, used)
+}
+
+/// The file of the system that is made from a number and a size, which are in their ranges; else the status is 10.
+#[unsafe(no_mangle)]
+pub extern "C" fn lokwurmi_generate(
+    alloc: Global,
+    number: u64,
+    size: u64,
+    out: &mut [u8],
+    used: &mut usize,
+) -> u8
+    ensures told { IsNumber number → IsSize size → result ≢ 30 → Gives (IsAnswerTo (plan_for (held_of [] [] [] []) (Generate number size))) result out.old out.new used.new }
+{
+    if number > MAX_NUMBER || size > MAX_SIZE {
+        return refuse(used);
+    }
+    let texts = Texts {
+        system: b"",
+        script: b"",
+        trace: b"",
+        schedule: b"",
+    };
+    let command = Command::Generate {
+        number,
+        size: size as u32,
+    };
+    answer(alloc, command, texts, out, used)
+}
+
+/// What is observed of a system under so many made traces of a number, which are in their ranges; else the status is 10.
+#[unsafe(no_mangle)]
+pub extern "C" fn lokwurmi_hammer(
+    alloc: Global,
+    system: &[u8],
+    number: u64,
+    traces: u64,
+    out: &mut [u8],
+    used: &mut usize,
+) -> u8
+    ensures told { IsNumber number → AreTraces traces → result ≢ 30 → Gives (IsAnswerTo (plan_for (held_of system.now [] [] []) (Hammer (codes "system") number traces))) result out.old out.new used.new }
+{
+    if number > MAX_NUMBER || traces < 1 || traces > MAX_TRACES {
+        return refuse(used);
+    }
+    let texts = Texts {
+        system,
+        script: b"",
+        trace: b"",
+        schedule: b"",
+    };
+    let command = Command::Hammer {
+        file: SYSTEM,
+        number,
+        traces,
+    };
+    answer(alloc, command, texts, out, used)
+}
+
+/// A priority order of the resource with a name under which its tasks meet their deadlines, or that there is none. Where the name is no text the status is 10.
+#[unsafe(no_mangle)]
+pub extern "C" fn lokwurmi_assign(
+    alloc: Global,
+    system: &[u8],
+    resource: &[u8],
+    out: &mut [u8],
+    used: &mut usize,
+) -> u8
+    ensures told { result ≢ 10 → result ≢ 30 → Gives (IsAnswerTo (plan_for (held_of system.now [] [] []) (Assign (codes "system") resource.now))) result out.old out.new used.new }
+{
+    let Ok(name) = std::str::from_utf8(resource) else {
+        return refuse(used);
+    };
+    let texts = Texts {
+        system,
+        script: b"",
+        trace: b"",
+        schedule: b"",
+    };
+    let command = Command::Assign {
+        file: SYSTEM,
+        resource: name,
+    };
+    answer(alloc, command, texts, out, used)
+}
+
+/// By how much the task with a name may grow while all deadlines are met. Where the name is no text the status is 10.
+#[unsafe(no_mangle)]
+pub extern "C" fn lokwurmi_slack(
+    alloc: Global,
+    system: &[u8],
+    task: &[u8],
+    out: &mut [u8],
+    used: &mut usize,
+) -> u8
+    ensures told { result ≢ 10 → result ≢ 30 → Gives (IsAnswerTo (plan_for (held_of system.now [] [] []) (Slack (codes "system") task.now 1))) result out.old out.new used.new }
+{
+    let Ok(name) = std::str::from_utf8(task) else {
+        return refuse(used);
+    };
+    let texts = Texts {
+        system,
+        script: b"",
+        trace: b"",
+        schedule: b"",
+    };
+    let command = Command::Slack {
+        file: SYSTEM,
+        task: name,
+        workers: 1,
+    };
+    answer(alloc, command, texts, out, used)
+}

@@ -1,0 +1,35 @@
+//! One call.
+
+ghost use Rattle.std.specs.Prelude.{◌≡◌, IfOk};
+ghost use Rattle.cpa_words.specs.Words.{IsWithin};
+ghost use Rattle.cpa_words.specs.Commands.{asked};
+ghost use Rattle.cpa_call.specs.Answers.{reply};
+ghost use Rattle.cpa_run.specs.Plan.{plan_for};
+ghost use Rattle.cpa_run.specs.Output.{IsAnswerTo};
+ghost use Rattle.cpa_memory.specs.Held.{held_in};
+
+use crate::texts::Texts;
+use crate::written::Written;
+use cpa_call::ended::Reply;
+use cpa_run::run_command;
+use cpa_units::NoMemory;
+use cpa_words::Command;
+use std::alloc::Global;
+
+/// What a command answers over texts in memory, on the calling thread: the status and all the text that `run` sends where words
+/// ask for the command and files hold the texts. The only error is want of memory.
+pub fn call(alloc: Global, command: Command, texts: Texts) -> Result<Reply, NoMemory>
+    requires { IsWithin (asked command) }
+    ensures { IfOk result (λ r. IsAnswerTo (plan_for (held_in texts.entry) (asked command.entry)) (reply r.status r.text.items)) }
+{
+    let mut files = texts;
+    let mut written = Written::nothing(alloc);
+    let status = run_command(alloc, command, &mut files, &mut written);
+    if status == 30 {
+        return Err(NoMemory);
+    }
+    Ok(Reply {
+        status,
+        text: written.bytes,
+    })
+}

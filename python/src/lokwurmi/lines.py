@@ -1,0 +1,70 @@
+"""Reads the lines that Lokwurmi writes. docs/FILES.md says what each of them means; times are in ticks."""
+import re
+
+from .errors import Unreadable
+
+TASK = re.compile(r"task (?P<name>\S+) (?P<on>\S+) (?:period (?P<period>\d+) jitter (?P<jitter>\d+|overload) distance (?P<distance>\d+|overload)|streams (?P<streams>\d+)) best (?P<best>\d+) worst (?P<worst>\d+|overload)")
+PATH = re.compile(r"path (?P<name>\S+) best (?P<best>\d+) worst (?P<worst>\d+|overload) deadline (?P<deadline>\d+|-) (?P<verdict>met|missed|unknown|none)")
+SUMMARY = re.compile(r"summary tasks (\d+) overload (\d+) missed (\d+)")
+REFUSED = re.compile(r"line (\d+) refused (\d)")
+SEEN_TASK = re.compile(r"task (\S+) jobs (\d+) done (\d+) worst (\d+|none)")
+SEEN_PATH = re.compile(r"path (\S+) passages (\d+) worst (\d+|none)")
+SEEN_SUMMARY = re.compile(r"summary jobs (\d+) done (\d+) end (\d+)")
+HAMMERED = re.compile(r"task (\S+) jobs (\d+) worst (\d+|none) bound (\d+|overload)")
+HAMMERED_SUMMARY = re.compile(r"summary traces (\d+) jobs (\d+) beyond (\d+)")
+PRIORITY = re.compile(r"priority (\S+) (\d+)")
+ASSIGNED = re.compile(r"assigned (\S+) tasks (\d+)")
+SLACK = re.compile(r"slack (\S+) (?:(\d+) next (missed|limit)|none)")
+BUFFER = re.compile(r"buffer (\S+) bound (\d+|overload) peak (\d+)")
+RESOURCE = re.compile(r"resource (\S+) bound (\d+|overload) peak (\d+)")
+WRONG = re.compile(r"audit wrong segment (\d+) expected (?:none|(\S+) (\d+) (\d+))")
+
+
+def number(word):
+    """A number, or None for `overload`, for `none` and for no deadline."""
+    return int(word) if word.isdigit() else None
+
+
+def task_in(it):
+    """What a task's line says. Where it has several streams, it has no period, no jitter and no distance."""
+    period, jitter, distance = (word and number(word) for word in it.group("period", "jitter", "distance"))
+    streams = int(it["streams"] or 1)
+    return {"on": it["on"], "period": period, "jitter": jitter, "distance": distance, "streams": streams, "best": int(it["best"]), "worst": number(it["worst"])}
+
+
+def reports_in(lines):
+    """The reports of some lines, in order: the tasks and the paths of each, dictionaries by name, and which edits were refused
+    before it, the reason by the number of the line."""
+    found, tasks, paths, refused = [], {}, {}, {}
+    for place, line in enumerate(lines, 1):
+        if it := TASK.fullmatch(line):
+            tasks[it["name"]] = task_in(it)
+        elif it := PATH.fullmatch(line):
+            paths[it["name"]] = {"best": int(it["best"]), "worst": number(it["worst"]), "deadline": number(it["deadline"]), "verdict": it["verdict"]}
+        elif SUMMARY.fullmatch(line):
+            found.append((tasks, paths, refused))
+            tasks, paths, refused = {}, {}, {}
+        elif it := REFUSED.fullmatch(line):
+            refused[int(it[1])] = int(it[2])
+        else:
+            raise Unreadable(f"line {place} is no line of a report: {line}")
+    if not found or tasks or paths:
+        raise Unreadable("there is no whole report; its last line begins with summary")
+    return found
+
+
+def seen_in(lines):
+    """What `simulate` observed: the tasks and the paths, each a dictionary by name, and the end of the run."""
+    tasks, paths, end = {}, {}, None
+    for place, line in enumerate(lines, 1):
+        if it := SEEN_TASK.fullmatch(line):
+            tasks[it[1]] = {"jobs": int(it[2]), "done": int(it[3]), "worst": number(it[4])}
+        elif it := SEEN_PATH.fullmatch(line):
+            paths[it[1]] = {"passages": int(it[2]), "worst": number(it[3])}
+        elif it := SEEN_SUMMARY.fullmatch(line):
+            end = int(it[3])
+        else:
+            raise Unreadable(f"line {place} is no line of a run: {line}")
+    if end is None:
+        raise Unreadable("there is no whole run; its last line begins with summary")
+    return tasks, paths, end

@@ -1,0 +1,183 @@
+"""Systems, their files, and what comes of them."""
+import contextlib
+import io
+import pickle
+import re
+import unittest
+from pathlib import Path
+from random import Random
+
+from lokwurmi import (Kind, NameRefused, NoEngine, NotToml, ScriptRefused, System, SystemRefused, TraceDisobeys, TraceRefused, Verdict, WordsRefused,
+                      default_engine, errors, made_system)
+from lokwurmi.errors import LokwurmiError
+from made import random_system
+
+TOP = Path(__file__).resolve().parents[2]
+EXAMPLES = TOP / "examples"
+
+
+def two_tasks() -> System:
+    system = System()
+    cpu = system.preemptive("cpu")
+    often = system.source("sa", 10)
+    seldom = system.source("sb", 20)
+    a = system.task("a", on=cpu, after=often, best=1, worst=3, priority=1)
+    system.task("b", on="cpu", after=seldom, best=2, worst=7, priority=2)
+    system.path("pa", [a], deadline=3)
+    system.path("pb", ["b"], deadline=9)
+    return system
+
+
+class Calls(unittest.TestCase):
+    def setUp(self):
+        try:
+            default_engine()
+        except NoEngine as fault:
+            raise unittest.SkipTest(str(fault))
+
+    def test_analyse(self):
+        report = two_tasks().analyse()
+        self.assertEqual([it.worst for it in report.tasks.values()], [3, 10])
+        self.assertEqual((report.tasks["b"].period, report.tasks["b"].jitter, report.tasks["b"].on, report.tasks["b"].best), (20, 0, "cpu", 2))
+        self.assertEqual([it.verdict for it in report.paths.values()], [Verdict.MET, Verdict.MISSED])
+        self.assertEqual((report.paths["pb"].slack, report.paths["pa"].slack), (-1, 0))
+        self.assertEqual((report.verdict, report.missed, report.overloads, report.ok), (Verdict.MISSED, 1, 0, False))
+
+    def test_overload(self):
+        system = two_tasks()
+        system.tasks["b"].worst = 20
+        report = system.analyse()
+        self.assertIsNone(report.tasks["b"].worst)
+        self.assertTrue(report.tasks["b"].overload)
+        self.assertEqual((report.verdict, report.paths["pb"].verdict, report.paths["pb"].slack), (Verdict.OVERLOAD, Verdict.UNKNOWN, None))
+
+    def test_pages(self):
+        """The scripts of the pages run, and that of a pyCPA model builds the example's file."""
+        for page in ("docs/COMING_FROM.md", "docs/LIBRARY.md"):
+            for script in re.findall(r"```python\n(.*?)```", (TOP / page).read_text(encoding="utf-8"), re.S):
+                if "lokwurmi" in script:
+                    seen: dict = {}
+                    with contextlib.redirect_stdout(io.StringIO()):
+                        exec(script, seen)  # the repository's own page
+                    if "s" in seen:
+                        self.assertEqual(seen["s"], System.from_file(EXAMPLES / "pycpa_first.toml"))
+                        self.assertEqual(list(seen["bounds"].values()), [10, 13, 2, 19])
+
+    def test_processes(self):
+        """Systems and what comes of them may be sent to other processes."""
+        system = two_tasks()
+        for it in (system, *system.session("exec zz 1 1\n"), system.slack("a"), system.simulate("event,sa,0\n"), system.buffers(""), system.hammer(1, 1)):
+            self.assertEqual(pickle.loads(pickle.dumps(it)), it)
+
+    def test_loop(self):
+        system = two_tasks()
+        bounds = []
+        for worst in range(2, 8):
+            system.tasks["b"].worst = worst
+            bounds.append(system.analyse().tasks["b"].worst)
+        self.assertEqual(bounds, [5, 6, 7, 8, 9, 10])
+
+    def test_several_activators(self):
+        system = System.from_file(EXAMPLES / "two_activators.toml")
+        self.assertEqual(system.tasks["m"].after, ["sa", "sb"])
+        report = system.analyse()
+        self.assertEqual((report.tasks["m"].streams, report.tasks["m"].period, report.tasks["m"].worst), (2, None, 6))
+
+    def test_session(self):
+        reports = two_tasks().session(["exec b 2 6", "report", "exec zz 1 1", "exec b 9 2", "exec b 2 5"])
+        self.assertEqual([it.tasks["b"].worst for it in reports], [9, 8])
+        self.assertEqual([dict(it.refused) for it in reports], [{}, {3: 1, 4: 5}])
+
+    def test_other_calls(self):
+        system = two_tasks()
+        self.assertEqual(system.slack("b").ticks, None)
+        system.paths["pb"].deadline = 10
+        self.assertEqual((system.slack("b").ticks, system.slack("b").at_limit), (0, False))
+        self.assertEqual(system.assign("cpu"), {"a": 1, "b": 2})
+        system.paths["pb"].deadline = 1
+        self.assertIsNone(system.assign("cpu"))
+        run = system.simulate([("event", "sa", 0), ("event", "sb", 0), ("exec", "b", 2)])
+        self.assertEqual((run.tasks["b"].worst, run.paths["pb"].passages, run.end), (5, 1, 5))
+        self.assertIsNone(system.audit("event,sa,0\n", [("a", 0, 3)]))
+        wrong = system.audit("event,sa,0\n", [("b", 0, 3)])
+        self.assertEqual((wrong.place, wrong.expected), (1, ("a", 0, 3)))
+        self.assertEqual(system.buffers("event,sa,0\nevent,sb,0\n").resources["cpu"], (2, 2))
+        self.assertEqual(system.hammer(1, 2).beyond, 0)
+        self.assertEqual(len(made_system(42, 2).tasks), 6)
+
+    def test_refusals(self):
+        system = two_tasks()
+        with self.assertRaisesRegex(WordsRefused, "out of its range"):
+            system.hammer(1, 0)
+        with self.assertRaisesRegex(NameRefused, "no task has the name"):
+            system.slack("zz")
+        with self.assertRaisesRegex(ScriptRefused, "line 2"):
+            system.session("report\nexec b 2\n")
+        with self.assertRaisesRegex(TraceRefused, "row 2: range"):
+            system.simulate("event,sa,5\nevent,sa,4\n")
+        with self.assertRaisesRegex(TraceDisobeys, "source sa times 5 6"):
+            system.simulate("event,sa,5\nevent,sa,6\n")
+        system.tasks["b"].priority = 1
+        with self.assertRaisesRegex(SystemRefused, "task 'b': a priority twice") as caught:
+            system.analyse()
+        self.assertEqual((caught.exception.status, caught.exception.reason, caught.exception.part, caught.exception.place, caught.exception.name), (14, 8, "task", 2, "b"))
+
+    def test_each_reason(self):
+        """Each example of docs/FILES.md is refused by its reason."""
+        text = (TOP / "docs/FILES.md").read_text(encoding="utf-8")
+        engine = default_engine()
+        found = set()
+        for section in text.split("\n### ")[1:]:
+            head = re.match(r"(\d+): ", section)
+            for example in re.findall(r"```toml\n(.+?)```", section.split("\n## ")[0], re.S) if head else ():
+                status, line = engine.call("analyse", [example.encode()])
+                self.assertEqual((status, line.split()[3]), (14, head[1]), example)
+                found.add(int(head[1]))
+        self.assertGreaterEqual(len(found), 12)
+
+
+class Files(unittest.TestCase):
+    def test_round_trip(self):
+        for number in range(200):
+            system = random_system(Random(number), 0)
+            self.assertEqual(System.from_toml(system.to_toml()), system)
+        for file in EXAMPLES.glob("*.toml"):
+            system = System.from_file(file)
+            self.assertEqual(System.from_toml(system.to_toml()), system)
+
+    def test_copy(self):
+        system = two_tasks()
+        other = system.copy()
+        other.tasks["a"].worst = 2
+        self.assertEqual(system.tasks["a"].worst, 3)
+        self.assertNotEqual(system, other)
+
+    def test_unknown_keys(self):
+        for text in ("format = 1\ntasks = []", "format = 3", "x = [", "format = 1\ntask = [{ name = 'a', colour = 1 }]", "format = 1\nsource = [{ name = 's', period = 1 }, { name = 's', period = 2 }]"):
+            with self.assertRaises(LokwurmiError):
+                System.from_toml(text)
+
+    def test_names_twice(self):
+        system = two_tasks()
+        with self.assertRaises(ValueError):
+            system.source("sa", 5)
+
+    def test_kinds(self):
+        system = System()
+        self.assertEqual([it.kind for it in (system.preemptive("a"), system.round_robin("b"), system.tdma("c", gap=3), system.can("d", bit=2))], [str(it) for it in Kind])
+
+
+class Words(unittest.TestCase):
+    def test_reasons_are_those_of_the_page(self):
+        text = (TOP / "docs/FILES.md").read_text(encoding="utf-8")
+        self.assertEqual({int(number): words for number, words in re.findall(r"^### (\d+): (.+)$", text, re.M)}, errors.REASONS)
+        self.assertEqual(set(errors.HELP), set(errors.REASONS))
+        rules = re.findall(r"^\| (\d) \| ", text[text.index("### Edits that are refused"):], re.M)
+        self.assertEqual([int(it) for it in rules], list(errors.RULES))
+
+    def test_not_toml(self):
+        self.assertIsInstance(errors.refusal(13, "not TOML system\n"), NotToml)
+
+
+if __name__ == "__main__":
+    unittest.main()
