@@ -318,7 +318,7 @@ def check_large(room):
     told = said_by("from_network.py", file, "--bitrate", 500000)
     hold("--share all: 1 sources, fits" in told and "--paths 'PATTERN'" in told, told)
     system, told, text = imported(file, "--bitrate", 500000, "--share", "all", "--paths", "m3?")
-    hold(len(system["task"]) == 400 and len(system["path"]) == 11, f"400 frames: {len(system['path'])}")
+    hold(len(system["task"]) == 400 and len(system["path"]) == 10, f"400 frames: {len(system['path'])}")
     bounds, paths, _ = bounds_in(room, text)
     part = bounds_in(room, imported(file, "--bitrate", 500000, "--only", "m39")[2])[0]
     hold(len(part) == 41 and all(bounds[it] == part[it] for it in part if it != "m40"), f"--only of 400 frames: {part}")
