@@ -8,7 +8,7 @@ import sys
 from fractions import Fraction
 from typing import Any, Iterable
 
-from networks import LONGEST, QUEUED, Bus, Frame, named, plain
+from networks import BEHIND, ERRORS, LONGEST, QUEUED, Bus, Frame, named, plain
 from packages import need
 from progress import Progress
 from times import UNITS
@@ -204,10 +204,12 @@ def rate_in(matrix: Any, told: Any, *keys: str) -> int:
 def frames_of(matrix: Any, bus: str, before: str, taken: set[str], said: list[str]) -> list[Frame]:
     """The frames of a bus, with names that aren't taken yet."""
     frames = []
+    taken |= {bus + it + more for it in (ERRORS, BEHIND) for more in ("", QUEUED)}
     for frame in matrix.frames:
         # a broken file may have one without a name
         frame.name = str(frame.name or "frame")
-        frames.append(frame_of(frame, matrix, bus, named(before + frame.name, taken, LONGEST - len(QUEUED))))
+        name = named(before + frame.name, taken, LONGEST - len(QUEUED), QUEUED)
+        frames.append(frame_of(frame, matrix, bus, name))
     if "FD" in str(matrix.attribute("BusType") or "") and not any(it.is_fd for it in frames):
         said.append("the bus is one of CAN FD, and doesn't tell which frames are: those of more than 8 bytes alone")
         for frame in frames:

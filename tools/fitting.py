@@ -6,7 +6,7 @@ from dataclasses import dataclass, field, replace
 from fractions import Fraction
 from typing import Any
 
-from networks import ERRORS, LONGEST, QUEUED, named, plain, priorities
+from networks import BEHIND, ERRORS, LONGEST, QUEUED, named, plain, priorities
 from taking import Taken, Taker, first_of
 from times import text_of
 
@@ -54,39 +54,39 @@ def needed_frames(taker: Taker, asked: set[str]) -> set[str]:
     return needed
 
 
+def behind(taker: Taker, bus: str, rest: list[Taken]) -> Taken:
+    """What stands for the frames of a bus that go behind those that are asked for: one of them may have begun, and so the
+    longest counts."""
+    longest = max(rest, key=lambda it: it.greatest)
+    every = {it.frame.name: it for taken in taker.taken.values() for it in taken}
+    first = every[first_of(longest.frame.name, taker.forwards)]
+    name = bus + BEHIND
+    what = "a frame that goes behind those of --only may have begun, and the longest counts; its own bound says nothing"
+    taker.report.add(taker.report.changed, what, f"{name} stands for {longest.frame.name}")
+    return replace(
+        longest,
+        frame=replace(longest.frame, name=name),
+        after=name + QUEUED,
+        forwarded=False,
+        period=first.period,
+        jitter=first.jitter,
+        deadline=None,
+    )
+
+
 def only(taker: Taker) -> None:
-    """Keeps what --only asks for, and of each bus the longest of the other frames, since one of them may have begun."""
+    """Keeps what --only asks for, and of each bus one frame that stands for those behind."""
     asked = asked_frames(taker)
     needed = needed_frames(taker, asked)
-    periods = {it.frame.name: it for taken in taker.taken.values() for it in taken}
-    report = taker.report
-    for bus, taken in list(taker.taken.items()):
-        kept = [it for it in taken if it.frame.name in needed]
+    kept: dict[str, list[Taken]] = {}
+    for bus, taken in taker.taken.items():
         rest = [it for it in taken if it.frame.name not in needed]
-        if not kept:
-            report.add(report.left, "a bus on whose frames none of --only depends", bus)
-            del taker.taken[bus]
-            continue
-        if rest:
-            longest = max(rest, key=lambda it: it.greatest)
-            first = periods[first_of(longest.frame.name, taker.forwards)]
-            kept.append(
-                replace(
-                    longest,
-                    after=longest.frame.name + QUEUED,
-                    forwarded=False,
-                    period=first.period,
-                    jitter=first.jitter,
-                    deadline=None,
-                )
-            )
-            what = "the longest of the frames that go behind those of --only, of which one may have begun"
-            report.add(report.changed, what, longest.frame.name)
-            what = "goes behind those of --only, and is no longer than the longest that does: no bound depends on it"
-            for it in rest:
-                if it is not longest:
-                    report.add(report.left, what, it.frame.name)
-        taker.taken[bus] = [it if it.frame.name in asked else replace(it, deadline=None) for it in kept]
+        for it in rest:
+            taker.report.add(taker.report.spared, "a frame that goes behind those of --only", it.frame.name)
+        kept[bus] = [it if it.frame.name in asked else replace(it, deadline=None) for it in taken if it not in rest]
+        if kept[bus] and rest:
+            kept[bus].append(behind(taker, bus, rest))
+    taker.taken = {bus: it for bus, it in kept.items() if it}
     taker.forwards = {name: before for name, before in taker.forwards.items() if name in needed}
 
 
@@ -120,7 +120,7 @@ def share(taker: Taker) -> None:
             " analysis takes each for itself; but simulate, schedule, audit and hammer know of runs alone in which they"
             " are queued together"
         )
-        taker.report.add(taker.report.changed, what, f"{name} for {' and '.join(it.frame.name for it in several)}")
+        taker.report.add(taker.report.changed, what, f"{name} for {len(several)} frames")
 
 
 def length_of(it: Taken) -> Entry:

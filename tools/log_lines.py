@@ -7,7 +7,7 @@ from itertools import pairwise
 from typing import Any, Iterable, Optional
 
 from logs import Key, Log, Seen, ahead, behind, first_breach, gaps_of, period_of, shown
-from networks import ERRORS
+from networks import BEHIND, ERRORS
 from program import written_by
 from progress import Progress
 from report import read_report, reports_in
@@ -91,7 +91,8 @@ def identifiers_of(system: dict[str, Any], bus: str) -> dict[Key, str]:
 
 def frames_on(system: dict[str, Any], bus: str) -> list[dict[str, Any]]:
     """The tasks of a bus that are frames."""
-    return [it for it in system.get("task", []) if it["on"] == bus and it["name"] != bus + ERRORS]
+    others = (bus + ERRORS, bus + BEHIND)
+    return [it for it in system.get("task", []) if it["on"] == bus and it["name"] not in others]
 
 
 def sorted_keys(frames: dict[Key, Seen]) -> list[Key]:

@@ -6,8 +6,8 @@ from fractions import Fraction
 from typing import Any
 
 # how long a name may be in a system file; what stands behind that of a frame in its source's, and behind that of a bus
-# in that of the task for its errors
-LONGEST, QUEUED, ERRORS = 64, ".queued", ".errors"
+# in those of the tasks for its errors and for the frames that go behind those that are asked for
+LONGEST, QUEUED, ERRORS, BEHIND = 64, ".queued", ".errors", ".behind"
 
 
 @dataclass
@@ -70,13 +70,13 @@ def plain(text: str) -> str:
     return "_" + text if not text or text[0] == "-" else text
 
 
-def named(text: str, taken: set[str], longest: int) -> str:
-    """A name for a text that isn't taken yet; _2 and so on behind it where it is."""
+def named(text: str, taken: set[str], longest: int, *more: str) -> str:
+    """A name for a text that isn't taken yet, nor with more behind it; _2 and so on behind it where it is."""
     name, number = plain(text)[:longest], 1
-    while name in taken:
+    while taken & {name + it for it in ("", *more)}:
         number += 1
         name = f"{plain(text)[: longest - len(str(number)) - 1]}_{number}"
-    taken.add(name)
+    taken |= {name + it for it in ("", *more)}
     return name
 
 

@@ -23,6 +23,7 @@ class Report:
 
     heads: list[str] = field(default_factory=list)
     left: dict[str, list[str]] = field(default_factory=dict)
+    spared: dict[str, list[str]] = field(default_factory=dict)
     changed: dict[str, list[str]] = field(default_factory=dict)
     assumed: dict[str, list[str]] = field(default_factory=dict)
 
@@ -34,6 +35,7 @@ class Report:
         found = list(self.heads)
         for head, part in (
             ("left out; the bounds hold while it isn't sent:", self.left),
+            ("not in the file, since no bound of what is asked for depends on it:", self.spared),
             ("taken otherwise than the database has it:", self.changed),
             ("assumed:", self.assumed),
         ):
@@ -330,8 +332,8 @@ class Taker:
         jitter = (count - 1) * period + longest
         self.report.add(
             self.report.assumed,
-            f"on bus {bus.name} at most {count} errors in any {text_of(time)}, each of which takes 31 bits and the"
-            f" longest frame again; a task {bus.name}{ERRORS} of highest priority stands for them, which is argued and"
+            f"on bus {bus.name} at most {count} error{'s' * (count > 1)} in any {text_of(time)}, each of which takes 31"
+            f" bits and the longest frame again; a task {bus.name}{ERRORS} of highest priority stands for them, which is argued and"
             " not proved",
         )
         if jitter > MOST_TICKS or whole[1] + longest > MOST_EXECUTION:
