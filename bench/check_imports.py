@@ -2,9 +2,9 @@
 """Tries tools/from_network.py. Outside the gate; takes about a minute, and no network.
 
 The SAE benchmark, written as a database, comes back as the system that it was, with the bounds of its report; so do
-random buses, whose priorities must be the order in which the bits of two identifiers are compared on a bus. What is left
-out of a database, taken otherwise or assumed is told. Databases that canmatrix brings with it are read, or refused in
-words.
+random buses, whose priorities must be the order in which the bits of two identifiers are compared on a bus. What is
+left out of a database, taken otherwise or assumed is told. Databases that canmatrix brings with it are read, or
+refused in words.
 
     python3 bench/check_imports.py [COUNT, 60 if absent]
 """
@@ -16,8 +16,20 @@ import tempfile
 from fractions import Fraction
 
 from imports_made import (
-    analysed, canmatrix, dumped, hold, imported, least_and_greatest, matrix_of, obeys, random_frames, run, said_by,
-    system_of, tell, written,
+    analysed,
+    canmatrix,
+    dumped,
+    hold,
+    imported,
+    least_and_greatest,
+    matrix_of,
+    obeys,
+    random_frames,
+    run,
+    said_by,
+    system_of,
+    tell,
+    written,
 )
 import lxml.etree
 import tomllib
@@ -595,7 +607,13 @@ def main():
     check_words()
     with tempfile.TemporaryDirectory() as room:
         for one in (
-            check_sae, check_features, check_several, check_arxml, check_clusters, check_shipped, check_refused
+            check_sae,
+            check_features,
+            check_several,
+            check_arxml,
+            check_clusters,
+            check_shipped,
+            check_refused,
         ):
             one(room)
         check_random(room, count)

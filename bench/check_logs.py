@@ -1,9 +1,9 @@
 #!/usr/bin/env python3
 """Tries tools/from_log.py. Outside the gate; takes about a minute, and no network.
 
-The source of a frame of a log holds the log and would not with less jitter or more distance, by each pair of its frames,
-and by what `simulate` says of a trace with its times. The log of a run of a bus obeys the system, whatever the format it
-is written in; of one that is denser the first frame that comes too soon is told.
+The source of a frame of a log holds the log and would not with less jitter or more distance, by each pair of its
+frames, and by what `simulate` says of a trace with its times. The log of a run of a bus obeys the system, whatever
+the format it is written in; of one that is denser the first frame that comes too soon is told.
 
     python3 bench/check_logs.py [COUNT, 60 if absent]
 """
@@ -18,8 +18,20 @@ import tomllib
 
 from calls import built
 from imports_made import (
-    PROGRAM, analysed, dumped, hold, imported, least_and_greatest, matrix_of, obeys, random_frames, run, said_by,
-    system_of, tell, written,
+    PROGRAM,
+    analysed,
+    dumped,
+    hold,
+    imported,
+    least_and_greatest,
+    matrix_of,
+    obeys,
+    random_frames,
+    run,
+    said_by,
+    system_of,
+    tell,
+    written,
 )
 import can
 
@@ -121,7 +133,8 @@ def check_fits(room, count):
 
 
 def bus_run(draw, system, until):
-    """When the frames of a bus are received, and the response of each: whoever waits goes by priority, and none is interrupted."""
+    """When the frames of a bus are received, and the response of each: whoever waits goes by priority, and none is
+    interrupted."""
     bit = system["resource"][0].get("bit", 1)
     tasks = {it["name"]: it for it in system["task"]}
     queue = []
@@ -389,7 +402,8 @@ def check_logs(room):
 
 
 def check_chains(room):
-    """Logs of the proved program's own runs, of buses whose frames come after tasks of processors: what `schedule` writes, as logs."""
+    """Logs of the proved program's own runs, of buses whose frames come after tasks of processors: what `schedule`
+    writes, as logs."""
     draw = random.Random(5)
     for number in range(4):
         file = written(

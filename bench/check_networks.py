@@ -2,10 +2,10 @@
 """Tries the lengths of frames, and what makes a large database fit. Outside the gate; takes about a minute, and no
 network.
 
-Frames of CAN FD are built bit by bit, with the worst and the best stuffing found by trying all that a bit may be, and no
-frame takes less or more than tools/lengths.py says. Frames of Ethernet come as often as is published. Buses are followed
-frame by frame, with frames that are queued at any offset and with errors that hit where they cost most: none is late by
-more than its bound, whether frames share a source or not. What --only leaves out changes no bound.
+Frames of CAN FD are built bit by bit, with the worst and the best stuffing found by trying all that a bit may be, and
+no frame takes less or more than tools/lengths.py says. Frames of Ethernet come as often as is published. Buses are
+followed frame by frame, with frames that are queued at any offset and with errors that hit where they cost most: none
+is late by more than its bound, whether frames share a source or not. What --only leaves out changes no bound.
 
     python3 bench/check_networks.py [COUNT, 40 if absent]
 """
@@ -13,12 +13,26 @@ import heapq
 import os
 import random
 import re
+import shlex
+import subprocess
 import sys
 import tempfile
 from fractions import Fraction
 
 from imports_made import (
-    analysed, canmatrix, dumped, hold, imported, least_and_greatest, matrix_of, run, said_by, tell, written,
+    PROGRAM,
+    PYTHON,
+    analysed,
+    canmatrix,
+    dumped,
+    hold,
+    imported,
+    least_and_greatest,
+    matrix_of,
+    run,
+    said_by,
+    tell,
+    written,
 )
 
 # the payloads of CAN FD by their codes, as ISO 11898-1 lists them
@@ -48,8 +62,8 @@ def header(extended, switches, size):
 
 
 def stuffed(bits):
-    """Bits with those that are stuffed: after five alike one of the other kind, but not behind the last. Each with whether
-    it is stuffed."""
+    """Bits with those that are stuffed: after five alike one of the other kind, but not behind the last. Each with
+    whether it is stuffed."""
     found, alike, last = [], 0, None
     for place, bit in enumerate(bits):
         found.append((bit, place))
@@ -78,8 +92,8 @@ def frame_time(bits, switch, size, bit, data_bit, sample, data_sample, late):
 
 
 def extreme(pattern, switch, weights, sign):
-    """The bits of a pattern with the most or the fewest stuff bits, where one before the switch counts by the first weight
-    and one behind it by the second: by trying each free bit from each state that stuffing may be in."""
+    """The bits of a pattern with the most or the fewest stuff bits, where one before the switch counts by the first
+    weight and one behind it by the second: by trying each free bit from each state that stuffing may be in."""
     states = {("", 0): (0, "")}
     for place, free in enumerate(pattern):
         found = {}
@@ -96,8 +110,8 @@ def extreme(pattern, switch, weights, sign):
 
 
 def check_flexible():
-    """No frame of CAN FD is shorter or longer than is told; the shortest is reached, and the longest but for two bits of
-    the data phase."""
+    """No frame of CAN FD is shorter or longer than is told; the shortest is reached, and the longest but for two bits
+    of the data phase."""
     draw = random.Random(11)
     rates = ((500_000, 2_000_000), (1_000_000, 8_000_000), (250_000, 250_000), (500_000, 5_000_000))
     for size in CODES:
@@ -152,7 +166,12 @@ def check_ethernet():
     for rate in (10_000_000, 100_000_000, 1_000_000_000, 10_000_000_000):
         for size, tagged, published in ((46, False, 14_880), (1500, False, 812), (1500, True, 810)):
             least, greatest = told_length(
-                "ethernet", size, "--bitrate", rate, "--tick", f"{100_000_000 / rate:g}ns",
+                "ethernet",
+                size,
+                "--bitrate",
+                rate,
+                "--tick",
+                f"{100_000_000 / rate:g}ns",
                 *(["--tagged"] if tagged else []),
             )
             # a tick is a tenth of a bit, and numbers are published of 10 Mbit/s
@@ -171,7 +190,14 @@ def made_bus(draw, count, senders):
     """A bus of some frames, of some senders, whose identifiers have 11 bits."""
     identifiers = draw.sample(range(1, 2048), count)
     frames = [
-        (f"f{place}", identifier, False, draw.randint(0, 8), draw.choice((5, 10, 20, 50)), {"JitterMs": draw.choice((0, 1))})
+        (
+            f"f{place}",
+            identifier,
+            False,
+            draw.randint(0, 8),
+            draw.choice((5, 10, 20, 50)),
+            {"JitterMs": draw.choice((0, 1))},
+        )
         for place, identifier in enumerate(identifiers)
     ]
     matrix = matrix_of(frames)
@@ -184,7 +210,11 @@ def bounds_in(room, text):
     """The bounds in the report of a system, and its status."""
     status, report = analysed(written(room, "bus.toml", text))
     lines = [line.split() for line in report.splitlines()]
-    return {it[1]: it[-1] for it in lines if it[0] == "task"}, {it[1]: it[-3:] for it in lines if it[0] == "path"}, status
+    return (
+        {it[1]: it[-1] for it in lines if it[0] == "task"},
+        {it[1]: it[-3:] for it in lines if it[0] == "path"},
+        status,
+    )
 
 
 def queued(draw, task, source, until):
@@ -214,8 +244,8 @@ class Faults:
 
 
 def responses(draw, system, until, faults):
-    """The greatest response of each frame of a bus: whoever waits goes by priority, none is interrupted, and one that is
-    hit is sent again after 31 bits."""
+    """The greatest response of each frame of a bus: whoever waits goes by priority, none is interrupted, and one that
+    is hit is sent again after 31 bits."""
     tasks = {it["name"]: it for it in system["task"] if "payload" in it}
     sources = {it["name"]: it for it in system["source"]}
     queue = sorted(it for task in tasks.values() for it in queued(draw, task, sources[task["after"]], until))
@@ -250,7 +280,11 @@ def check_share(room, count):
         system = found["all"][0]
         hold("their bounds are those with a source each" in found["all"][1] or sizes[2] == sizes[0], "it is told")
         worst = responses(draw, system, 200_000, Faults(draw, 0, 0, 0))
-        late = {name: it for name, it in worst.items() if bounds["all"][0][name] != "overload" and it > int(bounds["all"][0][name])}
+        late = {
+            name: it
+            for name, it in worst.items()
+            if bounds["all"][0][name] != "overload" and it > int(bounds["all"][0][name])
+        }
         hold(not late, f"bus {number}: {late} beyond {bounds['all'][0]}")
 
 
@@ -264,7 +298,11 @@ def check_only(room, count):
         asked = draw.choice([it.name for it in matrix.frames])
         whole, told, text = imported(*words)
         part, told, part_text = imported(*words, "--only", asked)
-        above = {it["name"] for it in whole["task"] if it["priority"] <= {t["name"]: t["priority"] for t in whole["task"]}[asked]}
+        above = {
+            it["name"]
+            for it in whole["task"]
+            if it["priority"] <= {t["name"]: t["priority"] for t in whole["task"]}[asked]
+        }
         all_bounds, bounds = bounds_in(room, text)[0], bounds_in(room, part_text)[0]
         kept = set(bounds)
         behind = {"b.behind"} if len(all_bounds) > len(above) else set()
@@ -278,7 +316,12 @@ def check_only(room, count):
 def check_gateway(room):
     """What --only keeps of two buses, between which a gateway passes frames on."""
     first = [(f"a{k}", 10 + k, False, 8, 10, {}) for k in range(6)]
-    second = [("b0", 1, False, 2, 20, {}), ("a2", 5, False, 8, 10, {}), ("b1", 9, False, 8, 20, {}), ("b2", 10, False, 1, 20, {})]
+    second = [
+        ("b0", 1, False, 2, 20, {}),
+        ("a2", 5, False, 8, 10, {}),
+        ("b1", 9, False, 8, 20, {}),
+        ("b2", 10, False, 1, 20, {}),
+    ]
     file = dumped(room, "gate.kcd", {"one": matrix_of(first), "two": matrix_of(second)})
     words = (file, "--bitrate", 125000, "--forward", "one.a2=two.a2")
     whole = bounds_in(room, imported(*words)[2])
@@ -297,12 +340,18 @@ def check_errors(room, count):
         faults, time = draw.randint(1, 3), draw.choice((5, 10, 40))
         words = (f"b={file}", "--bitrate", 250000, "--jitter-attribute", "JitterMs", "--errors", f"{faults}/{time}ms")
         system, told, text = imported(*words)
-        hold(f"at most {faults} error{'s' * (faults > 1)} in any {time}ms" in told and "argued and not proved" in told, told)
+        hold(
+            f"at most {faults} error{'s' * (faults > 1)} in any {time}ms" in told and "argued and not proved" in told,
+            told,
+        )
         bounds = bounds_in(room, text)[0]
         errors = {it["name"]: it for it in system["task"]}["b.errors"]
         longest = max(least_and_greatest(it["payload"], False)[1] * 4 for it in system["task"] if "payload" in it)
-        hold(errors["worst"] == 31 * 4 + longest and errors["priority"] < min(
-            it["priority"] for it in system["task"] if it is not errors), f"bus {number}: {errors}")
+        hold(
+            errors["worst"] == 31 * 4 + longest
+            and errors["priority"] < min(it["priority"] for it in system["task"] if it is not errors),
+            f"bus {number}: {errors}",
+        )
         for chance in (1, 0.5, 0.1):
             model = Faults(draw, faults, time * 1000, chance)
             worst = responses(draw, system, 100_000, model)
@@ -322,7 +371,10 @@ def check_large(room):
     hold(len(system["task"]) == 400 and len(system["path"]) == 10, f"400 frames: {len(system['path'])}")
     bounds, paths, _ = bounds_in(room, text)
     part = bounds_in(room, imported(file, "--bitrate", 500000, "--only", "m39")[2])[0]
-    hold(len(part) == 41 and all(bounds[it] == part[it] for it in part if it != "large.behind"), f"--only of 400 frames: {part}")
+    hold(
+        len(part) == 41 and all(bounds[it] == part[it] for it in part if it != "large.behind"),
+        f"--only of 400 frames: {part}",
+    )
     shipped = os.path.join(os.path.dirname(canmatrix.__file__), "..", "canmatrix")
     for folder, _, names in os.walk(shipped):
         if "j1939.dbc" in names:
@@ -332,12 +384,70 @@ def check_large(room):
             hold(len(system["task"]) > 300 and bounds_in(room, text)[2] in (0, 1, 2), "j1939.dbc is accepted")
 
 
+# the page and the words
+
+
+def here(room):
+    """A folder in which the calls of a page write, with what they read."""
+    folder = os.path.join(room, "page")
+    os.mkdir(folder)
+    for name in ("tools", "examples", "docs"):
+        os.symlink(os.path.abspath(name), os.path.join(folder, name))
+    os.symlink(PROGRAM, os.path.join(folder, "lokwurmi"))
+    return folder
+
+
+def called(folder, line):
+    """A call as a page has it."""
+    words = shlex.split(line.split(" #")[0])
+    if words[0] == "python3":
+        words[0] = PYTHON
+    if any(it.endswith("from_log.py") for it in words):
+        words += ["--program", PROGRAM]
+    return subprocess.run(words, cwd=folder, capture_output=True, text=True, check=False)
+
+
+def check_page(room):
+    """Each call of docs/NETWORKS.md is made in the order of the page, and writes what stands there."""
+    folder = here(room)
+    with open("docs/NETWORKS.md", encoding="utf-8") as it:
+        blocks = [text for kind, text in re.findall(r"^```(\w*)\n(.*?)^```$", it.read(), re.M | re.S) if not kind]
+    calls = 0
+    for block in blocks:
+        # each call with what it writes, or calls alone
+        parts = re.split(r"^\$ ", block, flags=re.M)[1:] if block.startswith("$ ") else block.splitlines()
+        for line, _, text in (it.partition("\n") for it in parts):
+            done = called(folder, line)
+            calls += 1
+            hold("Traceback" not in done.stderr and done.returncode in (0, 1), f"{line}: {done.stderr}")
+            hold(done.stdout.startswith(text), f"{line}: {done.stdout} where the page has {text}")
+    hold(calls > 12, f"docs/NETWORKS.md: {calls} calls")
+    with open("examples/sae_can.report.txt", encoding="ascii") as it:
+        wanted = it.read().replace("path d", "path m")
+    hold(called(folder, "./lokwurmi analyse sae.toml").stdout == wanted, "the SAE benchmark, as the page has it")
+    missed = called(folder, "./lokwurmi analyse errors.toml").stdout.splitlines()[-1]
+    hold(missed == "summary tasks 18 overload 0 missed 3", f"errors, as the page has them: {missed}")
+
+
+def check_help(room):
+    """--help works, and the first example of each of its tools runs."""
+    folder = os.path.join(room, "page")
+    for tool in ("from_network.py", "from_log.py", "ticks.py", "units.py", "lengths.py"):
+        done = run(tool, "--help")
+        hold(done.returncode == 0 and not done.stderr, f"{tool} --help: {done.stderr}")
+        line = next(it.strip() for it in done.stdout.splitlines() if it.startswith("    ") and "tools/" in it)
+        if " | " in line:
+            line = "python3 tools/units.py examples/sae_can.report.txt --tick 1us"
+        done = called(folder, line)
+        hold(done.returncode == 0 and "Traceback" not in done.stderr, f"{line}: {done.stderr}")
+
+
 def main():
     count = int(sys.argv[1]) if len(sys.argv) > 1 else 40
     for one in (check_flexible, check_flexible_all, check_classical, check_ethernet):
         one()
     with tempfile.TemporaryDirectory() as room:
-        for one in (check_gateway, check_large):
+        for one in (check_page, check_help, check_gateway, check_large):
             one(room)
         for one in (check_share, check_only, check_errors):
             one(room, count)

@@ -18,7 +18,15 @@ from fractions import Fraction
 from imports_made import PYTHON, analysed, hold, least_and_greatest, run, said_by, tell, written
 
 UNITS = {"ns": 1, "us": 10**3, "ms": 10**6, "s": 10**9}
-SAFE = {"period": "down", "distance": "down", "best": "down", "deadline": "down", "jitter": "up", "worst": "up", "gap": "up"}
+SAFE = {
+    "period": "down",
+    "distance": "down",
+    "best": "down",
+    "deadline": "down",
+    "jitter": "up",
+    "worst": "up",
+    "gap": "up",
+}
 KINDS = ("resource", "source", "task", "path")
 
 
@@ -41,19 +49,33 @@ def made_system(draw):
     """A system with units, of a processor and a bus, with times that are multiples of 50 ns."""
     lines = ["# a made system", "format = 1", "resource = ["]
     rate = draw.choice((1_000_000, 500_000, 800_000))
-    lines += ['  { name = "cpu", kind = "preemptive" }, # a processor', f'  {{ name = "bus", kind = "can", bitrate = {rate} }},', "]"]
+    lines += [
+        '  { name = "cpu", kind = "preemptive" }, # a processor',
+        f'  {{ name = "bus", kind = "can", bitrate = {rate} }},',
+        "]",
+    ]
     sources, tasks, paths = [], [], []
     for place in range(draw.randint(1, 7)):
         period = draw.randrange(20_000, 100_000) * 50
         jitter = draw.choice((0, draw.randrange(0, period, 50)))
         distance = draw.choice((0, draw.randrange(0, period, 50)))
-        sources.append(f'  {{ name = "s{place}", period = {text_of(draw, period)}, jitter = {text_of(draw, jitter)}, distance = {text_of(draw, distance)} }},')
+        sources.append(
+            f'  {{ name = "s{place}", period = {text_of(draw, period)}, jitter = {text_of(draw, jitter)}, distance ='
+            f" {text_of(draw, distance)} }},"
+        )
         worst = draw.randrange(1000, 4000) * 50
         best = draw.randrange(500, worst // 50) * 50
-        tasks.append(f'  {{ name = "t{place}", on = "cpu", after = "s{place}", best = {text_of(draw, best)}, worst = {text_of(draw, worst)}, priority = {place} }},')
-        length = draw.choice(('payload = 3', 'best = "60 bit", worst = "12 byte"', 'payload = 8, extended = true'))
-        tasks.append(f'  {{ name = "f{place}", on = "bus", after = "t{place}", {length}, priority = {place} }}, # a frame')
-        paths.append(f'  {{ name = "p{place}", tasks = ["t{place}", "f{place}"], deadline = {text_of(draw, period)} }},')
+        tasks.append(
+            f'  {{ name = "t{place}", on = "cpu", after = "s{place}", best = {text_of(draw, best)}, worst ='
+            f" {text_of(draw, worst)}, priority = {place} }},"
+        )
+        length = draw.choice(("payload = 3", 'best = "60 bit", worst = "12 byte"', "payload = 8, extended = true"))
+        tasks.append(
+            f'  {{ name = "f{place}", on = "bus", after = "t{place}", {length}, priority = {place} }}, # a frame'
+        )
+        paths.append(
+            f'  {{ name = "p{place}", tasks = ["t{place}", "f{place}"], deadline = {text_of(draw, period)} }},'
+        )
     for key, entries in (("source", sources), ("task", tasks), ("path", paths)):
         lines += [f"{key} = [", *entries, "]"]
     return "\n".join(lines) + "\n"
@@ -74,13 +96,22 @@ def check_rounded(before, after, tick, told):
             for key in (it for it in old if it in SAFE):
                 exact = nanoseconds(old[key], bit) / tick
                 wanted = -(-exact // 1) if SAFE[key] == "up" else exact // 1
-                hold(new[key] == wanted, f"{kind} {old['name']}: {key} of {old[key]} is {new[key]} of {float(tick):g} ns")
+                hold(
+                    new[key] == wanted, f"{kind} {old['name']}: {key} of {old[key]} is {new[key]} of {float(tick):g} ns"
+                )
                 what = f"{kind} {old['name']}: {key} of "
-                hold((what in told) == (exact.denominator > 1), f"{what}{old[key]}: whether its rounding is told: {told}")
+                hold(
+                    (what in told) == (exact.denominator > 1), f"{what}{old[key]}: whether its rounding is told: {told}"
+                )
             if "payload" in old:
-                least, greatest = (it * bit / tick for it in least_and_greatest(old["payload"], old.get("extended", False)))
+                least, greatest = (
+                    it * bit / tick for it in least_and_greatest(old["payload"], old.get("extended", False))
+                )
                 found = (new.get("best"), new.get("worst")) if "payload" not in new else (least, greatest)
-                hold(found == (least // 1, -(-greatest // 1)), f"task {old['name']}: {new} of {float(least)}, {float(greatest)}")
+                hold(
+                    found == (least // 1, -(-greatest // 1)),
+                    f"task {old['name']}: {new} of {float(least)}, {float(greatest)}",
+                )
 
 
 def bounds_in(room, text, tick):
@@ -108,7 +139,10 @@ def check_made(room, count):
             below = {it for it in bounds if bounds[it] is not None and (finest[it] is None or bounds[it] < finest[it])}
             hold(not below, f"system {number} with ticks of {tick}: the bounds of {below} are below the exact ones")
             kept = [line.split("{")[0] for line in text.splitlines() if "#" in line or line.endswith("[")]
-            hold(all(it in after_text for it in kept) and after_text.count("# a frame") == text.count("# a frame"), f"{after_text}")
+            hold(
+                all(it in after_text for it in kept) and after_text.count("# a frame") == text.count("# a frame"),
+                f"{after_text}",
+            )
 
 
 def check_refused(room):
@@ -120,7 +154,12 @@ def check_refused(room):
     )
     for said, old, new, tick in (
         ('line 3: source s: period = "1 week" is no time', "1 ms", "1 week", "1us"),
-        ("line 3: source s: period of 100ns is 0 ticks, and 1 to 1000000000 are possible: take a shorter --tick", "1 ms", "100 ns", "1us"),
+        (
+            "line 3: source s: period of 100ns is 0 ticks, and 1 to 1000000000 are possible: take a shorter --tick",
+            "1 ms",
+            "100 ns",
+            "1us",
+        ),
         ("line 5: task t: best of 100ns is 0 ticks", '"1 us", worst', '"100 ns", worst', "1us"),
         ("and 1 to 1000000 are possible: take a longer --tick", '"2 us"', '"2 s"', "1us"),
         ("task t: slot of 5us is 2.5 ticks, and has no safe side", 'best = "1 us"', 'best = "2 us"', "2us"),
@@ -131,19 +170,33 @@ def check_refused(room):
         ("must be lists of entries", 'source = [{ name = "s", period = "1 ms" }]', 'source = "s"', "1us"),
         ("bitrate = 0 is no bit rate", 'kind = "can"', 'kind = "can", bitrate = 0', "1us"),
         ("it has bit and bitrate", 'kind = "can"', 'kind = "can", bit = 1, bitrate = 500000', "1us"),
-        ("a bit of 20ms is 20000 ticks, and 1 to 1000 are possible", 'kind = "can"', 'kind = "can", bitrate = 50', "1us"),
+        (
+            "a bit of 20ms is 20000 ticks, and 1 to 1000 are possible",
+            'kind = "can"',
+            'kind = "can", bitrate = 50',
+            "1us",
+        ),
     ):
         told = said_by("ticks.py", written(room, "bad.toml", base.replace(old, new, 1)), "--tick", tick)
         hold(said in told, f"ticks.py: {said}: {told}")
     file = written(room, "good.toml", base)
     hold("is no time" in said_by("ticks.py", file, "--tick", "5"), "no tick")
     hold("can't be read" in said_by("ticks.py", os.path.join(room, "none.toml"), "--tick", "1us"), "no file")
-    hold("can't be written" in said_by("ticks.py", file, "--tick", "1us", "--to", os.path.join(room, "no", "x")), "no folder")
+    hold(
+        "can't be written" in said_by("ticks.py", file, "--tick", "1us", "--to", os.path.join(room, "no", "x")),
+        "no folder",
+    )
     done = run("ticks.py", written(room, "bare.toml", base.replace('"2 us"', "2")), "--tick", "1us")
-    hold(done.returncode == 0 and "taken as ticks, since they have no unit: worst of task t" in done.stderr, done.stderr)
-    done = run("ticks.py", written(room, "limit.toml", base.replace('"tdma"', '"tdma", limit = "1 min"')), "--tick", "1us")
+    hold(
+        done.returncode == 0 and "taken as ticks, since they have no unit: worst of task t" in done.stderr, done.stderr
+    )
+    done = run(
+        "ticks.py", written(room, "limit.toml", base.replace('"tdma"', '"tdma", limit = "1 min"')), "--tick", "1us"
+    )
     hold("is no time" in done.stderr, done.stderr)
-    done = run("ticks.py", written(room, "limit.toml", base.replace('"tdma"', '"tdma", limit = "11 s"')), "--tick", "1us")
+    done = run(
+        "ticks.py", written(room, "limit.toml", base.replace('"tdma"', '"tdma", limit = "11 s"')), "--tick", "1us"
+    )
     hold("limit of 11s is 10000000, the most" in done.stderr and "limit = 10000000" in done.stdout, done.stderr)
 
 
@@ -151,7 +204,10 @@ def check_examples(room):
     """The example is what stands in examples/ in ticks, with the report beside it; reports with times."""
     done = run("ticks.py", "examples/units/switch_port.toml", "--tick", "1us")
     with open("examples/switch_port.toml", encoding="utf-8") as it:
-        hold(it.read() == done.stdout.replace("../../docs", "../docs"), "examples/switch_port.toml isn't examples/units/switch_port.toml in ticks")
+        hold(
+            it.read() == done.stdout.replace("../../docs", "../docs"),
+            "examples/switch_port.toml isn't examples/units/switch_port.toml in ticks",
+        )
     with open("examples/switch_port.report.txt", encoding="ascii") as it:
         hold(analysed("examples/switch_port.toml") == (0, it.read()), "the report of examples/switch_port.toml")
     done = run("units.py", "examples/switch_port.report.txt", "--tick", "1us")
@@ -160,8 +216,12 @@ def check_examples(room):
     done = run("units.py", "examples/sae_can.report.txt", "--tick", "1us", "--unit", "ms")
     hold("path d1 best 0.44ms worst 29.52ms deadline 1000ms met\n" in done.stdout, done.stdout)
     report = "task worst best period 5 jitter overload distance overload best 1 worst overload\nline 3 refused 5\n"
-    done = subprocess.run([PYTHON, "tools/units.py", "--tick", "800ns"], input=report, capture_output=True, text=True, check=False)
-    wanted = "task worst best period 4us jitter overload distance overload best 800ns worst overload\nline 3 refused 5\n"
+    done = subprocess.run(
+        [PYTHON, "tools/units.py", "--tick", "800ns"], input=report, capture_output=True, text=True, check=False
+    )
+    wanted = (
+        "task worst best period 4us jitter overload distance overload best 800ns worst overload\nline 3 refused 5\n"
+    )
     hold(done.stdout == wanted, done.stdout)
 
 

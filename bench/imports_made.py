@@ -79,7 +79,8 @@ def written(room, name, text, encoding="utf-8"):
 
 
 def matrix_of(frames):
-    """A bus of frames, each a name, an identifier, whether it has 29 bits, bytes, a cycle in milliseconds, and attributes."""
+    """A bus of frames, each a name, an identifier, whether it has 29 bits, bytes, a cycle in milliseconds, and
+    attributes."""
     matrix = canmatrix.CanMatrix()
     for key, define in (
         ("GenMsgCycleTime", "INT 0 3600000"),

@@ -92,9 +92,9 @@ def complete_kcd(file: str, matrices: dict[str, Any]) -> None:
 
 
 def complete_arxml(file: str, matrices: dict[str, Any]) -> None:
-    """Gives each cluster of an ARXML file its own frames, with their own identifiers, in the order of the file. Of a frame
-    that several clusters have canmatrix takes one identifier for all, and of AUTOSAR 3 the frames of all clusters for
-    each."""
+    """Gives each cluster of an ARXML file its own frames, with their own identifiers, in the order of the file. Of a
+    frame that several clusters have canmatrix takes one identifier for all, and of AUTOSAR 3 the frames of all
+    clusters for each."""
     for cluster in lxml.etree.parse(file).getroot().iter("{*}CAN-CLUSTER"):
         matrix, frames = matrices.get(cluster.findtext("{*}SHORT-NAME")), []
         if matrix is None:

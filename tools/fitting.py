@@ -55,8 +55,8 @@ def needed_frames(taker: Taker, asked: set[str]) -> set[str]:
 
 
 def behind(taker: Taker, bus: str, rest: list[Taken]) -> Taken:
-    """What stands for the frames of a bus that go behind those that are asked for: one of them may have begun, and so the
-    longest counts."""
+    """What stands for the frames of a bus that go behind those that are asked for: one of them may have begun, and so
+    the longest counts."""
     longest = max(rest, key=lambda it: it.greatest)
     every = {it.frame.name: it for taken in taker.taken.values() for it in taken}
     first = every[first_of(longest.frame.name, taker.forwards)]
@@ -191,8 +191,8 @@ def proposals(system: System, taker: Taker) -> list[str]:
             lines.append(f"  --share {how}: {number} sources, {fits}; all bounds stay as they are")
     if "paths" in beyond:
         lines.append(
-            f"  --paths 'PATTERN': a path for these frames alone, {MOST_PATHS} at most; or --deadline none: the report has"
-            " the bound of each frame without a path"
+            f"  --paths 'PATTERN': a path for these frames alone, {MOST_PATHS} at most; or --deadline none: the report"
+            " has the bound of each frame without a path"
         )
     if len(taker.taken) > 1:
         each = ", ".join(f"{name} has {len(it)} frames" for name, it in taker.taken.items())

@@ -20,8 +20,9 @@ missing. The second call prints a line for each frame of the system:
 and in it the least jitter that the log needs at the period of the system, and the least distance, beside jitter and
 distance of the event models before the bus and behind it.
 
-A log has the times at which frames were received, and not those at which they were queued. So a source of a log says what
-starts a task that receives the frame; what queues it may have come by up to its response less its least length otherwise.
+A log has the times at which frames were received, and not those at which they were queued. So a source of a log says
+what starts a task that receives the frame; what queues it may have come by up to its response less its least length
+otherwise.
 
 It needs python-can, and canmatrix with --database: apt-get install python3-can python3-canmatrix python3-lxml
 """
@@ -46,7 +47,10 @@ def add_words(reader: argparse.ArgumentParser) -> None:
     reader.add_argument("log", metavar="LOG", help="a recorded log")
     reader.add_argument("--system", metavar="SYSTEM", help="a system file that the log is held against")
     reader.add_argument("--report", metavar="REPORT", help="what lokwurmi analyse wrote of it; it is called if absent")
-    what = "a database with the names of the frames, all as for tools/from_network.py; if absent priorities are identifiers"
+    what = (
+        "a database with the names of the frames, all as for tools/from_network.py; if absent priorities are"
+        " identifiers"
+    )
     reader.add_argument("--database", metavar="DATABASE", help=what, **several)
     what = "which channel of the log a bus is; needed where there are several"
     reader.add_argument("--bus", metavar="BUS=CHANNEL", type=word_of(bus_of), help=what, **several)

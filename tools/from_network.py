@@ -7,10 +7,11 @@
     python3 tools/from_network.py front.dbc back.dbc --bitrate front=500000 --bitrate back=125000 \\
         --forward front.Speed=back.Speed --to car.toml
 
-Each frame with a cycle time becomes a source, named as the frame with .queued behind, and a task on the resource of its
-bus, with its length in bytes as payload and its identifier as priority; and each has a path with its deadline. A time has
-a unit: ns, us, ms or s. What is left out, taken otherwise than the database has it, or assumed, is told on the standard
-error, and stands as comments at the head of the file. The bounds of an analysis hold while what is left out isn't sent.
+Each frame with a cycle time becomes a source, named as the frame with .queued behind, and a task on the resource of
+its bus, with its length in bytes as payload and its identifier as priority; and each has a path with its deadline. A
+time has a unit: ns, us, ms or s. What is left out, taken otherwise than the database has it, or assumed, is told on
+the standard error, and stands as comments at the head of the file. The bounds of an analysis hold while what is left
+out isn't sent.
 
 It needs canmatrix: apt-get install python3-canmatrix python3-lxml
 """
@@ -103,25 +104,47 @@ def add_times(reader: argparse.ArgumentParser) -> None:
     rate, time, either = word_of(rate_of_bus), word_of(time_of), word_of(share_or_time)
     for option, metavar, kind, help_text in (
         ("--tick", "TIME", time, "the time of a tick; 1us if absent"),
-        ("--jitter", "JITTER", either, "by how much a frame is queued late: a time, or 10%% of the period; 0 if absent"),
+        (
+            "--jitter",
+            "JITTER",
+            either,
+            "by how much a frame is queued late: a time, or 10%% of the period; 0 if absent",
+        ),
         ("--jitter-attribute", "NAME", str, "an attribute of frames in the database that tells it in milliseconds"),
-        ("--fast", "PPM", word_of(millionths), "by how many millionths the clock of a sender may be fast, which makes"
-         " its periods shorter; 0 if absent"),
-        ("--deadline", "DEADLINE", str, "a time, a part of the period, or none; 100%% if absent. It counts from when the"
-         " frame is queued"),
+        (
+            "--fast",
+            "PPM",
+            word_of(millionths),
+            "by how many millionths the clock of a sender may be fast, which makes its periods shorter; 0 if absent",
+        ),
+        (
+            "--deadline",
+            "DEADLINE",
+            str,
+            "a time, a part of the period, or none; 100%% if absent. It counts from when the frame is queued",
+        ),
         ("--deadline-attribute", "NAME", str, "an attribute of frames in the database that tells it in milliseconds"),
-        ("--others", "TIME", time, "takes frames without a cycle time: the least time between two of each; and that of"
-         " frames that are sent on events too"),
-        ("--errors", "COUNT/TIME", word_of(errors_of), "counts errors on the bus: at most so many in any such time, as"
-         " 2/100ms; none if absent"),
+        (
+            "--others",
+            "TIME",
+            time,
+            (
+                "takes frames without a cycle time: the least time between two of each; and that of"
+                " frames that are sent on events too"
+            ),
+        ),
+        (
+            "--errors",
+            "COUNT/TIME",
+            word_of(errors_of),
+            "counts errors on the bus: at most so many in any such time, as 2/100ms; none if absent",
+        ),
     ):
         reader.add_argument(option, metavar=metavar, type=kind, help=help_text)
     rates = {"metavar": "[BUS=]BITS", "type": rate, "action": "append", "default": []}
     reader.add_argument("--bitrate", help="bits per second, of all buses or of one; the database's if absent", **rates)
     reader.add_argument("--data-bitrate", help="those in the data phase of CAN FD; the database's if absent", **rates)
-    reader.set_defaults(
-        tick=time_of("1us"), jitter=("time", Fraction(0)), fast=Fraction(0), deadline="100%"
-    )
+    reader.set_defaults(tick=time_of("1us"), jitter=("time", Fraction(0)), fast=Fraction(0), deadline="100%")
 
 
 def add_choices(reader: argparse.ArgumentParser) -> None:
@@ -131,8 +154,14 @@ def add_choices(reader: argparse.ArgumentParser) -> None:
         ("--without", "FRAME", "leaves a frame out; a pattern with * leaves several"),
         ("--bus", "BUS", "takes this bus alone"),
         ("--only", "FRAME", "takes this frame and what delays it: its bound is the one that it has among all"),
-        ("--paths", "FRAME", "writes paths for these frames alone; a pattern with * names several. All have one if"
-         " absent, with a deadline"),
+        (
+            "--paths",
+            "FRAME",
+            (
+                "writes paths for these frames alone; a pattern with * names several. All have one if"
+                " absent, with a deadline"
+            ),
+        ),
         ("--forward", "FROM=TO", "frame TO of another bus is queued when FROM is received by a gateway"),
     ):
         reader.add_argument(option, metavar=metavar, help=f"{help_text}. May stand several times", **several)
@@ -146,8 +175,10 @@ def add_choices(reader: argparse.ArgumentParser) -> None:
         "--share",
         choices=("none", "sender", "all"),
         default="none",
-        help="which frames with equal period and jitter have one source: none, those of one sender, or all; no bound"
-        " depends on it. None if absent",
+        help=(
+            "which frames with equal period and jitter have one source: none, those of one sender, or all; no bound"
+            " depends on it. None if absent"
+        ),
     )
 
 

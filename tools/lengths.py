@@ -54,8 +54,8 @@ def padded(size: int) -> int:
 
 
 def flexible(size: int, extended: bool) -> tuple[Bits, Bits]:
-    """The same of a CAN FD frame. The bits in which the rate changes are one of each together: what the first has at one
-    rate, the second has at the other."""
+    """The same of a CAN FD frame. The bits in which the rate changes are one of each together: what the first has at
+    one rate, the second has at the other."""
     size = padded(size)
     # up to the bit that switches 16 bits or 35; that bit and the delimiter of the check sum; 2, 7 and 3 bits at the end
     nominal = (35 if extended else 16) + 1 + 12
@@ -71,13 +71,11 @@ def error(longest: Bits) -> tuple[Bits, Bits]:
 
 
 def ethernet(size: int, tagged: bool) -> tuple[Bits, Bits]:
-    """An Ethernet frame with its preamble and the gap after it. A bridge may make a short frame with a tag longer by it."""
+    """An Ethernet frame with its preamble and the gap after it. A bridge may make a short frame with a tag longer by
+    it."""
     whole = HEADER + (TAG if tagged else 0) + size
     rest = PREAMBLE + GAP
-    return (
-        Bits(8 * (rest + max(SHORTEST, whole))),
-        Bits(8 * (rest + max(SHORTEST + (TAG if tagged else 0), whole))),
-    )
+    return (Bits(8 * (rest + max(SHORTEST, whole))), Bits(8 * (rest + max(SHORTEST + (TAG if tagged else 0), whole))))
 
 
 def bit_of(rate: int) -> Fraction:
@@ -128,8 +126,10 @@ def main() -> None:
     exact = [it.time(bit, data_bit) for it in bits_of(words)]
     least, greatest = ticks(*exact, words.tick)
     if not 1 <= least or greatest > MOST_EXECUTION:
-        sys.exit(f"it takes {text_of(exact[0])} to {text_of(exact[1])}, and 1 to {MOST_EXECUTION} ticks are possible: "
-                 "take another --tick")
+        sys.exit(
+            f"it takes {text_of(exact[0])} to {text_of(exact[1])}, and 1 to {MOST_EXECUTION} ticks are possible: "
+            "take another --tick"
+        )
     print(f"best = {least}, worst = {greatest} # {text_of(exact[0])} to {text_of(exact[1])}")
 
 

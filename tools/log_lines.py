@@ -75,8 +75,8 @@ def channels_of(words: argparse.Namespace, log: Log, buses: list[str]) -> dict[s
 
 
 def identifiers_of(system: dict[str, Any], bus: str) -> dict[Key, str]:
-    """The tasks of a bus by the identifiers that their priorities stand for, as tools/from_network.py writes them: where
-    all have 11 bits, or all 29."""
+    """The tasks of a bus by the identifiers that their priorities stand for, as tools/from_network.py writes them:
+    where all have 11 bits, or all 29."""
     tasks = frames_on(system, bus)
     if not tasks:
         return {}
@@ -197,9 +197,7 @@ class Comparison:
                 if self.words.database
                 else "its priorities are no identifiers: name the --database"
             )
-            sys.exit(
-                f"{self.words.system}: no frame of channel {channel} has the identifier of a task on {bus}: {why}"
-            )
+            sys.exit(f"{self.words.system}: no frame of channel {channel} has the identifier of a task on {bus}: {why}")
         tasks = {it["name"]: it for it in self.system["task"]}
         least = {key: execution(tasks[name], resource)[0] for key, name in known.items()}
         for key, name in sorted(known.items(), key=lambda it: tasks[it[1]]["priority"]):
@@ -213,8 +211,11 @@ class Comparison:
         print(f"bus {bus} channel {channel} frames {count} rough {short}")
         if short > self.words.rough:
             print(
-                f"bus {bus}: frames were received up to {short} ticks sooner after the one before than they are long:"
-                " the times are rough, which --rough takes into account, or the bit rate or the tick is another",
+                (
+                    f"bus {bus}: frames were received up to {short} ticks sooner after the one before than they are"
+                    " long: the times are rough, which --rough takes into account, or the bit rate or the tick is"
+                    " another"
+                ),
                 file=sys.stderr,
             )
 

@@ -23,8 +23,9 @@ MOST_TIME = 2**53
 NOTES = {
     "error frames": ": after an error a frame is sent again, which only a bound with --errors counts",
     "remote frames": " aren't taken",
-    "CAN FD frames": " are taken as such; where these are classical ones, as python-can has all of newer .asc files:"
-    " --classical",
+    "CAN FD frames": (
+        " are taken as such; where these are classical ones, as python-can has all of newer .asc files: --classical"
+    ),
     "frames of the recorder itself": " are taken as others are",
     "frames before an earlier one of their channel": ": all are sorted by their times",
 }
@@ -158,8 +159,8 @@ def rise(values: Iterable[int]) -> int:
 
 
 def ahead(times: Sequence[int], period: int) -> int:
-    """The least jitter with which a period allows these times: by how much frames come earlier, counted from any earlier
-    one."""
+    """The least jitter with which a period allows these times: by how much frames come earlier, counted from any
+    earlier one."""
     return rise(place * period - time for place, time in enumerate(times))
 
 
@@ -200,9 +201,7 @@ def period_of(times: Sequence[int]) -> int:
             most = half
         else:
             least = half + 1
-    return min(
-        (it for it in (least - 1, least) if it >= 1), key=lambda it: (max(runs_ahead(it), falls_behind(it)), it)
-    )
+    return min((it for it in (least - 1, least) if it >= 1), key=lambda it: (max(runs_ahead(it), falls_behind(it)), it))
 
 
 def first_breach(times: Sequence[int], stream: tuple[int, int, int]) -> Optional[tuple[int, int]]:

@@ -32,8 +32,8 @@ class Frame:
 
     @property
     def order(self) -> tuple[int, bool, int]:
-        """By this the bus chooses: the first 11 bits of the identifier; of two that have them alike, the one that has no
-        more; then the rest."""
+        """By this the bus chooses: the first 11 bits of the identifier; of two that have them alike, the one that has
+        no more; then the rest."""
         return (
             (self.identifier >> 18, True, self.identifier & 0x3FFFF) if self.extended else (self.identifier, False, 0)
         )

@@ -137,8 +137,10 @@ class Taker:
         if bit.denominator > 1:
             self.report.add(
                 self.report.changed,
-                f"a bit of bus {bus.name} takes {float(bit):g} ticks: lengths are rounded, the least down and the"
-                f" greatest up; with --tick {text_of(common(tick, bit * tick))} none is",
+                (
+                    f"a bit of bus {bus.name} takes {float(bit):g} ticks: lengths are rounded, the least down and the"
+                    f" greatest up; with --tick {text_of(common(tick, bit * tick))} none is"
+                ),
             )
         data_rate = self.told_rate(bus, "--data-bitrate", self.words.data_bitrate, bus.data_bitrate)
         if data_rate and data_rate < rate:
@@ -185,8 +187,10 @@ class Taker:
         elif frame.is_spontaneous and not frame.delay and not self.words.others:
             report.add(
                 report.assumed,
-                f"no frame comes on an event, which the send type {frame.send_type} allows, but the database has no"
-                " least distance (--others)",
+                (
+                    f"no frame comes on an event, which the send type {frame.send_type} allows, but the database has no"
+                    " least distance (--others)"
+                ),
                 frame.name,
             )
 
@@ -241,8 +245,10 @@ class Taker:
         if self.words.multiplexed == "once" or frame.values < 2:
             self.report.add(
                 self.report.assumed,
-                "one frame a cycle, whatever its multiplexer has; where each value is sent in each cycle:"
-                " --multiplexed each",
+                (
+                    "one frame a cycle, whatever its multiplexer has; where each value is sent in each cycle:"
+                    " --multiplexed each"
+                ),
                 frame.name,
             )
             return period, jitter
@@ -332,9 +338,11 @@ class Taker:
         jitter = (count - 1) * period + longest
         self.report.add(
             self.report.assumed,
-            f"on bus {bus.name} at most {count} error{'s' * (count > 1)} in any {text_of(time)}, each of which takes 31"
-            f" bits and the longest frame again; a task {bus.name}{ERRORS} of highest priority stands for them, which is argued and"
-            " not proved",
+            (
+                f"on bus {bus.name} at most {count} error{'s' * (count > 1)} in any {text_of(time)}, each of which"
+                f" takes 31 bits and the longest frame again; a task {bus.name}{ERRORS} of highest priority stands for"
+                " them, which is argued and not proved"
+            ),
         )
         if jitter > MOST_TICKS or whole[1] + longest > MOST_EXECUTION:
             sys.exit(
@@ -441,8 +449,10 @@ class Taker:
             if len(names) > 1 and not any(it in self.forwards for it in names):
                 self.report.add(
                     self.report.assumed,
-                    "frames of one name on several buses are sent by themselves; one that a gateway passes on comes"
-                    f" with more jitter: --forward {names[0]}={names[1]}",
+                    (
+                        "frames of one name on several buses are sent by themselves; one that a gateway passes on comes"
+                        f" with more jitter: --forward {names[0]}={names[1]}"
+                    ),
                     " and ".join(names),
                 )
 

@@ -6,9 +6,9 @@
 
 A time may be a text, as "16.667 ms" or "250us", with ns, us, ms or s. On a resource with a bit rate, as `bitrate =
 500000`, it may be of bits or bytes too: "84 byte" is the time of 672 bits. Greatest executions, jitters and gaps are
-rounded up; least executions, periods, distances and deadlines down; a slot has no safe side and must be a whole number of
-ticks. Each rounding is told on the standard error and at the head of the file. A number without a unit stays a number of
-ticks. Comments and the order of entries stay.
+rounded up; least executions, periods, distances and deadlines down; a slot has no safe side and must be a whole
+number of ticks. Each rounding is told on the standard error and at the head of the file. A number without a unit
+stays a number of ticks. Comments and the order of entries stay.
 
 It needs tomlkit: apt-get install python3-tomlkit
 """
@@ -35,11 +35,7 @@ TIMES = {
         "jitter": (UP, 0, 1_000_000_000),
         "distance": (DOWN, 0, 1_000_000_000),
     },
-    "task": {
-        "best": (DOWN, 1, 1_000_000),
-        "worst": (UP, 1, 1_000_000),
-        "slot": (NEITHER, 1, 1_000_000),
-    },
+    "task": {"best": (DOWN, 1, 1_000_000), "worst": (UP, 1, 1_000_000), "slot": (NEITHER, 1, 1_000_000)},
     "path": {"deadline": (DOWN, 1, 1_000_000_000)},
 }
 MOST_BIT = 1_000
@@ -75,7 +71,9 @@ class Converter:
         found = AMOUNT.fullmatch(word)
         where = self.line_of(key, word)
         if not found:
-            raise Refusal(f'{where}{what}: {key} = "{word}" is no time: write a number and a unit, as "250 us" or "8 bit"')
+            raise Refusal(
+                f'{where}{what}: {key} = "{word}" is no time: write a number and a unit, as "250 us" or "8 bit"'
+            )
         if not found[2].startswith("b"):
             return Fraction(found[1]) * UNITS[found[2]]
         if what.startswith(("source", "path")):
@@ -113,13 +111,15 @@ class Converter:
         exact = self.nanoseconds(what, key, str(word), bit)
         number = self.ticks(what, key, exact, side)
         if key == "limit" and number > most:
-            self.told.append(f"{what}: limit of {text_of(exact)} is {most}, the most; bounds that need more are overload")
+            self.told.append(
+                f"{what}: limit of {text_of(exact)} is {most}, the most; bounds that need more are overload"
+            )
             number = most
         if not least <= number <= most:
             longer = "shorter" if number < least else "longer"
             raise Refusal(
-                f"{self.line_of(key, word)}{what}: {key} of {text_of(exact)} is {number} ticks, and {least} to {most} are"
-                f" possible: take a {longer} --tick"
+                f"{self.line_of(key, word)}{what}: {key} of {text_of(exact)} is {number} ticks, and {least} to"
+                f" {most} are possible: take a {longer} --tick"
             )
         item[key] = number
 
@@ -147,7 +147,9 @@ class Converter:
             return
         number = math.ceil(bit / self.tick)
         if not 1 <= number <= MOST_BIT:
-            raise Refusal(f"resource {name}: a bit of {text_of(bit)} is {number} ticks, and 1 to {MOST_BIT} are possible")
+            raise Refusal(
+                f"resource {name}: a bit of {text_of(bit)} is {number} ticks, and 1 to {MOST_BIT} are possible"
+            )
         item["bit"] = number
 
     def set_payload(self, item: Any) -> None:
