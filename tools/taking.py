@@ -135,13 +135,10 @@ class Taker:
                 f"a bit of bus {bus.name} takes {float(bit):g} ticks, and {MOST_BIT} is the most: take a longer --tick"
             )
         if bit.denominator > 1:
-            self.report.add(
-                self.report.changed,
-                (
-                    f"a bit of bus {bus.name} takes {float(bit):g} ticks: lengths are rounded, the least down and the"
-                    f" greatest up; with --tick {text_of(common(tick, bit * tick))} none is"
-                ),
-            )
+            whole = common(tick, bit * tick)
+            then = f"; with --tick {text_of(whole)} none is" if bit * tick / whole <= MOST_BIT else ""
+            what = f"a bit of bus {bus.name} takes {float(bit):g} ticks: lengths are rounded, the least down and the"
+            self.report.add(self.report.changed, f"{what} greatest up{then}")
         data_rate = self.told_rate(bus, "--data-bitrate", self.words.data_bitrate, bus.data_bitrate)
         if data_rate and data_rate < rate:
             sys.exit(f"bus {bus.name}: the data phase has {data_rate} bit/s, which is below {rate} of the bus")

@@ -57,7 +57,7 @@ class Converter:
     text: str
     told: list[str] = field(default_factory=list)
     bare: list[str] = field(default_factory=list)
-    exact: list[Fraction] = field(default_factory=list)
+    exact: list[tuple[Fraction, int]] = field(default_factory=list)  # times, each with the most ticks that it may be
     bits: dict[str, Fraction] = field(default_factory=dict)  # of a resource by its name, in nanoseconds
     given: set[str] = field(default_factory=set)  # resources whose bit has a unit
 
@@ -85,9 +85,9 @@ class Converter:
             )
         return Fraction(found[1]) * bit * (8 if found[2].startswith("byte") else 1)
 
-    def ticks(self, what: str, key: str, exact: Fraction, side: str) -> int:
+    def ticks(self, what: str, key: str, exact: Fraction, side: str, most: int) -> int:
         """A time in whole ticks, rounded to a side, which is told."""
-        self.exact.append(exact)
+        self.exact.append((exact, most))
         number = exact / self.tick
         if number.denominator == 1:
             return int(number)
@@ -109,7 +109,7 @@ class Converter:
         if not isinstance(word, str):
             return
         exact = self.nanoseconds(what, key, str(word), bit)
-        number = self.ticks(what, key, exact, side)
+        number = self.ticks(what, key, exact, side, most)
         if key == "limit" and number > most:
             self.told.append(
                 f"{what}: limit of {text_of(exact)} is {most}, the most; bounds that need more are overload"
@@ -160,31 +160,36 @@ class Converter:
             return
         what = f"task {item.get('name', '?')}"
         least, greatest = (it.time(bit) for it in classical(int(size), bool(extended)))
-        item["best"] = self.ticks(what, "the least length", least, DOWN)
-        item["worst"] = self.ticks(what, "the greatest length", greatest, UP)
+        most = TIMES["task"]["worst"][2]
+        item["best"] = self.ticks(what, "the least length", least, DOWN, most)
+        item["worst"] = self.ticks(what, "the greatest length", greatest, UP, most)
         for key in ("payload", "extended"):
             if key in item:
                 del item[key]
+
+    def set_times(self, kind: str, item: Any) -> None:
+        """Replaces the times of an entry."""
+        bit = self.bits.get(str(item.get("on", item.get("name", "")))) if kind in ("resource", "task") else None
+        for key in TIMES[kind]:
+            if key in item:
+                self.set_time(kind, item, key, bit)
 
     def convert(self, document: Any) -> None:
         """Turns all times of a file into ticks."""
         for item in document.get("resource", []):
             self.set_bit(item)
+        for kind in TIMES:
+            for item in document.get(kind, []):
+                self.set_times(kind, item)
         for item in document.get("task", []):
             self.set_payload(item)
-        for kind, keys in TIMES.items():
-            for item in document.get(kind, []):
-                bit = self.bits.get(str(item.get("on", item.get("name", ""))))
-                for key in keys:
-                    if key in item:
-                        self.set_time(kind, item, key, bit if kind in ("resource", "task") else None)
 
     def whole_tick(self) -> Optional[Fraction]:
-        """The longest tick with which nothing is rounded."""
+        """The longest tick with which nothing is rounded, where no number is too large by it."""
         found: Optional[Fraction] = None
-        for it in self.exact:
+        for it, _ in self.exact:
             found = (it if found is None else common(found, it)) if it else found
-        return found
+        return found if found and all(it / found <= most for it, most in self.exact) else None
 
     def lines(self) -> list[str]:
         """What is to be said of the file."""

@@ -25,9 +25,14 @@ def time_of(word: str) -> Fraction:
     return time
 
 
+def unit_of(nanoseconds: Fraction) -> str:
+    """The largest unit in which a time is at least 1."""
+    return next((it for it in ("s", "ms", "us") if nanoseconds >= UNITS[it]), "ns")
+
+
 def text_of(nanoseconds: Fraction) -> str:
     """A time in the largest unit in which it is at least 1."""
-    unit = next((it for it in ("s", "ms", "us") if nanoseconds >= UNITS[it]), "ns")
+    unit = unit_of(nanoseconds)
     return f"{float(nanoseconds / UNITS[unit]):.12g}{unit}"
 
 
