@@ -27,7 +27,6 @@ from imports_made import (
     random_frames,
     run,
     said_by,
-    system_of,
     tell,
     written,
 )
@@ -223,11 +222,14 @@ BA_ "GenMsgCycleTime" BO_ 267 2.5;
 """
 
 
+# bit rates for buses with CAN FD
+RATES = ("--bitrate", 500000, "--data-bitrate", 2000000)
+
+
 def check_features(room):
     """What a database says besides cycle times."""
     file = written(room, "car.dbc", DBC % "0")
-    rates = ("--bitrate", 500000, "--data-bitrate", 2000000)
-    system, told, text = imported(file, *rates, "--deadline-attribute", "DeadlineMs")
+    system, told, text = imported(file, *RATES, "--deadline-attribute", "DeadlineMs")
     periods = {it["name"].removesuffix(".queued"): it["period"] for it in system["source"]}
     hold(
         periods
@@ -251,6 +253,12 @@ def check_features(room):
     hold(tasks["Long"]["payload"] == 4, "a frame that is as long as its signals")
     # 29 to 34 bits of 2 us, and 97 to 114 of half a us
     hold((tasks["Flexible"]["best"], tasks["Flexible"]["worst"]) == (106, 125), f"CAN FD: {tasks['Flexible']}")
+
+
+def check_told(room):
+    """What is told of a database, on the standard error and in the file."""
+    file = written(room, "car.dbc", DBC % "0")
+    _, told, text = imported(file, *RATES, "--deadline-attribute", "DeadlineMs")
     for line in (
         "of bus car 10 of 13 frames are taken",
         "no cycle time, and no least distance is told (--others TIME takes these in): Diagnosis",
@@ -271,8 +279,13 @@ def check_features(room):
             line in told and line in " ".join(it.lstrip("# ") for it in text.splitlines()),
             f"what is told: {line}: {told}",
         )
+
+
+def check_options(room):
+    """What is taken otherwise by the words of a call."""
+    file = written(room, "car.dbc", DBC % "0")
     system, told, _ = imported(
-        file, *rates, "--others", "15ms", "--multiplexed", "each", "--jitter", "10%", "--deadline", "50%"
+        file, *RATES, "--others", "15ms", "--multiplexed", "each", "--jitter", "10%", "--deadline", "50%"
     )
     sources = {it["name"].removesuffix(".queued"): (it["period"], it["jitter"]) for it in system["source"]}
     hold(
@@ -285,7 +298,7 @@ def check_features(room):
     hold(sources["Muxed"] == (33_333, 10_000 + 2 * 33_333), f"--multiplexed each: {sources}")
     hold({it["name"]: it["deadline"] for it in system["path"]}["Uneven"] == 1250, "--deadline 50%")
     system, told, _ = imported(
-        file, *rates, "--multiplexed", "out", "--deadline", "none", "--without", "S*", "--jitter", "0.5ms"
+        file, *RATES, "--multiplexed", "out", "--deadline", "none", "--without", "S*", "--jitter", "0.5ms"
     )
     hold(
         {it["name"] for it in system["task"]} == {"Extras", "OnEvents", "Bursts", "Fast", "Long", "Flexible", "Uneven"}
@@ -294,20 +307,28 @@ def check_features(room):
         f"--without: {system}",
     )
     hold("multiplexed (--multiplexed): Muxed" in told and "by --without: Speed, Signals" in told, f"--without: {told}")
-    system, told, _ = imported(written(room, "defaults.dbc", DBC % "50"), *rates)
+    system, told, _ = imported(written(room, "defaults.dbc", DBC % "50"), *RATES)
     hold(
         {it["name"]: it["period"] for it in system["source"]}.get("Diagnosis.queued") == 50_000
         and "period by the default of GenMsgCycleTime: Diagnosis" in told,
         f"a default: {told}",
     )
-    system, told, _ = imported(file, *rates, "--fast", "100")
+    system, told, _ = imported(file, *RATES, "--fast", "100")
     hold(
         {it["name"]: it["period"] for it in system["source"]}["Uneven.queued"] == 2499
         and {it["name"]: it["period"] for it in system["source"]}["Speed.queued"] == 9999
         and "shorter by 100 millionths" in told,
         f"--fast: {told}",
     )
-    # a bus of CAN FD: rates of the database, and frames of which nothing is told
+    system, told, _ = imported(file, *RATES, "--tick", "10us", "--bus", "car", "--without", "Uneven")
+    hold(
+        {it["name"]: it["best"] for it in system["task"]}["Speed"] == 22 and "with --tick 2us none is" in told,
+        f"--tick 10us: {told}",
+    )
+
+
+def check_flexible(room):
+    """A bus of CAN FD: rates of the database, and frames of which nothing is told."""
     bus = 'BA_DEF_ "BusType" STRING;\nBA_DEF_DEF_ "BusType" "CAN FD";\nBA_DEF_ "BaudrateCANFD" INT 0 9000000;\n'
     bus += 'BA_DEF_DEF_ "BaudrateCANFD" 2000000;\nBA_DEF_ BO_ "CANFD_BRS" ENUM "0","1";\nBA_DEF_DEF_ "CANFD_BRS" "1";\n'
     text = DBC % "0" + bus
@@ -325,17 +346,12 @@ def check_features(room):
     system, told, _ = imported(written(room, "slow.dbc", text), "--bitrate", 500000)
     tasks = {it["name"]: it for it in system["task"]}
     hold((tasks["Flexible"]["best"], tasks["Flexible"]["worst"]) == (252, 296), f"one bit rate: {tasks['Flexible']}")
-    told = said_by("from_network.py", file, "--bitrate", 500000)
+    told = said_by("from_network.py", written(room, "car.dbc", DBC % "0"), "--bitrate", 500000)
     hold("Flexible: it is a frame of CAN FD, and the bit rate of the data phase isn't told" in told, told)
-    system, told, _ = imported(file, *rates, "--tick", "10us", "--bus", "car", "--without", "Uneven")
-    hold(
-        {it["name"]: it["best"] for it in system["task"]}["Speed"] == 22 and "with --tick 2us none is" in told,
-        f"--tick 10us: {told}",
-    )
 
 
-def check_several(room):
-    """Several buses, names, and what is forwarded."""
+def two_buses(room):
+    """The frames of two buses, and a database of both."""
     front = [
         ("Speed", 0x100, False, 8, 10, {}),
         ("Doors closed", 0x7, False, 2, 100, {}),
@@ -349,6 +365,12 @@ def check_several(room):
         ("Lamps", 0x3, False, 1, 50, {}),
     ]
     file = dumped(room, "two.kcd", {"front": matrix_of(front), "back": matrix_of(back)})
+    return front, back, file
+
+
+def check_several(room):
+    """The names of frames and buses, and the order of identifiers of both lengths."""
+    _, _, file = two_buses(room)
     system, told, text = imported(file, "--bitrate", 500000, "--bitrate", "back=125000", "--jitter", "1%")
     names = [
         "front.Doors_closed",
@@ -382,6 +404,11 @@ def check_several(room):
         == ["back.Lamps", "back.Lamps2", "back.Speed"],
         "11 bits go before 29",
     )
+
+
+def check_forward(room):
+    """What a gateway passes on."""
+    _, _, file = two_buses(room)
     system, told, _ = imported(
         file, "--bitrate", 500000, "--forward", "front.Speed=back.Speed", "--without", "back.Lamps2"
     )
@@ -398,6 +425,11 @@ def check_several(room):
         and "a gateway passes on at once" in told,
         f"--forward: {system['path']}",
     )
+
+
+def check_buses(room):
+    """Buses of other names, one of several, plain KCD files, and several files."""
+    front, back, file = two_buses(room)
     spaced = dumped(room, "spaced.kcd", {"Body CAN": matrix_of(front[:1])})
     system, told, _ = imported(spaced, "--bitrate", "Body_CAN=500000")
     hold(
@@ -585,6 +617,9 @@ def check_words():
             == execution({"payload": size, "extended": True}, {}),
             f"the lengths of a frame of {size} bytes",
         )
+        for extended in (False, True):
+            found = tuple(it.nominal for it in classical(size, extended))
+            hold(found == least_and_greatest(size, extended), f"the lengths of a frame of {size} bytes in tools/")
     # k frames in each cycle, at any times within the jitter, are what --multiplexed each makes of them
     draw = random.Random(6)
     for _ in range(200):
@@ -609,7 +644,12 @@ def main():
         for one in (
             check_sae,
             check_features,
+            check_told,
+            check_options,
+            check_flexible,
             check_several,
+            check_forward,
+            check_buses,
             check_arxml,
             check_clusters,
             check_shipped,

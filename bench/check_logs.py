@@ -217,8 +217,8 @@ def check_runs(room, count):
         )
 
 
-def check_logs(room):
-    """Channels, names, and what isn't taken."""
+def two_channels(room):
+    """A database, its system, frames of two channels, and their log."""
     database = dumped(
         room, "names.dbc", matrix_of([("Speed", 0x10, False, 2, 10, {}), ("Lamps", 0x20, False, 1, 20, {})])
     )
@@ -229,6 +229,12 @@ def check_logs(room):
     ]
     base.sort()
     log = log_of(room, "two.log", base)
+    return database, system, base, log
+
+
+def check_channels(room):
+    """Names of frames, and which channel is which bus."""
+    database, system, _, log = two_channels(room)
     done = run("from_log.py", log)
     hold(
         [it["name"] for it in system_of(done.stdout)["source"]] == ["can0.x010.seen", "can1.x020.seen"],
@@ -253,6 +259,11 @@ def check_logs(room):
         "from_log.py", log, "--system", system, "--bus", "b=can1", "--program", PROGRAM, "--database", f"b={database}"
     )
     hold(done.returncode == 0 and "frame Speed absent" in done.stdout, f"by a database: {done.stdout}")
+
+
+def check_strange(room):
+    """Frames that a system doesn't have, longer ones, and rough times."""
+    _, system, base, _ = two_channels(room)
     strange = log_of(
         room,
         "strange.log",
@@ -270,6 +281,11 @@ def check_logs(room):
     )
     report = written(room, "names.report.txt", analysed(system)[1])
     hold(run("from_log.py", strange, "--system", system, "--report", report).stdout == done.stdout, "--report")
+
+
+def check_clocks(room):
+    """Recorders whose clocks are slow, and whose times are late."""
+    _, system, _, _ = two_channels(room)
     # a recorder whose clock is slow by 1000 millionths
     slow = log_of(
         room, "slow.log", [(at * 999 // 1000, 0x10, False, 2, "can0") for at in range(0, 100_000_000, 10_000)]
@@ -292,7 +308,11 @@ def check_logs(room):
         "within input" in run("from_log.py", early, "--system", system, "--program", PROGRAM, "--rough", 700).stdout,
         "--rough",
     )
-    # to the tick: one that needs the jitter of a model, and one that needs a tick more
+
+
+def check_tight(room):
+    """To the tick: a log that needs the jitter of a model, and one that needs a tick more."""
+    database = two_channels(room)[0]
     tight = os.path.join(room, "tight.toml")
     run("from_network.py", f"b={database}", "--bitrate", 500000, "--jitter", "700.1us", "--to", tight)
     for early, verdict in (
@@ -318,7 +338,10 @@ def check_logs(room):
         == [(10_000, 0, 10_000)],
         f"gaps above the period: {done.stdout}",
     )
-    # frames of other kinds
+
+
+def check_kinds(room):
+    """Messages that aren't plain frames."""
     other = os.path.join(room, "other.log")
     with can.Logger(other) as it:
         for place in range(6):
@@ -347,9 +370,15 @@ def check_logs(room):
                 "1 frames of the recorder itself are taken",
             )
         )
-        and "3 frames" in done.stdout,
+        and "4 frames" in done.stdout,
         f"other frames: {done.stdout} {done.stderr}",
     )
+
+
+def check_log_words(room):
+    """What is refused, and what is told then."""
+    _, system, _, log = two_channels(room)
+    report = written(room, "names.report.txt", analysed(system)[1])
     for said, words in (
         ("which bus is which channel", [log, "--system", system, "--program", PROGRAM]),
         (
@@ -530,7 +559,17 @@ def check_page(room):
 def main():
     count = int(sys.argv[1]) if len(sys.argv) > 1 else 60
     with tempfile.TemporaryDirectory() as room:
-        for one in (check_logs, check_chains, check_can_utils, check_page):
+        for one in (
+            check_channels,
+            check_strange,
+            check_clocks,
+            check_tight,
+            check_kinds,
+            check_log_words,
+            check_chains,
+            check_can_utils,
+            check_page,
+        ):
             one(room)
         for one in (check_fits, check_runs):
             one(room, count)
