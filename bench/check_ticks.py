@@ -167,7 +167,7 @@ def check_refused(room):
         ("is told in bits, and its resource has no bit rate", '"2 us"', '"8 bit"', "1us"),
         ("is told in bits, and is on no resource", '"1 ms"', '"8 bit"', "1us"),
         ("it isn't TOML", "format", "format format", "1us"),
-        ("must be lists of entries", 'source = [{ name = "s", period = "1 ms" }]', 'source = "s"', "1us"),
+        ("source isn't a list of entries", 'source = [{ name = "s", period = "1 ms" }]', 'source = "s"', "1us"),
         ("bitrate = 0 is no bit rate", 'kind = "can"', 'kind = "can", bitrate = 0', "1us"),
         ("it has bit and bitrate", 'kind = "can"', 'kind = "can", bit = 1, bitrate = 500000', "1us"),
         (

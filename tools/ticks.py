@@ -49,6 +49,14 @@ class Refusal(Exception):
     """What is wrong with a file, and what to do."""
 
 
+def entries_of(document: Any, kind: str) -> list[Any]:
+    """The entries of a kind."""
+    found = document.get(kind, [])
+    if not isinstance(found, list) or not all(isinstance(it, dict) for it in found):
+        raise Refusal(f"{kind} isn't a list of entries, as `{kind} = [{{ name = .. }}]` or [[{kind}]] (docs/FILES.md)")
+    return list(found)
+
+
 @dataclass
 class Converter:
     """Turns the times of a file into ticks."""
@@ -176,12 +184,12 @@ class Converter:
 
     def convert(self, document: Any) -> None:
         """Turns all times of a file into ticks."""
-        for item in document.get("resource", []):
+        for item in entries_of(document, "resource"):
             self.set_bit(item)
         for kind in TIMES:
-            for item in document.get(kind, []):
+            for item in entries_of(document, kind):
                 self.set_times(kind, item)
-        for item in document.get("task", []):
+        for item in entries_of(document, "task"):
             self.set_payload(item)
 
     def whole_tick(self) -> Optional[Fraction]:
@@ -235,8 +243,6 @@ def converted(file: str, tick: Fraction) -> tuple[str, list[str]]:
         converter.convert(document)
     except Refusal as fault:
         sys.exit(f"{file}: {fault}")
-    except (AttributeError, TypeError):
-        sys.exit(f"{file}: resource, source, task and path must be lists of entries, as docs/FILES.md tells")
     lines = document.as_string().splitlines()
     told = converter.lines()
     head = [part for it in told for part in comments(it)]
