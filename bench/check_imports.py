@@ -107,6 +107,18 @@ def check_sae(room):
         )
 
 
+def check_sheets(room):
+    """The benchmark through spreadsheets, in which canmatrix reads 8 bytes for each frame: that is told."""
+    frames = {it[0]: it for it in sae_frames()}
+    for name in ("sae.xlsx", "sae.xls"):
+        system, told, _ = imported(f"can={dumped(room, name, matrix_of(sae_frames()))}", "--bitrate", 125000)
+        tasks, sources = system.get("task", []), {it["name"]: it for it in system.get("source", [])}
+        hold({it["name"]: it["priority"] for it in tasks} == {it: frames[it][1] for it in frames}, f"{name}: {tasks}")
+        hold(all(sources[it["after"]]["period"] == 1000 * frames[it["name"]][4] for it in tasks), f"{name}: {sources}")
+        hold({it["payload"] for it in tasks} == {8}, f"{name}: {tasks}")
+        hold("a sheet has no lengths of frames: each has 8 bytes" in told and "156.0 %" in told, f"{name}: {told}")
+
+
 def bits_on_bus(identifier, extended):
     """What is sent up to where a frame has the bus for itself; 0 goes before 1."""
     if not extended:
@@ -643,6 +655,7 @@ def main():
     with tempfile.TemporaryDirectory() as room:
         for one in (
             check_sae,
+            check_sheets,
             check_features,
             check_told,
             check_options,

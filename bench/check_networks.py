@@ -1,5 +1,5 @@
 #!/usr/bin/env python3
-"""Tries the lengths of frames, and what makes a large database fit. Outside the gate; takes about a minute, and no
+"""Tries the lengths of frames, and what makes a large database fit. Outside the gate; takes some minutes, and no
 network.
 
 Frames of CAN FD are built bit by bit, with the worst and the best stuffing found by trying all that a bit may be, and
@@ -7,7 +7,7 @@ no frame takes less or more than tools/lengths.py says. Frames of Ethernet come 
 followed frame by frame, with frames that are queued at any offset and with errors that hit where they cost most: none
 is late by more than its bound, whether frames share a source or not. What --only leaves out changes no bound.
 
-    python3 bench/check_networks.py [COUNT, 40 if absent]
+    python3 bench/check_networks.py [COUNT, 25 if absent]
 """
 import heapq
 import os
@@ -443,7 +443,7 @@ def check_help(room):
 
 
 def main():
-    count = int(sys.argv[1]) if len(sys.argv) > 1 else 40
+    count = int(sys.argv[1]) if len(sys.argv) > 1 else 25
     for one in (check_flexible, check_flexible_all, check_classical, check_ethernet):
         one()
     with tempfile.TemporaryDirectory() as room:
