@@ -154,6 +154,13 @@ def check_random(room, count):
                 == length,
                 f"{what} {name}: {tasks[name]}",
             )
+        # identifiers, where they are of one length and what is written tells of which
+        kinds = {it[2] for it in frames}
+        numbers = {it["name"]: it["priority"] for it in system["task"]}
+        if kinds == {False} or kinds == {True} and bit.denominator == 1:
+            hold(numbers == {it[0]: it[1] for it in frames}, f"{what}: its priorities aren't its identifiers")
+        else:
+            hold(sorted(numbers.values()) == list(range(len(frames))), f"{what}: its priorities aren't 0, 1, 2")
         order = sorted(frames, key=lambda it: bits_on_bus(it[1], it[2]))
         hold([it[0] for it in order] == sorted(tasks, key=lambda it: tasks[it]["priority"]), f"{what}: its order")
         hold(

@@ -261,6 +261,20 @@ def check_channels(room):
     hold(done.returncode == 0 and "frame Speed absent" in done.stdout, f"by a database: {done.stdout}")
 
 
+def check_errors(room):
+    """A system with errors: the task that stands for them is no frame; and one whose priorities are no identifiers."""
+    database, _, _, log = two_channels(room)
+    system = os.path.join(room, "errors.toml")
+    words = (f"b={database}", "--bitrate", 500000, "--errors", "1/100ms", "--to", system)
+    run("from_network.py", *words)
+    done = run("from_log.py", log, "--system", system, "--bus", "b=can0", "--program", PROGRAM)
+    hold(done.returncode == 0 and "errors" not in done.stdout and "frame Speed" in done.stdout, f"{done.stdout}")
+    zero = dumped(room, "zero.dbc", matrix_of([("Speed", 0, False, 2, 10, {}), ("Lamps", 1, False, 1, 20, {})]))
+    run("from_network.py", f"b={zero}", *words[1:])
+    told = said_by("from_log.py", log, "--system", system, "--bus", "b=can0", "--program", PROGRAM)
+    hold("its priorities don't tell which identifiers it has: name the --database" in told, told)
+
+
 def check_strange(room):
     """Frames that a system doesn't have, longer ones, and rough times."""
     _, system, base, _ = two_channels(room)
@@ -562,6 +576,7 @@ def main():
         for one in (
             check_channels,
             check_strange,
+            check_errors,
             check_clocks,
             check_tight,
             check_kinds,

@@ -6,9 +6,10 @@ import tomllib
 
 from calls import TOP, built, python_with
 
-PYTHON = python_with("canmatrix", "lxml", "can")
+PYTHON = python_with("canmatrix", "lxml", "can", "tomlkit", "xlrd", "xlwt", "xlsxwriter")
 if PYTHON is None:
-    sys.exit("canmatrix or python-can isn't here: apt-get install python3-canmatrix python3-lxml python3-can")
+    packages = "python3-canmatrix python3-lxml python3-can python3-tomlkit python3-xlrd python3-xlwt python3-xlsxwriter"
+    sys.exit(f"a package isn't here: apt-get install {packages}")
 if PYTHON != sys.executable:
     os.execv(PYTHON, [PYTHON, *sys.argv])
 

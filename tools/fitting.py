@@ -145,7 +145,8 @@ def add_bus(system: System, taker: Taker, bus: str) -> None:
     taken, tick = taker.taken[bus], taker.words.tick
     limit = None if tick >= 1000 else min(math.ceil(Fraction(1_000_000_000) / tick), 10_000_000)
     system.resources.append({"name": bus, "kind": "can", "bit": math.ceil(taker.rates[bus].bit), "limit": limit})
-    numbers, rule = priorities([it.frame for it in taken], 1 if bus in taker.errors else 0)
+    is_told = all(it.by_payload for it in taken)
+    numbers, rule = priorities([it.frame for it in taken], 1 if bus in taker.errors else 0, is_told)
     system.rules.append(f"bus {bus}: {rule}")
     if bus in taker.errors:
         add_errors(system, taker, bus)

@@ -83,9 +83,10 @@ def identifiers_of(system: dict[str, Any], bus: str) -> dict[Key, str]:
     if len({it.get("extended", False) for it in tasks}) > 1:
         sys.exit(f"{bus}: it has identifiers of 11 and of 29 bits, which priorities don't tell: name the --database")
     places = [it["priority"] for it in tasks]
-    # places in the order of the bus look like identifiers; they are written where identifiers of both lengths are there
-    # or one is 0 and errors go before it, and without a payload the length isn't told
-    may_be = "payload" not in tasks[0] or any(it["name"] == bus + ERRORS for it in system["task"])
+    # places in the order of the bus look like identifiers; they are written where there are identifiers of both
+    # lengths, where all have 29 bits and no payload tells so, and where one is 0 and errors go before it
+    has_errors = any(it["name"] == bus + ERRORS for it in system["task"])
+    may_be = has_errors or any("payload" not in it for it in tasks)
     is_order = may_be and sorted(places) == list(range(min(places), min(places) + len(places)))
     if is_order or any(it["priority"] >= 2048 and not it.get("extended") for it in tasks):
         sys.exit(f"{bus}: its priorities don't tell which identifiers it has: name the --database")

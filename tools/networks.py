@@ -80,10 +80,11 @@ def named(text: str, taken: set[str], longest: int, *more: str) -> str:
     return name
 
 
-def priorities(frames: list[Frame], first: int = 0) -> tuple[dict[str, int], str]:
+def priorities(frames: list[Frame], first: int, is_told: bool) -> tuple[dict[str, int], str]:
     """The priority of each frame of a bus by its name, at least a first number, and by what rule: its identifier where
-    all have 11 bits or all have 29, else its place in the order of the bus."""
-    if len({it.extended for it in frames}) < 2 and all(it.identifier >= first for it in frames):
+    all have 11 bits, or all have 29 and the entries tell so; else its place in the order of the bus."""
+    has_one_kind = len({it.extended for it in frames}) < 2 and (is_told or not frames[0].extended)
+    if has_one_kind and all(it.identifier >= first for it in frames):
         return {it.name: it.identifier for it in frames}, "priorities are identifiers"
     order = sorted(frames, key=lambda it: it.order)
     rule = f"priorities are {first}, {first + 1} and so on in the order in which the bus compares identifiers"
