@@ -1,11 +1,13 @@
 #!/usr/bin/env python3
-"""Holds docs/lokwurmi.schema.json against what else says how a system file looks. Outside the gate.
+"""Holds docs/lokwurmi.schema.json against what else says how a system file looks, and docs/lokwurmi.units.schema.json, of
+files whose times have units, against it. Outside the gate.
 
 Each system of examples/ names the schema in its first line and is accepted by it. Ranges and defaults are those of the
 table in docs/FILES.md, and a number just outside its range is refused. Of the files that docs/FILES.md shows as refused,
-the schema refuses those whose reason it can say, and no other.
+the schema refuses those whose reason it can say, and no other. The schema with units is this one with a text as another
+form of each time; --write writes it.
 
-    python3 bench/check_schema.py
+    python3 bench/check_schema.py [--write]
 """
 import copy
 import json
@@ -105,7 +107,65 @@ for part, keys in told.items():
     hold(not accepts(part, 0, "unknown", 1), f"{part}: a key that isn't known is accepted")
 for name, is_in in (("a-b_c.Dx", True), ("", False), ("left wheel", False), ("n" * 64, True), ("n" * 65, False)):
     hold(accepts("resource", 0, "name", name) == is_in, f"the name {name!r}")
+
+# files whose times have units
+UNITS_FILE = os.path.join("docs", "lokwurmi.units.schema.json")
+UNITS_LINE = "#:schema ../../docs/lokwurmi.units.schema.json\n"
+TIMES = {
+    "resource": ("limit", "gap", "bit"), "source": ("period", "jitter", "distance"), "task": ("best", "worst", "slot"), "path": ("deadline",)
+}
+# what a time may be beside a number of ticks; of bits only where a resource has a bit rate
+ON_RESOURCES = {"resource": ("limit", "gap"), "task": ("best", "worst", "slot")}
+
+
+def with_units(whole):
+    """The schema with a text as another form of each time."""
+    whole = copy.deepcopy(whole)
+    whole["title"] += " with units"
+    whole["description"] = "A system of resources, sources, tasks and paths. A time is a number of ticks, or a text with a unit, which tools/ticks.py turns into ticks."
+    for part, keys in TIMES.items():
+        for key in keys:
+            entry = whole["definitions"][part]["properties"][key]
+            number = {word: entry.pop(word) for word in ("type", "minimum", "maximum")}
+            units = "(ns|us|ms|s|bits?|bytes?)" if key in ON_RESOURCES.get(part, ()) else "(ns|us|ms|s)"
+            entry["description"] += " Or a text with a unit, as \"250 us\"."
+            entry["anyOf"] = [number, {"type": "string", "pattern": f"^[0-9]+([.][0-9]+)? ?{units}$"}]
+    properties = whole["definitions"]["resource"]["properties"]
+    properties["bitrate"] = {
+        "description": "Bits per second, in place of bit; times of its tasks may then be of bits and bytes.", "type": "integer", "minimum": 1
+    }
+    whole["definitions"]["resource"]["allOf"].append({"not": {"required": ["bit", "bitrate"]}})
+    return whole
+
+
+wanted = json.dumps(with_units(schema), indent=2) + "\n"
+if "--write" in sys.argv[1:]:
+    with open(os.path.join(TOP, UNITS_FILE), "w", encoding="utf-8") as file:
+        file.write(wanted)
+units = json.loads(read(UNITS_FILE))
+hold(json.loads(wanted) == units, f"{UNITS_FILE} isn't what the schema of ticks gives: python3 bench/check_schema.py --write")
+jsonschema.Draft7Validator.check_schema(units)
+validator = jsonschema.Draft7Validator(units)
+with_unit = sorted(it for it in os.listdir(os.path.join(TOP, "examples", "units")) if it.endswith(".toml"))
+for name in with_unit:
+    text = read("examples", "units", name)
+    hold(text.startswith(UNITS_LINE), f"examples/units/{name}: its first line doesn't name the schema")
+    for error in validator.iter_errors(tomllib.loads(text)):
+        hold(False, f"examples/units/{name}: {error.json_path}: {error.message}")
+for name in examples:
+    hold(validator.is_valid(tomllib.loads(read("examples", name))), f"examples/{name} isn't accepted by {UNITS_FILE}")
+for part, keys in TIMES.items():
+    for key in keys:
+        place = next(k for k, entry in enumerate(WHOLE[part]) if key in entry)
+        for value, is_in in (
+            ("250 us", True), ("16.667ms", True), ("1 s", True), ("5", False), ("1 week", False), ("-1 us", False), (1, True), (1.5, False),
+            ("8 bit", key in ON_RESOURCES.get(part, ())), ("84 bytes", key in ON_RESOURCES.get(part, ())),
+        ):
+            hold(accepts(part, place, key, value) == is_in, f"{UNITS_FILE}: {part}.{key} = {value!r}: should be {'accepted' if is_in else 'refused'}")
+hold(not accepts("resource", 1, "bitrate", 500000), "bit and bitrate together are accepted")
+hold(validator.is_valid({"format": 1, "resource": [{"name": "c", "kind": "can", "bitrate": 500000}]}), "a bit rate isn't accepted")
+
 for fault in faults:
     print(fault)
-print(f"{len(examples)} examples, {len(faults)} faults")
+print(f"{len(examples) + len(with_unit)} examples, {len(faults)} faults")
 sys.exit(1 if faults else 0)

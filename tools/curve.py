@@ -1,11 +1,12 @@
 #!/usr/bin/env python3
 """Draws how many events at most start a task in a window of each length: its streams one on the other, so that the top is their sum.
 
-    python3 tools/curve.py [--to PICTURE] [--window TICKS] [--beside PERIOD JITTER DISTANCE] FILE REPORT TASK
+    python3 tools/curve.py [--to PICTURE] [--window TICKS] [--beside PERIOD JITTER DISTANCE] [--tick TIME] FILE REPORT TASK
 
 FILE is a system file that `lokwurmi analyse` accepts, REPORT what it wrote of it, TASK the name of a task in it. With --beside
 the events of one more stream are drawn as a line. The window goes up to --window, or else to twice the longest period. The
-picture's name ends with .svg, .png or .pdf; without --to it is the name of the task with .svg.
+picture's name ends with .svg, .png or .pdf; without --to it is the name of the task with .svg. With --tick, as 1us, the window
+is drawn as a time.
 """
 import argparse
 import os
@@ -14,6 +15,7 @@ import sys
 from packages import need
 from report import read_report
 from system import activators, first_windows, input_of, most_events, read_system
+from times import UNITS, time_of, unit_of, word_of
 
 try:
     import matplotlib
@@ -36,7 +38,7 @@ def labels(system, name):
     return found
 
 
-def draw(streams, names, beside, window, picture, title):
+def draw(streams, names, beside, window, picture, title, tick=None):
     # between two of these windows no stream gets room for one more event
     every = [*streams, *([beside] if beside else [])]
     windows = sorted({0, window, *(it for stream in every for it in first_windows(stream, window))})
@@ -49,7 +51,10 @@ def draw(streams, names, beside, window, picture, title):
         axes.step(windows, [most_events(beside, it) for it in windows], where="post", color="black", linewidth=1.4, label="period {}, jitter {}, distance {}".format(*beside))
     axes.set_xlim(0, window)
     axes.set_ylim(0, None)
-    axes.set_xlabel("length of the window in ticks", fontsize=8)
+    unit = unit_of(window * tick) if tick else "ticks"
+    if tick:
+        axes.xaxis.set_major_formatter(lambda at, _: f"{at * float(tick / UNITS[unit]):g}")
+    axes.set_xlabel(f"length of the window in {unit}", fontsize=8)
     axes.set_ylabel("events at most", fontsize=8)
     axes.tick_params(labelsize=8)
     axes.yaxis.get_major_locator().set_params(integer=True)
@@ -67,6 +72,7 @@ def main():
     reader.add_argument("--to", metavar="PICTURE", help="a name that ends with .svg, .png or .pdf")
     reader.add_argument("--window", metavar="TICKS", type=int, help="the longest window")
     reader.add_argument("--beside", metavar=("PERIOD", "JITTER", "DISTANCE"), type=int, nargs=3, help="one more stream")
+    reader.add_argument("--tick", metavar="TIME", type=word_of(time_of), help="the time of a tick, as 1us")
     reader.add_argument("file", metavar="FILE", help="a system file")
     reader.add_argument("report", metavar="REPORT", help="what lokwurmi analyse wrote of it")
     reader.add_argument("task", metavar="TASK", help="the name of a task in it")
@@ -85,7 +91,7 @@ def main():
         sys.exit(f"{words.task}: what starts it has no bound")
     beside = tuple(words.beside) if words.beside else None
     window = words.window or 2 * max(period for period, _, _ in [*streams, *([beside] if beside else [])])
-    draw(streams, labels(system, words.task), beside, window, picture, f"Events that start {words.task}")
+    draw(streams, labels(system, words.task), beside, window, picture, f"Events that start {words.task}", words.tick)
 
 
 main()

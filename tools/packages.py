@@ -11,7 +11,15 @@ import sys
 # Debian installs its packages for this Python, which needn't be the one that comes first
 DEBIAN = "/usr/bin/python3"
 # the package of Debian that has a module
-PACKAGES = {"distributed": "python3-distributed", "jinja2": "python3-jinja2", "matplotlib": "python3-matplotlib"}
+PACKAGES = {
+    "can": "python3-can",
+    "canmatrix": "python3-canmatrix",
+    "distributed": "python3-distributed",
+    "jinja2": "python3-jinja2",
+    "lxml": "python3-lxml",
+    "matplotlib": "python3-matplotlib",
+    "tomlkit": "python3-tomlkit",
+}
 # set for the process that goes on there, so that it doesn't do so again
 AGAIN = "LOKWURMI_AGAIN"
 
