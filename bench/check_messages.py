@@ -45,7 +45,7 @@ from refusals.toml_faults import fault_in  # noqa: E402
 from refusals.trace import Trace  # noqa: E402
 
 CASES = os.path.join(TOP, "bench", "messages")
-PROGRAMS = {it: os.path.join(TOP, "crates", it, "out", it) for it in ("cpa_cli", "cpa_schedule")}
+PROGRAMS = {it: os.path.join(TOP, "crates", it, "out", it) for it in ("cpa_cli", "cpa_schedule", "cpa_chain")}
 
 
 @dataclass

@@ -44,7 +44,7 @@ in_terminal() {
 is_built() {
   case $1 in
   schedule) [ -x "$top/crates/cpa_schedule/out/cpa_schedule" ] ;;
-  chain) [ -x "$top/crates/cpa_chain/out/cpa_chain" ] ;;
+  chain | chains) [ -x "$top/crates/cpa_chain/out/cpa_chain" ] ;;
   *) [ -x "$top/crates/cpa_cli/out/cpa_cli" ] ;;
   esac
 }
@@ -52,7 +52,7 @@ is_built() {
 run_built() {
   case ${1-} in
   schedule) "$top/crates/cpa_schedule/out/cpa_schedule" "${@:2}" ;;
-  chain) "$top/crates/cpa_chain/out/cpa_chain" "${@:2}" ;;
+  chain | chains) "$top/crates/cpa_chain/out/cpa_chain" "$@" ;;
   *) "$top/crates/cpa_cli/out/cpa_cli" "$@" ;;
   esac
 }
@@ -164,7 +164,7 @@ cd "$room" || exit 1
 
 # ---- words that need no build
 afresh
-commands="analyse session simulate generate load hammer assign slack buffers audit schedule chain"
+commands="analyse session simulate generate load hammer assign slack buffers audit schedule chain chains"
 for words in --help -h help; do
   call "$words"
   hold "$words: status 0" is "$status" 0

@@ -44,6 +44,7 @@ _lokwurmi_read() {
       ((at++))
       ;;
     --workers=*) has_workers=yes ;;
+    --while-running) ((${#given[@]} > 1)) && given+=("${COMP_WORDS[at]}") ;;
     *) given+=("${COMP_WORDS[at]}") ;;
     esac
   done
@@ -65,7 +66,7 @@ _lokwurmi_operand() {
   [[ ${file:0:2} != \~/ ]] || file=$HOME/${file:2}
   case ${given[0]}.${#given[@]} in
   generate.* | load.* | hammer.[23]) ;;
-  analyse.1 | session.1 | simulate.1 | hammer.1 | assign.1 | slack.1 | buffers.1 | audit.1 | schedule.1 | chain.1) _lokwurmi_files "$word" .toml ;;
+  analyse.1 | session.1 | simulate.1 | hammer.1 | assign.1 | slack.1 | buffers.1 | audit.1 | schedule.1 | chain.1 | chains.1 | chains.2) _lokwurmi_files "$word" .toml ;;
   session.2) _lokwurmi_files "$word" .txt ;;
   simulate.2 | buffers.2 | audit.2 | audit.3 | schedule.2) _lokwurmi_files "$word" .csv ;;
   assign.2) mapfile -t COMPREPLY < <(compgen -W "$(_lokwurmi_names resource "$file")" -- "$word") ;;
@@ -74,7 +75,7 @@ _lokwurmi_operand() {
 }
 
 _lokwurmi() {
-  local word=${COMP_WORDS[COMP_CWORD]} number has_workers='' commands="analyse session simulate generate load hammer assign slack buffers audit schedule chain"
+  local word=${COMP_WORDS[COMP_CWORD]} number has_workers='' commands="analyse session simulate generate load hammer assign slack buffers audit schedule chain chains"
   local -a given=() found=()
   COMPREPLY=()
   _lokwurmi_read
@@ -97,6 +98,7 @@ _lokwurmi() {
     fi
     case ${given[0]} in
     analyse | session | load | slack | buffers) [ -n "$has_workers" ] || found=(--workers) ;;
+    chain) [[ " ${given[*]} " == *" --while-running "* ]] || found=(--while-running) ;;
     esac
     ((${#given[@]} > 1)) || found+=(--help)
     ;;

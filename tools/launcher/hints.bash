@@ -16,7 +16,7 @@ hint() {
   15) echo "lokwurmi: a line of the script is none of its forms, or there are too many: no edit was made. The forms: $files, \"The script\"" ;;
   16) echo "lokwurmi: a row of the trace isn't one that fits the system, or the trace has too many rows or starts too many jobs. What to change: $files, \"Status 16\"" ;;
   17) echo "lokwurmi: the trace is readable, but does what the system file rules out, so no bound is claimed for it. What it tells you: $files, \"Status 17\"" ;;
-  18) echo "lokwurmi: the word after the file names nothing that the command can take: assign wants a preemptive or CAN resource on which each task is activated by sources alone, slack a task, chain tasks. Each number, and what to change: $files, \"Status 18\"" ;;
+  18) echo "lokwurmi: the word after the file names nothing that the command can take: assign wants a preemptive or CAN resource on which each task is activated by sources alone, slack a task, chain tasks; or the file of chains is refused. Each number, and what to change: $files, \"Status 18\"" ;;
   19) echo "lokwurmi: a row of the schedule isn't TASK,START,END with a task of the system and times in range, or there are too many. What to change: $files, \"Status 19\"" ;;
   20) echo "lokwurmi: the output couldn't be written whole: is the disk full, or was the pipe closed? More: $files, \"Statuses\"" ;;
   30) echo "lokwurmi: there wasn't enough memory, and what was written may be only a part. More: $files, \"Statuses\"" ;;

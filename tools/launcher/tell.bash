@@ -29,7 +29,7 @@ find_files() {
   while (($# > 0)); do
     case $1 in
     --workers) shift ;;
-    --workers=*) ;;
+    --workers=* | --while-running) ;;
     *) [ -n "$file" ] && others+=("$1") || file=$1 ;;
     esac
     shift

@@ -3,7 +3,7 @@
 version=1.0
 # the toolchains that have proved the whole repository, the second one up to the last few clauses
 kits=(rattle-kit-13b rattle-kit-13f)
-commands=(analyse session simulate generate load hammer assign slack buffers audit schedule chain)
+commands=(analyse session simulate generate load hammer assign slack buffers audit schedule chain chains)
 
 # Sets of a command: its words, whether it takes --workers N too, what it writes, what its status tells beside 0, what else is to be
 # known, and the words of an example.
@@ -59,6 +59,12 @@ describe() {
   chain)
     words="FILE TASK [TASK..]" writes="how late a chain reacts, how old data gets"
     example="examples/effects.toml sense filter act" statuses="2: a bound is overload"
+    note="--while-running, as the first word or the last: less, where tasks read only while they run"
+    ;;
+  chains)
+    words="FILE CHAINS" writes="the same of many, beside their deadlines"
+    example="examples/effects.toml examples/effects.chains.toml"
+    statuses="1: a deadline is missed; 2: a bound is overload"
     ;;
   *) return 1 ;;
   esac
@@ -73,7 +79,8 @@ explain() {
   SCHEDULE) echo "what ran from when to when (\"Recorded schedules\")" ;;
   RESOURCE) echo "the name of a preemptive or CAN resource in FILE" ;;
   TASK) echo "the name of a task in FILE" ;;
-  "[TASK..]") echo "up to 31 more, in the order of the chain" ;;
+  "[TASK..]") echo "up to 31 more, in the order of the data" ;;
+  CHAINS) echo "chains and their deadlines (\"Chains with deadlines\")" ;;
   NUMBER) echo "0 to 4294967295: another number makes others" ;;
   SIZE) echo "how many chains, 0 to 128" ;;
   TRACES) echo "how many of them, 1 to 10000" ;;
@@ -219,7 +226,7 @@ told_wrong() {
     echo "${2@Q} is no option; --workers N is the only one, and --quiet stands before the command"
   elif [[ $2 =~ ^-[0-9]+$ && $1 =~ ^(NUMBER|SIZE|TRACES)$ ]]; then
     echo "$1 is $2, and can't be below 0"
-  elif [[ $2 == -* && $1 =~ ^(FILE|SCRIPT|TRACE|SCHEDULE)$ ]]; then
+  elif [[ $2 == -* && $1 =~ ^(FILE|SCRIPT|TRACE|SCHEDULE|CHAINS)$ ]]; then
     echo "${2@Q} begins with a dash: write ./$2 for a file of that name"
   elif [[ $2 == -* ]]; then
     echo "${2@Q} begins with a dash, and no word but --workers does"
@@ -231,6 +238,15 @@ told_count() {
   local command=$1 wanted
   shift
   read -ra wanted <<<"$words"
+  if [ "$command" = chain ]; then
+    # one task at least
+    wanted=("${wanted[@]:0:2}")
+    if (($# > 33)); then
+      echo "a chain has at most 32 tasks, and here are $(($# - 1))"
+      return
+    fi
+    (($# < 2)) || return
+  fi
   if (($# < ${#wanted[@]})); then
     echo "${wanted[*]:$#} $( ((${#wanted[@]} - $# == 1)) && echo is || echo are) missing"
   elif (($# > ${#wanted[@]})); then
@@ -251,15 +267,35 @@ told_numbers() {
   done
 }
 
+# Whether the first word or the last is the one that says that jobs read only while they run.
+has_flag() {
+  (($# > 0)) && [[ $1 == --while-running || ${!#} == --while-running ]]
+}
+
 # The first thing that is wrong with the words after a command that is known.
 told_fault() {
   local command=$1 it given=() wanted seen='' fault
   read -ra wanted <<<"$words"
   shift
+  if [ "$command" = chain ] && has_flag "$@"; then
+    if [ "$1" = --while-running ]; then
+      shift
+    else
+      set -- "${@:1:$#-1}"
+    fi
+    [[ " $* " != *" --while-running "* ]] || { echo "--while-running stands twice" && return; }
+  fi
   while (($# > 0)); do
     it=$1
     shift
-    if [[ $it != --workers && $it != --workers=* ]]; then
+    if [ "$it" = --while-running ]; then
+      if [ "$command" = chain ]; then
+        echo "--while-running stands first or last"
+      else
+        echo "$command takes no --while-running"
+      fi
+      return
+    elif [[ $it != --workers && $it != --workers=* ]]; then
       fault=$(told_wrong "${wanted[${#given[@]}]-}" "$it")
       [ -z "$fault" ] || { echo "$fault" && return; }
       given+=("$it")
@@ -346,6 +382,16 @@ is_regular() {
   read -ra wanted <<<"$words"
   operands=()
   shift
+  if [ "$words" = "FILE TASK [TASK..]" ]; then
+    if [ "${1-}" = --while-running ]; then
+      shift
+    elif has_flag "$@"; then
+      set -- "${@:1:$#-1}"
+    fi
+    (($# >= 2 && $# <= 33)) || return
+    wanted=(FILE)
+    for it in "${@:2}"; do wanted+=(TASK); done
+  fi
   while (($# > 0)); do
     if [[ -n $workers && $1 == --workers && $# -gt 1 ]]; then
       it=$2
@@ -373,7 +419,7 @@ tell_missing() {
   local at
   for ((at = 0; at < ${#wanted[@]}; at++)); do
     case ${wanted[at]} in
-    FILE | SCRIPT | TRACE | SCHEDULE)
+    FILE | SCRIPT | TRACE | SCHEDULE | CHAINS)
       if [ ! -r "${operands[at]}" ] || [ -d "${operands[at]}" ]; then
         echo "lokwurmi: note: ${operands[at]@Q} can't be read, and has to be there once the program is built" >&2
       fi

@@ -9,7 +9,7 @@ import tomllib
 from collections.abc import Sequence
 from typing import NoReturn
 
-from . import edits, lines, notices, schedule, script
+from . import chains, edits, lines, notices, schedule, script
 from .document import Document, Entry
 from .judge import Refusal, first_refusal
 from .remark import TOP, File, Look, Remark, decoded, listed, nearest, page, printable
@@ -17,7 +17,13 @@ from .toml_faults import fault_in
 from .trace import Trace
 
 UNREADABLE, TOO_LONG, NO_TOML, NO_SYSTEM, SCRIPT, TRACE, DISOBEYS, WORD, SCHEDULE = 11, 12, 13, 14, 15, 16, 17, 18, 19
-MOST_BYTES = {"system": 1_048_576, "script": 1_048_576, "trace": 16_777_216, "schedule": 16_777_216}
+MOST_BYTES = {
+    "system": 1_048_576,
+    "script": 1_048_576,
+    "file of chains": 1_048_576,
+    "trace": 16_777_216,
+    "schedule": 16_777_216,
+}
 # what the words of a command are, after the system file
 OTHERS = {
     "session": ("script",),
@@ -25,6 +31,7 @@ OTHERS = {
     "buffers": ("trace",),
     "schedule": ("trace",),
     "audit": ("trace", "schedule"),
+    "chains": ("file of chains",),
 }
 MOST_NOTICES = 10
 
@@ -131,7 +138,8 @@ class Call:
         return self.look.text(File(name, ""), Remark(says, None, (), helps, "Statuses"))
 
     def no_toml(self) -> str | None:
-        name = self.file("system")
+        # of `chains` either of its files may be the one
+        name = self.line.removeprefix("not TOML ") if self.command == "chains" else self.file("system")
         if not name or not is_regular(name):
             return None
         file = read_system(name)
@@ -182,12 +190,23 @@ class Call:
         return self.on(name, schedule.fault_in(document, file), self.line.removeprefix("schedule refused "), file)
 
     def word(self) -> str | None:
-        """The word of `assign` or `slack` that can't be taken."""
+        """The word of `assign`, `slack` or `chain` that can't be taken, or what is wrong in the file of `chains`."""
         document = document_of(self.words[0]) if is_regular(self.words[0]) else None
         if not document:
             return None
+        if self.command == "chains":
+            return self.chains(document)
+        if found := re.fullmatch(r"chain refused (\d+)", self.line):
+            return self.look.text(File(self.words[0], ""), chains.of_word(document, self.words[int(found[1])]))
         file, remark = File(self.words[0], document.text), remark_on_word(document, self.line, self.words[1])
         return self.look.text(file, remark) if remark else None
+
+    def chains(self, document: Document) -> str | None:
+        name = self.file("file of chains")
+        if not name or not is_regular(name):
+            return self.by_line(name) if name else None
+        file, tasks = read_system(name), [it["name"] for it in document.entries["task"]]
+        return self.on(name, chains.fault_in(file, tasks), self.line.removeprefix("chains refused "), file)
 
     # ---- notices
 

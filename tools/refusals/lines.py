@@ -22,6 +22,8 @@ REASONS = {
     14: "it has no activator, one twice, or more than 32 streams",
 }
 MORE = {1: "1: the form", 13: "13: another format", **SECTIONS}
+# where they are others for chains
+CHAINS = {11: "it has no task, or more than 32", 13: "the format is 1"}
 ROWS = {
     "malformed": "it hasn't the three fields of its form",
     "name": "a name in it names nothing that it may",
@@ -35,6 +37,10 @@ def told(line: str) -> tuple[str, str] | None:
         reason, part, place = int(found[1]), found[2], int(found[3])
         where = "the file as a whole" if part == "file" else f"{part} {place}, counted from 1"
         return f"{where}: {REASONS[reason]}", MORE[reason]
+    if found := re.fullmatch(r"chains refused reason (\d+) (\w+) (\d+)", line):
+        reason, part, place = int(found[1]), found[2], int(found[3])
+        where = "the file as a whole" if part == "file" else f"chain {place}, counted from 1"
+        return f"{where}: {CHAINS.get(reason) or REASONS[reason]}", "Chains with deadlines"
     if found := re.fullmatch(r"script refused line (\d+)", line):
         return f"line {found[1]} is none of the forms of an edit", "The script"
     if found := re.fullmatch(r"(trace|schedule) refused row (\d+) (\w+)", line):
