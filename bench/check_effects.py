@@ -42,6 +42,8 @@ REFUSED_WORDS = [
     (["FILE", *["t0"] * 33], "words refused", 10),
     (["FILE", "nobody"], "chain refused 1", 18),
     (["FILE", "t0", "nobody", "no"], "chain refused 2", 18),
+    (["--while-running", "FILE", "t0", "--while-running"], "words refused", 10),
+    (["FILE", "--while-running", "t0"], "words refused", 10),
 ]
 
 
@@ -50,33 +52,32 @@ def stop(what, system, told, wrote):
 
 
 class Programs:
-    """The programs of both commands; a command that the program hasn't got yet is left out, and that is told."""
+    """The program of both commands."""
 
     def __init__(self, folder):
-        self.folder, self.chain = folder, built("cpa_chain")
+        self.folder, self.program = folder, built("cpa_chain")
         self.file = os.path.join(folder, "system.toml")
-        self.chains = built("cpa_chains") if os.path.isdir(os.path.join(TOP, "crates", "cpa_chains")) else None
-        self.while_running = None
 
-    def call(self, program, *words):
-        done = subprocess.run([program, self.file, *words], capture_output=True, text=True, check=False)
+    def call(self, *words):
+        done = subprocess.run([self.program, *words], capture_output=True, text=True, check=False)
         return done.stdout, done.returncode
 
     def begin(self, system):
         rules.write(self.file, rules.file_of(system))
-        if self.while_running is None:
-            self.while_running = self.call(self.chain, "--while-running", system["task"][0]["name"])[1] != 10
 
     def compare_chain(self, system, bounds, chain, tally):
-        for option in ((), ("--while-running",)) if self.while_running else ((),):
-            told, wrote = bounds.text_of(chain, "above" if option else ""), self.call(self.chain, *option, *chain)
+        for is_running in (False, True):
+            words = (self.file, *chain)
+            # the word stands first or last
+            option = ("--while-running",) if is_running else ()
+            words = (*option, *words) if len(chain) % 2 else (*words, *option)
+            told = bounds.text_of(chain, "same-source" if is_running else "")
+            wrote = self.call("chain", *words)
             if told != wrote:
-                stop(f"chain {' '.join((*option, *chain))}", system, told, wrote)
+                stop(f"chain {' '.join(words)}", system, told, wrote)
             tally["texts of chain" + "".join(" " + it for it in option)] += 1
 
     def compare_chains(self, system, bounds, chains, draw, tally):
-        if self.chains is None:
-            return
         listed = [(f"c{k}", tasks, *deadlines(draw, bounds, tasks)) for k, tasks in enumerate(chains)]
         self.judge(system, chain_files.text_of(listed), told_chains(bounds, listed))
         tally["files of chains"] += 1
@@ -85,14 +86,22 @@ class Programs:
             text = chain_files.damaged(draw, listed)
             refusal = chain_files.refusal_of(text, bounds.rules.tasks)
             if refusal:
-                self.judge(system, text, refused(*refusal))
+                self.judge(system, text, self.refused(*refusal))
                 tally[f"files refused for reason {refusal[0]}"] += 1
+
+    def refused(self, reason, place):
+        """The line and the status of a file of chains that is refused."""
+        if reason == "toml":
+            return f"not TOML {os.path.join(self.folder, 'chains.toml')}\n", 13
+        part = f"chain {place}" if place else "file 0"
+        return f"chains refused reason {reason} {part}\n", 18
 
     def judge(self, system, text, told):
         """What `chains` says of a file with this text."""
         file = os.path.join(self.folder, "chains.toml")
-        rules.write(file, text)
-        wrote = self.call(self.chains, file)
+        with open(file, "w", encoding="utf-8") as it:
+            it.write(text)
+        wrote = self.call("chains", self.file, file)
         if told != wrote:
             stop(f"chains of the file\n{text}\n", system, told, wrote)
 
@@ -100,17 +109,10 @@ class Programs:
         """Faults of words and names."""
         self.begin(system)
         for words, line, status in REFUSED_WORDS:
-            wrote = self.call(self.chain, *words[1:])
+            wrote = self.call("chain", *(self.file if it == "FILE" else it for it in words))
             if wrote != (line + "\n", status):
                 stop(f"chain {' '.join(words)}", system, (line, status), wrote)
             tally["refusals"] += 1
-
-
-def refused(reason, place):
-    """The line and the status of a file of chains that is refused."""
-    if reason == "toml":
-        return "chains refused not toml\n", 19
-    return f"chains refused reason {reason} chain {place}\n", 19
 
 
 def deadlines(draw, bounds, tasks):
