@@ -335,7 +335,8 @@ def check_packages(room):
 
 def check_named():
     """The pages name the package of each module that a tool has from elsewhere."""
-    own = {os.path.basename(it)[:-3] for it in glob.glob("tools/*.py")}
+    # beside modules of tools/ its package of refusals, and the package of this repository
+    own = {os.path.basename(it)[:-3] for it in glob.glob("tools/*.py")} | {"lokwurmi", "refusals"}
     wanted = {"graphviz"}
     for file in sorted(glob.glob("tools/*.py")):
         with open(file, encoding="utf-8") as it:
