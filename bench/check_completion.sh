@@ -61,7 +61,9 @@ ask "--help --version $(printf '%s\n' help "${commands[@]}" | sort | tr '\n' ' '
 ask "${commands[*]}" --help ""
 for command in "${commands[@]}"; do
   takes=$("$top/lokwurmi" --help "$command" | grep -o -- '^lokwurmi.* \[--workers N\]$')
-  ask "--help${takes:+ --workers}" "$command" -
+  flag=''
+  [ "$command" != chain ] || flag=" --while-running"
+  ask "--help${takes:+ --workers}$flag" "$command" -
 done
 ask "analyse assign audit" a
 ask "schedule session simulate slack" s
@@ -93,6 +95,10 @@ ask "" schedule two.toml trace.csv ""
 ask "bus.1 cpu" assign two.toml ""
 ask "cpu" assign two.toml c
 ask "a a-2" slack two.toml ""
+ask "a a-2" chain two.toml ""
+ask "a a-2" chain two.toml a ""
+ask "a a-2" chain --while-running two.toml ""
+ask "two.toml" chains tw
 ask "a a-2" slack --workers 2 two.toml ""
 ask "ring" assign 'a\ b.toml' ""
 ask "t1 t2" slack '"a b.toml"' t

@@ -13,6 +13,8 @@ MOST_STREAMS = 32
 MOST_IN_NAME = 64
 # what one bus compares first, and the greatest identifier of 11 bits
 MOST_SHORT = 0x7FF
+# how many bits of an identifier of 29 come behind those 11
+LOW_BITS = 18
 
 
 @dataclass(frozen=True)

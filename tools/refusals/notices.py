@@ -4,14 +4,14 @@ from __future__ import annotations
 from system import activators
 
 from .document import Document, Names
-from .keys import MOST_SHORT
-from .remark import Remark, listed
+from .keys import LOW_BITS, MOST_SHORT
+from .remark import Note, Remark, listed
 
 MOST = 5
 
 
 def of_system(document: Document) -> list[Remark]:
-    return [*unused_sources(document), *long_identifiers(document)]
+    return [*unused_sources(document), *long_identifiers(document), *mixed_identifiers(document)]
 
 
 def unused_sources(document: Document) -> list[Remark]:
@@ -64,8 +64,36 @@ def long_identifiers(document: Document) -> list[Remark]:
             f"if it is an identifier of 29 bits, {way}, and mind the order of mixed identifiers; a mere rank may stay"
         )
         remarks.append(
-            Remark(says, document.value_span("task", at, "priority"), (), helps, "The system", is_notice=True)
+            Remark(says, document.value_span("task", at, "priority"), (), helps, "CAN identifiers", is_notice=True)
         )
+    return remarks
+
+
+def mixed_identifiers(document: Document) -> list[Remark]:
+    """One notice a bus with frames of both lengths, where the priorities look like identifiers, and these are compared on the
+    bus in another order."""
+    names, remarks = Names(document), []
+    for resource in document.entries["resource"]:
+        if resource["kind"] != "can":
+            continue
+        frames = [(at, it) for at, it in names.on(resource["name"]) if "payload" in it]
+        long = [(at, it) for at, it in frames if it.get("extended") and it["priority"] > MOST_SHORT]
+        short = [(at, it) for at, it in frames if not it.get("extended")]
+        pair = next(((a, b) for a in long for b in short if a[1]["priority"] >> LOW_BITS < b[1]["priority"] <= MOST_SHORT), None)
+        if pair:
+            (at, first), (other, second) = pair
+            says = (
+                f"{document.called('task', at)} has a priority like an identifier of 29 bits, and goes on the bus before"
+                f" {second['name']}, whose priority is smaller"
+            )
+            note = Note(f"{second['name']} has 11 bits", document.value_span("task", other, "priority"))
+            helps = (
+                f"the first 11 bits are compared first, here {first['priority'] >> LOW_BITS:#x} and {second['priority']:#x}:"
+                f" give the frames of {resource['name']} the priorities 0, 1, 2 and so on in the order of the bus; as it"
+                " stands bounds may be too low for the bus"
+            )
+            span = document.value_span("task", at, "priority")
+            remarks.append(Remark(says, span, (note,), helps, "CAN identifiers", is_notice=True))
     return remarks
 
 
