@@ -35,6 +35,7 @@ from collections.abc import Iterator
 from concurrent.futures import ThreadPoolExecutor
 from dataclasses import dataclass, field
 
+from calls import example_systems
 from damage import damaged, damaged_rows, damaged_script
 
 TOP = os.path.dirname(os.path.dirname(os.path.abspath(__file__)))
@@ -195,9 +196,8 @@ class Room:
 
     def __init__(self, folder: str, seed: int):
         self.folder, self.draw, self.seen, self.wrong = folder, random.Random(seed), Counter(), 0
-        paths = sorted(glob.glob(os.path.join(TOP, "examples", "*.toml"))) + [
-            os.path.join(CASES, "base", "system.toml")
-        ]
+        paths = [os.path.join(TOP, it) for it in example_systems()]
+        paths.append(os.path.join(CASES, "base", "system.toml"))
         self.systems = [read(it) for it in paths]
         self.systems += ["\n".join(wrote("generate", str(number), str(number % 5))) + "\n" for number in range(8)]
 

@@ -142,6 +142,8 @@ class Files(unittest.TestCase):
             system = random_system(Random(number), 0)
             self.assertEqual(System.from_toml(system.to_toml()), system)
         for file in EXAMPLES.glob("*.toml"):
+            if file.name.endswith(".chains.toml"):
+                continue
             system = System.from_file(file)
             self.assertEqual(System.from_toml(system.to_toml()), system)
 
