@@ -174,7 +174,8 @@ class Words(unittest.TestCase):
         text = (TOP / "docs/FILES.md").read_text(encoding="utf-8")
         self.assertEqual({int(number): words for number, words in re.findall(r"^### (\d+): (.+)$", text, re.M)}, errors.REASONS)
         self.assertEqual(set(errors.HELP), set(errors.REASONS))
-        rules = re.findall(r"^\| (\d) \| ", text[text.index("### Edits that are refused"):], re.M)
+        section = text[text.index("### Edits that are refused"):].split("\n## ")[0]
+        rules = re.findall(r"^\| (\d) \| ", section, re.M)
         self.assertEqual([int(it) for it in rules], list(errors.RULES))
 
     def test_not_toml(self):
