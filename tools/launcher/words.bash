@@ -102,13 +102,19 @@ list_commands() {
 
 # What stands in tools/, a line a tool.
 list_tools() {
-  printf '  tools/%-11s  %s\n' graph.py "draws a system: resources, tasks, and who starts whom" \
+  printf '  tools/%-15s  %s\n' graph.py "draws a system: resources, tasks, and who starts whom" \
     chart.py "draws a report: bounds, and paths against deadlines" \
     curve.py "draws how many events start a task in a window" \
     gantt.py "draws a schedule: what ran when" \
     page.py "writes one page with a system, its bounds and a run" \
     worst.py "looks for runs that come near the bounds" \
-    campaign.py "has many processors try made traces, and variants"
+    effects.py "tells how late chains react in a run, and how old data is" \
+    campaign.py "has many processors try made traces, and variants" \
+    from_network.py "makes a system from a database of CAN buses" \
+    from_log.py "makes event models from a recorded log, and judges it" \
+    ticks.py "turns a system whose times have units into one of ticks" \
+    units.py "shows a report with times in place of ticks" \
+    lengths.py "tells how long frames of CAN FD and Ethernet take"
 }
 
 help() {
