@@ -108,7 +108,7 @@ list_tools() {
     gantt.py "draws a schedule: what ran when" \
     page.py "writes one page with a system, its bounds and a run" \
     worst.py "looks for runs that come near the bounds" \
-    effects.py "tells how late chains react in a run, and how old data is" \
+    effects.py "tells how late chains react in a run, how old data is" \
     campaign.py "has many processors try made traces, and variants" \
     from_network.py "makes a system from a database of CAN buses" \
     from_log.py "makes event models from a recorded log, and judges it" \
