@@ -280,7 +280,7 @@ touch "$work/crates/cpa_fix/src/lib.rt"
 RT_IDENTITY=rattle-kit-14a call analyse missing.toml
 hold "a source is newer: it is built again" said 'crates/cpa_fix/src/lib.rt is newer than the program'
 hold "a source is newer: what is kept" said '5 crates, of which 3 are proved already'
-hold "another toolchain is told" said 'note: rt is of rattle-kit-14a, and the proofs are for rattle-kit-13b or rattle-kit-13f'
+hold "another toolchain is told" said 'note: rt is of rattle-kit-14a, and the proofs are for rattle-kit-13f or rattle-kit-13b'
 hold "a file that isn't there is told" said "note: 'missing.toml' can't be read"
 rm "$work/crates/cpa_fix/src/lib.rt"
 call analyse two.toml

@@ -1,8 +1,8 @@
 # shellcheck shell=bash disable=SC2154
 # The words of `lokwurmi`, help, and the version. `here` is the folder of the repository.
 version=1.0
-# the toolchains that have proved the whole repository, the second one up to the last few clauses
-kits=(rattle-kit-13b rattle-kit-13f)
+# the toolchain that has proved the whole repository, and one that has proved all but chains, the library, and what they changed below
+kits=(rattle-kit-13f rattle-kit-13b)
 commands=(analyse session simulate generate load hammer assign slack buffers audit schedule chain chains)
 
 # Sets of a command: its words, whether it takes --workers N too, what it writes, what its status tells beside 0, what else is to be
