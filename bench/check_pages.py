@@ -34,6 +34,8 @@ from seen import Run, gaps_in, seen_of
 from system import read_system
 
 os.chdir(TOP)
+# what is said beside the output of a call is tried by check_messages.py
+os.environ["LOKWURMI_QUIET"] = "1"
 tried = 0
 faults = []
 
