@@ -1,5 +1,5 @@
 #!/usr/bin/env python3
-"""Tries what the pages show: each call of ./lokwurmi with its output, each system that docs/FILES.md shows as refused, and
+"""Tries what the pages show: each call of ./lokwurmi or of a tool of tools/ with its output, each system that docs/FILES.md shows as refused, and
 each edit that it shows as refused. docs/TUTORIAL.md is followed from its first line to its last: the files that it has a
 reader write are written, added to and changed, and each call is made with the files as they are by then; at its end they are
 those of examples/. Each call of a tool of tools/ in a block of a page, that writes a picture or a page of docs/, is made once
@@ -248,6 +248,8 @@ with tempfile.TemporaryDirectory() as room:
         for words, told in re.findall(r"^```\n\$ \./lokwurmi (.*)\n((?:(?!```).*\n)*)```", text, re.M):
             hold(f"{page}: {words}", call(*shlex.split(words)), told)
         if python and page != "docs/TUTORIAL.md":
+            for words, told in re.findall(r"^```\n\$ python3 (tools/.*)\n((?:(?!```).*\n)*)```", text, re.M):
+                hold(f"{page}: {words}", subprocess.run([python, *shlex.split(words)], stdout=subprocess.PIPE, text=True, check=False).stdout, told)
             check_drawn(page, text, room, python)
     page = read("docs/FILES.md")
     for system, told in re.findall(r"```toml\n((?:(?!```).*\n)*)```\n\n`(system refused .*?)`", page):

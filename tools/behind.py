@@ -1,21 +1,18 @@
 """Tells what lies behind bounds that are `overload`, for tools/page.py.
 
-It reads the report and the file: which demand has no end, by the rates of events and the greatest executions, and whose input
-has no bound. It is no part of what is proved, and tells of each such task one cause, where there may be several.
-"""
+It reads the report and the file: which demand has no end, by the rates of events and the greatest executions, and whose
+input has no bound. It is no part of what is proved, and tells of each such task one cause, where there may be
+several."""
 from fractions import Fraction
 
-from system import activators, execution, sources_of
-
-LIMIT = 1_000_000
+from system import LIMIT, Sharing, activators, execution, sources_of
 
 
-class Behind:
+class Behind(Sharing):
     """A system file and the tasks of its report."""
 
     def __init__(self, system, found):
-        self.tasks = {it["name"]: it for it in system.get("task", [])}
-        self.resources = {it["name"]: it for it in system.get("resource", [])}
+        super().__init__(system)
         self.over = [name for name in self.tasks if found[name]["worst"] is None]
         sources = {it["name"]: it for it in system.get("source", [])}
         self.rates = {name: [(source, Fraction(1, sources[source]["period"])) for source in sources_of(system, name)] for name in self.tasks}
@@ -31,25 +28,6 @@ class Behind:
     def load(self, name):
         return sum(self.loads(name).values(), Fraction(0))
 
-    def kind(self, name):
-        return self.resources[self.tasks[name]["on"]]["kind"]
-
-    def limit(self, name):
-        return self.resources[self.tasks[name]["on"]].get("limit", LIMIT)
-
-    def beside(self, name):
-        """The other tasks of its resource."""
-        return [it for it in self.tasks if it != name and self.tasks[it]["on"] == self.tasks[name]["on"]]
-
-    def rivals(self, name):
-        """The tasks that may go before this one on its resource."""
-        kind = self.kind(name)
-        if kind == "tdma":
-            return []
-        if kind == "round-robin":
-            return self.beside(name)
-        return [it for it in self.beside(name) if self.tasks[it]["priority"] < self.tasks[name]["priority"]]
-
     def is_unbounded(self, name):
         """Whether its input has no bound: that of a task along its chain hasn't."""
         return any(it in self.over or self.is_unbounded(it) for it in activators(self.tasks[name]) if it in self.tasks)
@@ -63,8 +41,8 @@ class Behind:
         return Fraction(task["slot"], slots + self.resources[task["on"]].get("gap", 0))
 
     def demand(self, name, endless=()):
-        """The share of the time that a task's jobs and all that goes before them ask for. In a ring a rival takes no more than
-        its turns, and all of these if its own demand is among the endless ones."""
+        """The share of the time that a task's jobs and all that goes before them ask for. In a ring a rival takes no
+        more than its turns, and all of these if its own demand is among the endless ones."""
         own = self.load(name)
         if self.kind(name) != "round-robin":
             return own + sum((self.load(it) for it in self.rivals(name)), Fraction(0))
@@ -85,7 +63,8 @@ class Behind:
         return ("rivals", rivals) if rivals else ("own", [])
 
     def causes(self):
-        """The causes, each with the tasks that have no bound because of it, and for each such task what is next behind it."""
+        """The causes, each with the tasks that have no bound because of it, and for each such task what is next behind
+        it."""
         why = {name: self.edges(name) for name in self.over}
         reach = {name: reached(name, why) for name in self.over}
         causes, done = [], set()
