@@ -8,6 +8,7 @@ from typing import NamedTuple
 
 from explained import Explained
 from report import reports_in
+from system import sources_of
 from trials import Trial, reports_after
 
 # how many of the best are told, and what has to be said beside them
@@ -103,7 +104,7 @@ class Changes:
 
     def periods(self, for_task: str, rival: str) -> None:
         """The period of each source of a rival is longer."""
-        for source in {it["source"]: None for it in self.parts.streams(rival) or []}:
+        for source in dict.fromkeys(sources_of(self.parts.system, rival)):
             it = self.parts.sources[source]
             then, others = it["period"] + tenth(it["period"]), f"{it.get('jitter', 0)} {it.get('distance', 0)}"
             if then <= 1_000_000_000:

@@ -35,7 +35,7 @@ def shown(text: str) -> str:
     try:
         text.encode(sys.stdout.encoding or "ascii")
     except (UnicodeEncodeError, LookupError):
-        return text.replace("█", "#").replace("·", "x").replace("→", "->")
+        return text.replace("█", "#").replace("·", "x").replace("→", "->").replace("×", "x")
     return text
 
 

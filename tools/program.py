@@ -6,6 +6,8 @@ import sys
 
 TOP = os.path.dirname(os.path.dirname(os.path.abspath(__file__)))
 LAUNCHER = os.path.join(TOP, "lokwurmi")
+# what the launcher calls
+BUILT = os.path.join(TOP, "crates/cpa_cli/out/cpa_cli")
 
 
 def add_program(reader):
@@ -62,6 +64,11 @@ def no_command(file):
                 tools.append(name)
     print(f"{os.path.basename(file)} is a module that the tools use, and no tool; the tools are {', '.join(tools)}, each with --help", file=sys.stderr)
     sys.exit(2)
+
+
+def often(program):
+    """What to call where there are many calls: what the launcher has built by now, once it was called."""
+    return BUILT if program == LAUNCHER and os.path.exists(BUILT) else program
 
 
 if __name__ == "__main__":
