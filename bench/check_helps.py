@@ -25,7 +25,7 @@ sys.path.append(os.path.join(TOP, "tools"))
 
 from explained import explained_by
 from helps import helps_for, lines_of_helps
-from system import toml_of
+from toml_text import toml_of
 
 PROGRAM = built("cpa_cli")
 TOOL = os.path.join(TOP, "tools", "explain.py")

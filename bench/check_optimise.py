@@ -28,7 +28,7 @@ from calls import TOP, answer, built
 sys.path.append(os.path.join(TOP, "tools"))
 
 import optimise
-from system import toml_of
+from toml_text import toml_of
 
 PROGRAM = built("cpa_cli")
 MOST = 20_000

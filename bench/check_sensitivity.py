@@ -27,7 +27,7 @@ from calls import TOP, answer, built, python_with
 sys.path.append(os.path.join(TOP, "tools"))
 
 import sensitivity
-from system import toml_of
+from toml_text import toml_of
 
 PROGRAM = built("cpa_cli")
 TOOL = os.path.join(TOP, "tools", "sensitivity.py")

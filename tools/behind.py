@@ -1,11 +1,12 @@
 """Tells what lies behind bounds that are `overload`, for tools/page.py.
 
-It reads the report and the file: which demand has no end, by the rates of events and the greatest executions, and whose
-input has no bound. It is no part of what is proved, and tells of each such task one cause, where there may be
-several."""
+It reads the report and the file: which demand has no end, by the rates of events and the greatest executions, and whose input
+has no bound. It is no part of what is proved, and tells of each such task one cause, where there may be several.
+"""
 from fractions import Fraction
 
-from system import LIMIT, Sharing, activators, execution, sources_of
+from sharing import LIMIT, Sharing
+from system import activators, execution, sources_of
 
 
 class Behind(Sharing):
@@ -41,8 +42,8 @@ class Behind(Sharing):
         return Fraction(task["slot"], slots + self.resources[task["on"]].get("gap", 0))
 
     def demand(self, name, endless=()):
-        """The share of the time that a task's jobs and all that goes before them ask for. In a ring a rival takes no
-        more than its turns, and all of these if its own demand is among the endless ones."""
+        """The share of the time that a task's jobs and all that goes before them ask for. In a ring a rival takes no more than
+        its turns, and all of these if its own demand is among the endless ones."""
         own = self.load(name)
         if self.kind(name) != "round-robin":
             return own + sum((self.load(it) for it in self.rivals(name)), Fraction(0))
@@ -63,8 +64,7 @@ class Behind(Sharing):
         return ("rivals", rivals) if rivals else ("own", [])
 
     def causes(self):
-        """The causes, each with the tasks that have no bound because of it, and for each such task what is next behind
-        it."""
+        """The causes, each with the tasks that have no bound because of it, and for each such task what is next behind it."""
         why = {name: self.edges(name) for name in self.over}
         reach = {name: reached(name, why) for name in self.over}
         causes, done = [], set()

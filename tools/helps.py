@@ -131,10 +131,10 @@ def helps_for(explained: Explained, path: str, program: str, file: str) -> list[
     """All changes that are tried for a path, those first with which it takes least."""
     changes = Changes(explained, path).all()
     known, now = faults_in(explained.found_tasks, explained.found_paths), explained.found_paths[path]["worst"]
-    reports = reports_after(program, file, [it.trial for it in changes], explained.text.encode("ascii"))
+    reports = reports_after(program, file, [it.trial for it in changes], explained.text)
     found = []
     for change, report in zip(changes, reports):
-        tasks, paths, _ = reports_in(report.decode("ascii").splitlines(), "lokwurmi session")[-1]
+        tasks, paths, _ = reports_in(report.splitlines(), "lokwurmi session")[-1]
         harms = [it for it in faults_in(tasks, paths) if it not in known]
         found.append(Help(change, now, paths[path]["worst"], harms))
     return sorted(found, key=lambda it: float("inf") if it.worst is None else it.worst)

@@ -25,7 +25,9 @@ from explained import Explained
 from program import add_program, often, written_by
 from progress import Progress
 from report import reports_in
-from system import Sharing, execution, inputs_of, read_system, sources_of, toml_of
+from sharing import Sharing
+from system import execution, inputs_of, read_system, sources_of
+from toml_text import toml_of
 from trials import Trial, reports_after
 
 EXAMPLES = """examples:
@@ -275,11 +277,11 @@ class Search(Sharing):
         """Whether an exchange is better than the best order."""
         pairs, order, before = self.exchanges(), self.best, self.best_verdict.cost
         file = write(os.path.join(self.room, "best.toml"), self.with_order(order))
-        text = written_by(self.program, "analyse", file).encode("ascii")
+        text = written_by(self.program, "analyse", file)
         trials = [Trial([f"swap {a} {b}"], [f"swap {a} {b}"]) for a, b in pairs]
         for (a, b), report in zip(pairs, reports_after(self.program, file, trials, text) if pairs else []):
             self.looked, turn = self.looked + 1, {a: b, b: a}
-            verdict = verdict_in(report.decode("ascii"))
+            verdict = verdict_in(report)
             if verdict.cost < self.best_verdict.cost:
                 self.keep({on: [turn.get(it, it) for it in names] for on, names in order.items()}, verdict, how)
         return self.best_verdict.cost < before

@@ -8,7 +8,8 @@ no part of what is proved."""
 from collections.abc import Iterator
 from typing import NamedTuple
 
-from system import Sharing, execution, inputs_of, least_time, most_events, ways_to
+from sharing import Sharing
+from system import execution, inputs_of, least_time, most_events, ways_to
 
 # a period, a jitter and a distance
 Stream = tuple[int, int, int]

@@ -10,6 +10,11 @@ LAUNCHER = os.path.join(TOP, "lokwurmi")
 BUILT = os.path.join(TOP, "crates/cpa_cli/out/cpa_cli")
 
 
+def often(program):
+    """What to call where there are many calls: what the launcher has built by now, once it was called."""
+    return BUILT if program == LAUNCHER and os.path.exists(BUILT) else program
+
+
 def add_program(reader):
     reader.add_argument("--program", metavar="PROGRAM", default=LAUNCHER, help="what is called; lokwurmi above this folder if absent, which builds the program where it isn't there")
 
@@ -64,11 +69,6 @@ def no_command(file):
                 tools.append(name)
     print(f"{os.path.basename(file)} is a module that the tools use, and no tool; the tools are {', '.join(tools)}, each with --help", file=sys.stderr)
     sys.exit(2)
-
-
-def often(program):
-    """What to call where there are many calls: what the launcher has built by now, once it was called."""
-    return BUILT if program == LAUNCHER and os.path.exists(BUILT) else program
 
 
 if __name__ == "__main__":

@@ -97,12 +97,12 @@ class Found:
         if self.goals:
             return not self.first()
         if self.deadlines:
-            return not re.search(rb" (?:missed|unknown)$", self.text, re.M)
-        return b" overload 0 missed 0" in self.text[self.text.rindex(b"summary ") :]
+            return not re.search(r" (?:missed|unknown)$", self.text, re.M)
+        return " overload 0 missed 0" in self.text[self.text.rindex("summary ") :]
 
     def first(self):
         """What doesn't hold."""
-        tasks, paths, _ = reports_in(self.text.decode("ascii").splitlines(), "lokwurmi session")[-1]
+        tasks, paths, _ = reports_in(self.text.splitlines(), "lokwurmi session")[-1]
         missed = []
         for name, it in paths.items():
             deadline = self.goals.get(name, it["deadline"])
@@ -122,8 +122,8 @@ class Question:
         self.sources = {it["name"]: it for it in self.system.get("source", [])}
         self.tasks = {it["name"]: it for it in self.system.get("task", [])}
         self.executions = {name: execution(it, self.resources[it["on"]]) for name, it in self.tasks.items()}
-        self.text = written_by(self.program, "analyse", self.file).encode("ascii")
-        self.found_tasks, self.found_paths, _ = reports_in(self.text.decode("ascii").splitlines(), self.file)[-1]
+        self.text = written_by(self.program, "analyse", self.file)
+        self.found_tasks, self.found_paths, _ = reports_in(self.text.splitlines(), self.file)[-1]
         self.calls = self.probes = 0
 
     def limits(self):

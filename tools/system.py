@@ -1,8 +1,4 @@
 """Reads a system file, for the tools beside it."""
-import json
-
-# the greatest length of a window where the file names none
-LIMIT = 1_000_000
 
 
 def read_system(file):
@@ -11,15 +7,6 @@ def read_system(file):
     from refusals.front import accepted
 
     return accepted(file)
-
-
-def toml_of(system):
-    """The file of a system: names and numbers are written in TOML as in JSON."""
-    lines = [f"format = {system['format']}"]
-    for part in ("resource", "source", "task", "path"):
-        for it in system.get(part, []):
-            lines += [f"[[{part}]]", *(f"{key} = {json.dumps(value)}" for key, value in it.items())]
-    return "\n".join(lines) + "\n"
 
 
 def execution(task, resource):
@@ -43,11 +30,12 @@ def sources_of(system, name):
 
 
 def inputs_of(system, bounds):
-    """The streams that start each task, each a period, a jitter and a distance, where `bounds` has what each task's
-    response is at most.
+    """The streams that start each task, each a period, a jitter and a distance, where `bounds` has what each task's response
+    is at most.
 
-    What comes out of a task has more jitter by what its response varies, and is as far apart as its least execution, or
-    as what that leaves of the distance. None stands for an input without a bound."""
+    What comes out of a task has more jitter by what its response varies, and is as far apart as its least execution, or as what
+    that leaves of the distance. None stands for an input without a bound.
+    """
     sources = {it["name"]: it for it in system.get("source", [])}
     tasks = {it["name"]: it for it in system.get("task", [])}
     resources = {it["name"]: it for it in system.get("resource", [])}
@@ -124,37 +112,6 @@ def first_windows(stream, longest):
         found.append(least + 1)
         count += 1
     return found
-
-
-class Sharing:
-    """Which tasks share a resource, and which of them may go before another there."""
-
-    def __init__(self, system):
-        self.tasks = {it["name"]: it for it in system.get("task", [])}
-        self.resources = {it["name"]: it for it in system.get("resource", [])}
-
-    def resource(self, name):
-        """The resource of a task."""
-        return self.resources[self.tasks[name]["on"]]
-
-    def kind(self, name):
-        return self.resource(name)["kind"]
-
-    def limit(self, name):
-        return self.resource(name).get("limit", LIMIT)
-
-    def beside(self, name):
-        """The other tasks of its resource."""
-        return [it for it in self.tasks if it != name and self.tasks[it]["on"] == self.tasks[name]["on"]]
-
-    def rivals(self, name):
-        """The tasks that may go before this one on its resource."""
-        kind = self.kind(name)
-        if kind == "tdma":
-            return []
-        if kind == "round-robin":
-            return self.beside(name)
-        return [it for it in self.beside(name) if self.tasks[it]["priority"] < self.tasks[name]["priority"]]
 
 
 if __name__ == "__main__":
