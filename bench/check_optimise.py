@@ -28,9 +28,12 @@ from calls import TOP, answer, built
 sys.path.append(os.path.join(TOP, "tools"))
 
 import optimise
+import progress
 from toml_text import toml_of
 
 PROGRAM = built("cpa_cli")
+# searches that are made here tell nothing
+progress.TERMINAL = progress.ELSEWHERE = float("inf")
 MOST = 20_000
 # the least share of its deadline that a path of a large system takes by the order that isn't told
 TIGHT = (0.8, 0.95, 1.0)

@@ -26,10 +26,13 @@ from calls import TOP, answer, built, python_with
 
 sys.path.append(os.path.join(TOP, "tools"))
 
+import progress
 import sensitivity
 from toml_text import toml_of
 
 PROGRAM = built("cpa_cli")
+# searches that are made here tell nothing
+progress.TERMINAL = progress.ELSEWHERE = float("inf")
 TOOL = os.path.join(TOP, "tools", "sensitivity.py")
 faults, tried = [], {}
 
