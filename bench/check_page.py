@@ -3,7 +3,8 @@
 
 For some of the examples a page is made, with a trace, a schedule and a script where there are some. It must load without an
 error and without asking for anything else, show the numbers of the report, of `simulate` and of `session`, and the load of
-each resource and of slots, sort each column both ways by mouse and by keyboard, filter, fit into a narrow window, be light and
+each resource and of slots, open the parts of each bound and of each path, which add up to it and are as long as they should be,
+sort each column both ways by mouse and by keyboard, also where parts are open, filter, fit into a narrow window, be light and
 dark, and print. In windows of five widths the first column of Paths leaves room for the others, the tables of a page with long
 names aren't cut from 1366 on, and the lines between their rows go on under the fixed column. Pages of overloaded systems must
 tell what lies behind; what is told of random systems that are overloaded must be so: with a limit a hundred times as high a
@@ -248,6 +249,86 @@ def check_filters(page):
     page.browser.click(f"button[data-show=\"{resource}\"]")
     page.hold(sorted(page.shown("task-table")) == wanted, f"the number of the tasks of {resource} leads to them")
     page.clear("task-table")
+
+
+OPENED = "document.querySelector('#task-table tr[data-name=\"%s\"]').nextElementSibling"
+
+
+def check_made(page, keep):
+    """Each bound opens what it is made of, by mouse and by keyboard, and closes it again; the parts stay behind their task."""
+    tasks = page.table("task-table")
+    for place, it in enumerate(tasks):
+        name, opened = it["Task"], OPENED % it["Task"]
+        button = f"#task-table button[data-made=\"{name}\"]"
+
+        def press():
+            if place % 2:
+                page.browser.click(button)
+            else:
+                page.run(f"document.querySelector({json.dumps(button)}).focus()")
+                page.browser.key("Enter", "\r")
+
+        press()
+        page.hold(page.run(f"{opened}.className + document.querySelector({json.dumps(button)}).getAttribute('aria-expanded')") == "partstrue", f"the bound of {name} doesn't open")
+        lines = page.run(f"[...{opened}.querySelectorAll('dl > div')].map((line) => [...line.children].map((it) => it.textContent))")
+        text = page.run(f"{opened}.innerText")
+        if it["Bound"] == "overload":
+            page.hold("of the time" in text and not lines, f"what {name} has no bound for: {text}")
+        else:
+            parts = [(int(line[1].split(" · ")[0]), int(line[1].split(" · ")[1]), int(line[2])) for line in lines if line[1]]
+            came = sum(int(line[2].lstrip("−")) for line in lines if line[2].startswith("−"))
+            page.hold(all(count * each == ticks for count, each, ticks in parts) and sum(ticks for _, _, ticks in parts) - came == int(it["Bound"]) == int(lines[-1][2]), f"the parts of {name}: {lines}")
+            page.hold(lines[0][0] == name and "in the busy window" in text and "started by" in text, f"what is told of {name}: {text}")
+            bar = page.run(f"(() => {{ const it = {opened}.querySelector('.stack'); return [it.clientWidth, [...it.querySelectorAll('i')].map((part) => part.getBoundingClientRect().width), it.querySelector('u')?.getBoundingClientRect().left - it.getBoundingClientRect().left]; }})()")
+            whole = int(it["Bound"]) + came
+            page.hold(all(abs(width - bar[0] * ticks / whole) < 2 for width, (_, _, ticks) in zip(bar[1], parts)) and len(bar[1]) == len(parts), f"the bar of {name}: {bar}, {parts}")
+            page.hold(not came or abs(bar[2] - bar[0] * came / whole) < 2, f"the mark in the bar of {name}: {bar}, {came}")
+        if place >= 4:
+            press()
+            page.hold(page.run(f"!{opened}?.classList.contains('parts') && document.querySelector({json.dumps(button)}).getAttribute('aria-expanded')") == "false", f"the bound of {name} doesn't close")
+    behind = f"[...document.querySelectorAll('#task-table tr.parts')].map((it) => [it.previousElementSibling.dataset.name, it.offsetParent !== null])"
+    wanted = [it["Task"] for it in tasks[:4]]
+    page.hold(sorted(page.run(behind)) == sorted([name, True] for name in wanted), f"open are {page.run(behind)}")
+    for _ in range(2):
+        page.browser.click("#task-table thead th:nth-child(11) button")
+        page.hold(sorted(page.run(behind)) == sorted([name, True] for name in wanted), f"sorted, the open parts are {page.run(behind)}")
+    page.run("document.querySelector('.tools[data-of=task-table] input').value = 'no such word'")
+    page.run("document.querySelector('.tools[data-of=task-table] input').dispatchEvent(new Event('input', {bubbles: true}))")
+    page.hold(all(not shown for _, shown in page.run(behind)), "parts of a task that isn't shown are")
+    page.hold(page.run("document.querySelector('.tools[data-of=task-table] output').textContent") == f"0 of {len(tasks)}", "the count of what is shown, with open parts")
+    page.clear("task-table")
+    for width in (1400, 420):
+        page.browser.size(width)
+        page.hold(page.run("document.documentElement.scrollWidth <= innerWidth"), f"with open parts it is wider than a window of {width}")
+        page.hold(page.run("[...document.querySelectorAll('tr.parts .stack')].every((it) => it.getBoundingClientRect().right <= innerWidth)"), f"with open parts a bar ends beyond a window of {width}")
+        for scheme in ("light", "dark") if keep else ():
+            page.browser.look(scheme)
+            page.browser.picture(os.path.join(keep, f"{page.name}.parts.{scheme}.{width}.png"), width)
+    page.browser.look("light")
+    page.browser.size(1400)
+    for name in wanted:
+        page.browser.click(f'#task-table button[data-made="{name}"]')
+    page.hold(page.run(behind) == [], f"not all are closed: {page.run(behind)}")
+    # in the order of the file again
+    page.run("(() => { const body = document.querySelector('#task-table').tBodies[0]; const names = %s; body.append(...names.map((it) => document.querySelector(`#task-table tr[data-name=\"${it}\"]`))); })()" % json.dumps([it["Task"] for it in tasks]))
+
+
+def check_made_paths(page):
+    """Each worst time of a path opens the bounds along it, whose sum it is."""
+    for it in page.table("path-table") if page.run("!!document.querySelector('#path-table')") else []:
+        name = page.run(f"[...document.querySelectorAll('#path-table tbody tr')].find((it) => {json.dumps(it['Path'])}.startsWith(it.dataset.name)).dataset.name")
+        button = f'#path-table button[data-made="{name}"]'
+        page.browser.click(button)
+        opened = f"document.querySelector('{button}').closest('tr').nextElementSibling"
+        lines = page.run(f"[...{opened}.querySelectorAll('dl > div')].map((line) => [...line.children].map((it) => it.textContent))")
+        if it["Worst"] == "overload":
+            page.hold(any(line[2] == "overload" for line in lines), f"along the path {name}: {lines}")
+        else:
+            *bounds, last = [int(line[2]) for line in lines]
+            page.hold(sum(bounds) == last == int(it["Worst"]), f"along the path {name}: {lines}")
+            page.hold("own work" in page.run(f"{opened}.innerText"), f"whom the path {name} waits for")
+        page.browser.click(button)
+        page.hold(page.run("document.querySelectorAll('#path-table tr.parts').length") == 0, f"what {name} waits for doesn't close")
 
 
 def check_changes(page, program):
@@ -534,6 +615,8 @@ def check_examples(room, words, page_of):
         check_numbers(page, words.program, with_trace)
         check_bars(page)
         check_loads(page)
+        check_made(page, words.keep)
+        check_made_paths(page)
         if with_trace:
             check_chart(page, words.program, schedule)
         if with_script:

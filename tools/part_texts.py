@@ -76,7 +76,8 @@ def which_of(job: dict) -> str:
     if job["of"] == 1:
         return "one job in the busy window"
     which = f"the latest is job {job['number']} of {job['of']} in the busy window"
-    return f"{which}: it comes {job['came']} after the window began, and is done {job['done']} after"
+    comes = f"{job['came']} after the window began" if job["came"] else "as the window begins"
+    return f"{which}: it comes {comes}, and is done {job['done']} after"
 
 
 def lines_of_task(told: dict) -> list[str]:
