@@ -331,6 +331,26 @@ def check_made_paths(page):
         page.hold(page.run("document.querySelectorAll('#path-table tr.parts').length") == 0, f"what {name} waits for doesn't close")
 
 
+def check_searches(program, page_of):
+    """How far numbers may move is what tools/sensitivity.py tells, and the priorities are those of tools/optimise.py."""
+    page = page_of("two_tasks", example("two_tasks", ".toml"), "--sensitivity", "--optimise")
+    words = [sys.executable, os.path.join(TOP, "tools", "sensitivity.py"), "--program", program, example("two_tasks", ".toml")]
+    lines = subprocess.run(words, capture_output=True, text=True, check=False).stdout.splitlines()[1:]
+    rows = [" ".join(it).replace("−", "-") for it in page.rows("margin-table")]
+    page.hold(rows == [" ".join(it.split()) for it in lines], f"how far numbers may move: {rows}")
+    page.hold("All deadlines are met by the priorities of the file" in page.run("document.querySelector('#priorities').innerText"), "its priorities")
+    page.choose("margin-table", "kind", "jitter")
+    page.hold(page.run("document.querySelector('.tools[data-of=margin-table] output').textContent") == f"2 of {len(rows)}", "the jitters")
+    page = page_of("overload", example("overload", ".toml"), "--sensitivity", "--optimise")
+    page.hold("Nothing may move, as this doesn't hold now: path pa" in page.run("document.querySelector('#margins').innerText"), "nothing may move")
+    said = page.run("document.querySelector('#priorities').innerText")
+    page.hold("p, the most urgent first: a1, b2" in said and "q, the most urgent first: b1, a2" in said, f"the priorities: {said}")
+    edits = page.run("document.querySelector('#priorities pre').textContent")
+    with tempfile.TemporaryDirectory() as room:
+        script = written(os.path.join(room, "edits"), edits)
+        page.hold(call(program, "session", example("overload", ".toml"), script).endswith("overload 0 missed 0\n"), f"the edits: {edits}")
+
+
 def check_changes(page, program):
     """Each column of changes has the bounds of one report, and each bound that changes has a row."""
     texts, part = [call(program, "analyse", example(page.name, ".toml"))], ""
@@ -642,7 +662,9 @@ def main():
             """The page of a file, in the browser."""
             made_page = os.path.join(to, name + ".html")
             done = subprocess.run([sys.executable, os.path.join(TOP, "tools", "page.py"), "--program", words.program, "--to", made_page, *more, file], capture_output=True, text=True, check=False)
-            if done.returncode or done.stderr:
+            # how far a search is may be told
+            complaints = [line for line in done.stderr.splitlines() if not re.match(r"(sensitivity|optimise)\.py: \d+ (of|orders?)\b", line)]
+            if done.returncode or complaints:
                 sys.exit(f"{name}: no page: {done.stderr}")
             with open(made_page, encoding="utf-8") as it:
                 hold(not re.search(r"https?://|@import|url\((?!#)", it.read()), f"{name}: it has a link to the outside")
@@ -654,6 +676,7 @@ def main():
             check_wide(room, page_of)
             check_chains(room, page_of)
             check_cases(room, words.program, page_of)
+            check_searches(words.program, page_of)
         finally:
             browser.close()
         check_causes(room, words.program)

@@ -70,6 +70,10 @@ class Verdict:
         return ", ".join(words) + (f" and {len(latest) - 4} more" if len(latest) > 4 else "") or "all deadlines are met"
 
 
+def orders_text(count: int) -> str:
+    return f"{count} {'order' if count == 1 else 'orders'}"
+
+
 def verdict_in(text: str) -> Verdict:
     """The verdict of the last report in a text."""
     return Verdict(*reports_in(text.splitlines(), "lokwurmi")[-1][:2])
@@ -128,7 +132,7 @@ class Search(Sharing):
     def keep(self, order: Order, verdict: Verdict, how: str) -> Verdict:
         if self.best is None or verdict.cost < self.best_verdict.cost:
             self.best, self.best_verdict, self.how = {on: list(it) for on, it in order.items()}, verdict, how
-        self.progress.show(f"{self.looked} orders, {how}; the best so far: {self.best_verdict.told()}")
+        self.progress.show(f"{orders_text(self.looked)}, {how}; the best so far: {self.best_verdict.told()}")
         return verdict
 
     def sorted_by(self, key) -> Order:
@@ -364,7 +368,7 @@ def tell(search: Search, verdict: Verdict, words: argparse.Namespace) -> None:
         late = {"late": verdict.late, "overload": verdict.over}
         print(json.dumps({**found, **late, "order": changed, "edits": search.script()}, indent=1))
         return
-    orders = f"{search.looked} {'order' if search.looked == 1 else 'orders'}"
+    orders = orders_text(search.looked)
     head = "found" if verdict.holds else "not found"
     print(f"{head} after {orders}, {'by' if verdict.holds else 'the best by'} {search.how}: {verdict.told()}")
     for on, names in changed.items():

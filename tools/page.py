@@ -7,10 +7,12 @@
     python3 tools/page.py examples/camera_brake.toml --chains examples/camera_brake.chains.toml --to brake.html
 
 The page has the graph of the system, the load of its resources, its paths and tasks with their bounds, what each bound is made
-of, and what lies behind each that is `overload`. With --trace it shows what `lokwurmi simulate` observes, beside the bounds, and the run as a
-Gantt chart: that of --schedule, or of what `lokwurmi schedule` writes of the trace. With --session it shows what each report
-of that script changed. With --chains it has the reaction times and data ages of the chains of that file, beside their deadlines,
-and with --trace what the run shows of them. Tables are sorted and filtered in the browser, which needs no network for it.
+of, and what lies behind each that is `overload`. With --trace it shows what `lokwurmi simulate` observes, beside the bounds, and
+the run as a Gantt chart: that of --schedule, or of what `lokwurmi schedule` writes of the trace. With --session it shows what
+each report of that script changed, with --sensitivity how far each number may move (tools/sensitivity.py), and with --optimise
+priorities under which all deadlines are met, where some are found (tools/optimise.py). With --chains it has the reaction times
+and data ages of the chains of that file, beside their deadlines, and with --trace what the run shows of them. Tables are sorted
+and filtered in the browser, which needs no network for it.
 
 It needs Jinja2, Graphviz, and matplotlib for the Gantt chart: apt-get install python3-jinja2 graphviz python3-matplotlib
 """
@@ -21,15 +23,18 @@ import re
 import shutil
 import subprocess
 import sys
+import tempfile
 from fractions import Fraction
 
+import optimise
+import sensitivity
 from colours import hues, hues_of_sources, letters_on, shades
 from explained import Explained
 from graph import graph
 from packages import need
 from page_chains import chains_of
 from part_texts import lines_of_overload, lines_of_waits, note_of, stream_text, waits_text, which_of
-from program import add_program, schedule_by, written_by
+from program import add_program, often, schedule_by, written_by
 from report import reports_in, seen_in
 from runs import read, read_schedule, read_trace, schedule_in
 from system import activators, read_system, sources_of
@@ -276,6 +281,31 @@ def changes_of(words, system):
     return {"name": os.path.basename(words.session), "steps": steps, "rows": rows, "kept": kept, "counts": counts}
 
 
+def margins_of(words):
+    """How far each number may move, or what doesn't hold already."""
+    question = sensitivity.Question(argparse.Namespace(file=words.file, program=words.program, deadlines=False, goals={}))
+    question.program = often(words.program)
+    now = sensitivity.Found(question.text, {}, False)
+    rows = sensitivity.rows_of(question, sensitivity.KINDS, os.cpu_count() or 1) if now.holds() else []
+    told = [{
+        "what": sensitivity.name_of(it), "kind": it["kind"], "share": it["share"], "by": sensitivity.share_text(it), "then": sensitivity.then_of(it),
+        "now": sensitivity.value_of(it, "value"), "last": sensitivity.value_of(it, "last"), "value": it["value"], "end": it["last"],
+    } for it in rows]
+    return {"rows": told, "missed": now.first()}
+
+
+def priorities_of(words):
+    """Priorities under which all deadlines are met, or the best that are found."""
+    asked = argparse.Namespace(file=words.file, program=often(words.program), seed=1, seconds=None, rounds=20, restarts=4, script=None)
+    with tempfile.TemporaryDirectory() as room:
+        search = optimise.Search(asked, room)
+        optimise.searched(search, asked)
+        search.progress.clear()
+        verdict = optimise.confirmed(search, asked, room)
+    order = {on: names for on, names in search.best.items() if names != search.given[on]}
+    return {"found": verdict.holds, "told": verdict.told(), "orders": search.looked, "order": order, "edits": search.script()}
+
+
 def page_of(words):
     """The text of the page, and where what it tells of a bound isn't what the report says."""
     system = System(words.file, words.program)
@@ -290,6 +320,7 @@ def page_of(words):
         file=os.path.basename(words.file), system=system, graph=picture, chains=chains, resources=system.resource_rows(), tasks=system.task_rows(seen), paths=paths,
         endless=sum(it["worst"] is None for it in paths), overload=len(over), missed=sum(it["verdict"] == "missed" for it in paths), unknown=sum(it["verdict"] == "unknown" for it in paths), with_deadline=sum(it["deadline"] is not None for it in paths),
         causes=causes, over=over, run=run, chains_told=effects, made=system.made_of(), changes=changes_of(words, system) if words.session else None,
+        margins=margins_of(words) if words.sensitivity else None, priorities=priorities_of(words) if words.optimise else None,
     )
     return text, system.explained.faults
 
@@ -304,6 +335,8 @@ def asked_for():
     reader.add_argument("--until", metavar="T", type=int, help="the tick at which the Gantt chart ends")
     reader.add_argument("--chains", metavar="CHAINS", help="a file of chains that read registers: their bounds and deadlines, and what the trace shows of them")
     reader.add_argument("--session", metavar="SCRIPT", help="a script: what each of its reports changed")
+    reader.add_argument("--sensitivity", action="store_true", help="how far each number may move while all deadlines are met")
+    reader.add_argument("--optimise", action="store_true", help="priorities on all resources under which all deadlines are met, where some are found")
     add_program(reader)
     words = reader.parse_args()
     if not words.to.endswith(".html"):
