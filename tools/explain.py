@@ -4,9 +4,11 @@
 Of a task it tells the streams that start it and where their jitter comes from, when the latest job came, and the parts
 up to its end: its own executions and those of the jobs before it, the jobs of each rival, a frame of lower priority
 that is under way, the turns of others, and what a cycle takes away. The parts, less the time at which the job came, are
-the bound. With --path it tells that of each task along a path, and by whom the path waits in all; with --all of each
-task and each path. Of a task without a bound it tells what work its resource has, by whom, and with which rival its
-busy window has no end.
+the bound. With --path it tells that of each task along a path, by whom the path waits in all, and what would help it
+most: of the numbers by which its tasks wait each is changed by a tenth (a priority by one place), alone, and the proved
+program reports the system with it. These are changes of the model, and no advice that they can be made. With --all it
+tells of each task and each path. Of a task without a bound it tells what work its resource has, by whom, and with which
+rival its busy window has no end.
 
 The parts are worked out here, at the bounds of the report, and held against it: where they don't add up to the bound
 that the proved program has written, the tool says so and ends with 1. They are no part of what is proved.
@@ -38,7 +40,7 @@ def asked_for() -> argparse.Namespace:
     )
     reader.add_argument("file", metavar="FILE", help="a system file")
     reader.add_argument("task", metavar="TASK", nargs="?", help="the name of a task in it")
-    reader.add_argument("--path", metavar="PATH", help="the name of a path: what each of its tasks waits for")
+    reader.add_argument("--path", metavar="PATH", help="a path: whom it waits for, and what would help most")
     reader.add_argument("--all", action="store_true", help="each task and each path")
     reader.add_argument("--json", action="store_true", help="write JSON")
     reader.add_argument(
