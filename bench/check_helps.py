@@ -140,7 +140,8 @@ def check_path(what, system, explained, path, file):
         now, then = (float("inf") if it is None else it for it in (paths[path], times[path]))
         effect = "same" if then == now else "longer" if then > now else "shorter"
         same = (told[key]["worst"], told[key]["effect"]) == (times[path], effect)
-        hold(key[0], same and set(told[key]["harms"]) == bad - known, f"{what}: {told[key]} {times[path]} {bad - known}")
+        said = f"{what}: {told[key]} {times[path]} {bad - known}"
+        hold(key[0], same and set(told[key]["harms"]) == bad - known, said)
     order = [float("inf") if it.worst is None else it.worst for it in several]
     hold("order", order == sorted(order), f"{what}: {order}")
 

@@ -335,7 +335,7 @@ def check_searches(program, page_of):
     """How far numbers may move is what tools/sensitivity.py tells, and the priorities are those of tools/optimise.py."""
     page = page_of("two_tasks", example("two_tasks", ".toml"), "--sensitivity", "--optimise")
     words = [sys.executable, os.path.join(TOP, "tools", "sensitivity.py"), "--program", program, example("two_tasks", ".toml")]
-    lines = subprocess.run(words, capture_output=True, text=True, check=False).stdout.splitlines()[1:]
+    lines = subprocess.run(words, capture_output=True, text=True, check=False).stdout.split("\n\n")[0].splitlines()[1:]
     rows = [" ".join(it).replace("−", "-") for it in page.rows("margin-table")]
     page.hold(rows == [" ".join(it.split()) for it in lines], f"how far numbers may move: {rows}")
     page.hold("All deadlines are met by the priorities of the file" in page.run("document.querySelector('#priorities').innerText"), "its priorities")

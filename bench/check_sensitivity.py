@@ -239,7 +239,8 @@ def main():
         print(fault)
     kinds = ", ".join(f"{kind} {number}" for kind, number in tried.items())
     without = "" if python else ", without calls: matplotlib is not here"
-    print(f"{count} systems, {held} times all held; {sum(tried.values())} tried ({kinds}), {len(faults)} faults{without}")
+    head = f"{count} systems, {held} times all held; {sum(tried.values())} tried"
+    print(f"{head} ({kinds}), {len(faults)} faults{without}")
     sys.exit(1 if faults else 0)
 
 

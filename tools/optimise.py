@@ -31,8 +31,8 @@ from toml_text import toml_of
 from trials import Trial, reports_after
 
 EXAMPLES = """examples:
-  python3 tools/optimise.py examples/crossing_chains.toml --script better.script.txt
-  ./lokwurmi session examples/crossing_chains.toml better.script.txt
+  python3 tools/optimise.py examples/overload.toml --script better.script.txt
+  ./lokwurmi session examples/overload.toml better.script.txt
 
 docs/PRIORITIES.md tells how often it finds an order, and on which systems.
 """

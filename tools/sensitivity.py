@@ -39,10 +39,12 @@ from trials import Trial, reports_after
 EXAMPLES = """examples:
   python3 tools/sensitivity.py examples/car_network.toml --to car.svg
   python3 tools/sensitivity.py examples/sae_can.toml --only execution --deadlines
-  python3 tools/sensitivity.py examples/pedal.toml --goal brake=4000 --json
+  python3 tools/sensitivity.py examples/pedal.toml --goal pedal_to_motor=4000 --json
 
 docs/SENSITIVITY.md tells how to read it, and why it is right.
 """
+# what has to be said beside the table
+NOTE = "each is moved alone: two that both move so far may miss a deadline together"
 # by what nothing gets better as a number of each kind moves on
 LAWS = {
     "execution": "IsRaising and RaisingLiftsLeast of cpa_local; of deadlines alone LessHolds of cpa_slack",
@@ -383,9 +385,15 @@ def goals_in(several: list[str]) -> dict[str, int]:
     return found
 
 
+def laws_text() -> str:
+    """By which law nothing gets better as a number of each kind moves on."""
+    lines = [f"  {kind:<9}  {law}" for kind, law in LAWS.items()]
+    return "\n".join(["", "by which law nothing gets better as a number moves on:", *lines, ""])
+
+
 def asked_for() -> argparse.Namespace:
     reader = argparse.ArgumentParser(
-        description=__doc__, epilog=EXAMPLES, formatter_class=argparse.RawDescriptionHelpFormatter
+        description=__doc__, epilog=EXAMPLES + laws_text(), formatter_class=argparse.RawDescriptionHelpFormatter
     )
     jobs = "how many calls go at a time; as many as there are processors if absent"
     goal = "hold a path against this deadline; may be given several times"
@@ -427,7 +435,7 @@ def main() -> None:
         cost = {"calls": question.calls, "reports": question.probes, "seconds": round(time.monotonic() - start, 3)}
         print(json.dumps({**asked, "numbers": rows, "laws": LAWS, **cost}, indent=1))
     else:
-        print(shown("\n".join(lines_of(rows))))
+        print(shown("\n".join([*lines_of(rows), "", NOTE])))
     if words.to:
         draw(rows, words.to, os.path.basename(words.file))
 
