@@ -301,14 +301,16 @@ class Search(Sharing):
     def restart(self, count: int, rounds: int) -> None:
         """Exchanges that begin anew from a disturbed order, so many times."""
         best = self.best, self.best_verdict, self.how
-        for _ in range(count):
-            if self.best_verdict.holds or self.is_over():
-                break
-            self.best = None
-            self.look(self.disturbed(best[0]), "a disturbed order")
-            self.exchange(rounds)
-            best = min(best, (self.best, self.best_verdict, self.how), key=lambda it: it[1].cost)
-        self.best, self.best_verdict, self.how = best
+        try:
+            for _ in range(count):
+                if self.best_verdict.holds or self.is_over():
+                    break
+                self.best = None
+                self.look(self.disturbed(best[0]), "a disturbed order")
+                self.exchange(rounds)
+                best = min(best, (self.best, self.best_verdict, self.how), key=lambda it: it[1].cost)
+        finally:
+            self.best, self.best_verdict, self.how = best
 
     def script(self) -> list[str]:
         """The edits that make the best order of the file's: each priority is moved out of the way first."""
@@ -379,6 +381,19 @@ def tell(search: Search, verdict: Verdict, words: argparse.Namespace) -> None:
         print("there may be an order still: the search proves nothing about what it didn't try")
 
 
+def searched_until(search: Search, words: argparse.Namespace) -> bool:
+    """Searches, and says whether it was interrupted after an order was looked at, the best of which is kept."""
+    try:
+        searched(search, words)
+    except KeyboardInterrupt:
+        if search.best is None:
+            raise
+        return True
+    finally:
+        search.progress.clear()
+    return False
+
+
 def main() -> None:
     words = asked_for()
     with tempfile.TemporaryDirectory() as room:
@@ -386,12 +401,18 @@ def main() -> None:
         # a file that is refused is told here, and a program that isn't there is built
         written_by(words.program, "analyse", words.file)
         search.program = often(words.program)
-        searched(search, words)
-        search.progress.clear()
+        is_cut = searched_until(search, words)
         verdict = confirmed(search, words, room)
     tell(search, verdict, words)
+    if is_cut:
+        print("optimise.py: interrupted: this is the best up to there", file=sys.stderr)
+        sys.exit(130)
     sys.exit(0 if verdict.holds else 3)
 
 
 if __name__ == "__main__":
-    main()
+    try:
+        main()
+    except KeyboardInterrupt:
+        print("optimise.py: interrupted", file=sys.stderr)
+        sys.exit(130)

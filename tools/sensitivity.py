@@ -241,14 +241,20 @@ def parts_of(question, numbers, jobs):
     return [it for it in parts if it]
 
 
+class Stopped(Exception):
+    """Another part of the search was ended."""
+
+
 class Teller:
     """Tells how many numbers are done, of all parts of a search together."""
 
     def __init__(self, question: Question, parts: list[list[Number]]):
         self.question, self.whole, self.done = question, sum(map(len, parts)), [0] * len(parts)
-        self.progress, self.lock = Progress("sensitivity.py"), threading.Lock()
+        self.progress, self.lock, self.is_stopped = Progress("sensitivity.py"), threading.Lock(), False
 
     def tell(self, place: int, count: int) -> None:
+        if self.is_stopped:
+            raise Stopped
         with self.lock:
             self.done[place] = count
             done = sum(self.done)
@@ -265,8 +271,14 @@ def answers_of(question: Question, kinds: tuple[str, ...], jobs: int) -> list[tu
         return searched(question, parts[place], lambda count: teller.tell(place, count))
 
     with concurrent.futures.ThreadPoolExecutor(jobs) as pool:
-        several = list(pool.map(answers, range(len(parts))))
-    teller.progress.clear()
+        try:
+            several = list(pool.map(answers, range(len(parts))))
+        except BaseException:
+            teller.is_stopped = True
+            pool.shutdown(wait=False, cancel_futures=True)
+            raise
+        finally:
+            teller.progress.clear()
     return [it for part, found in zip(parts, several) for it in zip(part, found)]
 
 
@@ -441,4 +453,8 @@ def main() -> None:
 
 
 if __name__ == "__main__":
-    main()
+    try:
+        main()
+    except KeyboardInterrupt:
+        print("sensitivity.py: interrupted", file=sys.stderr)
+        sys.exit(130)
