@@ -124,7 +124,8 @@ class Bars:
         deadline, came = it["deadline"], it["job"]["came"]
         is_near = deadline is not None and deadline["ticks"] <= FAR * it["bound"]
         axes.axvline(it["bound"], color=MARK, linewidth=1.2)
-        told = ["ticks after the job came" + (", which is the line at 0" if came else "")]
+        zero = ", which is the line at 0" if came else ""
+        told = [f"ticks after the job came{zero}", "the parts in no order of time"]
         told.append(f"the red line is its bound, {it['bound']}")
         if is_near:
             axes.axvline(deadline["ticks"], color="black", linewidth=1.4, linestyle=":")
@@ -153,7 +154,8 @@ class Bars:
             axes.axvline(deadline, color="black", linewidth=1.4, linestyle=":")
         axes.set_xlim(least, least + 1.06 * (most - least))
         comes = "; a line where the job comes, and before it what is left of the busy window"
-        axes.set_xlabel("ticks" + (comes if any(it["job"]["came"] for it, _ in drawn) else ""), fontsize=8)
+        label = "ticks" + (comes if any(it["job"]["came"] for it, _ in drawn) else "")
+        axes.set_xlabel(f"{label}; the parts of a bar in no order of time", fontsize=8)
         axes.set_title(title, fontsize=9, loc="left")
         self.legend(axes, [it for it, _ in drawn])
         self.save(figure)

@@ -72,7 +72,11 @@ def note_of(part: dict) -> str:
 
 
 def which_of(job: dict) -> str:
-    """Which job is the latest."""
+    """Which job is the latest. The bars behind it look like a course of time, and aren't one."""
+    return f"{place_of(job)}; its parts, in no order of time:"
+
+
+def place_of(job: dict) -> str:
     if job["of"] == 1:
         return "one job in the busy window"
     which = f"the latest is job {job['number']} of {job['of']} in the busy window"
