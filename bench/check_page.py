@@ -316,7 +316,7 @@ def check_made(page, keep):
 def check_made_paths(page):
     """Each worst time of a path opens the bounds along it, whose sum it is."""
     for it in page.table("path-table") if page.run("!!document.querySelector('#path-table')") else []:
-        name = page.run(f"[...document.querySelectorAll('#path-table tbody tr')].find((it) => {json.dumps(it['Path'])}.startsWith(it.dataset.name)).dataset.name")
+        name = it["Path"]
         button = f'#path-table button[data-made="{name}"]'
         page.browser.click(button)
         opened = f"document.querySelector('{button}').closest('tr').nextElementSibling"
