@@ -8,7 +8,7 @@ import sys
 sys.path.insert(1, os.path.join(os.path.dirname(os.path.dirname(os.path.abspath(__file__))), "python", "src"))
 from lokwurmi import lines  # noqa: E402
 from lokwurmi.errors import Unreadable  # noqa: E402
-from lokwurmi.lines import PATH, SUMMARY, TASK  # noqa: E402, F401
+from lokwurmi.lines import PATH, SUMMARY, TASK, number  # noqa: E402, F401
 
 
 def reports_in(rows, file):
