@@ -14,7 +14,6 @@ examples is looked at, a report with another bound must be told as an error, and
     python3 bench/check_explain.py [NUMBER of systems, 5000 if absent] [NUMBER to begin with, 0 if absent]
 """
 import collections
-import glob
 import json
 import os
 import re
@@ -23,7 +22,7 @@ import sys
 import tempfile
 
 import compare as plain
-from calls import TOP, answer, built, python_with
+from calls import TOP, answer, built, example_systems, python_with
 
 sys.path.append(os.path.join(TOP, "tools"))
 
@@ -241,7 +240,7 @@ def check_told_of(file, told):
 
 
 def check_examples(python, room):
-    for file in sorted(glob.glob(os.path.join(TOP, "examples", "*.toml"))):
+    for file in (os.path.join(TOP, it) for it in example_systems()):
         done = run(python, file, "--all", "--json")
         told = json.loads(done.stdout)
         hold("examples", done.returncode == 0 and not done.stderr and not told["faults"], f"{file}: {done.stderr}")

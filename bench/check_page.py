@@ -554,19 +554,19 @@ def check_refusals(room, program):
     bad = written(os.path.join(room, "bad.toml"), "format = 3\n")
     schedule = written(os.path.join(room, "bad.csv"), "a,1,2\nz,3,4\n")
     chains = example("crossing_chains", ".toml")
-    for said, words in (
-        ("a page's name ends with .html", [two, "--to", "page.pdf"]),
-        ("--schedule wants --trace", [two, "--to", page, "--schedule", schedule]),
-        ("has no tick", [two, "--to", page, "--from", "5", "--until", "5"]),
-        ("can't be called", [two, "--to", page, "--program", os.path.join(room, "nothing")]),
-        ("status 14: system refused reason 13 file 0", [bad, "--to", page]),
-        ("status 16", [two, "--to", page, "--trace", trace]),
-        ("chain 1 names a task capture, which the system doesn't have", [two, "--to", page, "--chains", example("camera_brake", ".chains.toml")]),
-        ("the system has no task a", [chains, "--to", page, "--trace", trace, "--schedule", schedule]),
+    for status, said, words in (
+        (1, "a page's name ends with .html", [two, "--to", "page.pdf"]),
+        (1, "--schedule wants --trace", [two, "--to", page, "--schedule", schedule]),
+        (1, "has no tick", [two, "--to", page, "--from", "5", "--until", "5"]),
+        (1, "can't be called", [two, "--to", page, "--program", os.path.join(room, "nothing")]),
+        (14, "bad.toml:1:10: the format 3 isn't known: it is 1 or 2", [bad, "--to", page]),
+        (16, "status 16", [two, "--to", page, "--trace", trace]),
+        (1, "chain 1 names a task capture, which the system doesn't have", [two, "--to", page, "--chains", example("camera_brake", ".chains.toml")]),
+        (1, "the system has no task a", [chains, "--to", page, "--trace", trace, "--schedule", schedule]),
     ):
         words += [] if "--program" in words else ["--program", program]
         done = subprocess.run([sys.executable, os.path.join(TOP, "tools", "page.py"), *words], capture_output=True, text=True, check=False)
-        hold(done.returncode == 1 and said in done.stderr, f"page.py {words}: {done.returncode} {done.stderr}")
+        hold(done.returncode == status and said in done.stderr, f"page.py {words}: {done.returncode} {done.stderr}")
     hold(not os.path.exists(page), "a page is written though something is refused")
 
 

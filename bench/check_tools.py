@@ -335,7 +335,8 @@ def check_packages(room):
 
 def check_named():
     """The pages name the package of each module that a tool has from elsewhere."""
-    own = {os.path.basename(it)[:-3] for it in glob.glob("tools/*.py")}
+    # modules of tools/, its package, and the one of this repository
+    own = {os.path.basename(it).removesuffix(".py") for it in glob.glob("tools/*.py") + ["tools/refusals"] + glob.glob("python/src/*")}
     wanted = {"graphviz"}
     for file in sorted(glob.glob("tools/*.py")):
         with open(file, encoding="utf-8") as it:

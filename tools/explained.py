@@ -202,3 +202,9 @@ def waits_of(told: dict) -> list[tuple[tuple[str, str], int]]:
 
 def cause_told(cause: dict) -> dict:
     return {"kind": cause["kind"], "tasks": cause["tasks"], "on": cause["on"], "way": cause.get("way", [])}
+
+
+if __name__ == "__main__":
+    from program import no_command
+
+    no_command(__file__)

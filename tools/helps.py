@@ -169,3 +169,9 @@ def lines_of_helps(several: list[Help]) -> list[str]:
     lines = [f"    {text:<{wide}}  {it.worst:>{far}}  {less_text(it)}" for text, it in zip(texts, best)]
     more = f"{count['shorter'] - len(best)} more make it shorter, {count['longer']} longer, {count['same']} neither"
     return [head, *lines, f"    {more}", f"  {WARNING}"]
+
+
+if __name__ == "__main__":
+    from program import no_command
+
+    no_command(__file__)

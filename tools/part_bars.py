@@ -217,3 +217,9 @@ class Bars:
     def all(self, tasks: list[dict], file: str) -> None:
         """Each task of a file."""
         self.rows(tasks, f"{os.path.basename(file)}: what the bounds are made of", [0] * len(tasks))
+
+
+if __name__ == "__main__":
+    from program import no_command
+
+    no_command(__file__)

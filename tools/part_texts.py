@@ -211,3 +211,9 @@ def lines_of_waits(told: dict) -> list[str]:
         before = f", less {told['before']} before the jobs came" if told["before"] else ""
         lines.append(f"  waits for {', '.join(several)}{before}")
     return lines
+
+
+if __name__ == "__main__":
+    from program import no_command
+
+    no_command(__file__)

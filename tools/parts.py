@@ -246,3 +246,9 @@ class Parts(Sharing):
             if job is None:
                 break
         return found
+
+
+if __name__ == "__main__":
+    from program import no_command
+
+    no_command(__file__)

@@ -33,3 +33,9 @@ class Sharing:
         if kind == "round-robin":
             return self.beside(name)
         return [it for it in self.beside(name) if self.tasks[it]["priority"] < self.tasks[name]["priority"]]
+
+
+if __name__ == "__main__":
+    from program import no_command
+
+    no_command(__file__)

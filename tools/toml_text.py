@@ -9,3 +9,9 @@ def toml_of(system: dict) -> str:
         for it in system.get(part, []):
             lines += [f"[[{part}]]", *(f"{key} = {json.dumps(value)}" for key, value in it.items())]
     return "\n".join(lines) + "\n"
+
+
+if __name__ == "__main__":
+    from program import no_command
+
+    no_command(__file__)

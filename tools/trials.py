@@ -47,3 +47,9 @@ def split(text: str) -> list[str]:
         found.append(text[start:end])
         start = end
     return found
+
+
+if __name__ == "__main__":
+    from program import no_command
+
+    no_command(__file__)

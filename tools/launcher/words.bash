@@ -95,10 +95,13 @@ list_commands() {
 
 # What stands in tools/, a line a tool.
 list_tools() {
-  printf '  tools/%-11s  %s\n' graph.py "draws a system: resources, tasks, and who starts whom" \
+  printf '  tools/%-14s  %s\n' graph.py "draws a system: resources, tasks, and who starts whom" \
     chart.py "draws a report: bounds, and paths against deadlines" \
     curve.py "draws how many events start a task in a window" \
     gantt.py "draws a schedule: what ran when" \
+    explain.py "tells what a bound is made of, and whom a path waits for" \
+    sensitivity.py "tells how far each number may move, one at a time" \
+    optimise.py "looks for priorities on all resources together" \
     page.py "writes one page with a system, its bounds and a run" \
     worst.py "looks for runs that come near the bounds" \
     campaign.py "has many processors try made traces, and variants"
