@@ -3,7 +3,8 @@
 
 For some of the examples a page is made, with a trace, a schedule and a script where there are some. It must load without an
 error and without asking for anything else, show the numbers of the report, of `simulate` and of `session`, and the load of
-each resource and of slots, sort each column both ways by mouse and by keyboard, filter, fit into a narrow window, be light and
+each resource and of slots, open the parts of each bound and of each path, which add up to it and are as long as they should be,
+sort each column both ways by mouse and by keyboard, also where parts are open, filter, fit into a narrow window, be light and
 dark, and print. In windows of five widths the first column of Paths leaves room for the others, the tables of a page with long
 names aren't cut from 1366 on, and the lines between their rows go on under the fixed column. Pages of overloaded systems must
 tell what lies behind; what is told of random systems that are overloaded must be so: with a limit a hundred times as high a
@@ -250,6 +251,106 @@ def check_filters(page):
     page.clear("task-table")
 
 
+OPENED = "document.querySelector('#task-table tr[data-name=\"%s\"]').nextElementSibling"
+
+
+def check_made(page, keep):
+    """Each bound opens what it is made of, by mouse and by keyboard, and closes it again; the parts stay behind their task."""
+    tasks = page.table("task-table")
+    for place, it in enumerate(tasks):
+        name, opened = it["Task"], OPENED % it["Task"]
+        button = f"#task-table button[data-made=\"{name}\"]"
+
+        def press():
+            if place % 2:
+                page.browser.click(button)
+            else:
+                page.run(f"document.querySelector({json.dumps(button)}).focus()")
+                page.browser.key("Enter", "\r")
+
+        press()
+        page.hold(page.run(f"{opened}.className + document.querySelector({json.dumps(button)}).getAttribute('aria-expanded')") == "partstrue", f"the bound of {name} doesn't open")
+        lines = page.run(f"[...{opened}.querySelectorAll('dl > div')].map((line) => [...line.children].map((it) => it.textContent))")
+        text = page.run(f"{opened}.innerText")
+        if it["Bound"] == "overload":
+            page.hold("of the time" in text and not lines, f"what {name} has no bound for: {text}")
+        else:
+            parts = [(int(line[1].split(" · ")[0]), int(line[1].split(" · ")[1]), int(line[2])) for line in lines if line[1]]
+            came = sum(int(line[2].lstrip("−")) for line in lines if line[2].startswith("−"))
+            page.hold(all(count * each == ticks for count, each, ticks in parts) and sum(ticks for _, _, ticks in parts) - came == int(it["Bound"]) == int(lines[-1][2]), f"the parts of {name}: {lines}")
+            page.hold(lines[0][0] == name and "in the busy window" in text and "started by" in text, f"what is told of {name}: {text}")
+            bar = page.run(f"(() => {{ const it = {opened}.querySelector('.stack'); return [it.clientWidth, [...it.querySelectorAll('i')].map((part) => part.getBoundingClientRect().width), it.querySelector('u')?.getBoundingClientRect().left - it.getBoundingClientRect().left]; }})()")
+            whole = int(it["Bound"]) + came
+            page.hold(all(abs(width - bar[0] * ticks / whole) < 2 for width, (_, _, ticks) in zip(bar[1], parts)) and len(bar[1]) == len(parts), f"the bar of {name}: {bar}, {parts}")
+            page.hold(not came or abs(bar[2] - bar[0] * came / whole) < 2, f"the mark in the bar of {name}: {bar}, {came}")
+        if place >= 4:
+            press()
+            page.hold(page.run(f"!{opened}?.classList.contains('parts') && document.querySelector({json.dumps(button)}).getAttribute('aria-expanded')") == "false", f"the bound of {name} doesn't close")
+    behind = f"[...document.querySelectorAll('#task-table tr.parts')].map((it) => [it.previousElementSibling.dataset.name, it.offsetParent !== null])"
+    wanted = [it["Task"] for it in tasks[:4]]
+    page.hold(sorted(page.run(behind)) == sorted([name, True] for name in wanted), f"open are {page.run(behind)}")
+    for _ in range(2):
+        page.browser.click("#task-table thead th:nth-child(11) button")
+        page.hold(sorted(page.run(behind)) == sorted([name, True] for name in wanted), f"sorted, the open parts are {page.run(behind)}")
+    page.run("document.querySelector('.tools[data-of=task-table] input').value = 'no such word'")
+    page.run("document.querySelector('.tools[data-of=task-table] input').dispatchEvent(new Event('input', {bubbles: true}))")
+    page.hold(all(not shown for _, shown in page.run(behind)), "parts of a task that isn't shown are")
+    page.hold(page.run("document.querySelector('.tools[data-of=task-table] output').textContent") == f"0 of {len(tasks)}", "the count of what is shown, with open parts")
+    page.clear("task-table")
+    for width in (1400, 420):
+        page.browser.size(width)
+        page.hold(page.run("document.documentElement.scrollWidth <= innerWidth"), f"with open parts it is wider than a window of {width}")
+        page.hold(page.run("[...document.querySelectorAll('tr.parts .stack')].every((it) => it.getBoundingClientRect().right <= innerWidth)"), f"with open parts a bar ends beyond a window of {width}")
+        for scheme in ("light", "dark") if keep else ():
+            page.browser.look(scheme)
+            page.browser.picture(os.path.join(keep, f"{page.name}.parts.{scheme}.{width}.png"), width)
+    page.browser.look("light")
+    page.browser.size(1400)
+    for name in wanted:
+        page.browser.click(f'#task-table button[data-made="{name}"]')
+    page.hold(page.run(behind) == [], f"not all are closed: {page.run(behind)}")
+    # in the order of the file again
+    page.run("(() => { const body = document.querySelector('#task-table').tBodies[0]; const names = %s; body.append(...names.map((it) => document.querySelector(`#task-table tr[data-name=\"${it}\"]`))); })()" % json.dumps([it["Task"] for it in tasks]))
+
+
+def check_made_paths(page):
+    """Each worst time of a path opens the bounds along it, whose sum it is."""
+    for it in page.table("path-table") if page.run("!!document.querySelector('#path-table')") else []:
+        name = it["Path"]
+        button = f'#path-table button[data-made="{name}"]'
+        page.browser.click(button)
+        opened = f"document.querySelector('{button}').closest('tr').nextElementSibling"
+        lines = page.run(f"[...{opened}.querySelectorAll('dl > div')].map((line) => [...line.children].map((it) => it.textContent))")
+        if it["Worst"] == "overload":
+            page.hold(any(line[2] == "overload" for line in lines), f"along the path {name}: {lines}")
+        else:
+            *bounds, last = [int(line[2]) for line in lines]
+            page.hold(sum(bounds) == last == int(it["Worst"]), f"along the path {name}: {lines}")
+            page.hold("own work" in page.run(f"{opened}.innerText"), f"whom the path {name} waits for")
+        page.browser.click(button)
+        page.hold(page.run("document.querySelectorAll('#path-table tr.parts').length") == 0, f"what {name} waits for doesn't close")
+
+
+def check_searches(program, page_of):
+    """How far numbers may move is what tools/sensitivity.py tells, and the priorities are those of tools/optimise.py."""
+    page = page_of("two_tasks", example("two_tasks", ".toml"), "--sensitivity", "--optimise")
+    words = [sys.executable, os.path.join(TOP, "tools", "sensitivity.py"), "--program", program, example("two_tasks", ".toml")]
+    lines = subprocess.run(words, capture_output=True, text=True, check=False).stdout.split("\n\n")[0].splitlines()[1:]
+    rows = [" ".join(it).replace("−", "-") for it in page.rows("margin-table")]
+    page.hold(rows == [" ".join(it.split()) for it in lines], f"how far numbers may move: {rows}")
+    page.hold("All deadlines are met by the priorities of the file" in page.run("document.querySelector('#priorities').innerText"), "its priorities")
+    page.choose("margin-table", "kind", "jitter")
+    page.hold(page.run("document.querySelector('.tools[data-of=margin-table] output').textContent") == f"2 of {len(rows)}", "the jitters")
+    page = page_of("overload", example("overload", ".toml"), "--sensitivity", "--optimise")
+    page.hold("Nothing may move, as this doesn't hold now: path pa" in page.run("document.querySelector('#margins').innerText"), "nothing may move")
+    said = page.run("document.querySelector('#priorities').innerText")
+    page.hold("p, the most urgent first: a1, b2" in said and "q, the most urgent first: b1, a2" in said, f"the priorities: {said}")
+    edits = page.run("document.querySelector('#priorities pre').textContent")
+    with tempfile.TemporaryDirectory() as room:
+        script = written(os.path.join(room, "edits"), edits)
+        page.hold(call(program, "session", example("overload", ".toml"), script).endswith("overload 0 missed 0\n"), f"the edits: {edits}")
+
+
 def check_changes(page, program):
     """Each column of changes has the bounds of one report, and each bound that changes has a row."""
     texts, part = [call(program, "analyse", example(page.name, ".toml"))], ""
@@ -453,19 +554,19 @@ def check_refusals(room, program):
     bad = written(os.path.join(room, "bad.toml"), "format = 3\n")
     schedule = written(os.path.join(room, "bad.csv"), "a,1,2\nz,3,4\n")
     chains = example("crossing_chains", ".toml")
-    for said, words in (
-        ("a page's name ends with .html", [two, "--to", "page.pdf"]),
-        ("--schedule wants --trace", [two, "--to", page, "--schedule", schedule]),
-        ("has no tick", [two, "--to", page, "--from", "5", "--until", "5"]),
-        ("can't be called", [two, "--to", page, "--program", os.path.join(room, "nothing")]),
-        ("status 14: system refused reason 13 file 0", [bad, "--to", page]),
-        ("status 16", [two, "--to", page, "--trace", trace]),
-        ("chain 1 names a task capture, which the system doesn't have", [two, "--to", page, "--chains", example("camera_brake", ".chains.toml")]),
-        ("the system has no task a", [chains, "--to", page, "--trace", trace, "--schedule", schedule]),
+    for status, said, words in (
+        (1, "a page's name ends with .html", [two, "--to", "page.pdf"]),
+        (1, "--schedule wants --trace", [two, "--to", page, "--schedule", schedule]),
+        (1, "has no tick", [two, "--to", page, "--from", "5", "--until", "5"]),
+        (1, "can't be called", [two, "--to", page, "--program", os.path.join(room, "nothing")]),
+        (14, "bad.toml:1:10: the format 3 isn't known: it is 1 or 2", [bad, "--to", page]),
+        (16, "status 16", [two, "--to", page, "--trace", trace]),
+        (1, "chain 1 names a task capture, which the system doesn't have", [two, "--to", page, "--chains", example("camera_brake", ".chains.toml")]),
+        (1, "the system has no task a", [chains, "--to", page, "--trace", trace, "--schedule", schedule]),
     ):
         words += [] if "--program" in words else ["--program", program]
         done = subprocess.run([sys.executable, os.path.join(TOP, "tools", "page.py"), *words], capture_output=True, text=True, check=False)
-        hold(done.returncode == 1 and said in done.stderr, f"page.py {words}: {done.returncode} {done.stderr}")
+        hold(done.returncode == status and said in done.stderr, f"page.py {words}: {done.returncode} {done.stderr}")
     hold(not os.path.exists(page), "a page is written though something is refused")
 
 
@@ -534,6 +635,8 @@ def check_examples(room, words, page_of):
         check_numbers(page, words.program, with_trace)
         check_bars(page)
         check_loads(page)
+        check_made(page, words.keep)
+        check_made_paths(page)
         if with_trace:
             check_chart(page, words.program, schedule)
         if with_script:
@@ -559,7 +662,9 @@ def main():
             """The page of a file, in the browser."""
             made_page = os.path.join(to, name + ".html")
             done = subprocess.run([sys.executable, os.path.join(TOP, "tools", "page.py"), "--program", words.program, "--to", made_page, *more, file], capture_output=True, text=True, check=False)
-            if done.returncode or done.stderr:
+            # how far a search is may be told
+            complaints = [line for line in done.stderr.splitlines() if not re.match(r"(sensitivity|optimise)\.py: \d+ (of|orders?)\b", line)]
+            if done.returncode or complaints:
                 sys.exit(f"{name}: no page: {done.stderr}")
             with open(made_page, encoding="utf-8") as it:
                 hold(not re.search(r"https?://|@import|url\((?!#)", it.read()), f"{name}: it has a link to the outside")
@@ -571,6 +676,7 @@ def main():
             check_wide(room, page_of)
             check_chains(room, page_of)
             check_cases(room, words.program, page_of)
+            check_searches(words.program, page_of)
         finally:
             browser.close()
         check_causes(room, words.program)

@@ -1,6 +1,6 @@
 #!/usr/bin/env python3
-"""Tries what the pages show: each call of ./lokwurmi with its output, each system that docs/FILES.md shows as refused, and
-each edit that it shows as refused. docs/TUTORIAL.md is followed from its first line to its last: the files that it has a
+"""Tries what the pages show: each call of ./lokwurmi or of a tool of tools/ with its output, each system that docs/FILES.md
+shows as refused, and each edit that it shows as refused. docs/TUTORIAL.md is followed from its first line to its last: the files that it has a
 reader write are written, added to and changed, and each call is made with the files as they are by then; at its end they are
 those of examples/. Each call of a tool of tools/ in a block of a page, that writes a picture or a page of docs/, is made once
 more, and must write what stands there: the same tables, and pictures that say the same. The tables of docs/TIGHTNESS.md are
@@ -97,7 +97,9 @@ def check_figures(page, text, known, wide):
 
 def follow(page, text, room):
     """Follows a page: each file that it writes, adds to or changes, and each call."""
-    os.symlink(os.path.abspath("lokwurmi"), os.path.join(room, "lokwurmi"))
+    # the tools read reports by the package in python/
+    for it in ("lokwurmi", "tools", "python"):
+        os.symlink(os.path.abspath(it), os.path.join(room, it))
     files = {}
     for how, name, block in BLOCK.findall(text):
         if how == "Write into":
@@ -250,6 +252,8 @@ with tempfile.TemporaryDirectory() as room:
         for words, told in re.findall(r"^```\n\$ \./lokwurmi (.*)\n((?:(?!```).*\n)*)```", text, re.M):
             hold(f"{page}: {words}", call(*shlex.split(words)), told)
         if python and page != "docs/TUTORIAL.md":
+            for words, told in re.findall(r"^```\n\$ python3 (tools/.*)\n((?:(?!```).*\n)*)```", text, re.M):
+                hold(f"{page}: {words}", subprocess.run([python, *shlex.split(words)], stdout=subprocess.PIPE, text=True, check=False).stdout, told)
             check_drawn(page, text, room, python)
     page = read("docs/FILES.md")
     for system, told in re.findall(r"```toml\n((?:(?!```).*\n)*)```\n\n`(system refused .*?)`", page):

@@ -13,7 +13,7 @@ The jobs and passages in schedules of random systems are those of the step rules
 schedule or a picture's name is refused.
 
 Each tool tells its words without the packages that it needs beside Python's own. Where they are missing it goes on under
-Debian's Python, once, or ends with a line that says what to install; the pages name the packages of all tools.
+Debian's Python, once, or ends with a line that says what to install; the README names the packages of all tools.
 
     python3 bench/check_tools.py
 """
@@ -333,21 +333,27 @@ def check_packages(room):
     hold(os.path.exists(picture), "chart.py doesn't go on under Debian's Python")
 
 
-def check_named():
-    """The pages name the package of each module that a tool has from elsewhere."""
-    # beside modules of tools/ its package of refusals, and the package of this repository
-    own = {os.path.basename(it)[:-3] for it in glob.glob("tools/*.py")} | {"lokwurmi", "refusals"}
-    wanted = {"graphviz"}
-    for file in sorted(glob.glob("tools/*.py")):
+def packages_of(files):
+    """The packages of the modules that some tools have from elsewhere: not from tools/, its package, or that of this repository."""
+    own = {os.path.basename(it).removesuffix(".py") for it in glob.glob("tools/*.py") + ["tools/refusals"] + glob.glob("python/src/*")}
+    found = {"graphviz"}
+    for file in files:
         with open(file, encoding="utf-8") as it:
             tree = ast.parse(it.read())
         names = {it.name.split(".")[0] for node in ast.walk(tree) if isinstance(node, ast.Import) for it in node.names}
         names |= {node.module.split(".")[0] for node in ast.walk(tree) if isinstance(node, ast.ImportFrom)}
         # dask comes with distributed
-        wanted |= {PACKAGES.get(it, f"the package of {it}, which tools/packages.py doesn't have") for it in names - own - set(sys.stdlib_module_names) - {"dask"}}
+        found |= {PACKAGES.get(it, f"the package of {it}, which tools/packages.py doesn't have") for it in names - own - set(sys.stdlib_module_names) - {"dask"}}
+    return found
+
+
+def check_named():
+    """The README names the packages of all tools, and the tutorial those of the tools that it names."""
     for page in ("README.md", "docs/TUTORIAL.md"):
         with open(page, encoding="utf-8") as it:
-            lines = re.findall(r"apt-get install ([a-z0-9 -]+)", it.read())
+            text = it.read()
+        wanted = packages_of(file for file in sorted(glob.glob("tools/*.py")) if page == "README.md" or file in text)
+        lines = re.findall(r"apt-get install ([a-z0-9 -]+)", text)
         hold(any(wanted <= set(line.split()) for line in lines), f"{page}: it has no line with {sorted(wanted)}")
 
 

@@ -5,17 +5,15 @@ has no bound. It is no part of what is proved, and tells of each such task one c
 """
 from fractions import Fraction
 
+from sharing import LIMIT, Sharing
 from system import activators, execution, sources_of
 
-LIMIT = 1_000_000
 
-
-class Behind:
+class Behind(Sharing):
     """A system file and the tasks of its report."""
 
     def __init__(self, system, found):
-        self.tasks = {it["name"]: it for it in system.get("task", [])}
-        self.resources = {it["name"]: it for it in system.get("resource", [])}
+        super().__init__(system)
         self.over = [name for name in self.tasks if found[name]["worst"] is None]
         sources = {it["name"]: it for it in system.get("source", [])}
         self.rates = {name: [(source, Fraction(1, sources[source]["period"])) for source in sources_of(system, name)] for name in self.tasks}
@@ -30,25 +28,6 @@ class Behind:
 
     def load(self, name):
         return sum(self.loads(name).values(), Fraction(0))
-
-    def kind(self, name):
-        return self.resources[self.tasks[name]["on"]]["kind"]
-
-    def limit(self, name):
-        return self.resources[self.tasks[name]["on"]].get("limit", LIMIT)
-
-    def beside(self, name):
-        """The other tasks of its resource."""
-        return [it for it in self.tasks if it != name and self.tasks[it]["on"] == self.tasks[name]["on"]]
-
-    def rivals(self, name):
-        """The tasks that may go before this one on its resource."""
-        kind = self.kind(name)
-        if kind == "tdma":
-            return []
-        if kind == "round-robin":
-            return self.beside(name)
-        return [it for it in self.beside(name) if self.tasks[it]["priority"] < self.tasks[name]["priority"]]
 
     def is_unbounded(self, name):
         """Whether its input has no bound: that of a task along its chain hasn't."""

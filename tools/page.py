@@ -6,11 +6,13 @@
     python3 tools/page.py examples/crossing_chains.toml --session examples/crossing_chains.script.txt --to chains.html
     python3 tools/page.py examples/camera_brake.toml --chains examples/camera_brake.chains.toml --to brake.html
 
-The page has the graph of the system, the load of its resources, its paths and tasks with their bounds, and what lies behind
-each bound that is `overload`. With --trace it shows what `lokwurmi simulate` observes, beside the bounds, and the run as a
-Gantt chart: that of --schedule, or of what `lokwurmi schedule` writes of the trace. With --session it shows what each report
-of that script changed. With --chains it has the reaction times and data ages of the chains of that file, beside their deadlines,
-and with --trace what the run shows of them. Tables are sorted and filtered in the browser, which needs no network for it.
+The page has the graph of the system, the load of its resources, its paths and tasks with their bounds, what each bound is made
+of, and what lies behind each that is `overload`. With --trace it shows what `lokwurmi simulate` observes, beside the bounds, and
+the run as a Gantt chart: that of --schedule, or of what `lokwurmi schedule` writes of the trace. With --session it shows what
+each report of that script changed, with --sensitivity how far each number may move (tools/sensitivity.py), and with --optimise
+priorities under which all deadlines are met, where some are found (tools/optimise.py). With --chains it has the reaction times
+and data ages of the chains of that file, beside their deadlines, and with --trace what the run shows of them. Tables are sorted
+and filtered in the browser, which needs no network for it.
 
 It needs Jinja2, Graphviz, and matplotlib for the Gantt chart: apt-get install python3-jinja2 graphviz python3-matplotlib
 """
@@ -21,14 +23,18 @@ import re
 import shutil
 import subprocess
 import sys
+import tempfile
 from fractions import Fraction
 
-from behind import Behind
+import optimise
+import sensitivity
 from colours import hues, hues_of_sources, letters_on, shades
+from explained import Explained
 from graph import graph
 from packages import need
 from page_chains import chains_of
-from program import add_program, schedule_by, written_by
+from part_texts import lines_of_overload, lines_of_waits, note_of, stream_text, waits_text, which_of
+from program import add_program, often, schedule_by, written_by
 from report import reports_in, seen_in
 from runs import read, read_schedule, read_trace, schedule_in
 from system import activators, read_system, sources_of
@@ -47,6 +53,8 @@ REFUSALS = [
 ]
 # a system with more tasks than this is drawn without those that stand alone, and of a longer run the first part
 MOST_DRAWN, MOST_SEGMENTS = 40, 3000
+# how many looks at busy windows what bounds are made of may take, which is some seconds
+MOST_LOOKS = 5_000_000
 # how many letters fit into a bar of a path
 LETTERS = 70
 
@@ -81,7 +89,8 @@ class System:
         self.tasks = {it["name"]: it for it in self.raw.get("task", [])}
         self.paths = {it["name"]: it for it in self.raw.get("path", [])}
         self.on = {name: [it for it in self.tasks if self.tasks[it]["on"] == name] for name in self.resources}
-        self.behind = Behind(self.raw, self.found_tasks)
+        self.explained = Explained(self.raw, self.found_tasks, self.found_paths, MOST_LOOKS)
+        self.behind = self.explained.behind
         self.hue_of_source, self.shades = hues_of_sources(self.raw), shades(self.raw)
         self.on_missed = {task for name, it in self.paths.items() if self.found_paths[name]["verdict"] == "missed" for task in it["tasks"]}
 
@@ -126,6 +135,31 @@ class System:
                 "least": found["best"], "greatest": self.behind.greatest[name], "load": percent(load), "value": float(load), "worst": found["worst"], "seen": observed, "deadline": self.tightest(name, observed and observed["worst"]),
             })
         return rows
+
+    def made_of(self):
+        """What each bound and each path is made of, as the page's script reads it, and the colours of tasks, with that of letters
+        on them."""
+        tasks = {name: self.made_of_task(name) for name in self.tasks}
+        paths = {name: self.made_of_path(name) for name in self.paths}
+        hues = {name: [hue, letters_on(hue)] for name, hue in self.shades.items()}
+        return {"task": {name: it for name, it in tasks.items() if it}, "path": paths, "hues": hues}
+
+    def made_of_task(self, name):
+        """The parts of a bound, or why there is none; None where the parts take too long."""
+        told = self.explained.task(name)
+        if told["bound"] is None:
+            return {"why": [it.strip() for it in lines_of_overload(told)]}
+        if not told["job"]:
+            return None
+        parts = [[it["of"], it["count"], it["each"], it["kind"], note_of(it)] for it in told["parts"]]
+        streams = [stream_text(it) for it in told["streams"]]
+        return {"job": which_of(told["job"]), "came": told["job"]["came"], "bound": told["bound"], "by": streams, "parts": parts}
+
+    def made_of_path(self, name):
+        """The bounds along a path, and whom it waits for."""
+        told = self.explained.path(name)
+        tasks = [[it["task"], it["bound"], "" if it["bound"] is None else waits_text(it)] for it in told["tasks"]]
+        return {"tasks": tasks, "worst": told["worst"], "waits": [] if told["worst"] is None else [it.strip() for it in lines_of_waits(told)]}
 
     def path_rows(self, seen):
         # bounds that are numbers are drawn also where their path has none as a whole
@@ -247,8 +281,33 @@ def changes_of(words, system):
     return {"name": os.path.basename(words.session), "steps": steps, "rows": rows, "kept": kept, "counts": counts}
 
 
+def margins_of(words):
+    """How far each number may move, or what doesn't hold already."""
+    question = sensitivity.Question(argparse.Namespace(file=words.file, program=words.program, deadlines=False, goals={}))
+    question.program = often(words.program)
+    now = sensitivity.Found(question.text, {}, False)
+    rows = sensitivity.rows_of(question, sensitivity.KINDS, os.cpu_count() or 1) if now.holds() else []
+    told = [{
+        "what": sensitivity.name_of(it), "kind": it["kind"], "share": it["share"], "by": sensitivity.share_text(it), "then": sensitivity.then_of(it),
+        "now": sensitivity.value_of(it, "value"), "last": sensitivity.value_of(it, "last"), "value": it["value"], "end": it["last"],
+    } for it in rows]
+    return {"rows": told, "missed": now.first()}
+
+
+def priorities_of(words):
+    """Priorities under which all deadlines are met, or the best that are found."""
+    asked = argparse.Namespace(file=words.file, program=often(words.program), seed=1, seconds=None, rounds=20, restarts=4, script=None)
+    with tempfile.TemporaryDirectory() as room:
+        search = optimise.Search(asked, room)
+        optimise.searched(search, asked)
+        search.progress.clear()
+        verdict = optimise.confirmed(search, asked, room)
+    order = {on: names for on, names in search.best.items() if names != search.given[on]}
+    return {"found": verdict.holds, "told": verdict.told(), "orders": search.looked, "order": order, "edits": search.script()}
+
+
 def page_of(words):
-    """The text of the page."""
+    """The text of the page, and where what it tells of a bound isn't what the report says."""
     system = System(words.file, words.program)
     seen, run = run_of(words, system) if words.trace else (None, None)
     effects = chains_of(words, system, run) if words.chains else None
@@ -257,11 +316,13 @@ def page_of(words):
     paths = system.path_rows(seen)
     room = jinja2.Environment(loader=jinja2.FileSystemLoader(os.path.join(HERE, "templates")), autoescape=True, trim_blocks=True, lstrip_blocks=True, undefined=jinja2.StrictUndefined)
     room.filters["percent"] = percent
-    return room.get_template("page.html").render(
+    text = room.get_template("page.html").render(
         file=os.path.basename(words.file), system=system, graph=picture, chains=chains, resources=system.resource_rows(), tasks=system.task_rows(seen), paths=paths,
         endless=sum(it["worst"] is None for it in paths), overload=len(over), missed=sum(it["verdict"] == "missed" for it in paths), unknown=sum(it["verdict"] == "unknown" for it in paths), with_deadline=sum(it["deadline"] is not None for it in paths),
-        causes=causes, over=over, run=run, chains_told=effects, changes=changes_of(words, system) if words.session else None,
+        causes=causes, over=over, run=run, chains_told=effects, made=system.made_of(), changes=changes_of(words, system) if words.session else None,
+        margins=margins_of(words) if words.sensitivity else None, priorities=priorities_of(words) if words.optimise else None,
     )
+    return text, system.explained.faults
 
 
 def asked_for():
@@ -274,6 +335,8 @@ def asked_for():
     reader.add_argument("--until", metavar="T", type=int, help="the tick at which the Gantt chart ends")
     reader.add_argument("--chains", metavar="CHAINS", help="a file of chains that read registers: their bounds and deadlines, and what the trace shows of them")
     reader.add_argument("--session", metavar="SCRIPT", help="a script: what each of its reports changed")
+    reader.add_argument("--sensitivity", action="store_true", help="how far each number may move while all deadlines are met")
+    reader.add_argument("--optimise", action="store_true", help="priorities on all resources under which all deadlines are met, where some are found")
     add_program(reader)
     words = reader.parse_args()
     if not words.to.endswith(".html"):
@@ -288,9 +351,12 @@ def asked_for():
 def main():
     words = asked_for()
     need("jinja2", *(["matplotlib"] if words.trace else []))
-    text = page_of(words)
+    text, faults = page_of(words)
+    for it in faults:
+        print(f"page.py: an error of this tool: {it}", file=sys.stderr)
     with open(words.to, "w", encoding="utf-8") as it:
         it.write(text)
+    sys.exit(1 if faults else 0)
 
 
 if __name__ == "__main__":

@@ -1,4 +1,8 @@
 "use strict";
+// the row that tells what a bound is made of stays behind that of its task
+const isParts = (row) => row?.classList.contains("parts");
+const partsOf = (row) => isParts(row.nextElementSibling) ? [row.nextElementSibling] : [];
+const rowsOf = (table) => [...table.tBodies[0].rows].filter((it) => !isParts(it));
 // sorts a table by a column's data-v, or its text: numbers by their value, all else by its letters; what has none goes last
 function sortBy(head) {
   const table = head.closest("table"), body = table.tBodies[0], place = head.cellIndex;
@@ -13,7 +17,8 @@ function sortBy(head) {
     const order = Number.isNaN(both) && x !== y ? x.localeCompare(y, "en", { numeric: true }) : both || 0;
     return down ? -order : order;
   };
-  body.append(...[...body.rows].sort(compare));
+  const groups = new Map(rowsOf(table).map((row) => [row, [row, ...partsOf(row)]]));
+  body.append(...[...groups.keys()].sort(compare).flatMap((row) => groups.get(row)));
 }
 // shows the rows that have all words of the field and the choices of the lists
 function filter(tools) {
@@ -21,12 +26,14 @@ function filter(tools) {
   const words = tools.querySelector("input").value.toLowerCase().split(/\s+/).filter(Boolean);
   const choices = [...tools.querySelectorAll("select")].filter((it) => it.value);
   let shown = 0;
-  for (const row of table.tBodies[0].rows) {
+  const rows = rowsOf(table);
+  for (const row of rows) {
     const text = row.dataset.words.toLowerCase();
     row.hidden = !(words.every((it) => text.includes(it)) && choices.every((it) => row.dataset[it.name].split(" ").includes(it.value)));
+    for (const it of partsOf(row)) it.hidden = row.hidden;
     shown += !row.hidden;
   }
-  tools.querySelector("output").textContent = `${shown} of ${table.tBodies[0].rows.length}`;
+  tools.querySelector("output").textContent = `${shown} of ${rows.length}`;
 }
 for (const it of document.querySelectorAll("th[aria-sort] button")) it.addEventListener("click", () => sortBy(it.parentElement));
 for (const tools of document.querySelectorAll(".tools[data-of]")) {
@@ -39,6 +46,76 @@ for (const tools of document.querySelectorAll(".tools[data-of]")) {
   });
   filter(tools);
 }
+// what a bound is made of: the parts as a bar, and one by one
+const made = JSON.parse(document.getElementById("made").textContent);
+function element(name, look, text) {
+  const it = document.createElement(name);
+  if (look) it.className = look;
+  if (text !== undefined) it.textContent = text;
+  return it;
+}
+function blockOf(name, kind) {
+  const it = element("i", `lift${kind === "own" ? " own" : ""}`), hue = made.hues[name];
+  // what isn't jobs of a task is hatched
+  if (kind === "own" || kind === "rival") [it.style.background, it.style.color] = hue;
+  else it.classList.add("other");
+  return it;
+}
+function lineOf(list, look, ...cells) {
+  const line = list.appendChild(element("div"));
+  cells.forEach((it, place) => { const cell = line.appendChild(element(place ? "dd" : "dt", look + (place === 1 || place === 2 ? " n" : ""))); cell.append(it); });
+}
+function dotOf(name, kind) {
+  const who = element("span"), dot = who.appendChild(blockOf(name, kind));
+  dot.className = `dot ${dot.className}`;
+  who.append(name);
+  return who;
+}
+function partsOfTask(told) {
+  const room = element("div");
+  if (told.why) {
+    for (const it of told.why) room.append(element("p", "", it));
+    return room;
+  }
+  for (const it of told.by) room.append(element("p", "small", `started by ${it}`));
+  room.append(element("p", "", told.job));
+  const whole = told.bound + told.came, bar = room.appendChild(element("div", "stack")), list = room.appendChild(element("dl"));
+  bar.setAttribute("role", "img");
+  bar.setAttribute("aria-label", told.parts.map(([of, count, each]) => `${of} ${count * each}`).join(", "));
+  for (const [of, count, each, kind, note] of told.parts) {
+    const block = bar.appendChild(blockOf(of, kind)), share = count * each / whole;
+    block.style.width = `${100 * share}%`;
+    block.title = `${of}: ${count} · ${each} = ${count * each}${note ? `, ${note}` : ""}`;
+    if (kind === "own" || kind === "rival") block.textContent = of.length < 110 * share ? of : "";
+    lineOf(list, "", dotOf(of, kind), `${count} · ${each}`, `${count * each}`, note);
+  }
+  if (told.came) {
+    const mark = bar.appendChild(element("u"));
+    mark.style.left = `${100 * told.came / whole}%`;
+    mark.title = `the job comes ${told.came} after the window began`;
+    lineOf(list, "", "before the job came, the line in the bar", "", `−${told.came}`, "");
+  }
+  lineOf(list, "sum", "bound", "", `${told.bound}`, "");
+  return room;
+}
+// the bounds along a path, and whom it waits for
+function partsOfPath(told) {
+  const room = element("div"), list = room.appendChild(element("dl"));
+  for (const [name, bound, waits] of told.tasks) lineOf(list, "", dotOf(name, "rival"), "", bound === null ? "overload" : `${bound}`, waits);
+  if (told.worst !== null) lineOf(list, "sum", "worst", "", `${told.worst}`, "");
+  for (const it of told.waits) room.append(element("p", "", it));
+  return room;
+}
+for (const it of document.querySelectorAll("button[data-made]")) it.addEventListener("click", () => {
+  const row = it.closest("tr"), open = partsOf(row);
+  it.setAttribute("aria-expanded", String(!open.length));
+  if (open.length) return open[0].remove();
+  const parts = element("tr", "parts"), cell = parts.appendChild(element("td"));
+  cell.colSpan = row.cells.length;
+  const told = made[it.dataset.kind][it.dataset.made];
+  cell.append(it.dataset.kind === "task" ? partsOfTask(told) : partsOfPath(told));
+  row.after(parts);
+});
 const look = document.getElementById("look");
 look.hidden = false;
 look.addEventListener("click", () => {
