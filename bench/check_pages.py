@@ -195,6 +195,17 @@ def check_drawn(page, text, room, python):
                     hold(f"{page}: {words[-1]}", wrote == told, True)
 
 
+def check_called(page, text, python):
+    """The calls of tools in the blocks of a page, of which several may stand in one, and what they tell: only its beginning where
+    the page goes on with "and so on"."""
+    for block, cut in re.findall(r"^```\n(\$ python3 tools/(?:(?!```).*\n)*)```(\n\nand so on)?", text, re.M):
+        for part in re.split(r"^\$ ", block, flags=re.M)[1:]:
+            words, told = part.split("\n", 1)
+            _, *words = shlex.split(words)
+            wrote = subprocess.run([python, *words], stdout=subprocess.PIPE, text=True, check=False).stdout
+            hold(f"{page}: {' '.join(words)}", wrote[: len(told)] if cut else wrote, told)
+
+
 def latest(name):
     """Of an example the bounds that are numbers, and the latest that its traces in examples/worst/ show."""
     found = {}
@@ -252,8 +263,7 @@ with tempfile.TemporaryDirectory() as room:
         for words, told in re.findall(r"^```\n\$ \./lokwurmi (.*)\n((?:(?!```).*\n)*)```", text, re.M):
             hold(f"{page}: {words}", call(*shlex.split(words)), told)
         if python and page != "docs/TUTORIAL.md":
-            for words, told in re.findall(r"^```\n\$ python3 (tools/.*)\n((?:(?!```).*\n)*)```", text, re.M):
-                hold(f"{page}: {words}", subprocess.run([python, *shlex.split(words)], stdout=subprocess.PIPE, text=True, check=False).stdout, told)
+            check_called(page, text, python)
             check_drawn(page, text, room, python)
     page = read("docs/FILES.md")
     for system, told in re.findall(r"```toml\n((?:(?!```).*\n)*)```\n\n`(system refused .*?)`", page):

@@ -118,6 +118,20 @@ def check_charts(report, room):
         hold(words or all(f"  {name}<" in text for name in tasks), f"chart.py {report}: a task isn't there")
 
 
+def check_times(room):
+    """Charts of which a tick is a microsecond, with what is told of them worked out by hand."""
+    picture = os.path.join(room, "times.svg")
+    done = run("chart.py", "--to", picture, "--tick", "1us", "examples/pedal.report.txt")
+    hold(done.returncode == 0, f"chart.py --tick: {done.stderr}")
+    with open(picture, encoding="utf-8") as it:
+        texts = re.findall(r">([^<>]+)</text>", it.read())
+    hold("ms, where a tick is 1us" in texts and "ticks" not in texts and {"3.68ms", "60us", "7.5"} <= set(texts), f"chart.py --tick: {texts}")
+    words = [f"examples/pedal.{it}" for it in ("toml", "schedule.csv", "trace.csv", "report.txt")]
+    longest = ["--from", "0", "--until", "6000", "--longest", "torque", "--tick", "1us"]
+    texts = gantt(room, *words[:2], "--trace", words[2], "--report", words[3], *longest)[0]
+    hold("torque: 292us, bound 900us" in texts and "ms, where a tick is 1us" in texts and "6" in texts and "6000" not in texts, f"gantt.py --tick: {texts}")
+
+
 def check_streams(file, report):
     """The streams of each task beside the line of its report."""
     system, (tasks, _) = read_system(file), read_report(report)
@@ -373,6 +387,7 @@ with tempfile.TemporaryDirectory() as room:
         check_charts(report, room)
         check_streams(file, report)
     check_curves(room)
+    check_times(room)
     for schedule in sorted(glob.glob("examples/*.schedule.csv")):
         check_gantt(room, os.path.basename(schedule).removesuffix(".schedule.csv"))
         check_longest(room, os.path.basename(schedule).removesuffix(".schedule.csv"))

@@ -3,6 +3,7 @@ and an arrow from the end of each, which writes, to when the next one reads."""
 from typing import NamedTuple
 
 from seen import NEVER, Late, Run, Watch, seen_of
+from times import Scale
 
 try:
     from matplotlib.patches import Rectangle
@@ -76,7 +77,7 @@ def draw_arrows(axes, places: dict[str, int], run: Run, it: Marked) -> None:
         axes.annotate("", xytext=start, xy=end, arrowprops=head | look, zorder=8, annotation_clip=True)
 
 
-def draw_whole(axes, places: dict[str, int], it: Marked, y: float) -> None:
+def draw_whole(axes, places: dict[str, int], it: Marked, y: float, scale: Scale) -> None:
     """A line below all lanes from when to when, with what it is, and faint ones up to where it begins and ends."""
     colour, style, _ = LOOKS[it.what]
     since, until = it.late.since, it.late.until
@@ -84,16 +85,16 @@ def draw_whole(axes, places: dict[str, int], it: Marked, y: float) -> None:
     axes.plot([since, until], [y, y], color=colour, linestyle="none", marker="|", markersize=7, zorder=6)
     for time, name in ((since, it.tasks[0]), (until, it.tasks[-1])):
         axes.plot([time, time], [places[name] - BAR / 2, y], color=colour, linewidth=0.7, alpha=0.45, zorder=1.6)
-    bound = "" if it.bound is None else f" of {it.bound}"
-    text = f"{it.what} {until - since}{bound}, where jobs read {it.rule}"
+    bound = "" if it.bound is None else f" of {scale.text(it.bound)}"
+    text = f"{it.what} {scale.text(until - since)}{bound}, where jobs read {it.rule}"
     look = {"facecolor": PAPER, "edgecolor": "none", "pad": 1.2}
     middle = {"ha": "center", "va": "center", "clip_on": True}
     axes.text((since + until) / 2, y, text, fontsize=7, color=colour, zorder=7, bbox=look, **middle)
 
 
-def draw_marked(axes, places: dict[str, int], run: Run, marked: list[Marked], below: float) -> None:
+def draw_marked(axes, places: dict[str, int], run: Run, marked: list[Marked], below: float, scale: Scale) -> None:
     """All that is marked, with a line for each from `below` on."""
     for row, it in enumerate(marked):
         draw_frames(axes, places, run, it)
         draw_arrows(axes, places, run, it)
-        draw_whole(axes, places, it, below + 0.42 * row)
+        draw_whole(axes, places, it, below + 0.42 * row, scale)

@@ -1,12 +1,12 @@
 #!/usr/bin/env python3
 """Draws a report as a chart: the times of the paths against their deadlines, and the bounds of the tasks.
 
-    python3 tools/chart.py [--to PICTURE] [--paths] REPORT
+    python3 tools/chart.py [--to PICTURE] [--paths] [--tick TIME] REPORT
 
 REPORT is what `lokwurmi analyse` wrote, or `lokwurmi session`, whose last report is drawn. The picture's name ends with
 .svg, .png or .pdf; without --to it is that of REPORT with .svg in place of .txt. A bar goes from the least time to the
 greatest; a task without a bound, and a path that has one, have a hatched bar over the whole width. With --paths the tasks
-are left out.
+are left out. With --tick, as 1us, the numbers are times and not ticks.
 """
 import argparse
 import os
@@ -14,6 +14,7 @@ import sys
 
 from packages import need
 from report import read_report
+from times import Scale, time_of, word_of
 
 try:
     import matplotlib
@@ -30,7 +31,7 @@ LEAST, GREATEST, MISSED, NONE = "#9dbfd9", "#3f7cac", "#d9822b", "#c0392b"
 HUES = ["#3f7cac", "#5b9a68", "#8a6bb1", "#a3862a", "#2a8c8c", "#7d6b5d", "#6f8c1f", "#5b6770"]
 
 
-def rows(axes, names, entries, hue_of, width):
+def rows(axes, names, entries, hue_of, width, scale):
     """A bar each: light to its least time, dark to its greatest, hatched over the whole width where there is none."""
     for place, (name, entry) in enumerate(zip(names, entries)):
         worst = entry["worst"]
@@ -39,13 +40,14 @@ def rows(axes, names, entries, hue_of, width):
         else:
             axes.barh(place, worst, height=0.7, color=hue_of(entry))
             axes.barh(place, entry["best"], height=0.7, color="white", alpha=0.55)
-        text = "overload" if worst is None else str(worst)
+        text = "overload" if worst is None else scale.text(worst)
         axes.text(width * 1.01, place, text, va="center", fontsize=7, color=NONE if worst is None else "black")
     axes.set_yticks(range(len(names)), names, fontsize=7)
     axes.set_ylim(len(names) - 0.4, -0.6)
     axes.set_xlim(0, width)
     axes.tick_params(axis="x", labelsize=8)
-    axes.set_xlabel("ticks", fontsize=8)
+    scale.axis(axes, round(width))
+    axes.xaxis.label.set_size(8)
     for side in ("top", "right"):
         axes.spines[side].set_visible(False)
 
@@ -54,9 +56,9 @@ def widest(entries):
     return max([1, *[it["worst"] or 0 for it in entries], *[it.get("deadline") or 0 for it in entries]]) * 1.03
 
 
-def draw_paths(axes, paths):
+def draw_paths(axes, paths, scale):
     entries = list(paths.values())
-    rows(axes, list(paths), entries, lambda it: MISSED if it["verdict"] == "missed" else GREATEST, widest(entries))
+    rows(axes, list(paths), entries, lambda it: MISSED if it["verdict"] == "missed" else GREATEST, widest(entries), scale)
     for place, it in enumerate(entries):
         if it["deadline"] is not None:
             axes.plot([it["deadline"]] * 2, [place - 0.42, place + 0.42], color="black", linewidth=1.6)
@@ -65,11 +67,11 @@ def draw_paths(axes, paths):
     axes.legend(legend, ["in time, or no deadline", "deadline missed", "no bound", "deadline"], fontsize=7, ncols=4, loc="lower right", bbox_to_anchor=(1.01, 0.99), borderaxespad=0.2, columnspacing=1, frameon=False)
 
 
-def draw_tasks(axes, tasks):
+def draw_tasks(axes, tasks, scale):
     resources = list(dict.fromkeys(it["on"] for it in tasks.values()))
     order = sorted(tasks, key=lambda name: resources.index(tasks[name]["on"]))
     entries = [tasks[name] for name in order]
-    rows(axes, [f"{tasks[name]['on']}  {name}" for name in order], entries, lambda it: HUES[resources.index(it["on"]) % len(HUES)], widest(entries))
+    rows(axes, [f"{tasks[name]['on']}  {name}" for name in order], entries, lambda it: HUES[resources.index(it["on"]) % len(HUES)], widest(entries), scale)
     axes.set_title("Bounds of the response times of the tasks, resource by resource", fontsize=9, loc="left")
 
 
@@ -77,6 +79,7 @@ def main():
     reader = argparse.ArgumentParser(description="Draws a report as a chart.")
     reader.add_argument("--to", metavar="PICTURE", help="a name that ends with .svg, .png or .pdf")
     reader.add_argument("--paths", action="store_true", help="leave out the tasks")
+    reader.add_argument("--tick", metavar="TIME", type=word_of(time_of), help="the time of a tick, as 1us: shows times in place of ticks")
     reader.add_argument("report", metavar="REPORT", help="what lokwurmi analyse wrote")
     words = reader.parse_args()
     need("matplotlib")
@@ -94,7 +97,7 @@ def main():
     heights = [max(1.2, len(entries) * 0.16) for _, entries in parts]
     figure, axes = plt.subplots(len(parts), 1, figsize=(8, sum(heights) + 1.1 * len(parts)), height_ratios=heights, squeeze=False, layout="constrained")
     for (draw, entries), it in zip(parts, axes[:, 0]):
-        draw(it, entries)
+        draw(it, entries, Scale(words.tick))
     figure.savefig(picture, metadata={"Date": None} if picture.endswith(".svg") else None)
 
 

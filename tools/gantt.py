@@ -8,7 +8,8 @@ stands for what comes in. Where it is absent, `lokwurmi schedule` is called with
 With a trace, the one that the schedule is of, triangles show when jobs came (above the lane) and when they were done (below
 it), and TDMA slots stand where the trace's phases put them; without one the phases are 0. With a report of `lokwurmi analyse`
 as well, a job that took longer than its bound, or that isn't done though its bound is past, is framed in red, with a red line
-from its bound on. --from and --until cut a part out.
+from its bound on. --from and --until cut a part out. With --tick, as 1us, the times that are shown have units; --from and --until
+stay ticks.
 
 --longest marks the job of a task that took longest, or the passage of a path that did: its jobs are framed, with a line for each
 from where it came to its end, and one for the whole below. Of a path only that stretch is drawn, and of a task where the run is
@@ -34,6 +35,7 @@ from report import read_report
 from runs import jobs_in, passages_in, read_schedule, read_trace, schedule_in
 from seen import READINGS, Run
 from system import read_system
+from times import Scale, time_of, word_of
 
 try:
     import matplotlib
@@ -90,7 +92,7 @@ class Longest(NamedTuple):
 
 
 class Chart(NamedTuple):
-    """What is drawn, in the time from `start` to `until`."""
+    """What is drawn, in the time from `start` to `until`, and how its times are told."""
 
     system: dict
     rows: list
@@ -100,6 +102,7 @@ class Chart(NamedTuple):
     bounds: dict
     start: int
     until: int
+    scale: Scale = Scale()
 
     def lanes(self):
         used = {it["on"] for it in self.system.get("task", [])}
@@ -187,8 +190,8 @@ def draw_late(axes, chart):
         axes.add_collection(LineCollection([[(max(past, chart.start), y + 0.26), (min(it.last, chart.until), y + 0.26)]], colors=LATE, linewidths=2.6, zorder=5))
         axes.add_collection(LineCollection([[(past, y - 0.3), (past, y + 0.3)]], colors=LATE, linewidths=1.2, zorder=5))
         draw_outline(axes, chart, it, LATE)
-        took = "not done" if it.done is None else it.done - it.came
-        axes.text(min(it.last, chart.until), y + BELOW, f"{it.name}: {took}, bound {it.bound}", ha="right", va="center", fontsize=6.5, color=LATE, zorder=6)
+        took = "not done" if it.done is None else chart.scale.text(it.done - it.came)
+        axes.text(min(it.last, chart.until), y + BELOW, f"{it.name}: {took}, bound {chart.scale.text(it.bound)}", ha="right", va="center", fontsize=6.5, color=LATE, zorder=6)
 
 
 def longest_in(system, jobs, bounds, events, name):
@@ -223,14 +226,15 @@ def draw_span(axes, came, done, bound, y, text, whole=False):
 
 def draw_longest(axes, chart, longest, unit):
     """What took longest: each job is framed, with a line of its own, and of a path one more below all lanes for the whole."""
-    told = f"{longest.done - longest.came}" + (f", bound {longest.bound}" if longest.bound is not None else "")
+    told = chart.scale.text(longest.done - longest.came) + (f", bound {chart.scale.text(longest.bound)}" if longest.bound is not None else "")
     if not longest.is_path:
         draw_outline(axes, chart, longest.jobs[0], INK)
         draw_span(axes, longest.came, longest.done, longest.bound, chart.place()[longest.name] + BELOW, f"{longest.name}: {told}")
         return
     for job in longest.jobs:
         draw_outline(axes, chart, job, INK)
-        names = (f"{job.name}: {job.done - job.came}", str(job.done - job.came))
+        took = chart.scale.text(job.done - job.came)
+        names = (f"{job.name}: {took}", took)
         # a letter is about 4.4 points wide
         text = next((it for it in names if (job.done - job.came) / unit > 4.4 * (len(it) + 2)), "")
         draw_span(axes, job.came, job.done, None, chart.place()[job.name] + BELOW, text)
@@ -247,12 +251,13 @@ def draw_frame(axes, chart, below=0.0):
     axes.set_ylim(len(lanes) - 0.36 + below, -0.58)
     axes.set_yticks(range(len(lanes)), [f"{it['name']}\n{it['kind']}" for it in lanes], fontsize=8, color=INK)
     axes.hlines([k + 0.5 for k in range(len(lanes) - 1)], chart.start, chart.until, color=FAINT, linewidth=0.4, alpha=0.6)
-    axes.set_xlabel("ticks", fontsize=8, color=INK)
     axes.tick_params(axis="x", labelsize=8, color=FAINT, labelcolor=INK)
     axes.tick_params(axis="y", length=0)
     axes.xaxis.grid(True, color=FAINT, linewidth=0.4, alpha=0.35)
     axes.set_axisbelow(True)
     axes.ticklabel_format(axis="x", style="plain", useOffset=False)
+    chart.scale.axis(axes, chart.until)
+    axes.xaxis.label.set(size=8, color=INK)
     for side, spine in axes.spines.items():
         spine.set_visible(side == "bottom")
         spine.set_color(FAINT)
@@ -282,14 +287,14 @@ def draw_legend(axes, chart, colour, width):
         axes.legend(*zip(*entries), fontsize=7, ncols=max(1, min(len(entries), int((width - 0.8) * 72 / room))), loc="lower left", bbox_to_anchor=(0, 1), borderaxespad=0.2, columnspacing=1.1, handlelength=1.2, handletextpad=0.5, frameon=False, labelcolor=INK)
 
 
-def chart_of(system, schedule, trace=None, bounds=None, start=None, until=None):
+def chart_of(system, schedule, trace=None, bounds=None, start=None, until=None, scale=Scale()):
     """What is drawn of a schedule, and of the jobs in it where there is a trace."""
     jobs = jobs_in(system, schedule, trace) if trace else {}
     last = max([end for _, _, end in schedule] + [came for several in jobs.values() for came, _ in several], default=1)
     start, until = start or 0, last if until is None else until
     rows = [row for row in schedule if row[1] < until and row[2] > start]
     late = [it for name in jobs for it in jobs_of(jobs, name, bounds or {}, last) if is_late(it) and it.came + it.bound < until and it.last > start]
-    return Chart(system, rows, jobs, late, trace[2] if trace else {}, bounds or {}, start, until)
+    return Chart(system, rows, jobs, late, trace[2] if trace else {}, bounds or {}, start, until, scale)
 
 
 def drawn(chart, width=10.0, longest=None, run=None, marked=()):
@@ -306,7 +311,7 @@ def drawn(chart, width=10.0, longest=None, run=None, marked=()):
     draw_late(axes, chart)
     if longest:
         draw_longest(axes, chart, longest, unit)
-    draw_marked(axes, chart.place(), run, marked, len(chart.lanes()) - 0.1 + (0.5 if longest and longest.is_path else 0.0))
+    draw_marked(axes, chart.place(), run, marked, len(chart.lanes()) - 0.1 + (0.5 if longest and longest.is_path else 0.0), chart.scale)
     draw_frame(axes, chart, below)
     draw_legend(axes, chart, colour, width)
     return figure
@@ -324,6 +329,7 @@ def asked_for():
     reader.add_argument("--reading", choices=READINGS, default="whenever", help="when jobs of the chain are taken to read (whenever)")
     reader.add_argument("--from", metavar="T", type=int, dest="start", help="the first tick that is drawn; 0 if absent")
     reader.add_argument("--until", metavar="T", type=int, help="the tick at which the picture ends; that of the schedule if absent")
+    reader.add_argument("--tick", metavar="TIME", type=word_of(time_of), help="the time of a tick, as 1us: shows times in place of ticks")
     reader.add_argument("--to", metavar="PICTURE", required=True, help="a name that ends with .svg, .png or .pdf")
     add_program(reader)
     words = reader.parse_args()
@@ -418,7 +424,7 @@ def main():
     run = Run(system, schedule, trace) if words.chain else None
     marked = marked_of(words, system, run)
     start, until = stretch_of_chain(marked, start, until, max((end for _, _, end in schedule), default=1))
-    chart = chart_of(system, schedule, trace, bounds[0], start, until)
+    chart = chart_of(system, schedule, trace, bounds[0], start, until, Scale(words.tick))
     if len(chart.rows) > MOST_SEGMENTS:
         sys.exit(f"{words.schedule or words.trace}: there are {len(chart.rows)} segments in this time, and a picture takes {MOST_SEGMENTS}: cut a part out by --from and --until")
     drawn(chart, longest=longest, run=run, marked=marked).savefig(words.to, metadata={"Date": None} if words.to.endswith(".svg") else None)

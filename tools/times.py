@@ -36,6 +36,28 @@ def text_of(nanoseconds: Fraction) -> str:
     return f"{float(nanoseconds / UNITS[unit]):.12g}{unit}"
 
 
+class Scale:
+    """How numbers of ticks are shown: as they are, or as times where the time of a tick is known."""
+
+    def __init__(self, tick: Fraction | None = None):
+        self.tick = tick
+
+    def text(self, ticks: int) -> str:
+        """A number of ticks, or a time in the unit that fits it, with 12 digits at most."""
+        if self.tick is None:
+            return str(ticks)
+        return text_of(ticks * self.tick) if ticks else "0"
+
+    def axis(self, axes: Any, last: int) -> None:
+        """An axis of time up to a tick: its numbers and what they are, in one unit."""
+        if self.tick is None:
+            axes.set_xlabel("ticks")
+            return
+        unit = unit_of(last * self.tick)
+        axes.xaxis.set_major_formatter(lambda at, _: f"{at * float(self.tick / UNITS[unit]):.12g}")
+        axes.set_xlabel(f"{unit}, where a tick is {text_of(self.tick)}")
+
+
 def common(one: Fraction, other: Fraction) -> Fraction:
     """The longest time of which both are multiples."""
     whole = one.denominator * other.denominator
