@@ -171,7 +171,7 @@ for words in --help -h help; do
   hold "$words: a line for each command" is "$(grep -oE '^  [a-z]+ [A-Z]' "$room/text" | tr -d ' A-Z\n')" "${commands// /}"
   hold "$words: 80 columns" is "$(grep -v "^$room" "$room/text" | awk 'length > 80' | wc -l)" 0
     hold "$words: where to begin" said 'docs/TUTORIAL\.md' "$room/text"
-    hold "$words: a line for each tool" is "$(grep -oE '^  tools/[a-z]+\.py' "$room/text" | tr -d ' ' | sort | tr '\n' ' ')" "$(cd "$top" && grep -l '^#!/usr/bin/env python3' tools/*.py | sort | tr '\n' ' ')"
+    hold "$words: a line for each tool" is "$(grep -oE '^  tools/[a-z_]+\.py' "$room/text" | tr -d ' ' | sort | tr '\n' ' ')" "$(cd "$top" && grep -l '^#!/usr/bin/env python3' tools/*.py | sort | tr '\n' ' ')"
   call "$words" slack
   hold "$words slack: its words" said '^lokwurmi slack FILE TASK \[--workers N\]$' "$room/text"
   hold "$words slack: an example" said '^  \./lokwurmi slack examples/' "$room/text"

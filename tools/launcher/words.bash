@@ -106,7 +106,7 @@ list_tools() {
     chart.py "draws a report: bounds, and paths against deadlines" \
     curve.py "draws how many events start a task in a window" \
     gantt.py "draws a schedule: what ran when" \
-    explain.py "tells what a bound is made of, and whom a path waits for" \
+    explain.py "tells what a bound is made of, whom a path waits for" \
     sensitivity.py "tells how far each number may move, one at a time" \
     optimise.py "looks for priorities on all resources together" \
     page.py "writes one page with a system, its bounds and a run" \
