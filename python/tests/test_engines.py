@@ -32,6 +32,9 @@ class LikeTheProgram(unittest.TestCase):
 
     def test_examples(self):
         for file in sorted(EXAMPLES.glob("*.toml")):
+            if file.name.endswith(".chains.toml"):
+                # chains are no system, and neither engine has a call for them
+                continue
             with self.subTest(file.name):
                 text = file.read_bytes()
                 self.compare("analyse", [text])
