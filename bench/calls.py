@@ -8,6 +8,15 @@ import tempfile
 import time
 
 TOP = os.path.join(os.path.dirname(os.path.abspath(__file__)), "..")
+# what scripts that count what they try by kinds have found
+faults, tried = [], {}
+
+
+def hold(kind, is_so, what):
+    """Counts what is tried, and keeps what of it isn't so."""
+    tried[kind] = tried.get(kind, 0) + 1
+    if not is_so:
+        faults.append(what)
 
 
 def example_systems():

@@ -22,7 +22,7 @@ import sys
 import tempfile
 
 import compare as plain
-from calls import TOP, answer, built, example_systems, python_with
+from calls import TOP, answer, built, example_systems, faults, hold, python_with, tried
 
 sys.path.append(os.path.join(TOP, "tools"))
 
@@ -32,13 +32,6 @@ from toml_text import toml_of
 
 PROGRAM = built("cpa_cli")
 TOOL = os.path.join(TOP, "tools", "explain.py")
-faults, tried = [], {}
-
-
-def hold(kind, is_so, what):
-    tried[kind] = tried.get(kind, 0) + 1
-    if not is_so:
-        faults.append(what)
 
 
 def written(path, text):

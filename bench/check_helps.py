@@ -19,7 +19,7 @@ import tempfile
 import tomllib
 
 import compare as plain
-from calls import TOP, answer, built
+from calls import TOP, answer, built, faults, hold, tried
 
 sys.path.append(os.path.join(TOP, "tools"))
 
@@ -29,13 +29,6 @@ from toml_text import toml_of
 
 PROGRAM = built("cpa_cli")
 TOOL = os.path.join(TOP, "tools", "explain.py")
-faults, tried = [], {}
-
-
-def hold(kind, is_so, what):
-    tried[kind] = tried.get(kind, 0) + 1
-    if not is_so:
-        faults.append(what)
 
 
 def made(number):

@@ -22,7 +22,7 @@ import tempfile
 import tomllib
 
 import compare as plain
-from calls import TOP, answer, built, python_with
+from calls import TOP, answer, built, faults, hold, python_with, tried
 
 sys.path.append(os.path.join(TOP, "tools"))
 
@@ -34,13 +34,6 @@ PROGRAM = built("cpa_cli")
 # searches that are made here tell nothing
 progress.TERMINAL = progress.ELSEWHERE = float("inf")
 TOOL = os.path.join(TOP, "tools", "sensitivity.py")
-faults, tried = [], {}
-
-
-def hold(kind, is_so, what):
-    tried[kind] = tried.get(kind, 0) + 1
-    if not is_so:
-        faults.append(what)
 
 
 def made(number):

@@ -1,6 +1,7 @@
 """Entries and comments of a system file, for the tools that write one."""
+import sys
 import textwrap
-from typing import Any
+from typing import Any, Optional
 
 # how long a line of a comment may be
 WIDTH = 118
@@ -41,3 +42,15 @@ def comments(line: str) -> list[str]:
         break_on_hyphens=False,
     )
     return [comment(it) for it in parts]
+
+
+def put(text: str, file: Optional[str]) -> None:
+    """Writes the text into the file, or to the standard output where none is named; ends the tool where it can't be written."""
+    if file is None:
+        sys.stdout.write(text)
+        return
+    try:
+        with open(file, "w", encoding="utf-8") as it:
+            it.write(text)
+    except OSError as fault:
+        sys.exit(f"{file}: can't be written: {fault.strerror}")

@@ -21,7 +21,7 @@ import signal
 import sys
 from fractions import Fraction
 
-from entries import comment, comments, entry, printable
+from entries import comment, comments, entry, printable, put
 from fitting import System, check_size, system_of
 from networks import Bus, plain
 from taking import Report, Taker
@@ -210,14 +210,7 @@ def main() -> None:
     text = text_in(system, taker.report, words.tick)
     for line in taker.report.lines(MOST_NAMES):
         print(printable(line), file=sys.stderr)
-    if words.to is None:
-        sys.stdout.write(text)
-        return
-    try:
-        with open(words.to, "w", encoding="ascii") as it:
-            it.write(text)
-    except OSError as fault:
-        sys.exit(f"{words.to}: can't be written: {fault.strerror}")
+    put(text, words.to)
 
 
 if __name__ == "__main__":

@@ -21,7 +21,7 @@ from dataclasses import dataclass, field
 from fractions import Fraction
 from typing import Any, Optional
 
-from entries import comments, printable
+from entries import comments, printable, put
 from lengths import bit_of, classical
 from times import UNITS, common, text_of, time_of, word_of
 
@@ -267,14 +267,7 @@ def main() -> None:
     shown = told if len(told) <= MOST_TOLD + 2 else [*told[:MOST_TOLD], f"  and {len(told) - MOST_TOLD} lines more"]
     for line in shown:
         print(printable(line), file=sys.stderr)
-    if words.to is None:
-        sys.stdout.write(text)
-        return
-    try:
-        with open(words.to, "w", encoding="utf-8") as it:
-            it.write(text)
-    except OSError as fault:
-        sys.exit(f"{words.to}: can't be written: {fault.strerror}")
+    put(text, words.to)
 
 
 if __name__ == "__main__":
