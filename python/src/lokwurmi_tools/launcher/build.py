@@ -16,7 +16,7 @@ from typing import NoReturn
 
 from lokwurmi_tools.launcher import helping, shown
 from lokwurmi_tools.launcher.graph import Graph, is_kept
-from lokwurmi_tools.launcher.places import TOP, kit_of, program
+from lokwurmi_tools.launcher.places import TOP, kit_of, note_built, program
 from lokwurmi_tools.launcher.plan import Plan, at_a_time, clock
 from lokwurmi_tools.launcher.processes import Work
 from lokwurmi_tools.launcher.running import end_by
@@ -252,15 +252,24 @@ class Build:
 
 
 def build(crate: str, words: list[str], before: Callable[[], None] = lambda: None) -> None:
-    """Builds the program of a crate where it is stale, or ends; words are those of the call that wants it, if one does."""
+    """Builds the program of a crate where it is stale, or ends; words are those of the call that wants it."""
     graph = Graph(crate)
     if why := graph.why_stale():
         before()
-        hint = ""
-        if words:
-            call = shlex.join(["lokwurmi", "--unproved", *words])
-            hint = f". For a first look without proofs, in a minute or so: {call}"
+        call = shlex.join(["lokwurmi", "--unproved", *words])
+        hint = f". For a first look without proofs, in a minute or so: {call}"
         build_for(graph, why, ["run", "--", *PROGRAMS[crate]], program(crate), hint)
+    graph.keep_folders()
+
+
+def build_noted(crate: str) -> None:
+    """Has the program of a crate be one that a build has noted, and that is no older than its sources, or ends."""
+    graph = Graph(crate)
+    why = graph.why_stale()
+    if not why and not kit_of(crate):
+        why = f"{program(crate).relative_to(TOP)} wasn't built by this script, which builds it anew"
+    if why:
+        build_for(graph, why, ["run", "--", *PROGRAMS[crate]], program(crate))
     graph.keep_folders()
 
 
@@ -272,8 +281,10 @@ def build_for(graph: Graph, why: str, last: list[str], product: Path, hint: str 
     product.parent.mkdir(parents=True, exist_ok=True)
     with open(room / "lokwurmi.lock", "wb") as lock:
         if not has_waited(lock.fileno(), why) or graph.why_stale(product):
+            # what another has put there, rt needn't see as stale
+            product.unlink(missing_ok=True)
             Build(graph, last, product, lock.fileno()).perform(why, hint)
-            kit_of(graph.top).write_text(identity + "\n", encoding="utf-8")
+            note_built(graph.top, identity, product)
 
 
 def has_waited(lock: int, why: str) -> bool:

@@ -6,8 +6,8 @@ import subprocess
 import sys
 
 from lokwurmi_tools.commands import COMMANDS as TOOLS
-from lokwurmi_tools.launcher.places import INSTALLED, TOP, is_installed
-from lokwurmi_tools.launcher.table import BY_NAME, KITS, OWN, OWN_BY_NAME, VERSION, WORDS, Command, Own
+from lokwurmi_tools.launcher.places import INSTALLED, TOP, digest, is_installed, program
+from lokwurmi_tools.launcher.table import BY_NAME, KITS, OWN, OWN_BY_NAME, VERSION, WORDS, WORKERS, Command, Own
 from lokwurmi_tools.launcher.words import commands_listed, said_of
 
 HELP = ("--help", "-h", "help")
@@ -41,7 +41,7 @@ def help_of(command: Command) -> str:
     """The words of one command, each with what it stands for, its statuses and an example."""
     lines = [f"lokwurmi {command.usage}", f"  writes {command.brief}; the answer is proved", ""]
     lines += [f"  {word:<11}  {WORDS[word].explained}" for word in command.words]
-    if command.option == "--workers":
+    if command.option == WORKERS:
         lines.append(f"  {'--workers N':<11}  {WORDS['N'].explained}")
     if command.note:
         lines.append(f"  {command.note}")
@@ -113,6 +113,18 @@ def changed() -> list[str]:
 
 def version_text() -> str:
     if is_installed():
-        return INSTALLED.read_text(encoding="utf-8").partition("\n\n")[0] + "\n"
+        return installed_version()
     found, text = commit(), f"lokwurmi {VERSION}\ntoolchain {kits()}\n"
     return text + (f"commit {found}{', and changes since' if changed() else ''}\n" if found else "")
+
+
+def installed_version() -> str:
+    """What an installed copy is of; it is the proved build as long as its programs are those that were installed."""
+    lines = INSTALLED.read_text(encoding="utf-8").partition("\n\n")[0].splitlines()
+    sums = [it.split()[1:] for it in lines if it.startswith("sha256 ")]
+    other = [name for wanted, name in sums if digest(program(name)) != wanted]
+    told = [it for it in lines if not it.startswith("sha256 ")]
+    if other:
+        told[-1] = f"NOT the proved build: {', '.join(other)} isn't what was installed"
+    return "\n".join(told) + "\n"
+

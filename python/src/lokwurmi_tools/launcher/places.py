@@ -1,10 +1,8 @@
 """Where things are: in the repository, or in an installed copy, which has the same folders without the sources."""
 from __future__ import annotations
 
-import os
+import hashlib
 from pathlib import Path
-
-from lokwurmi_tools.launcher.table import PROGRAMS
 
 # the folder of the repository, or of an installed copy
 TOP = Path(__file__).resolve().parents[4]
@@ -31,11 +29,27 @@ def built_from(crate: str) -> Path:
     return TOP / "crates" / crate / "out" / "lokwurmi.below"
 
 
-def kit_of(crate: str) -> Path:
-    """What the toolchain that built a program calls itself."""
-    return TOP / "crates" / crate / "out" / "lokwurmi.kit"
+def record_of(crate: str) -> Path:
+    """What a build has noted of a program: what the toolchain calls itself, and the program's checksum."""
+    return TOP / "crates" / crate / "out" / "lokwurmi.built"
 
 
-def lacking() -> list[str]:
-    """The programs that aren't there."""
-    return [it for it in PROGRAMS if not os.access(program(it), os.X_OK)]
+def digest(file: Path) -> str:
+    """The checksum of a file; none where it can't be read."""
+    try:
+        return hashlib.sha256(file.read_bytes()).hexdigest()
+    except OSError:
+        return ""
+
+
+def note_built(crate: str, kit: str, product: Path) -> None:
+    record_of(crate).write_text(f"{kit}\n{digest(product)}\n", encoding="utf-8")
+
+
+def kit_of(crate: str) -> str:
+    """The toolchain that has proved and built a program; none where the program isn't the one that a build has noted."""
+    try:
+        kit, noted = record_of(crate).read_text(encoding="utf-8").splitlines()
+    except (OSError, ValueError):
+        return ""
+    return kit if noted == digest(program(crate)) else ""

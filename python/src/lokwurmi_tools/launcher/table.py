@@ -12,6 +12,8 @@ KITS = ("rattle-kit-13f", "rattle-kit-13b")
 # the command of the launcher's own that a build without proofs is called by
 UNPROVED = "--unproved"
 MORE_TASKS = "[TASK..]"
+WORKERS = "--workers"
+RUNNING = "--while-running"
 
 
 class Command(NamedTuple):
@@ -28,15 +30,13 @@ class Command(NamedTuple):
     note: str = ""
 
     @property
-    def takes(self) -> str:
-        """The words as a call has them: options before a chain's file, and behind other words."""
-        if self.option == "--while-running":
-            return " ".join((f"[{self.option}]", *self.words))
-        return " ".join((*self.words, *([f"[{self.option} N]"] if self.option else [])))
+    def usage(self) -> str:
+        """The command with its words; what a chain's flag is stands in the note."""
+        return " ".join((self.name, *self.words, *([f"[{WORKERS} N]"] if self.option == WORKERS else [])))
 
     @property
-    def usage(self) -> str:
-        return f"{self.name} {self.takes}"
+    def full_usage(self) -> str:
+        return self.usage.replace(self.name, f"{self.name} [{RUNNING}]", 1) if self.option == RUNNING else self.usage
 
     def handed(self, words: list[str]) -> list[str]:
         """The words that the program is called with: `schedule` is a program of its own without that word."""
@@ -62,7 +62,6 @@ class Word(NamedTuple):
         return self.most > 0
 
 
-WORKERS = "--workers"
 MISSED = "1: a deadline is missed; 2: a bound is overload"
 COMMANDS = (
     Command(
@@ -94,7 +93,7 @@ COMMANDS = (
         "generate",
         ("NUMBER", "SIZE"),
         "a generated system of SIZE chains, as a system file; NUMBER is the seed",
-        "a generated system of SIZE chains, as a file",
+        "a generated system of SIZE chains",
         "42 1",
     ),
     Command(
@@ -110,7 +109,7 @@ COMMANDS = (
         "hammer",
         ("FILE", "NUMBER", "TRACES"),
         "the greatest responses under generated traces, beside the bounds",
-        "the worst seen in generated traces, and bounds",
+        "the worst in generated traces, and bounds",
         "examples/long_window.toml 1 1",
     ),
     Command(
@@ -163,7 +162,7 @@ COMMANDS = (
         "how late a chain reacts, how old data gets",
         "examples/effects.toml sense filter act",
         crate="cpa_chain",
-        option="--while-running",
+        option=RUNNING,
         statuses="2: a bound is overload",
         note="--while-running, as the first word or the last: less, where tasks read only while they run",
     ),
@@ -216,14 +215,14 @@ OWN = (
     Own("--quiet COMMAND ..", "no more than its output (LOKWURMI_QUIET=1)"),
     Own(
         "--unproved COMMAND ..",
-        "by the same sources, without proofs: a first look",
+        "a first look: the same sources, no proofs",
         "The toolchain compiles the sources and runs them with checks, in a minute or so, and proves nothing. Standard output and"
         " status are as ever, of up to 1 MiB and ten minutes. It never stands in for a proved answer by itself.",
         "--unproved analyse examples/two_tasks.toml",
     ),
     Own(
         "install [PREFIX]",
-        "copies what is proved, and the tools, to PREFIX",
+        "copies programs and tools to PREFIX",
         "PREFIX is ~/.local if absent. The copy needs neither the checkout, nor the toolchain, nor a C compiler, also on"
         " another machine of the same kind. Programs that aren't built are proved and built first.",
         "install ~/.local",
@@ -236,14 +235,14 @@ OWN = (
     ),
     Own(
         "build-library",
-        "proves and builds the library for C and Python",
+        "the library for C and Python, proved",
         "It writes library/out/liblokwurmi.a, library/out/liblokwurmi.so and a wheel of the Python package, and needs a C compiler"
         " (cc, or what CC names). docs/LIBRARY.md tells how they are used.",
         "build-library",
     ),
     Own(
         "--completion",
-        "a script by which bash completes these words",
+        "a script: bash completes these words by it",
         "Write into ~/.bashrc: source <(lokwurmi --completion). An installed copy has it where bash looks for it.",
         "--completion",
     ),

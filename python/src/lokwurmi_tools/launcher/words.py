@@ -6,9 +6,7 @@ import sys
 from typing import NamedTuple
 
 from lokwurmi_tools.launcher.places import PAGE
-from lokwurmi_tools.launcher.table import BY_NAME, COMMANDS, MORE_TASKS, MOST_TASKS, WORDS, WORKERS, Command
-
-RUNNING = "--while-running"
+from lokwurmi_tools.launcher.table import BY_NAME, COMMANDS, MORE_TASKS, MOST_TASKS, RUNNING, WORDS, WORKERS, Command
 
 
 class Operands(NamedTuple):
