@@ -35,8 +35,14 @@ class Command(NamedTuple):
         return " ".join((self.name, *self.words, *([f"[{WORKERS} N]"] if self.option == WORKERS else [])))
 
     @property
+    def called(self) -> str:
+        """The command with its words but for --workers, as README.md has it."""
+        return " ".join((self.name, *([f"[{RUNNING}]"] if self.option == RUNNING else []), *self.words))
+
+    @property
     def full_usage(self) -> str:
-        return self.usage.replace(self.name, f"{self.name} [{RUNNING}]", 1) if self.option == RUNNING else self.usage
+        """The command with all that it takes, as the man page has it."""
+        return self.called if self.option == RUNNING else self.usage
 
     def handed(self, words: list[str]) -> list[str]:
         """The words that the program is called with: `schedule` is a program of its own without that word."""
