@@ -74,6 +74,7 @@ _lokwurmi_operand() {
   if [[ ${sorts[-1]-} == "[TASK..]" ]] && ((${#given[@]} >= ${#sorts[@]} && ${#given[@]} <= 33)); then
     sort=TASK
   fi
+  [ -n "$sort" ] || return
   if [ -n "${_lokwurmi_endings[$sort]-}" ]; then
     _lokwurmi_files "$word" "${_lokwurmi_endings[$sort]}"
   elif [ -n "${_lokwurmi_parts[$sort]-}" ]; then
