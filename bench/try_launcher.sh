@@ -660,8 +660,8 @@ copy schedule two.toml two.csv
 hold "the copy: another program" is "$(cat "$room/text")" "called two.toml two.csv"
 copy analyse status.14
 hold "the copy: refusals in words" said '^lokwurmi: the file is TOML but no system.*put here/lib/lokwurmi/docs/FILES.md'
-copy analyse one.toml two.toml
-hold "the copy: words are refused" is "$status" 10
+copy analyse status.10
+hold "the copy: words that the program refuses, in words" said 'analyse is called so: lokwurmi analyse FILE'
 copy loda 1 2
 hold "the copy: the nearest command" said 'the nearest is load '
 copy --help

@@ -5,11 +5,13 @@ in the repository. PREFIX/lib/lokwurmi/INSTALLED says what it is a copy of, and 
 """
 from __future__ import annotations
 
+import compileall
 import os
 import shutil
 import tempfile
 from collections.abc import Callable, Iterator
 from pathlib import Path
+from py_compile import PycInvalidationMode
 from typing import NamedTuple
 
 from lokwurmi_tools.launcher import helping
@@ -153,6 +155,8 @@ def copy_all(prefix: Path) -> Copy:
     copy.link(os.path.join("..", COPY, "lokwurmi"), own[0])
     copy.text(man_text(), MAN)
     copy.text(completion_text(), COMPLETION)
+    # by whoever may write here, for those who may not; what Python has compiled goes with its sources
+    compileall.compile_dir(prefix / COPY / "python", quiet=2, invalidation_mode=PycInvalidationMode.CHECKED_HASH)
     remove(prefix, Record([it for it in copy.before.files if it not in set(copy.written)], []))
     copy.text(Record(copy.written, to_be.folders).text(head), RECORD)
     return copy

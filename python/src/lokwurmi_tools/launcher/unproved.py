@@ -61,16 +61,16 @@ class Handed:
         self.words = [self._word(it) if it in files else it for it in given]
 
     def _word(self, word: str) -> str:
+        name = os.path.normpath(word)
+        is_taken = "=" in word or name.split("/")[0] in TAKEN
         if word == "/dev/stdin" or not os.path.exists(word) or os.path.isdir(word):
-            # a folder, or nothing: that stays so under an absolute name
-            return word if os.path.isabs(word) else self._renamed(word, os.path.abspath(word))
+            # what can't be read here can't be read there
+            return self._renamed(word, os.path.abspath(word)) if is_taken else word
         if not stat.S_ISREG(os.stat(word).st_mode):
             return self._renamed(word, str(self._copied(word)))
-        path = os.path.abspath(word)
-        name = os.path.normpath(word)
-        if os.path.isabs(word) or "=" in word or name.split("/")[0] in TAKEN:
-            return self._renamed(word, path)
-        self.flags += ["--data", f"{name}={path}"]
+        if is_taken:
+            return self._renamed(word, os.path.abspath(word))
+        self.flags += ["--data", f"{name}={os.path.abspath(word)}"]
         return word
 
     def _renamed(self, word: str, name: str) -> str:
