@@ -1,8 +1,7 @@
 """Reads files of chains, and what `lokwurmi chain` and `lokwurmi chains` write, for the tools beside it."""
 import re
-from typing import NamedTuple
-
 import tomllib
+from typing import NamedTuple
 
 from lokwurmi_tools.faults import Fault
 from lokwurmi_tools.program import call

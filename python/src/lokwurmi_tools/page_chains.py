@@ -1,10 +1,13 @@
 """The chains of a file on a page, for lokwurmi page: bounds, deadlines and verdicts, and what a run shows of them."""
+import argparse
 import re
 from fractions import Fraction
 
 from lokwurmi_tools.chains import Bounds, Chain, bounds_by, read_chains
 from lokwurmi_tools.colours import letters_on
 from lokwurmi_tools.faults import Fault
+from lokwurmi_tools.kinds import Values
+from lokwurmi_tools.page_system import System, percent
 from lokwurmi_tools.program import call
 from lokwurmi_tools.report import number
 from lokwurmi_tools.seen import Late, Run, gaps_in, seen_of
@@ -15,10 +18,6 @@ LINE = re.compile(
 )
 NO_WORDS = 10
 ASKED = ("reaction", "age")
-
-
-def percent(share) -> str:
-    return f"{float(share) * 100:.1f}"
 
 
 def verdicts_by(program: str, file: str, chains: str) -> dict[str, dict]:
@@ -47,7 +46,7 @@ def parts_of(bounds: Bounds, what: str) -> list[tuple[str, str, int | None]]:
 class ChainTable:
     """The chains of a file, over a system and what a run of it shows."""
 
-    def __init__(self, words, system):
+    def __init__(self, words: argparse.Namespace, system: System):
         self.system, self.file = system, words.chains
         self.chains = read_chains(words.chains, system.raw)
         self.found = verdicts_by(words.program, words.file, words.chains)
@@ -64,7 +63,10 @@ class ChainTable:
         for name, kind, ticks in parts_of(self.bounds[chain.name], what):
             hue = self.system.shades[name]
             width = self.share(ticks or 0)
-            label = next((it for it in (f"{name} {ticks}", name) if float(width) * 0.6 > len(it)), "")
+            label = next(
+                (it for it in (f"{name} {self.system.scale.text(ticks or 0)}", name) if float(width) * 0.6 > len(it)),
+                "",
+            )
             parts.append(
                 {
                     "name": name,
@@ -107,7 +109,7 @@ class ChainTable:
         return rows
 
 
-def chains_of(words, system, run) -> dict:
+def chains_of(words: argparse.Namespace, system: System, run: Values | None) -> dict:
     """The section of chains: its rows, and where a source of the run stays away."""
     table = ChainTable(words, system)
     seen = Run(system.raw, *run["of"]) if run and run["of"] else None

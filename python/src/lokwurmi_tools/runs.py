@@ -1,17 +1,19 @@
 """Reads traces and schedules, and tells the jobs in them, for the tools beside it."""
 import csv
 import io
+from collections.abc import Iterable
 from typing import NamedTuple
 
 from lokwurmi_tools.faults import Fault
+from lokwurmi_tools.kinds import Jobs, Schedule, Segment, Trace, Values
 from lokwurmi_tools.system import activators, execution
 
 
-def is_number(word):
+def is_number(word: str) -> bool:
     return word.isascii() and word.isdecimal() and len(word) <= 10
 
 
-def read(file):
+def read(file: str) -> str:
     """The text of a file; `-` is the standard input."""
     try:
         with open(0 if file == "-" else file, encoding="utf-8", newline="") as it:
@@ -20,7 +22,7 @@ def read(file):
         raise Fault(f"{file}: can't be read: {fault}")
 
 
-def rows_in(text, file):
+def rows_in(text: str, file: str) -> list[tuple[int, list[str]]]:
     """The rows of comma-separated values, each with its number, without empty lines."""
     try:
         return list(enumerate((row for row in csv.reader(io.StringIO(text, newline="")) if row), 1))
@@ -28,7 +30,7 @@ def rows_in(text, file):
         raise Fault(f"{file}: can't be read: {fault}")
 
 
-def schedule_in(text, file, system):
+def schedule_in(text: str, file: str, system: Values) -> Schedule:
     """The rows of a schedule: the task, and from when to before when it ran."""
     names, rows = {it["name"] for it in system.get("task", [])}, []
     for place, row in rows_in(text, file):
@@ -42,11 +44,11 @@ def schedule_in(text, file, system):
     return rows
 
 
-def read_schedule(file, system):
+def read_schedule(file: str, system: Values) -> Schedule:
     return schedule_in(read(file), file, system)
 
 
-def read_trace(file):
+def read_trace(file: str) -> Trace:
     """The times of the events of each source, the executions of each task, and the phase of each TDMA resource that has
     a row."""
     events, executions, phases = {}, {}, {}
@@ -62,7 +64,7 @@ def read_trace(file):
     return events, executions, phases
 
 
-def parts_in(segments, executions, greatest):
+def parts_in(segments: list[Segment], executions: list[int], greatest: int) -> list[tuple[list[Segment], bool]]:
     """What each job of a task ran, by its segments, each from when to before when, and whether it is done by them: each
     job takes its execution, and the one before goes first."""
     jobs, left = [], 0
@@ -77,12 +79,12 @@ def parts_in(segments, executions, greatest):
     return [(parts, left == 0 or place + 1 < len(jobs)) for place, parts in enumerate(jobs)]
 
 
-def ends_in(segments, executions, greatest):
+def ends_in(segments: list[Segment], executions: list[int], greatest: int) -> list[int]:
     """When the jobs of a task were done, by its segments."""
     return [parts[-1][1] for parts, is_done in parts_in(segments, executions, greatest) if is_done]
 
 
-def segments_of(schedule, tasks):
+def segments_of(schedule: Schedule, tasks: Iterable[str]) -> dict[str, list[Segment]]:
     """The segments of each task, in order."""
     segments = {name: [] for name in tasks}
     for name, start, end in schedule:
@@ -90,7 +92,7 @@ def segments_of(schedule, tasks):
     return {name: sorted(several) for name, several in segments.items()}
 
 
-def jobs_in(system, schedule, trace):
+def jobs_in(system: Values, schedule: Schedule, trace: Trace) -> Jobs:
     """The jobs of each task in the order in which they came, by a schedule and the trace that it is of: when each came,
     and when it was done, None where it wasn't."""
     events, executions, _ = trace

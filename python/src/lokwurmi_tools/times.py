@@ -30,6 +30,19 @@ def unit_of(nanoseconds: Fraction) -> str:
     return next((it for it in ("s", "ms", "us") if nanoseconds >= UNITS[it]), "ns")
 
 
+def digits_of(number: Fraction) -> str:
+    """A fraction as a decimal number: with all digits where these have an end, as those of times in ticks do."""
+    places, rest = 0, number.denominator
+    for factor in (10, 5, 2):
+        while rest % factor == 0:
+            rest, places = rest // factor, places + 1
+    if rest != 1:
+        return f"{float(number):.12g}"
+    digits = str(number.numerator * 10**places // number.denominator).rjust(places + 1, "0")
+    whole, part = (digits[:-places], digits[-places:].rstrip("0")) if places else (digits, "")
+    return f"{whole}.{part}" if part else whole
+
+
 def text_of(nanoseconds: Fraction) -> str:
     """A time in the largest unit in which it is at least 1."""
     unit = unit_of(nanoseconds)
@@ -43,10 +56,18 @@ class Scale:
         self.tick = tick
 
     def text(self, ticks: int) -> str:
-        """A number of ticks, or a time in the unit that fits it, with 12 digits at most."""
+        """A number of ticks, or the time that they are, in the unit that fits it, with all its digits."""
         if self.tick is None:
             return str(ticks)
-        return text_of(ticks * self.tick) if ticks else "0"
+        if not ticks:
+            return "0"
+        time = abs(ticks) * self.tick
+        unit = unit_of(time)
+        return f"{'-' if ticks < 0 else ''}{digits_of(time / UNITS[unit])}{unit}"
+
+    def length(self, ticks: int) -> str:
+        """The same with the word ticks."""
+        return f"{ticks} tick{'' if ticks in (1, -1) else 's'}" if self.tick is None else self.text(ticks)
 
     def axis(self, axes: Any, last: int) -> None:
         """An axis of time up to a tick: its numbers and what they are, in one unit."""
@@ -56,6 +77,10 @@ class Scale:
         unit = unit_of(last * self.tick)
         axes.xaxis.set_major_formatter(lambda at, _: f"{at * float(self.tick / UNITS[unit]):.12g}")
         axes.set_xlabel(f"{unit}, where a tick is {text_of(self.tick)}")
+
+
+# numbers of ticks as they are
+TICKS = Scale()
 
 
 def common(one: Fraction, other: Fraction) -> Fraction:

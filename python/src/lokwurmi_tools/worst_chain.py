@@ -5,6 +5,7 @@ of a source comes k periods after its start, and up to its jitter later. The sea
 misses what is written, that events of other tasks come with a job of the chain, and that events come late from one on,
 and keeps what is later.
 """
+import argparse
 import os
 import random
 import sys
@@ -182,7 +183,7 @@ class Mover:
 class ChainSearch:
     """The search for one chain: for its reaction, its age, or how long its data is held."""
 
-    def __init__(self, options, tasks: list[str], folder: str):
+    def __init__(self, options: argparse.Namespace, tasks: list[str], folder: str):
         self.options, self.tasks, self.what, self.status = options, tasks, options.what, 0
         self.system = read_system(options.file)
         bounds = bounds_by(options.program, options.file, tasks)
@@ -265,7 +266,7 @@ def told(search: ChainSearch, found: Found, to: str | None) -> str:
     return text + (f" trace {to}" if to else "")
 
 
-def perform_chain(options, folder: str) -> int:
+def perform_chain(options: argparse.Namespace, folder: str) -> int:
     """The whole of a call for a chain; its status."""
     tasks, names = options.chain.split(","), [it["name"] for it in read_system(options.file).get("task", [])]
     if unknown := [it for it in tasks if it not in names]:
