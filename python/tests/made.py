@@ -50,3 +50,18 @@ def random_system(draw: Random, faulty: float = 0.1) -> System:
         ])
         setattr(task, name, value)
     return system
+
+
+def random_edit(draw: Random, system: System) -> str:
+    """A line of a script for a system, which may break a rule."""
+    tasks = list(system.tasks) or ["t0"]
+    one, other = draw.choice(tasks), draw.choice([*tasks, "nobody"])
+    source = draw.choice(list(system.sources))
+    period = draw.choice([100, 200, 500])
+    low = draw.randint(1, 10)
+    return draw.choice([
+        f"exec {other} {low} {low + draw.randint(-1, 20)}", f"priority {one} {draw.randint(0, 60)}", f"swap {one} {other}",
+        f"slot {one} {draw.randint(0, 20)}", f"source {source} {period} {draw.randint(0, 300)} {draw.randint(0, 100)}",
+        f"add n{draw.randint(0, 3)} {draw.choice(list(system.resources))} {draw.choice([source, one])} {low} {low + 3}"
+        f" {draw.randint(1, 60)}", f"remove {one}",
+    ])
