@@ -61,8 +61,9 @@ run_built() {
 afresh() {
   local it
   rm -rf "$work"
-  mkdir -p "$work/docs" "$work/tools"
-  cp "$top/lokwurmi" "$work/" && cp -r "$top"/tools/{launcher,refusals,system.py} "$work/tools/" || exit 1
+  mkdir -p "$work/docs" "$work/tools" "$work/python/src/lokwurmi_tools"
+  cp "$top/lokwurmi" "$work/" && cp -r "$top/tools/launcher" "$work/tools/" \
+    && cp -r "$top"/python/src/lokwurmi_tools/{__init__.py,refusals,system.py} "$work/python/src/lokwurmi_tools/" || exit 1
   cat >"$work/crates.txt" <<'END'
 # the crates, and what they use
 cpa_units:
@@ -478,11 +479,11 @@ hold "a notice" said 'one.toml:2:20: notice: source "s" starts nobody'
 hold "a notice: the status stays" is "$status $(cat "$room/text")" "0 called analyse one.toml"
 call --quiet analyse one.toml
 hold "--quiet: no notice" [ ! -s "$room/said" ]
-mv "$work/tools/refusals" "$work/tools/elsewhere"
+mv "$work/python/src/lokwurmi_tools/refusals" "$work/python/src/lokwurmi_tools/elsewhere"
 call analyse status.13
 hold "no module that says it in words: the hint" said "^lokwurmi: the system file isn't TOML"
 hold "no module that says it in words: nothing else" is "$(wc -l <"$room/said")" 1
-mv "$work/tools/elsewhere" "$work/tools/refusals"
+mv "$work/python/src/lokwurmi_tools/elsewhere" "$work/python/src/lokwurmi_tools/refusals"
 exec 3<"$room/two.toml"
 call analyse two.toml <&3
 hold "standard input may be anything" is "$status" 0

@@ -1,4 +1,4 @@
-"""Starts tools/refusals for the script `lokwurmi`: STATUS LINE COMMAND WORD.. The status is 3 where there is nothing to say, and
+"""Starts lokwurmi_tools.refusals for the script `lokwurmi`: STATUS LINE COMMAND WORD.. The status is 3 where there is nothing to say, and
 also where something is wrong with what would say it: the program's line has been written, and the script has a hint for it."""
 import os
 import signal
@@ -12,10 +12,12 @@ def start() -> int:
     if sys.version_info < (3, 11):
         return 3
     signal.alarm(PATIENCE)
-    sys.path.insert(0, os.path.dirname(os.path.dirname(os.path.abspath(__file__))))
+    # above tools/launcher
+    top = os.path.dirname(os.path.dirname(os.path.dirname(os.path.abspath(__file__))))
+    sys.path.insert(0, os.path.join(top, "python", "src"))
     sys.stderr.reconfigure(encoding="utf-8", errors="backslashreplace")
     try:
-        from refusals.front import main
+        from lokwurmi_tools.refusals.front import main
 
         return main(sys.argv[1:])
     except Exception:
