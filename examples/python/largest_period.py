@@ -1,7 +1,7 @@
 #!/usr/bin/env python3
 """Says which periods a source may have: none that misses a deadline, and none by which a chain is too slow.
 
-    python3 examples/python/largest_period.py examples/effects.toml fast sense filter act --reaction 60
+    python3 examples/python/largest_period.py examples/effects.toml slow sense filter act --reaction 60
 
 The smallest period is found by a binary search: with a longer one no bound rises. The largest is found by halving, too,
 and exactly: the reaction time of a chain is a sum of waits, which rise with the period, and of bounds, which fall. So

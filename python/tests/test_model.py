@@ -4,10 +4,12 @@ import io
 import pickle
 import re
 import unittest
+import warnings
 from pathlib import Path
 from random import Random
 
-from lokwurmi import (Kind, NameRefused, NoEngine, NotToml, ScriptRefused, System, SystemRefused, TraceDisobeys, TraceRefused, Verdict, WordsRefused,
+from engine_for_tests import need_engine
+from lokwurmi import (Kind, RoundingWarning, NameRefused, NoEngine, NotToml, ScriptRefused, System, SystemRefused, TraceDisobeys, TraceRefused, Verdict, WordsRefused,
                       default_engine, errors, made_system)
 from lokwurmi.errors import LokwurmiError
 from made import random_system
@@ -51,17 +53,32 @@ class Calls(unittest.TestCase):
         self.assertTrue(report.tasks["b"].overload)
         self.assertEqual((report.verdict, report.paths["pb"].verdict, report.paths["pb"].slack), (Verdict.OVERLOAD, Verdict.UNKNOWN, None))
 
+    def follow(self, page):
+        """Runs the scripts of a page one after the other; what stands below one is what it prints."""
+        seen: dict = {}
+        text = (TOP / page).read_text(encoding="utf-8")
+        block = r"^```python\n(.*?)^```\n(?:\n(?:</td></tr>\n</table>\n\n)?```\n(.*?)^```)?"
+        for script, told in re.findall(block, text, re.S | re.M):
+            # what calls modules of pyCPA isn't for here
+            if "model." in script:
+                continue
+            printed = io.StringIO()
+            with contextlib.redirect_stdout(printed), contextlib.chdir(TOP):
+                exec(script, seen)  # the repository's own page
+            if told and not told.startswith("$ "):
+                self.assertEqual(printed.getvalue(), told, script)
+        return seen
+
     def test_pages(self):
-        """The scripts of the pages run, and that of a pyCPA model builds the example's file."""
-        for page in ("docs/COMING_FROM.md", "docs/LIBRARY.md"):
-            for script in re.findall(r"```python\n(.*?)```", (TOP / page).read_text(encoding="utf-8"), re.S):
-                if "lokwurmi" in script:
-                    seen: dict = {}
-                    with contextlib.redirect_stdout(io.StringIO()):
-                        exec(script, seen)  # the repository's own page
-                    if "s" in seen:
-                        self.assertEqual(seen["s"], System.from_file(EXAMPLES / "pycpa_first.toml"))
-                        self.assertEqual(list(seen["bounds"].values()), [10, 13, 2, 19])
+        """The scripts of the pages run and print what they show, and that of a pyCPA model builds the example's file."""
+        with warnings.catch_warnings():
+            warnings.simplefilter("ignore", RoundingWarning)
+            for page in ("docs/LIBRARY.md", "docs/PYTHON.md", "python/README.md", "docs/COMING_FROM.md"):
+                with self.subTest(page):
+                    need_engine("chain")
+                    seen = self.follow(page)
+        self.assertEqual(seen["s"], System.from_file(EXAMPLES / "pycpa_first.toml"))
+        self.assertEqual(list(seen["bounds"].values()), [10, 13, 2, 19])
 
     def test_processes(self):
         """Systems and what comes of them may be sent to other processes."""
