@@ -7,8 +7,20 @@ from pathlib import Path
 from random import Random
 
 from engine_for_tests import both_engines, need_engine, some_engines
-from lokwurmi import (Chain, ChainsRefused, LokwurmiError, NameRefused, NoTick, RoundingWarning, System, UnitsRefused,
-                      Verdict, WordsRefused, ms, us)
+from lokwurmi import (
+    Chain,
+    ChainsRefused,
+    LokwurmiError,
+    NameRefused,
+    NoTick,
+    RoundingWarning,
+    System,
+    UnitsRefused,
+    Verdict,
+    WordsRefused,
+    ms,
+    us,
+)
 from lokwurmi.chains import chains_in
 from made import random_system
 
@@ -22,24 +34,23 @@ def effects() -> System:
 
 
 class Chains(unittest.TestCase):
-    def test_chain(self):
+    def test_chain(self) -> None:
         for engine in some_engines("chain"):
             with self.subTest(engine):
                 found = effects().chain(TASKS, engine=engine)
                 self.assertEqual([it.kind for it in found.steps], ["first", "register", "activation"])
-                self.assertEqual((found.reaction, found.age, found.held),
-                                 (9 + 3 + 19 + 7 + 9, 9 + 3 + 7 + 9, 28 + 24))
+                self.assertEqual((found.reaction, found.age, found.held), (9 + 3 + 19 + 7 + 9, 9 + 3 + 7 + 9, 28 + 24))
                 self.assertFalse(found.overload or found.while_running)
                 running = effects().chain(TASKS, while_running=True, engine=engine)
                 self.assertEqual((running.reaction, running.age, running.held), (9 + 19 + 7 + 9, 9 + 7 + 9, 25 + 24))
                 self.assertTrue(running.while_running)
 
-    def test_objects_as_tasks(self):
+    def test_objects_as_tasks(self) -> None:
         need_engine("chain")
         system = effects()
         self.assertEqual(system.chain([system.tasks[it] for it in TASKS]), system.chain(TASKS))
 
-    def test_refused_chain(self):
+    def test_refused_chain(self) -> None:
         for engine in some_engines("chain"):
             with self.subTest(engine):
                 with self.assertRaisesRegex(NameRefused, "no task has the name in place 2") as caught:
@@ -49,14 +60,14 @@ class Chains(unittest.TestCase):
                     with self.assertRaises((WordsRefused, NameRefused), msg=names):
                         effects().chain(names, engine=engine)
 
-    def test_overload(self):
+    def test_overload(self) -> None:
         need_engine("chain")
         system = effects()
         system.tasks["sense"].worst = 1000
         found = system.chain(TASKS)
         self.assertEqual((found.reaction, found.overload), (None, True))
 
-    def test_chains(self):
+    def test_chains(self) -> None:
         """The two chains of docs/FILES.md: 47 of 60 is met, 45 of 40 is missed, 21 of 30 is met."""
         text = (EXAMPLES / "effects.chains.toml").read_text()
         several = chains_in(text, effects().tasks)
@@ -65,15 +76,19 @@ class Chains(unittest.TestCase):
                 with self.subTest((engine, type(chains))):
                     found = effects().chains(chains, engine=engine)
                     brake, show = found.chains.values()
-                    self.assertEqual((brake.reaction, brake.reaction_deadline, brake.reaction_verdict, brake.age),
-                                     (47, 60, Verdict.MET, 28))
+                    self.assertEqual(
+                        (brake.reaction, brake.reaction_deadline, brake.reaction_verdict, brake.age),
+                        (47, 60, Verdict.MET, 28),
+                    )
                     self.assertEqual((brake.age_deadline, brake.age_verdict), (None, Verdict.NONE))
-                    self.assertEqual((show.reaction, show.reaction_verdict, show.age, show.age_verdict),
-                                     (45, Verdict.MISSED, 21, Verdict.MET))
+                    self.assertEqual(
+                        (show.reaction, show.reaction_verdict, show.age, show.age_verdict),
+                        (45, Verdict.MISSED, 21, Verdict.MET),
+                    )
                     self.assertEqual((found.missed, found.overloads, found.verdict), (1, 0, Verdict.MISSED))
                     self.assertEqual(pickle.loads(pickle.dumps(found)), found)
 
-    def test_refused_chains(self):
+    def test_refused_chains(self) -> None:
         need_engine("chains")
         with self.assertRaisesRegex(ChainsRefused, "chain 'two': a name of no task") as caught:
             effects().chains([Chain("one", TASKS), Chain("two", ["nobody"])])
@@ -84,12 +99,15 @@ class Chains(unittest.TestCase):
             effects().chains("x = [")
         self.assertEqual(dict(effects().chains([]).chains), {})
 
-    def test_reader(self):
+    def test_reader(self) -> None:
         tasks = {"a", "b"}
         self.assertEqual(chains_in("format = 1\n", tasks), [])
         for text, why in (
-            ("x = [", "isn't TOML"), ("format = 2", "format = 1"), ("format = 1\nchain = 1", "format = 1"),
-            ("format = 1\nchain = [1]", "chain 1 is no table"), ("format = 1\nchain = [{ name = 'x' }]", "1 to 32 tasks"),
+            ("x = [", "isn't TOML"),
+            ("format = 2", "format = 1"),
+            ("format = 1\nchain = 1", "format = 1"),
+            ("format = 1\nchain = [1]", "chain 1 is no table"),
+            ("format = 1\nchain = [{ name = 'x' }]", "1 to 32 tasks"),
             ("format = 1\nchain = [{ name = 'x', tasks = ['c'] }]", "names a task c"),
             ("format = 1\nchain = [{ name = 'x', tasks = ['a'], reaction = 0 }]", "1 to 1000000000 ticks for reaction"),
             ("format = 1\nchain = [{ name = 'x', tasks = ['a'] }, { name = 'x', tasks = ['a'] }]", "two chains"),
@@ -98,7 +116,7 @@ class Chains(unittest.TestCase):
             with self.assertRaisesRegex(LokwurmiError, why, msg=text):
                 chains_in(text, tasks)
 
-    def test_units(self):
+    def test_units(self) -> None:
         need_engine("chains")
         system = effects()
         with self.assertRaises(NoTick):
@@ -109,10 +127,12 @@ class Chains(unittest.TestCase):
             found = system.chains([Chain("x", TASKS, reaction=us(479), age="280 us")]).chains["x"]
         self.assertEqual([str(it.message) for it in told], ["chain x: reaction of 479us is rounded down to 47"])
         self.assertEqual({it.category for it in told}, {RoundingWarning})
-        self.assertEqual((found.time(), found.time("age_deadline"), found.reaction_verdict), (us(470), us(280), Verdict.MET))
+        self.assertEqual(
+            (found.time(), found.time("age_deadline"), found.reaction_verdict), (us(470), us(280), Verdict.MET)
+        )
         self.assertEqual(system.chain(TASKS).time("held"), us(520))
 
-    def test_rounded_periods_are_refused(self):
+    def test_rounded_periods_are_refused(self) -> None:
         """A chain takes a period as the longest time between events too, so that it has no safe side."""
         need_engine("chain")
         system = effects()
@@ -126,7 +146,7 @@ class Chains(unittest.TestCase):
 
 
 class Schedules(unittest.TestCase):
-    def test_schedule(self):
+    def test_schedule(self) -> None:
         """That of docs/FILES.md, of two turns."""
         system = System.from_file(EXAMPLES / "round_robin.toml")
         trace = (EXAMPLES / "round_robin.trace.csv").read_text()
@@ -134,8 +154,10 @@ class Schedules(unittest.TestCase):
             with self.subTest(engine):
                 found = system.schedule(trace, engine=engine)
                 self.assertEqual(list(found), [("a", 0, 2), ("b", 2, 3), ("a", 3, 4), ("a", 20, 23), ("b", 23, 24)])
-                self.assertEqual((len(found), found.end, found.to_csv()),
-                                 (5, 24, (EXAMPLES / "round_robin.schedule.csv").read_text()))
+                self.assertEqual(
+                    (len(found), found.end, found.to_csv()),
+                    (5, 24, (EXAMPLES / "round_robin.schedule.csv").read_text()),
+                )
                 self.assertEqual(set(found.on.values()), set(system.resources))
                 self.assertIsNone(system.audit(trace, found.rows, engine=engine))
         system.tick = "1ms"
@@ -143,7 +165,7 @@ class Schedules(unittest.TestCase):
 
 
 class LikeTheProgram(unittest.TestCase):
-    def test_random(self):
+    def test_random(self) -> None:
         library, program = both_engines()
         if not library.has("chain"):
             raise unittest.SkipTest("the library is an older one")
@@ -156,7 +178,9 @@ class LikeTheProgram(unittest.TestCase):
             names = ", ".join(f'"{it}"' for it in tasks)
             chains = f'format = 1\nchain = [{{ name = "c", tasks = [{names}], {deadline} }}]\n'.encode()
             for command, files, words in (
-                ("chain", [text], tasks), ("chain", [text], [*tasks, "--while-running"]), ("chains", [text, chains], []),
+                ("chain", [text], tasks),
+                ("chain", [text], [*tasks, "--while-running"]),
+                ("chains", [text, chains], []),
                 ("schedule", [text, trace], []),
             ):
                 with self.subTest((number, command)):

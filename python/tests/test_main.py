@@ -30,7 +30,7 @@ class Main(unittest.TestCase):
                 status = end.code
         return status, out.getvalue(), err.getvalue()
 
-    def test_report(self):
+    def test_report(self) -> None:
         need_engine()
         for name, status in (("two_tasks", None), ("overload", 2), ("pycpa_first", 0)):
             told = (EXAMPLES / f"{name}.report.txt").read_text()
@@ -38,22 +38,31 @@ class Main(unittest.TestCase):
             self.assertEqual(found[1:], (told, ""))
             self.assertIn(found[0], (0, 1, 2) if status is None else (status,))
 
-    def test_as_module(self):
+    def test_as_module(self) -> None:
         need_engine()
         import os
 
-        done = subprocess.run([sys.executable, "-m", "lokwurmi", EXAMPLES / "pycpa_first.toml"], capture_output=True,
-                              env=os.environ | {"PYTHONPATH": str(SRC)}, text=True)
+        done = subprocess.run(
+            [sys.executable, "-m", "lokwurmi", EXAMPLES / "pycpa_first.toml"],
+            capture_output=True,
+            env=os.environ | {"PYTHONPATH": str(SRC)},
+            text=True,
+        )
         self.assertEqual((done.returncode, done.stdout), (0, (EXAMPLES / "pycpa_first.report.txt").read_text()))
 
-    def test_refusals(self):
+    def test_refusals(self) -> None:
         need_engine()
         with tempfile.TemporaryDirectory() as folder:
             file = Path(folder, "net.toml")
             file.write_text("format = 3\n")
-            self.assertEqual(self.call(file), (
-                14, "system refused reason 13 file 0\n",
-                f"{file}: the file: another format (reason 13): format is 1, or 2 for lists of activators\n"))
+            self.assertEqual(
+                self.call(file),
+                (
+                    14,
+                    "system refused reason 13 file 0\n",
+                    f"{file}: the file: another format (reason 13): format is 1, or 2 for lists of activators\n",
+                ),
+            )
             file.write_text("x = [")
             self.assertEqual(self.call(file)[:2], (13, f"not TOML {file}\n"))
             self.assertEqual(self.call(Path(folder, "none"))[:2], (11, f"cannot read {folder}/none\n"))
@@ -62,20 +71,20 @@ class Main(unittest.TestCase):
         self.assertEqual(self.call(EXAMPLES / "two_tasks.toml", "--program", "/nowhere")[0], 70)
         self.assertEqual(self.call(EXAMPLES / "two_tasks.toml", "--tick", "soon")[0], 2)
 
-    def test_units(self):
+    def test_units(self) -> None:
         need_engine()
         status, out, err = self.call(EXAMPLES / "units/switch_port.toml", "--tick", "1us")
         self.assertEqual((status, out), (0, (EXAMPLES / "switch_port.report.txt").read_text()))
         self.assertIn("task control: worst of 7.04us is rounded up to 8", err)
 
-    def test_help(self):
+    def test_help(self) -> None:
         status, out, _ = self.call("--help")
         self.assertEqual(status, 0)
         self.assertIn("python3 -m lokwurmi examples/two_tasks.toml", out)
 
 
 class Doctests(unittest.TestCase):
-    def test_modules(self):
+    def test_modules(self) -> None:
         need_engine()
         tried = 0
         for it in pkgutil.iter_modules(lokwurmi.__path__):
@@ -90,14 +99,15 @@ class Doctests(unittest.TestCase):
 
 
 class Types(unittest.TestCase):
-    def test_mypy(self):
+    def test_mypy(self) -> None:
         """Each function has types, and they fit."""
         mypy = shutil.which("mypy", path="/usr/bin:/usr/local/bin")
         if mypy is None:
             raise unittest.SkipTest("there is no mypy: apt-get install mypy")
         with tempfile.TemporaryDirectory() as folder:
-            done = subprocess.run([mypy, "--cache-dir", folder, "src/lokwurmi"], cwd=TOP / "python", capture_output=True,
-                                  text=True)
+            done = subprocess.run(
+                [mypy, "--cache-dir", folder, "src/lokwurmi"], cwd=TOP / "python", capture_output=True, text=True
+            )
         self.assertEqual(done.returncode, 0, done.stdout)
 
 

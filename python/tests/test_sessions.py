@@ -7,8 +7,21 @@ from pathlib import Path
 from random import Random
 
 from engine_for_tests import need_engine, some_engines
-from lokwurmi import (EditRefused, Library, NoTick, RoundingWarning, ScriptRefused, Session, SessionClosed, System,
-                      SystemRefused, Verdict, ms, ns, us)
+from lokwurmi import (
+    EditRefused,
+    Library,
+    NoTick,
+    RoundingWarning,
+    ScriptRefused,
+    Session,
+    SessionClosed,
+    System,
+    SystemRefused,
+    Verdict,
+    ms,
+    ns,
+    us,
+)
 from made import random_edit, random_system
 from test_model import two_tasks
 
@@ -22,7 +35,7 @@ class Kept(unittest.TestCase):
             with self.subTest(engine), two_tasks().session(engine=engine) as session:
                 yield session
 
-    def test_bounds(self):
+    def test_bounds(self) -> None:
         """b takes what it needs and 3 for each a, one each 10 ticks: 7 + 3, then 5 + 3, then 8 + 2 * 3."""
         for session in self.each():
             self.assertEqual((session.bounds["b"], session.latencies["pb"]), (10, 10))
@@ -35,7 +48,7 @@ class Kept(unittest.TestCase):
             session.exec("b", 1, 20)
             self.assertEqual((session.bounds["b"], session.verdict), (None, Verdict.OVERLOAD))
 
-    def test_each_edit(self):
+    def test_each_edit(self) -> None:
         for session in self.each():
             before = session.bounds
             session.add("c", on="cpu", after="sb", best=1, worst=2, priority=3)
@@ -56,7 +69,7 @@ class Kept(unittest.TestCase):
             edited = session.to_system()
             self.assertEqual((edited.sources["sa"].period, edited.tasks["b"].priority), (20, 3))
 
-    def test_slots(self):
+    def test_slots(self) -> None:
         for engine in some_engines():
             system = System()
             ring = system.round_robin("ring")
@@ -68,12 +81,17 @@ class Kept(unittest.TestCase):
                 self.assertEqual(session.to_system().tasks["q"].slot, 2)
                 self.assertEqual(session.bounds["r"], 3)
 
-    def test_refusals(self):
+    def test_refusals(self) -> None:
         """The rules of docs/FILES.md, "Edits that are refused"; nothing changes by them."""
         for session in self.each():
             for line, rule in (
-                ("exec zz 1 2", 1), ("slot a 3", 2), ("exec a 0 1", 3), ("priority b 1", 4), ("exec a 3 2", 5),
-                ("remove a", 6), ("add a cpu sa 1 2 9", 7),
+                ("exec zz 1 2", 1),
+                ("slot a 3", 2),
+                ("exec a 0 1", 3),
+                ("priority b 1", 4),
+                ("exec a 3 2", 5),
+                ("remove a", 6),
+                ("add a cpu sa 1 2 9", 7),
             ):
                 with self.assertRaises(EditRefused) as caught:
                     session.edit(line)
@@ -87,14 +105,14 @@ class Kept(unittest.TestCase):
             self.assertEqual(session.bounds["b"], 8)
             self.assertEqual(session.to_system().tasks["b"].worst, 5)
 
-    def test_what_is_not_given_stays(self):
+    def test_what_is_not_given_stays(self) -> None:
         for session in self.each():
             session.exec("b", worst=5)
             self.assertEqual(session.report().tasks["b"].best, 2)
             session.exec("b", best=1)
             self.assertEqual((session.report().tasks["b"].best, session.bounds["b"]), (1, 8))
 
-    def test_end(self):
+    def test_end(self) -> None:
         for session in self.each():
             session.close()
             session.close()
@@ -102,21 +120,21 @@ class Kept(unittest.TestCase):
             for call in (lambda: session.bounds, session.report, lambda: session.edit("exec b 2 5")):
                 self.assertRaises(SessionClosed, call)
 
-    def test_closed_by_an_error(self):
+    def test_closed_by_an_error(self) -> None:
         need_engine()
         with self.assertRaises(ZeroDivisionError):
             with two_tasks().session() as session:
                 raise ZeroDivisionError
         self.assertTrue(session.is_closed)
 
-    def test_refused_system(self):
+    def test_refused_system(self) -> None:
         for engine in some_engines():
             system = two_tasks()
             system.tasks["b"].priority = 1
             with self.subTest(engine), self.assertRaisesRegex(SystemRefused, "task 'b': a priority twice"):
                 system.session(engine=engine)
 
-    def test_units(self):
+    def test_units(self) -> None:
         need_engine()
         system = System(tick="10us")
         cpu = system.preemptive("cpu")
@@ -126,17 +144,21 @@ class Kept(unittest.TestCase):
             session.exec("a", worst=us(75))
             self.assertEqual(session.bounds["a"], 8)
             session.source("s", "1995us", jitter=ns(1))
-            self.assertEqual([str(it.message) for it in told], [
-                "task a: worst of 75us is rounded up to 8", "source s: period of 1.995ms is rounded down to 199",
-                "source s: jitter of 1ns is rounded up to 1",
-            ])
+            self.assertEqual(
+                [str(it.message) for it in told],
+                [
+                    "task a: worst of 75us is rounded up to 8",
+                    "source s: period of 1.995ms is rounded down to 199",
+                    "source s: jitter of 1ns is rounded up to 1",
+                ],
+            )
             self.assertEqual({it.category for it in told}, {RoundingWarning})
             self.assertEqual(session.report().tasks["a"].time("period"), us(1990))
             self.assertEqual([str(it) for it in session.report().roundings], [str(it.message) for it in told])
         with two_tasks().session() as session:
             self.assertRaises(NoTick, session.exec, "b", worst=us(5))
 
-    def test_frames(self):
+    def test_frames(self) -> None:
         """What a frame's payload gives stays where one of both executions is set: 111 bits of 2 ticks at least."""
         need_engine()
         system = System()
@@ -146,11 +168,12 @@ class Kept(unittest.TestCase):
             session.exec("f", worst=300)
             self.assertEqual((session.report().tasks["f"].best, session.bounds["f"]), (222, 300))
 
-    def test_threads(self):
+    def test_threads(self) -> None:
         """Threads may share a session: one waits for the other."""
         need_engine()
         faults = []
         with two_tasks().session() as session:
+
             def work(number):
                 try:
                     for worst in range(2):
@@ -166,7 +189,7 @@ class Kept(unittest.TestCase):
                 it.join()
         self.assertEqual(faults, [])
 
-    def test_random_edits(self):
+    def test_random_edits(self) -> None:
         """After each of some edits at random, accepted or not, the session's report is that of the edited system."""
         engines = some_engines()
         draw = Random(7)
@@ -189,7 +212,7 @@ class Kept(unittest.TestCase):
             for session in sessions:
                 session.close()
 
-    def test_library_keeps(self):
+    def test_library_keeps(self) -> None:
         """By a library that has sessions they are kept in this process."""
         for engine in some_engines():
             if isinstance(engine, Library):

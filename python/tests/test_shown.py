@@ -51,9 +51,18 @@ class Tables(unittest.TestCase):
         self.assertEqual(reader.open, [])
         return " ".join(reader.words), text
 
-    def test_report(self):
+    def test_report(self) -> None:
         words, text = self.shown(one_report())
-        for word in ("<b>&amp;", "2 streams", "overload", "met", "missed", "unknown", "no deadline", "Times are in ticks."):
+        for word in (
+            "<b>&amp;",
+            "2 streams",
+            "overload",
+            "met",
+            "missed",
+            "unknown",
+            "no deadline",
+            "Times are in ticks.",
+        ):
             self.assertIn(word, words)
         self.assertIn("&lt;b&gt;&amp;amp;", text)
         self.assertNotIn("<b>", text)
@@ -63,7 +72,7 @@ class Tables(unittest.TestCase):
         for word in ("2.5ms", "750us", "A tick is 250us."):
             self.assertIn(word, words)
 
-    def test_system(self):
+    def test_system(self) -> None:
         system = System(tick="1us")
         bus = system.resource("<bus>", Kind.CAN, bitrate=500_000)
         source = system.source("s", ms(10), jitter="5us")
@@ -71,11 +80,21 @@ class Tables(unittest.TestCase):
         system.task("g", on=bus, after=[source, task], best=1, worst=us(20), priority=2)
         system.path("p", [task, "g"], deadline=ms(5))
         words, text = self.shown(system)
-        for word in ("<bus>", "500000", "10ms", "5us", "8 bytes, 29-bit identifier", "1 to 20us", "s or f", "f → g", "5ms"):
+        for word in (
+            "<bus>",
+            "500000",
+            "10ms",
+            "5us",
+            "8 bytes, 29-bit identifier",
+            "1 to 20us",
+            "s or f",
+            "f → g",
+            "5ms",
+        ):
             self.assertIn(word, words)
         self.assertIn("empty", self.shown(System())[0])
 
-    def test_others(self):
+    def test_others(self) -> None:
         run = reports.run("task a jobs 2 done 1 worst 3\npath p passages 0 worst none\nsummary jobs 2 done 1 end 13\n")
         self.assertIn("one run, which isn't the worst case", self.shown(run)[0])
         self.assertIn("none is done", self.shown(run)[0])
@@ -85,7 +104,9 @@ class Tables(unittest.TestCase):
         self.assertIn("1.25ms", self.shown(reports.slack("slack a 5 next limit\n", us(250)))[0])
         order = reports.order("priority a 1\npriority b 2\nassigned cpu tasks 2\n")
         self.assertEqual(Reader(order._repr_html_()).rows, 3)
-        buffers = reports.buffers("buffer a bound 1 peak 1\nresource cpu bound overload peak 3\nsummary tasks 1 overload 0\n")
+        buffers = reports.buffers(
+            "buffer a bound 1 peak 1\nresource cpu bound overload peak 3\nsummary tasks 1 overload 0\n"
+        )
         self.assertIn("overload", self.shown(buffers)[0])
         hammered = reports.hammered("task a jobs 5 worst none bound 3\nsummary traces 2 jobs 5 beyond 0\n")
         self.assertIn("0 jobs were beyond", self.shown(hammered)[0])
@@ -95,34 +116,38 @@ class Tables(unittest.TestCase):
         self.assertEqual(Reader(many._repr_html_()).rows, 201)
         self.assertIn("800 rows more", self.shown(many)[0])
 
-    def test_chains(self):
+    def test_chains(self) -> None:
         found = chain_results.chain_report(
             "step a first wait 9 response 3\nstep b register wait overload response 7\n"
-            "chain tasks 2 reaction overload age 28 held 52\n")
+            "chain tasks 2 reaction overload age 28 held 52\n"
+        )
         words, _ = self.shown(found)
         self.assertIn("Holds where sources keep their periods", words)
         self.assertIn("28", words)
         judged = chain_results.chains_report(
-            "chain x tasks 3 reaction 47 deadline 60 met age 28 deadline - none\nsummary chains 1 overload 0 missed 0\n")
+            "chain x tasks 3 reaction 47 deadline 60 met age 28 deadline - none\nsummary chains 1 overload 0 missed 0\n"
+        )
         self.assertIn("no deadline", self.shown(judged)[0])
         self.assertEqual(Chain("x", ["a"]).reaction, None)
 
 
 class Charts(unittest.TestCase):
-    def setUp(self):
+    def setUp(self) -> None:
         try:
             import matplotlib  # noqa: F401
         except ImportError:
             raise unittest.SkipTest("there is no matplotlib")
 
-    def test_report(self):
+    def test_report(self) -> None:
         from matplotlib.figure import Figure
 
         figure = one_report(us(250)).plot()
         self.assertIsInstance(figure, Figure)
         axes = figure.axes[0]
-        self.assertEqual([it.get_text() for it in axes.get_yticklabels()],
-                         ["task a", "task <b>&amp;", "path pa", "path pb", "path pc", "path pd"])
+        self.assertEqual(
+            [it.get_text() for it in axes.get_yticklabels()],
+            ["task a", "task <b>&amp;", "path pa", "path pb", "path pc", "path pd"],
+        )
         self.assertIn("ms, where a tick is 250us", axes.get_xlabel())
         # the bars of the bounds that are there, each with its least time: 3 ticks are 0.75 ms
         widths = [it.get_width() for it in axes.patches]
@@ -131,19 +156,19 @@ class Charts(unittest.TestCase):
         self.assertTrue(figure._repr_png_().startswith(b"\x89PNG"))
         self.assertNotIn("matplotlib.pyplot", sys.modules)
 
-    def test_schedule(self):
+    def test_schedule(self) -> None:
         figure = reports.schedule("a,0,2\nb,2,3\na,3,4\n", {"a": "cpu", "b": "bus"}).plot()
         parts = [path.get_extents().bounds[2] for it in figure.axes[0].collections for path in it.get_paths()]
         self.assertEqual([round(it) for it in parts], [2, 1, 1])
         self.assertTrue(figure._repr_png_().startswith(b"\x89PNG"))
 
-    def test_empty(self):
+    def test_empty(self) -> None:
         report = reports.reports("summary tasks 0 overload 0 missed 0\n")[0]
         self.assertTrue(report.plot()._repr_png_())
 
 
 class Frames(unittest.TestCase):
-    def test_frames(self):
+    def test_frames(self) -> None:
         try:
             import pandas
         except ImportError:
@@ -161,7 +186,7 @@ class Frames(unittest.TestCase):
 
 
 class Absent(unittest.TestCase):
-    def test_packages(self):
+    def test_packages(self) -> None:
         """Without matplotlib and pandas all else works, and the error names the package of Debian."""
         script = (
             "import sys\n"
@@ -173,11 +198,17 @@ class Absent(unittest.TestCase):
             "        call()\n"
             "    except NotInstalled as fault:\n"
             "        print(fault)\n"
-            "print(report._repr_html_()[:4])\n")
-        done = subprocess.run([sys.executable, "-c", script], env={"PYTHONPATH": str(SRC)}, capture_output=True, text=True)
+            "print(report._repr_html_()[:4])\n"
+        )
+        done = subprocess.run(
+            [sys.executable, "-c", script], env={"PYTHONPATH": str(SRC)}, capture_output=True, text=True
+        )
         self.assertEqual(done.stderr, "")
-        self.assertEqual(done.stdout.splitlines()[0], "this needs matplotlib: on Debian and Ubuntu `apt-get install "
-                         "python3-matplotlib`, elsewhere `python3 -m pip install matplotlib`")
+        self.assertEqual(
+            done.stdout.splitlines()[0],
+            "this needs matplotlib: on Debian and Ubuntu `apt-get install "
+            "python3-matplotlib`, elsewhere `python3 -m pip install matplotlib`",
+        )
         self.assertIn("apt-get install python3-pandas", done.stdout)
         self.assertTrue(issubclass(NotInstalled, ImportError))
 

@@ -14,15 +14,22 @@ TOP = Path(__file__).resolve().parents[2]
 
 
 class Times(unittest.TestCase):
-    def test_amounts(self):
+    def test_amounts(self) -> None:
         for time, nanoseconds in (
-            (ns(5), 5), (us(250), 250_000), (ms("16.667"), 16_667_000), (ms(16.667), 16_667_000), (s(1), 10**9),
-            (ms(Decimal("0.5")), 500_000), (us(Fraction(1, 3)), Fraction(1000, 3)), (ms(0.1), 100_000),
-            (us(10**30), 10**33), (ms(1e-3), 1000),
+            (ns(5), 5),
+            (us(250), 250_000),
+            (ms("16.667"), 16_667_000),
+            (ms(16.667), 16_667_000),
+            (s(1), 10**9),
+            (ms(Decimal("0.5")), 500_000),
+            (us(Fraction(1, 3)), Fraction(1000, 3)),
+            (ms(0.1), 100_000),
+            (us(10**30), 10**33),
+            (ms(1e-3), 1000),
         ):
             self.assertEqual(time.nanoseconds, nanoseconds, time)
 
-    def test_no_amounts(self):
+    def test_no_amounts(self) -> None:
         for amount in (True, None, [1], ms(1)):
             with self.assertRaises(TypeError, msg=repr(amount)):
                 us(amount)
@@ -30,13 +37,15 @@ class Times(unittest.TestCase):
             with self.assertRaises(UnitsRefused, msg=repr(amount)):
                 us(amount)
 
-    def test_texts(self):
+    def test_texts(self) -> None:
         self.assertEqual(Time.of("0.5 ms"), us(500))
         for word in ("5", "5 minutes", "-5ms", "5 MS", "", "ms", "1e3us", "٥ms"):
             with self.assertRaises(UnitsRefused, msg=word):
                 Time.of(word)
-        self.assertEqual([str(it) for it in (us(1500), ns(999), s(2), ms(0), us(Fraction(1, 3)))],
-                         ["1.5ms", "999ns", "2s", "0", "1000/3ns"])
+        self.assertEqual(
+            [str(it) for it in (us(1500), ns(999), s(2), ms(0), us(Fraction(1, 3)))],
+            ["1.5ms", "999ns", "2s", "0", "1000/3ns"],
+        )
         self.assertEqual(f"{us(16_667):ms} {us(16_667):us} {us(1):s}", "16.667ms 16667us 0.000001s")
         self.assertEqual(str(-us(1500)), "-1.5ms")
         with self.assertRaises(UnitsRefused):
@@ -45,7 +54,7 @@ class Times(unittest.TestCase):
             self.assertEqual(eval(repr(it)), it)
             self.assertEqual(pickle.loads(pickle.dumps(it)), it)
 
-    def test_sums(self):
+    def test_sums(self) -> None:
         self.assertEqual(ms(1) + us(5) - ns(1), ns(1_004_999))
         self.assertEqual(sum([us(1), us(2)]), us(3))
         self.assertEqual((3 * us(2), us(2) * 0.5, us(3) / 2, us(3) / us(2)), (us(6), us(1), us(1.5), Fraction(3, 2)))
@@ -57,15 +66,17 @@ class Times(unittest.TestCase):
         for fault in (lambda: us(1) + 1, lambda: 1 + us(1), lambda: us(1) * us(1), lambda: us(1) < 1):
             self.assertRaises(TypeError, fault)
 
-    def test_ticks(self):
+    def test_ticks(self) -> None:
         self.assertEqual(tick_of("1us"), us(1))
         for word in ("0us", "0 ns"):
             with self.assertRaises(UnitsRefused):
                 tick_of(word)
 
-    def test_frame_bits(self):
+    def test_frame_bits(self) -> None:
         # the formulas of docs/FILES.md
-        self.assertEqual([frame_bits(0, False), frame_bits(8, False), frame_bits(8, True)], [(47, 55), (111, 135), (131, 160)])
+        self.assertEqual(
+            [frame_bits(0, False), frame_bits(8, False), frame_bits(8, True)], [(47, 55), (111, 135), (131, 160)]
+        )
 
 
 class Rounded(unittest.TestCase):
@@ -80,8 +91,9 @@ class Rounded(unittest.TestCase):
         self.assertTrue(all(it.filename == __file__ for it in told), [it.filename for it in told])
         return system, [str(it.message) for it in told]
 
-    def test_sides(self):
+    def test_sides(self) -> None:
         """Each key is rounded to the side of docs/NETWORKS.md."""
+
         def build(system):
             system.tdma("t", gap=us(21), limit=us(100_005))
             system.source("s", ms("0.999"), jitter=us(11), distance=us(19))
@@ -90,20 +102,37 @@ class Rounded(unittest.TestCase):
             system.path("w", ["a"], deadline=us(1009))
 
         system, told = self.rounded("10us", build)
-        self.assertEqual(told, [
-            "resource t: limit of 100.005ms is rounded up to 10001", "resource t: gap of 21us is rounded up to 3",
-            "source s: period of 999us is rounded down to 99", "source s: jitter of 11us is rounded up to 2",
-            "source s: distance of 19us is rounded down to 1", "task a: best of 39us is rounded down to 3",
-            "task a: worst of 41us is rounded up to 5", "path w: deadline of 1.009ms is rounded down to 100",
-        ])
+        self.assertEqual(
+            told,
+            [
+                "resource t: limit of 100.005ms is rounded up to 10001",
+                "resource t: gap of 21us is rounded up to 3",
+                "source s: period of 999us is rounded down to 99",
+                "source s: jitter of 11us is rounded up to 2",
+                "source s: distance of 19us is rounded down to 1",
+                "task a: best of 39us is rounded down to 3",
+                "task a: worst of 41us is rounded up to 5",
+                "path w: deadline of 1.009ms is rounded down to 100",
+            ],
+        )
         self.assertEqual([str(it) for it in system.roundings], told)
         text = system.to_toml()
-        for part in ("gap = 3", "limit = 10001", "period = 99", "jitter = 2", "distance = 1", "best = 3", "worst = 5",
-                     "deadline = 100", "# A tick is 10us.", "# 8 times are rounded, each to its safe side:"):
+        for part in (
+            "gap = 3",
+            "limit = 10001",
+            "period = 99",
+            "jitter = 2",
+            "distance = 1",
+            "best = 3",
+            "worst = 5",
+            "deadline = 100",
+            "# A tick is 10us.",
+            "# 8 times are rounded, each to its safe side:",
+        ):
             self.assertIn(part, text)
         self.assertEqual(System.from_toml(text), system)
 
-    def test_whole_times_are_not_told(self):
+    def test_whole_times_are_not_told(self) -> None:
         def build(system):
             system.source("s", ms(10), jitter="250 us", distance=7)
 
@@ -111,7 +140,7 @@ class Rounded(unittest.TestCase):
         self.assertEqual((told, system.roundings), ([], []))
         self.assertIn("period = 10000, jitter = 250, distance = 7", system.to_toml())
 
-    def test_slots_have_no_safe_side(self):
+    def test_slots_have_no_safe_side(self) -> None:
         system = System(tick="10us")
         system.tdma("t")
         system.source("s", ms(1))
@@ -121,8 +150,9 @@ class Rounded(unittest.TestCase):
         system.task("a", on="t", after="s", best=1, worst=1, slot=us(20))
         self.assertIn("slot = 2", system.to_toml())
 
-    def test_buses(self):
+    def test_buses(self) -> None:
         """A bit of 500 kbit/s is 2 us; one of 300 kbit/s is 10/3 us, and frames take the exact number of bits."""
+
         def build(system):
             system.can("one", bitrate=500_000)
             system.can("two", bitrate=300_000)
@@ -143,7 +173,7 @@ class Rounded(unittest.TestCase):
         self.assertIn("task g: the greatest length of 450us is rounded up to 5", told)
         self.assertIn("task g: the least length of 370us is rounded down to 3", told)
 
-    def test_changes_are_told_once(self):
+    def test_changes_are_told_once(self) -> None:
         system = System(tick="1us")
         system.preemptive("p")
         system.source("s", ms(1))
@@ -159,7 +189,7 @@ class Rounded(unittest.TestCase):
         system.tick = us(10)
         self.assertIn("worst = 1", system.to_toml())
 
-    def test_no_tick(self):
+    def test_no_tick(self) -> None:
         system = System()
         with self.assertRaisesRegex(NoTick, r"period of source 's' is 5ms: .* System\(tick='1us'\)"):
             system.source("s", ms(5))
@@ -169,14 +199,14 @@ class Rounded(unittest.TestCase):
         source.jitter = "1 us"
         self.assertRaises(NoTick, system.to_toml)
 
-    def test_too_many(self):
+    def test_too_many(self) -> None:
         system = System(tick="1ns")
         with self.assertRaisesRegex(UnitsRefused, "2000000000 ticks, and 1 to 1000000000 are possible"):
             system.source("s", s(2))
         with self.assertRaisesRegex(UnitsRefused, "is 0 ticks"):
             System(tick="1ms").source("s", us(5))
 
-    def test_trace(self):
+    def test_trace(self) -> None:
         need_engine()
         system = System.from_file(TOP / "examples/two_tasks.toml")
         rows = [("event", "sa", ms(1)), ("event", "sb", 0)]
@@ -186,13 +216,13 @@ class Rounded(unittest.TestCase):
         with self.assertRaisesRegex(UnitsRefused, "no whole number of ticks"):
             system.simulate([("event", "sa", ns(1500))])
 
-    def test_file(self):
+    def test_file(self) -> None:
         """A file with units becomes that of docs/NETWORKS.md: examples/switch_port.toml."""
         system = System.from_file(TOP / "examples/units/switch_port.toml", tick="1us")
         self.assertEqual(system, System.from_file(TOP / "examples/switch_port.toml"))
         self.assertTrue(system.roundings)
 
-    def test_reports(self):
+    def test_reports(self) -> None:
         need_engine()
         system = System.from_file(TOP / "examples/switch_port.toml")
         self.assertRaises(NoTick, system.analyse().tasks["control"].time)
@@ -200,14 +230,16 @@ class Rounded(unittest.TestCase):
         report = system.analyse()
         # docs/NETWORKS.md shows these times
         task, path = report.tasks["camera"], report.paths["camera"]
-        self.assertEqual([task.time(it) for it in ("period", "jitter", "distance", "best", "worst")],
-                         [us(33_333), ms(4), us(123), us(123), us(256)])
+        self.assertEqual(
+            [task.time(it) for it in ("period", "jitter", "distance", "best", "worst")],
+            [us(33_333), ms(4), us(123), us(123), us(256)],
+        )
         self.assertEqual((path.time(), path.time("deadline"), path.time("slack")), (us(256), ms(2), us(1744)))
         self.assertEqual(task.time().to("ms"), Fraction(256, 1000))
         self.assertEqual(f"{task.time():ms}", "0.256ms")
         self.assertEqual(pickle.loads(pickle.dumps(report)).tasks["camera"].time(), us(256))
 
-    def test_roundings_of_a_report(self):
+    def test_roundings_of_a_report(self) -> None:
         need_engine()
         system = System(tick="10us")
         system.preemptive("p")
@@ -216,20 +248,27 @@ class Rounded(unittest.TestCase):
             task = system.task("a", on="p", after=system.source("s", ms(1)), best=us(11), worst=us(29), priority=1)
             report = system.analyse()
         self.assertEqual(report.tasks["a"].worst, 3)
-        self.assertEqual([(it.key, it.ticks, it.side) for it in report.roundings], [("best", 1, "down"), ("worst", 3, UP)])
+        self.assertEqual(
+            [(it.key, it.ticks, it.side) for it in report.roundings], [("best", 1, "down"), ("worst", 3, UP)]
+        )
         self.assertEqual(task.worst, us(29))
 
-    def test_converter_of_lines(self):
+    def test_converter_of_lines(self) -> None:
         """What tools say of a file: the line, the longest tick that is whole, and what has no unit."""
         text = 'format = 1\nsource = [{ name = "s", period = "1.5 ms", jitter = 3 }]\n'
         converter = Converter(Fraction(1_000_000), text)
         converter.convert({"source": [{"name": "s", "period": "1.5 ms", "jitter": 3}]})
-        self.assertEqual(converter.lines(), [
-            "A tick is 1ms.", "1 times are rounded, each to its safe side:",
-            "  source s: period of 1.5ms is rounded down to 1", "  with --tick 1.5ms none is",
-            "  a period that is rounded is too short for `chain`, which takes it as the longest, too",
-            "taken as ticks, since they have no unit: jitter of source s",
-        ])
+        self.assertEqual(
+            converter.lines(),
+            [
+                "A tick is 1ms.",
+                "1 times are rounded, each to its safe side:",
+                "  source s: period of 1.5ms is rounded down to 1",
+                "  with --tick 1.5ms none is",
+                "  a period that is rounded is too short for `chain`, which takes it as the longest, too",
+                "taken as ticks, since they have no unit: jitter of source s",
+            ],
+        )
         with self.assertRaisesRegex(UnitsRefused, 'line 2: source s: period = "1.5 ms"|is 0 ticks'):
             Converter(Fraction(10**10), text).convert({"source": [{"name": "s", "period": "1.5 ms"}]})
 

@@ -23,13 +23,15 @@ class Wheels(unittest.TestCase):
         with zipfile.ZipFile(file) as it:
             return file.name, [name for name in it.namelist() if name.startswith("lokwurmi/")]
 
-    def test_tags(self):
+    def test_tags(self) -> None:
         if any(importlib.util.find_spec(it) is None for it in ("pip", "setuptools", "wheel")):
             raise unittest.SkipTest("pip, setuptools or wheel isn't there")
         platform = re.sub(r"[-.]", "_", sysconfig.get_platform())
         with tempfile.TemporaryDirectory() as room:
             source = Path(room, "python")
-            shutil.copytree(PACKAGE, source, ignore=shutil.ignore_patterns("build", "*.so", "*.egg-info", "__pycache__"))
+            shutil.copytree(
+                PACKAGE, source, ignore=shutil.ignore_patterns("build", "*.so", "*.egg-info", "__pycache__")
+            )
             library = source / "src/lokwurmi/liblokwurmi.so"
             library.write_bytes(b"\x7fELF")
             name, files = self.wheel(source, Path(room, "one"))

@@ -37,22 +37,22 @@ def mark(verdict: str) -> Safe:
 
 
 def table(caption: str, heads: Sequence[str], rows: Iterable[Sequence[Any]], note: str = "") -> str:
-    """A table. Numbers and times stand at the right."""
+    """A table. The caption is HTML, all else is escaped. Columns with numbers or times stand at the right."""
     several = list(rows)
-    head = "".join(f'<th style="{_CELL}text-align:left">{escape(it)}</th>' for it in heads)
+    columns = list(zip(*several)) or [()] * len(heads)
+    sides = ["right" if any(isinstance(it, (int, Time)) for it in column) else "left" for column in columns]
+    styles = [f"{_CELL}text-align:{side};font-variant-numeric:tabular-nums" for side in sides]
+    head = "".join(f'<th style="{style}">{escape(it)}</th>' for style, it in zip(styles, heads))
     body = ""
     for row in several[:_ROWS_SHOWN]:
-        cells = ""
-        for it in row:
-            side = "right" if isinstance(it, (int, Time)) else "left"
-            cells += f'<td style="{_CELL}text-align:{side};font-variant-numeric:tabular-nums">{cell_text(it)}</td>'
+        cells = "".join(f'<td style="{style}">{cell_text(it)}</td>' for style, it in zip(styles, row))
         body += f"<tr>{cells}</tr>"
     if len(several) > _ROWS_SHOWN:
         note = f"{len(several) - _ROWS_SHOWN} rows more aren't shown. {note}"
     foot = f'<div style="opacity:.75;font-size:90%;margin-top:2px">{escape(note)}</div>' if note else ""
     return (
-        f'<div style="margin:4px 0"><table style="border-collapse:collapse"><caption style="text-align:left;'
-        f'font-weight:bold;white-space:nowrap">{cell_text(Safe(caption))}</caption>'
+        f'<div style="margin:4px 0"><table style="border-collapse:collapse;color:inherit;font:inherit">'
+        f'<caption style="text-align:left;font-weight:bold;white-space:nowrap;color:inherit">{caption}</caption>'
         f"<thead><tr>{head}</tr></thead><tbody>{body}</tbody></table>{foot}</div>"
     )
 
@@ -106,9 +106,14 @@ def execution_text(it: "model.Task") -> str:
     return f"{it.best} to {it.worst}"
 
 
+def bit_text(it: "model.Resource") -> Any:
+    """The time of a bit, or the bit rate."""
+    return it.bit if it.bitrate is None else f"{it.bitrate} bit/s"
+
+
 def system(it: "model.System") -> str:
     """The entries of a system."""
-    resources = [(one.name, one.kind, one.limit, one.gap, one.bit or one.bitrate) for one in it.resources.values()]
+    resources = [(one.name, one.kind, one.limit, one.gap, bit_text(one)) for one in it.resources.values()]
     sources = [(one.name, one.period, one.jitter or 0, one.distance or 0) for one in it.sources.values()]
     tasks = [
         (one.name, one.on, after_text(one), execution_text(one), one.slot if one.priority is None else one.priority)

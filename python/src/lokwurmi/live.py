@@ -6,14 +6,17 @@ from typing import TYPE_CHECKING, Any
 
 from . import reports
 from .engines import EDIT_REFUSED, SCRIPT_REFUSED, Engine, Kept, Library, default_engine
-from .entries import Kind, Resource, Source, Task, Ticks
-from .errors import CallFailed, EditRefused, ScriptRefused, SessionClosed, refusal
+from .entries import Kind, Resource, Source, Task, Ticks, is_time, keys_of
+from .errors import CallFailed, EditRefused, NoTick, ScriptRefused, SessionClosed, refusal
 from .lines import REFUSED
 from .reports import Verdict
-from .units import Converter, Rounding, frame_bits, warn
+from .units import TIMES, Converter, Rounding, frame_bits, warn
 
 if TYPE_CHECKING:
     from .model import System
+
+Bounds = Mapping[str, int | None]
+"""Bounds by name, in ticks; None where there is none."""
 
 
 class Session:
@@ -45,7 +48,7 @@ class Session:
         self._roundings: list[Rounding] = list(told)
         self._system = system.copy()
         self._lock = threading.Lock()
-        self._numbers: tuple[list[int | None], list[int | None]] | None = None
+        self._found: tuple[Bounds, Bounds] | None = None
 
     def __enter__(self) -> "Session":
         return self
@@ -90,29 +93,18 @@ class Session:
             raise refusal(status, text)
         if status:
             raise CallFailed(status, text)
-        self._numbers = None
+        self._found = None
         edit = next(it for it in line.splitlines() if it.strip(" \t\r") and not it.lstrip(" \t").startswith("#"))
         _apply(self._system, edit.split())
 
     def _ticks(self, kind: str, name: str, **given: Ticks | None) -> dict[str, Any]:
         """Times of an entry in ticks, rounded and told as those of a system."""
         entry: dict[str, Any] = {"name": name} | {key: it for key, it in given.items() if it is not None}
-        tick = self._system.tick
-        if tick is None:
-            from .model import System
-
-            System()._tell(_probe(kind, entry))
-            return entry
-        on = entry.get("on") or getattr(self._system.tasks.get(name), "on", None)
-        converter = Converter(tick.nanoseconds)
-        if on in self._system.resources:
-            from .entries import keys_of
-
-            converter.set_bit(keys_of(self._system.resources[on]))
-            entry["on"] = on
-        converter.set_times(kind, entry)
-        self._roundings += converter.told
-        warn(converter.told)
+        if kind == "task" and "on" not in entry and name in self._system.tasks:
+            entry["on"] = self._system.tasks[name].on
+        told = _convert(self._system, kind, entry)
+        self._roundings += told
+        warn(told)
         return entry
 
     def exec(self, task: str | Task, best: Ticks | None = None, worst: Ticks | None = None) -> None:
@@ -144,10 +136,11 @@ class Session:
         """Sets the period, the jitter and the distance of a source, in ticks or with units; what isn't given stays."""
         with self._lock:
             name = _named(source)
-            there = self._system.sources.get(name)
             stays = {"period": 1, "jitter": 0, "distance": 0}
-            if there is not None:
-                stays |= self._ticks("source", name, period=there.period, jitter=there.jitter, distance=there.distance)
+            if name in self._system.sources:
+                there = keys_of(self._system.sources[name])
+                _convert(self._system, "source", there)
+                stays |= there
             found = stays | self._ticks("source", name, period=period, jitter=jitter, distance=distance)
             self._edit(f"source {name} {found['period']} {found['jitter']} {found['distance']}")
 
@@ -167,21 +160,25 @@ class Session:
 
     # ---- what holds by now
 
-    def _all(self) -> tuple[list[int | None], list[int | None]]:
+    def _all(self) -> "tuple[Bounds, Bounds]":
         with self._lock:
-            if self._numbers is None:
-                self._numbers = self._open().numbers()
-            return self._numbers
+            kept = self._open()
+            if self._found is None:
+                tasks, paths = kept.numbers()
+                bounds = dict(zip(self._system.tasks, tasks, strict=True))
+                self._found = MappingProxyType(bounds), MappingProxyType(dict(zip(self._system.paths, paths, strict=True)))
+            return self._found
 
     @property
-    def bounds(self) -> Mapping[str, int | None]:
-        """The bounds of the tasks by name, in ticks; None where there is none. They don't change by later edits."""
-        return MappingProxyType(dict(zip(self._system.tasks, self._all()[0], strict=True)))
+    def bounds(self) -> "Bounds":
+        """The bounds of the tasks by name, in ticks; None where there is none. What was given doesn't change by later
+        edits."""
+        return self._all()[0]
 
     @property
-    def latencies(self) -> Mapping[str, int | None]:
+    def latencies(self) -> "Bounds":
         """The bounds of the paths by name, in ticks; None where there is none."""
-        return MappingProxyType(dict(zip(self._system.paths, self._all()[1], strict=True)))
+        return self._all()[1]
 
     def report(self) -> reports.Report:
         """The report of the system as it is by now."""
@@ -211,25 +208,33 @@ def _named(it: "str | Task | Source | Resource") -> str:
     return it if isinstance(it, str) else it.name
 
 
-def _probe(kind: str, entry: dict[str, Any]) -> Source | Task:
-    """An entry with some times, by which it is found whether one of them has a unit."""
-    keys = {key: entry.get(key) for key in ("best", "worst", "slot")}
-    if kind == "source":
-        return Source(entry["name"], entry.get("period", 1), entry.get("jitter"), entry.get("distance"))
-    return Task(entry["name"], "", "", **keys)
+def _convert(system: "System", kind: str, entry: dict[str, Any]) -> list[Rounding]:
+    """Turns the times of an entry of a system into ticks, and gives what was rounded."""
+    if system.tick is None:
+        for key, value in entry.items():
+            if key in TIMES[kind] and is_time(value):
+                raise NoTick(f"{key} of {kind} {entry['name']!r} is {value}")
+        return []
+    document = {kind: [entry]}
+    if entry.get("on") in system.resources:
+        document["resource"] = [keys_of(system.resources[entry["on"]])]
+    converter = Converter(system.tick.nanoseconds)
+    converter.convert(document)
+    return converter.told
 
 
 def _execution(system: "System", name: str) -> tuple[Any, Any]:
     """The least and the greatest execution of a task, in ticks; those of a frame by its payload."""
-    entries, _ = system._converted()
-    it = next((it for it in entries["task"] if it["name"] == name), None)
-    if it is None:
+    if name not in system.tasks:
         # the program refuses the name
         return 1, 1
-    if "payload" not in it:
-        return it["best"], it["worst"]
-    bus = next(one for one in entries["resource"] if one["name"] == it["on"])
-    least, greatest = frame_bits(it["payload"], it.get("extended", False))
+    entry = keys_of(system.tasks[name])
+    _convert(system, "task", entry)
+    if "payload" not in entry:
+        return entry["best"], entry["worst"]
+    bus = keys_of(system.resources[entry["on"]])
+    _convert(system, "resource", bus)
+    least, greatest = frame_bits(entry["payload"], entry.get("extended", False))
     return least * bus.get("bit", 1), greatest * bus.get("bit", 1)
 
 
