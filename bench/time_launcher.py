@@ -62,7 +62,7 @@ def earlier(folder: str, revision: str) -> str:
     for name in ("crates", "crates.txt", "docs"):
         os.symlink(os.path.join(TOP, name), os.path.join(folder, name))
     archive = subprocess.run(
-        ["git", "-C", TOP, "archive", revision, "lokwurmi", "tools"], stdout=subprocess.PIPE, check=True
+        ["git", "-C", TOP, "archive", revision, "lokwurmi", "tools", "python"], stdout=subprocess.PIPE, check=True
     )
     subprocess.run(["tar", "-x", "-C", folder], input=archive.stdout, check=True)
     return os.path.join(folder, "lokwurmi")

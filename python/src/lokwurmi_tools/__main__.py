@@ -4,7 +4,9 @@ import signal
 import sys
 from typing import NoReturn
 
+from lokwurmi.errors import LokwurmiError
 from lokwurmi_tools.commands import COMMANDS, command_of
+from lokwurmi_tools.faults import Told
 from lokwurmi_tools.packages import Missing, go_on
 
 
@@ -23,7 +25,8 @@ def find(words: list[str]) -> tuple[str, int]:
     if several and words[1:] in (["-h"], ["--help"]):
         return "\n".join(f"  ./lokwurmi {it.name} --help  {it.does}" for it in several), 0
     if several:
-        return f"lokwurmi {words[0]}: name one of {', '.join(it.name.split()[1] for it in several)}: ./lokwurmi {words[0]} --help", 2
+        names = ", ".join(it.name.split()[1] for it in several)
+        return f"lokwurmi {words[0]}: name one of {names}: ./lokwurmi {words[0]} --help", 2
     return f"lokwurmi {words[0]}: there is no such command; these are:\n{commands_text()}", 2
 
 
@@ -50,6 +53,11 @@ def perform(words: list[str]) -> int:
         status = command.main()(rest) or 0
         sys.stdout.flush()
         return status
+    except LokwurmiError as fault:
+        if not isinstance(fault, Told):
+            print(f"lokwurmi {command.name}: {fault}", file=sys.stderr)
+        status = getattr(fault, "status", 1)
+        return status if status > 0 else 1
     except Missing as fault:
         return go_on(command.name, fault, words)
     except KeyboardInterrupt:

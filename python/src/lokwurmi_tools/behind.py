@@ -1,7 +1,7 @@
 """Tells what lies behind bounds that are `overload`, for lokwurmi page.
 
-It reads the report and the file: which demand has no end, by the rates of events and the greatest executions, and whose input
-has no bound. It is no part of what is proved, and tells of each such task one cause, where there may be several.
+It reads the report and the file: which demand has no end, by the rates of events and the greatest executions, and whose
+input has no bound. It is no part of what is proved, and tells of each such task one cause, where there may be several.
 """
 from fractions import Fraction
 
@@ -16,7 +16,10 @@ class Behind(Sharing):
         super().__init__(system)
         self.over = [name for name in self.tasks if found[name]["worst"] is None]
         sources = {it["name"]: it for it in system.get("source", [])}
-        self.rates = {name: [(source, Fraction(1, sources[source]["period"])) for source in sources_of(system, name)] for name in self.tasks}
+        self.rates = {
+            name: [(source, Fraction(1, sources[source]["period"])) for source in sources_of(system, name)]
+            for name in self.tasks
+        }
         self.greatest = {name: execution(it, self.resources[it["on"]])[1] for name, it in self.tasks.items()}
 
     def loads(self, name):
@@ -42,8 +45,8 @@ class Behind(Sharing):
         return Fraction(task["slot"], slots + self.resources[task["on"]].get("gap", 0))
 
     def demand(self, name, endless=()):
-        """The share of the time that a task's jobs and all that goes before them ask for. In a ring a rival takes no more than
-        its turns, and all of these if its own demand is among the endless ones."""
+        """The share of the time that a task's jobs and all that goes before them ask for. In a ring a rival takes no
+        more than its turns, and all of these if its own demand is among the endless ones."""
         own = self.load(name)
         if self.kind(name) != "round-robin":
             return own + sum((self.load(it) for it in self.rivals(name)), Fraction(0))
@@ -64,7 +67,8 @@ class Behind(Sharing):
         return ("rivals", rivals) if rivals else ("own", [])
 
     def causes(self):
-        """The causes, each with the tasks that have no bound because of it, and for each such task what is next behind it."""
+        """The causes, each with the tasks that have no bound because of it, and for each such task what is next behind
+        it."""
         why = {name: self.edges(name) for name in self.over}
         reach = {name: reached(name, why) for name in self.over}
         causes, done = [], set()
@@ -76,13 +80,29 @@ class Behind(Sharing):
             several = [it for it in self.over if it in circle] or [name]
             done.update(several)
             cause = self.circle(several, why) if circle else self.single(name)
-            causes.append({"tasks": several, "leaves": [it for it in self.over if it not in several and reach[it] & set(several)], **cause})
-        return causes, [{"name": name, "on": self.tasks[name]["on"], "why": how, "of": of} for name, (how, of) in why.items()]
+            causes.append(
+                {
+                    "tasks": several,
+                    "leaves": [it for it in self.over if it not in several and reach[it] & set(several)],
+                    **cause,
+                }
+            )
+        return causes, [
+            {"name": name, "on": self.tasks[name]["on"], "why": how, "of": of} for name, (how, of) in why.items()
+        ]
 
     def single(self, name):
         """A task whose own busy window has no end, or one beyond the limit."""
         demand, room = self.demand(name), self.room(name)
-        return {"kind": "load" if demand > room else "limit", "by": self.kind(name), "on": [self.tasks[name]["on"]], "load": demand, "room": room, "limit": self.limit(name), "before": self.rivals(name)}
+        return {
+            "kind": "load" if demand > room else "limit",
+            "by": self.kind(name),
+            "on": [self.tasks[name]["on"]],
+            "load": demand,
+            "room": room,
+            "limit": self.limit(name),
+            "before": self.rivals(name),
+        }
 
     def circle(self, several, why):
         """A way round a circle of tasks, and the loads and limits of the resources that it is over."""
@@ -90,10 +110,20 @@ class Behind(Sharing):
         while at not in way:
             way.append(at)
             at = next(it for it in why[at][1] if it in several)
-        way = way[way.index(at):]
+        way = way[way.index(at) :]
         on = list(dict.fromkeys(self.tasks[it]["on"] for it in several))
-        loads = [(it, sum((self.load(name) for name in self.tasks if self.tasks[name]["on"] == it), Fraction(0))) for it in on]
-        return {"kind": "circle", "on": on, "way": [*way[::-1], way[-1]], "loads": loads, "full": any(load > 1 for _, load in loads), "limits": [(it, self.resources[it].get("limit", LIMIT)) for it in on]}
+        loads = [
+            (it, sum((self.load(name) for name in self.tasks if self.tasks[name]["on"] == it), Fraction(0)))
+            for it in on
+        ]
+        return {
+            "kind": "circle",
+            "on": on,
+            "way": [*way[::-1], way[-1]],
+            "loads": loads,
+            "full": any(load > 1 for _, load in loads),
+            "limits": [(it, self.resources[it].get("limit", LIMIT)) for it in on],
+        }
 
 
 def reached(name, why):

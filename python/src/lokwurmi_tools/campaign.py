@@ -3,17 +3,19 @@
     ./lokwurmi campaign hammer FILE --traces N [--seed S] [--call K] [common options]
     ./lokwurmi campaign variants FILE GRID [--front LATENCY,COST] [common options]
 
-hammer splits N made traces into calls of `lokwurmi hammer`, each with a number of its own from S on, and writes what one such
-call would write of them all. At a job beyond its bound it stops, and writes which number and which trace show it. variants
-takes the system of FILE with each combination of what the TOML file GRID varies, and writes a table of comma-separated values,
-a row a variant. docs/CAMPAIGNS.md tells of both, of GRID, and of several machines.
+hammer splits N made traces into calls of `lokwurmi hammer`, each with a number of its own from S on, and writes what
+one such call would write of them all. At a job beyond its bound it stops, and writes which number and which trace show
+it. variants takes the system of FILE with each combination of what the TOML file GRID varies, and writes a table of
+comma-separated values, a row a variant. docs/CAMPAIGNS.md tells of both, of GRID, and of several machines.
 
-The common options: --scheduler ADDRESS uses the Dask scheduler there, and its workers; without it there is a worker for each
-processor of this machine, or --workers N. What is done is kept in the folder of --resume FOLDER, and isn't done again by a call
-with the same folder. A call that fails for want of memory, disk or a worker is tried again elsewhere, --tries T times in all.
+The common options: --scheduler ADDRESS uses the Dask scheduler there, and its workers; without it there is a worker for
+each processor of this machine, or --workers N. What is done is kept in the folder of --resume FOLDER, and isn't done
+again by a call with the same folder. A call that fails for want of memory, disk or a worker is tried again elsewhere,
+--tries T times in all.
 
-The status is 0, or 1 where a job was beyond its bound, 2 where the words, GRID or FOLDER are refused, 3 where a call failed
-T times or the scheduler can't be reached, 130 after an interrupt; where the program refuses FILE or a script, its own.
+The status is 0, or 1 where a job was beyond its bound, 2 where the words, GRID or FOLDER are refused, 3 where a call
+failed T times or the scheduler can't be reached, 130 after an interrupt; where the program refuses FILE or a script,
+its own.
 """
 import argparse
 import contextlib
@@ -35,15 +37,16 @@ import sys
 import tempfile
 import threading
 import time
-import tomllib
 import uuid
 import zlib
 
+import tomllib
+
+from lokwurmi_tools.accepted import told_of
 from lokwurmi_tools.grids import MOST_PRIORITY, Wrong, columns_of, fronted, read_grid, row_of, script_of
 from lokwurmi_tools.packages import need
 from lokwurmi_tools.program import TOP
 from lokwurmi_tools.progress import span
-from lokwurmi_tools.refusals.front import told_of
 from lokwurmi_tools.refusals.newer import older
 
 try:
@@ -61,7 +64,8 @@ MOST_CALLS, MOST_VARIANTS, TOGETHER = 1_000_000, 100_000, 25
 AHEAD = 4
 SEEN = re.compile(r"task (\S+) jobs (\d+) worst (\d+|none) bound (\d+|overload)")
 SEEN_SUM = re.compile(r"summary traces (\d+) jobs (\d+) beyond (\d+)")
-# the statuses of calls that wrote all, and those of which a worker may be the cause: a file that it couldn't read, output that
+# the statuses of calls that wrote all, and those of which a worker may be the cause: a file that it couldn't read,
+# output that
 # it couldn't write, want of memory
 WHOLE, PASSING = {"hammer": (0,), "session": (0, 1, 2)}, (11, 20, 30)
 
@@ -84,7 +88,8 @@ def say(text):
 
 
 def take_processor():
-    """A processor that no call of this machine was given yet, and what holds it until it is closed; None where each is given."""
+    """A processor that no call of this machine was given yet, and what holds it until it is closed; None where each is
+    given."""
     for it in sorted(os.sched_getaffinity(0)):
         holder = socket.socket(socket.AF_UNIX)
         try:
@@ -160,7 +165,8 @@ class Sent(WorkerPlugin):
 def work(name, calls):
     """What calls of the program write, each a command, its words after the file, and the text of its script, or None.
 
-    It answers the worker's address, a list of statuses and texts, and why it is shorter than that of the calls, or None.
+    It answers the worker's address, a list of statuses and texts, and why it is shorter than that of the calls, or
+    None.
     """
     worker = distributed.get_worker()
     answers = []
@@ -173,10 +179,16 @@ def work(name, calls):
                     words = [os.path.join(room, "script.txt"), *words]
                     with open(words[0], "w", encoding="ascii") as it:
                         it.write(script)
-                status, text, errors = sent.call([os.path.join(folder, "program"), command, os.path.join(folder, "system.toml"), *words])
+                status, text, errors = sent.call(
+                    [os.path.join(folder, "program"), command, os.path.join(folder, "system.toml"), *words]
+                )
                 last = text.splitlines()[-1:]
                 if status < 0 or status in PASSING:
-                    return worker.address, answers, f"it ended with {f'signal {-status}' if status < 0 else status} {errors[-500:]}".strip()
+                    return (
+                        worker.address,
+                        answers,
+                        f"it ended with {f'signal {-status}' if status < 0 else status} {errors[-500:]}".strip(),
+                    )
                 if status < 10 and (status not in WHOLE[command] or not last or not last[0].startswith("summary ")):
                     return worker.address, answers, f"it ended with {status}, without a summary {errors[-500:]}".strip()
                 answers.append([status, text])
@@ -198,7 +210,8 @@ def read_bytes(file):
 
 
 class Kept:
-    """The answers that a folder holds, each under the key of its unit: a line of JSON an answer, in the file done.jsonl.
+    """The answers that a folder holds, each under the key of its unit: a line of JSON an answer, in the file
+    done.jsonl.
 
     The first line tells which campaign it is.
     """
@@ -228,7 +241,10 @@ class Kept:
                 if place:
                     self.answers[it["key"]] = zlib.compress(json.dumps(it["answer"]).encode())
                 elif other := [name for name in campaign if it[name] != campaign[name]]:
-                    raise Wrong(f"{self.folder}: is of a campaign with another {other[0]}: take another folder, or remove this one")
+                    raise Wrong(
+                        f"{self.folder}: is of a campaign with another {other[0]}:"
+                        " take another folder, or remove this one"
+                    )
             except (ValueError, KeyError, TypeError):
                 raise Wrong(f"{self.path}: line {place + 1} is none of a campaign: take another folder")
             end += len(line)
@@ -311,7 +327,16 @@ def cluster(words, at_end):
         sys.stderr = os.fdopen(os.dup(2), "w", buffering=1)
         os.dup2(os.open(os.devnull, os.O_WRONLY), 2)
         nowhere = {"dashboard_address": "127.0.0.1:0"}
-        local = distributed.LocalCluster(n_workers=words.workers or CPU_COUNT, threads_per_worker=1, processes=True, dashboard_address=None, scheduler_kwargs=nowhere, worker_dashboard_address="127.0.0.1:0", memory_limit=0, silence_logs=logging.CRITICAL)
+        local = distributed.LocalCluster(
+            n_workers=words.workers or CPU_COUNT,
+            threads_per_worker=1,
+            processes=True,
+            dashboard_address=None,
+            scheduler_kwargs=nowhere,
+            worker_dashboard_address="127.0.0.1:0",
+            memory_limit=0,
+            silence_logs=logging.CRITICAL,
+        )
         at_end.callback(local.close)
         client = distributed.Client(local)
         at_end.callback(client.close)
@@ -325,7 +350,9 @@ def cluster(words, at_end):
     try:
         client.wait_for_workers(1, timeout="60s")
     except OSError:
-        raise Failed(f"no worker came to the scheduler within 60 seconds: start some by dask-worker {words.scheduler}") from None
+        raise Failed(
+            f"no worker came to the scheduler within 60 seconds: start some by dask-worker {words.scheduler}"
+        ) from None
     return client
 
 
@@ -364,12 +391,20 @@ class Engine:
     def start(self, units, spared=None):
         others = [it for it in self.client.nthreads() if it != spared] if spared else []
         # pure=False: what failed isn't remembered as the answer
-        future = self.client.submit(work, self.sent.name, [it[2] for it in units], pure=False, **({"workers": others} if others else {}), allow_other_workers=bool(others))
+        future = self.client.submit(
+            work,
+            self.sent.name,
+            [it[2] for it in units],
+            pure=False,
+            **({"workers": others} if others else {}),
+            allow_other_workers=bool(others),
+        )
         self.running[future] = units
         future.add_done_callback(self.done.put)
 
     def fill(self):
-        """Has so many calls under way that no thread waits for its next one, those of workers that came meanwhile too."""
+        """Has so many calls under way that no thread waits for its next one, those of workers that came meanwhile
+        too."""
         if time.monotonic() - self.asked > 2:
             self.asked = time.monotonic()
             self.threads = sum(self.client.nthreads().values())
@@ -387,7 +422,8 @@ class Engine:
             return None
 
     def take(self, future):
-        """Gives the units of a future that ended, with their answers; those that it lacks are tried again, each for itself."""
+        """Gives the units of a future that ended, with their answers; those that it lacks are tried again, each for
+        itself."""
         units, where, answers, fault = self.running.pop(future), None, [], None
         if future.status == "finished":
             where, answers, fault = future.result()
@@ -408,7 +444,10 @@ class Engine:
                 self.tries[unit[0]] = self.tries.get(unit[0], 0) + 1
                 if self.tries[unit[0]] >= self.words.tries:
                     of = f" of the script\n{unit[2][2]}" if unit[2][2] else ""
-                    raise Failed(f"{unit[0]}{of}: {self.words.tries} of {self.words.tries} tries failed, the last one{f' on {where}' if where else ''}: {fault}")
+                    raise Failed(
+                        f"{unit[0]}{of}: {self.words.tries} of {self.words.tries} tries failed,"
+                        f" the last one{f' on {where}' if where else ''}: {fault}"
+                    )
                 self.again += 1
             self.start([unit], where)
 
@@ -447,7 +486,8 @@ def run(words, what, units, kept, look=lambda key, answer: False, together=1):
 
 
 def sums(text):
-    """The tasks of a summary of hammer, each a list of its name, jobs, worst and bound, and the three numbers of its last line."""
+    """The tasks of a summary of hammer, each a list of its name, jobs, worst and bound, and the three numbers of its
+    last line."""
     *lines, last = text.splitlines() or [""]
     found = [SEEN.fullmatch(it) for it in lines]
     end = SEEN_SUM.fullmatch(last)
@@ -474,11 +514,14 @@ def joined(texts):
 
 
 def first_beyond(words, number, traces):
-    """The first trace of a number that has a job beyond its bound: the traces of a call are the first ones of each longer call."""
+    """The first trace of a number that has a job beyond its bound: the traces of a call are the first ones of each
+    longer call."""
     low, high = 1, traces
     while low < high:
         middle = (low + high) // 2
-        text = subprocess.run([words.program, "hammer", words.file, str(number), str(middle)], capture_output=True, text=True, check=False).stdout
+        text = subprocess.run(
+            [words.program, "hammer", words.file, str(number), str(middle)], capture_output=True, text=True, check=False
+        ).stdout
         low, high = (low, middle) if sums(text)[1][2] else (middle + 1, high)
     return low - 1
 
@@ -486,7 +529,10 @@ def first_beyond(words, number, traces):
 def tell_beyond(words, number, traces):
     """Writes the number and the trace that show a job beyond its bound."""
     file = words.file
-    say(f"`lokwurmi hammer {file} {number} {traces}` has a job beyond its bound, which is proved not to be: looking for the first trace that shows it")
+    say(
+        f"`lokwurmi hammer {file} {number} {traces}` has a job beyond its bound, which is proved not to be:"
+        " looking for the first trace that shows it"
+    )
     try:
         trace = first_beyond(words, number, traces)
     except Failed as fault:
@@ -530,7 +576,9 @@ class Variants:
 
     def __init__(self, grid, system, kept):
         self.grid, self.kept = grid, kept
-        taken = {it.get("priority") for it in system.get("task", [])} | {it for entry in grid if entry.key == "priority" for it in entry.values}
+        taken = {it.get("priority") for it in system.get("task", [])} | {
+            it for entry in grid if entry.key == "priority" for it in entry.values
+        }
         spare = list(itertools.islice((it for it in range(MOST_PRIORITY, 0, -1) if it not in taken), len(grid)))
         self.chosen = list(itertools.product(*(range(len(it.values)) for it in grid)))
         self.scripts = [script_of(grid, it, system, spare) for it in self.chosen]
@@ -547,7 +595,14 @@ class Variants:
             cost = f"{cost:.12g}" if isinstance(cost, float) else cost
             own = {entry.label: entry.shown(place) for entry, place in zip(self.grid, chosen)}
             # the bounds of what an edit was kept from aren't those of the variant
-            yield {"variant": number, **own, "verdict": verdict, "refused": refused, "cost": cost, **(found if verdict != "refused" else dict.fromkeys(found, ""))}
+            yield {
+                "variant": number,
+                **own,
+                "verdict": verdict,
+                "refused": refused,
+                "cost": cost,
+                **(found if verdict != "refused" else dict.fromkeys(found, "")),
+            }
 
 
 def variants(words, kept):
@@ -556,7 +611,9 @@ def variants(words, kept):
     front = columns_of(words.front, grid, system) if words.front else None
     count = math.prod(len(it.values) for it in grid)
     if count > MOST_VARIANTS:
-        raise Wrong(f"{words.grid}: there are {count} combinations, and there may be {MOST_VARIANTS}: cut it into several")
+        raise Wrong(
+            f"{words.grid}: there are {count} combinations, and there may be {MOST_VARIANTS}: cut it into several"
+        )
     all_of = Variants(grid, system, kept)
     run(words, "variants", all_of.units(), kept, together=TOGETHER)
     columns = {}
@@ -588,7 +645,8 @@ HAMMERS = """examples:
   ./lokwurmi campaign hammer FILE --traces 10000000 --scheduler tcp://host1:8786 --resume runs
       on the workers of a scheduler; the same words once more go on where it was stopped
 
-Each call has a number of its own: S, S + 1, S + 2 and so on. The text is that of one `lokwurmi hammer`. More: docs/CAMPAIGNS.md"""
+Each call has a seed of its own: S, S + 1, S + 2 and so on. The text is that of one `lokwurmi hammer`.
+More: docs/CAMPAIGNS.md"""
 GRIDS = """example, with a file grid.toml of two entries and so of six variants:
   [[vary]]
   task = "b2"
@@ -606,24 +664,70 @@ More: docs/CAMPAIGNS.md"""
 
 def read_words(arguments: list[str] | None):
     raw = argparse.RawDescriptionHelpFormatter
-    reader = argparse.ArgumentParser(prog="lokwurmi campaign", description="Runs many calls of the proved program on many processors or machines, and joins what they write.", epilog="More: docs/CAMPAIGNS.md, and hammer --help, variants --help")
+    reader = argparse.ArgumentParser(
+        prog="lokwurmi campaign",
+        description="Runs many calls of the proved program on many processors or machines, and joins what they write.",
+        epilog="More: docs/CAMPAIGNS.md, and hammer --help, variants --help",
+    )
     commands = reader.add_subparsers(dest="command", required=True, metavar="COMMAND")
     common = argparse.ArgumentParser(add_help=False)
     where = common.add_mutually_exclusive_group()
-    where.add_argument("--scheduler", metavar="ADDRESS", help="a Dask scheduler, as tcp://host:8786; without it, this machine's processors")
-    where.add_argument("--workers", metavar="N", type=within(1, 1024), help="without a scheduler: so many calls at a time, one for each processor if absent")
-    common.add_argument("--resume", metavar="FOLDER", help="keep in FOLDER what is done, and don't do again what it has")
-    common.add_argument("--tries", metavar="T", type=within(1, 100), default=3, help="how often a call is tried that fails; 3 if absent")
-    common.add_argument("--program", metavar="PROGRAM", default=str(TOP / "crates" / "cpa_cli" / "out" / "cpa_cli"), help="the program, that of this repository if absent; it is sent to the workers")
-    it = commands.add_parser("hammer", parents=[common], formatter_class=raw, help="made traces, joined to one summary", description="Replays made traces, and writes the greatest responses seen beside the bounds.", epilog=HAMMERS)
+    where.add_argument(
+        "--scheduler",
+        metavar="ADDRESS",
+        help="a Dask scheduler, as tcp://host:8786; without it, this machine's processors",
+    )
+    where.add_argument(
+        "--workers",
+        metavar="N",
+        type=within(1, 1024),
+        help="without a scheduler: so many calls at a time, one for each processor if absent",
+    )
+    common.add_argument(
+        "--resume", metavar="FOLDER", help="keep in FOLDER what is done, and don't do again what it has"
+    )
+    common.add_argument(
+        "--tries", metavar="T", type=within(1, 100), default=3, help="how often a call is tried that fails; 3 if absent"
+    )
+    common.add_argument(
+        "--program",
+        metavar="PROGRAM",
+        default=str(TOP / "crates" / "cpa_cli" / "out" / "cpa_cli"),
+        help="the program, that of this repository if absent; it is sent to the workers",
+    )
+    it = commands.add_parser(
+        "hammer",
+        parents=[common],
+        formatter_class=raw,
+        help="made traces, joined to one summary",
+        description="Replays made traces, and writes the greatest responses seen beside the bounds.",
+        epilog=HAMMERS,
+    )
     it.add_argument("file", metavar="FILE", help="a system file")
     it.add_argument("--traces", metavar="N", type=within(1, 10**9), required=True, help="how many traces in all")
-    it.add_argument("--seed", metavar="S", type=within(0, MOST_NUMBER), default=1, help="the number of the first call; 1 if absent")
-    it.add_argument("--call", metavar="K", type=within(1, MOST_TRACES), default=1000, help="how many traces a call has; 1000 if absent")
-    it = commands.add_parser("variants", parents=[common], formatter_class=raw, help="what a grid varies, as a table", description="Analyses each variant of a grid, and writes a table of verdicts, bounds and latencies.", epilog=GRIDS)
+    it.add_argument(
+        "--seed", metavar="S", type=within(0, MOST_NUMBER), default=1, help="the number of the first call; 1 if absent"
+    )
+    it.add_argument(
+        "--call",
+        metavar="K",
+        type=within(1, MOST_TRACES),
+        default=1000,
+        help="how many traces a call has; 1000 if absent",
+    )
+    it = commands.add_parser(
+        "variants",
+        parents=[common],
+        formatter_class=raw,
+        help="what a grid varies, as a table",
+        description="Analyses each variant of a grid, and writes a table of verdicts, bounds and latencies.",
+        epilog=GRIDS,
+    )
     it.add_argument("file", metavar="FILE", help="a system file")
     it.add_argument("grid", metavar="GRID", help="a TOML file that says what is varied")
-    it.add_argument("--front", metavar="LATENCY,COST", help="mark the Pareto front of two columns, as the name of a path and cost")
+    it.add_argument(
+        "--front", metavar="LATENCY,COST", help="mark the Pareto front of two columns, as the name of a path and cost"
+    )
     return reader.parse_args(arguments)
 
 
@@ -676,8 +780,8 @@ def main(arguments: list[str] | None = None) -> int | None:
         kept = Kept(words.resume, {"command": words.command, "system file": file, "program": program})
     except (Wrong, OSError) as fault:
         say(f"{fault}")
-        sys.exit(2)
+        return 2
     status = perform(words, kept)
     if status not in (3, 130):
         kept.close()
-    sys.exit(status)
+    return status

@@ -1,9 +1,10 @@
 """Reads files of chains, and what `lokwurmi chain` and `lokwurmi chains` write, for the tools beside it."""
 import re
-import sys
-import tomllib
 from typing import NamedTuple
 
+import tomllib
+
+from lokwurmi_tools.faults import Fault
 from lokwurmi_tools.program import call
 from lokwurmi_tools.report import number
 
@@ -55,7 +56,7 @@ def fault_in(entry: object, tasks: set[str]) -> str | None:
         return 'wants a name of up to 64 letters, digits, _, - and .: name = "brake"'
     several = entry.get("tasks")
     if not isinstance(several, list) or not 1 <= len(several) <= MOST_TASKS:
-        return f"wants 1 to {MOST_TASKS} tasks: tasks = [\"capture\", \"act\"]"
+        return f'wants 1 to {MOST_TASKS} tasks: tasks = ["capture", "act"]'
     if unknown := [it for it in several if it not in tasks]:
         return f"names a task {unknown[0]}, which the system doesn't have"
     for key in ("reaction", "age"):
@@ -70,18 +71,18 @@ def read_chains(file: str, system: dict) -> list[Chain]:
         with open(file, "rb") as it:
             read = tomllib.load(it)
     except (OSError, tomllib.TOMLDecodeError) as fault:
-        sys.exit(f"{file}: can't be read: {fault}")
+        raise Fault(f"{file}: can't be read: {fault}")
     form, entries, tasks = read.get("format"), read.get("chain", []), {it["name"] for it in system.get("task", [])}
     if type(form) is not int or form != 1 or set(read) - {"format", "chain"} or not isinstance(entries, list):
-        sys.exit(f"{file}: it has to have format = 1 and chain = [{{ name = .., tasks = [..] }}], and nothing else")
+        raise Fault(f"{file}: it has to have format = 1 and chain = [{{ name = .., tasks = [..] }}], and nothing else")
     if len(entries) > MOST_CHAINS:
-        sys.exit(f"{file}: there are {len(entries)} chains, and a file has {MOST_CHAINS} at most")
+        raise Fault(f"{file}: there are {len(entries)} chains, and a file has {MOST_CHAINS} at most")
     for place, entry in enumerate(entries, 1):
         if fault := fault_in(entry, tasks):
-            sys.exit(f"{file}: chain {place} {fault}")
+            raise Fault(f"{file}: chain {place} {fault}")
     names = [it["name"] for it in entries]
     if twice := next((it for it in names if names.count(it) > 1), None):
-        sys.exit(f"{file}: two chains have the name {twice}")
+        raise Fault(f"{file}: two chains have the name {twice}")
     return [Chain(it["name"], it["tasks"], it.get("reaction"), it.get("age")) for it in entries]
 
 
@@ -90,7 +91,7 @@ def bounds_in(text: str, what: str) -> Bounds:
     lines = text.splitlines()
     steps, total = [STEP.fullmatch(it) for it in lines[:-1]], TOTAL.fullmatch(lines[-1]) if lines else None
     if total is None or None in steps:
-        sys.exit(f"{what}: this is no output of lokwurmi chain: {text.strip() or 'nothing'}")
+        raise Fault(f"{what}: this is no output of lokwurmi chain: {text.strip() or 'nothing'}")
     rows = [Step(it["name"], it["kind"], number(it["wait"]), number(it["response"])) for it in steps]
     return Bounds(rows, {key: number(word) for key, word in total.groupdict().items() if word is not None})
 
@@ -102,5 +103,5 @@ def bounds_by(program: str, file: str, tasks: list[str], *options: str) -> Bound
         return None
     if status not in (0, 2):
         words = " ".join(("chain", file, *options, *tasks))
-        sys.exit(f"lokwurmi {words}: status {status}: {text.strip()}; docs/FILES.md tells what to do")
+        raise Fault(f"lokwurmi {words}: status {status}: {text.strip()}; docs/FILES.md tells what to do")
     return bounds_in(text, f"lokwurmi chain {file}")

@@ -1,24 +1,22 @@
 """Draws a report as a chart: the times of the paths against their deadlines, and the bounds of the tasks.
 
-    ./lokwurmi chart [--to PICTURE] [--paths] [--tick TIME] REPORT
-
 REPORT is what `lokwurmi analyse` wrote, or `lokwurmi session`, whose last report is drawn. The picture's name ends with
 .svg, .png or .pdf; without --to it is that of REPORT with .svg in place of .txt. A bar goes from the least time to the
-greatest; a task without a bound, and a path that has one, have a hatched bar over the whole width. With --paths the tasks
-are left out. With --tick, as 1us, the numbers are times and not ticks.
+greatest; a task without a bound, and a path that has one, have a hatched bar over the whole width. With --paths the
+tasks are left out. With --tick, as 1us, the numbers are times and not ticks.
 """
-import argparse
 import os
-import sys
 
+from lokwurmi_tools.faults import Fault
 from lokwurmi_tools.packages import need
 from lokwurmi_tools.report import read_report
-from lokwurmi_tools.times import Scale, time_of, word_of
+from lokwurmi_tools.times import Scale
+from lokwurmi_tools.words import add_tick, reader_of
 
 try:
     import matplotlib
-    from matplotlib.patches import Patch
     from matplotlib.lines import Line2D
+    from matplotlib.patches import Patch
 
     matplotlib.use("Agg")
     import matplotlib.pyplot as plt
@@ -57,44 +55,75 @@ def widest(entries):
 
 def draw_paths(axes, paths, scale):
     entries = list(paths.values())
-    rows(axes, list(paths), entries, lambda it: MISSED if it["verdict"] == "missed" else GREATEST, widest(entries), scale)
+    rows(
+        axes, list(paths), entries, lambda it: MISSED if it["verdict"] == "missed" else GREATEST, widest(entries), scale
+    )
     for place, it in enumerate(entries):
         if it["deadline"] is not None:
             axes.plot([it["deadline"]] * 2, [place - 0.42, place + 0.42], color="black", linewidth=1.6)
     axes.set_title("Paths from end to end", fontsize=9, loc="left")
-    legend = [Patch(color=GREATEST), Patch(color=MISSED), Patch(facecolor="white", edgecolor=NONE, hatch="////"), Line2D([], [], color="black", marker="|", linestyle="none", markersize=9)]
-    axes.legend(legend, ["in time, or no deadline", "deadline missed", "no bound", "deadline"], fontsize=7, ncols=4, loc="lower right", bbox_to_anchor=(1.01, 0.99), borderaxespad=0.2, columnspacing=1, frameon=False)
+    legend = [
+        Patch(color=GREATEST),
+        Patch(color=MISSED),
+        Patch(facecolor="white", edgecolor=NONE, hatch="////"),
+        Line2D([], [], color="black", marker="|", linestyle="none", markersize=9),
+    ]
+    axes.legend(
+        legend,
+        ["in time, or no deadline", "deadline missed", "no bound", "deadline"],
+        fontsize=7,
+        ncols=4,
+        loc="lower right",
+        bbox_to_anchor=(1.01, 0.99),
+        borderaxespad=0.2,
+        columnspacing=1,
+        frameon=False,
+    )
 
 
 def draw_tasks(axes, tasks, scale):
     resources = list(dict.fromkeys(it["on"] for it in tasks.values()))
     order = sorted(tasks, key=lambda name: resources.index(tasks[name]["on"]))
     entries = [tasks[name] for name in order]
-    rows(axes, [f"{tasks[name]['on']}  {name}" for name in order], entries, lambda it: HUES[resources.index(it["on"]) % len(HUES)], widest(entries), scale)
+    rows(
+        axes,
+        [f"{tasks[name]['on']}  {name}" for name in order],
+        entries,
+        lambda it: HUES[resources.index(it["on"]) % len(HUES)],
+        widest(entries),
+        scale,
+    )
     axes.set_title("Bounds of the response times of the tasks, resource by resource", fontsize=9, loc="left")
 
 
 def main(arguments: list[str] | None = None) -> int | None:
-    reader = argparse.ArgumentParser(prog="lokwurmi chart", description="Draws a report as a chart.")
+    reader = reader_of("chart", __doc__)
     reader.add_argument("--to", metavar="PICTURE", help="a name that ends with .svg, .png or .pdf")
     reader.add_argument("--paths", action="store_true", help="leave out the tasks")
-    reader.add_argument("--tick", metavar="TIME", type=word_of(time_of), help="the time of a tick, as 1us: shows times in place of ticks")
+    add_tick(reader)
     reader.add_argument("report", metavar="REPORT", help="what lokwurmi analyse wrote")
     words = reader.parse_args(arguments)
     need("matplotlib")
     tasks, paths = read_report(words.report)
     picture = words.to or os.path.splitext(words.report)[0] + ".svg"
     if os.path.splitext(picture)[1] not in (".svg", ".png", ".pdf"):
-        sys.exit(f"{picture}: a picture's name ends with .svg, .png or .pdf")
+        raise Fault(f"{picture}: a picture's name ends with .svg, .png or .pdf")
     parts = [(draw_paths, paths)] if paths else []
     if tasks and not words.paths:
         parts.append((draw_tasks, tasks))
     if not parts:
-        sys.exit(f"{words.report}: there is nothing to draw")
+        raise Fault(f"{words.report}: there is nothing to draw")
     # words stay words, and the same report gives the same picture
     plt.rcParams.update({"svg.fonttype": "none", "svg.hashsalt": "lokwurmi", "font.family": "DejaVu Sans"})
     heights = [max(1.2, len(entries) * 0.16) for _, entries in parts]
-    figure, axes = plt.subplots(len(parts), 1, figsize=(8, sum(heights) + 1.1 * len(parts)), height_ratios=heights, squeeze=False, layout="constrained")
+    figure, axes = plt.subplots(
+        len(parts),
+        1,
+        figsize=(8, sum(heights) + 1.1 * len(parts)),
+        height_ratios=heights,
+        squeeze=False,
+        layout="constrained",
+    )
     for (draw, entries), it in zip(parts, axes[:, 0]):
         draw(it, entries, Scale(words.tick))
     figure.savefig(picture, metadata={"Date": None} if picture.endswith(".svg") else None)

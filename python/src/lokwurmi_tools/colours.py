@@ -1,7 +1,20 @@
 """The colours of paths and tasks, for the tools beside it."""
 
 # those of paths, and paler ones for what is on none
-HUES = ["#1b6ca8", "#b5541c", "#2e7d4f", "#7b4fa3", "#a3862a", "#a83254", "#2a8c8c", "#5b6770", "#8c5a2a", "#4f63c9", "#6f8c1f", "#c04f9b"]
+HUES = [
+    "#1b6ca8",
+    "#b5541c",
+    "#2e7d4f",
+    "#7b4fa3",
+    "#a3862a",
+    "#a83254",
+    "#2a8c8c",
+    "#5b6770",
+    "#8c5a2a",
+    "#4f63c9",
+    "#6f8c1f",
+    "#c04f9b",
+]
 PALE = ["#8fa9bd", "#c2a38c", "#9dbd9a", "#b3a3c9", "#cdbb7a", "#c79aa8", "#8fbcbc", "#a7adb2"]
 # letters on a dark colour, and on a pale one
 ON_DARK, ON_PALE = "#ffffff", "#18222d"
@@ -31,7 +44,8 @@ def hues(system):
 
 
 def shades(system):
-    """A colour a task: along a path that of the path, lighter from task to task; tasks on none take turns with paler ones."""
+    """A colour a task: along a path that of the path, lighter from task to task; tasks on none take turns with paler
+    ones."""
     found, hue, others = {}, hues(system), 0
     for path in system.get("path", []):
         for place, name in enumerate(path["tasks"]):

@@ -1,20 +1,20 @@
-"""Draws how many events at most start a task in a window of each length: its streams one on the other, so that the top is their sum.
+"""Draws how many events at most start a task in a window of each length: its streams one on the other, so that the top
+is their sum.
 
-    ./lokwurmi curve [--to PICTURE] [--window TICKS] [--beside PERIOD JITTER DISTANCE] [--tick TIME] FILE REPORT TASK
-
-FILE is a system file that `lokwurmi analyse` accepts, REPORT what it wrote of it, TASK the name of a task in it. With --beside
-the events of one more stream are drawn as a line. The window goes up to --window, or else to twice the longest period. The
-picture's name ends with .svg, .png or .pdf; without --to it is the name of the task with .svg. With --tick, as 1us, the window
-is drawn as a time.
+FILE is a system file that `lokwurmi analyse` accepts, REPORT what it wrote of it, TASK the name of a task in it. With
+--beside the events of one more stream are drawn as a line. The window goes up to --window, or else to twice the longest
+period. The picture's name ends with .svg, .png or .pdf; without --to it is the name of the task with .svg. With --tick,
+as 1us, the window is drawn as a time.
 """
-import argparse
 import os
-import sys
 
+from lokwurmi_tools.accepted import read_system
+from lokwurmi_tools.faults import Fault
 from lokwurmi_tools.packages import need
 from lokwurmi_tools.report import read_report
-from lokwurmi_tools.system import activators, first_windows, input_of, most_events, read_system
-from lokwurmi_tools.times import UNITS, time_of, unit_of, word_of
+from lokwurmi_tools.system import activators, first_windows, input_of, most_events
+from lokwurmi_tools.times import UNITS, unit_of
+from lokwurmi_tools.words import add_tick, reader_of
 
 try:
     import matplotlib
@@ -47,7 +47,14 @@ def draw(streams, names, beside, window, picture, title, tick=None):
     hues = [HUES[k % len(HUES)] for k in range(len(streams))]
     axes.stackplot(windows, heights, labels=names, colors=hues, step="post", linewidth=0)
     if beside:
-        axes.step(windows, [most_events(beside, it) for it in windows], where="post", color="black", linewidth=1.4, label="period {}, jitter {}, distance {}".format(*beside))
+        axes.step(
+            windows,
+            [most_events(beside, it) for it in windows],
+            where="post",
+            color="black",
+            linewidth=1.4,
+            label="period {}, jitter {}, distance {}".format(*beside),
+        )
     axes.set_xlim(0, window)
     axes.set_ylim(0, None)
     unit = unit_of(window * tick) if tick else "ticks"
@@ -67,11 +74,11 @@ def draw(streams, names, beside, window, picture, title, tick=None):
 
 
 def main(arguments: list[str] | None = None) -> int | None:
-    reader = argparse.ArgumentParser(prog="lokwurmi curve", description="Draws how many events at most start a task in a window of each length.")
+    reader = reader_of("curve", __doc__)
     reader.add_argument("--to", metavar="PICTURE", help="a name that ends with .svg, .png or .pdf")
     reader.add_argument("--window", metavar="TICKS", type=int, help="the longest window")
     reader.add_argument("--beside", metavar=("PERIOD", "JITTER", "DISTANCE"), type=int, nargs=3, help="one more stream")
-    reader.add_argument("--tick", metavar="TIME", type=word_of(time_of), help="the time of a tick, as 1us")
+    add_tick(reader)
     reader.add_argument("file", metavar="FILE", help="a system file")
     reader.add_argument("report", metavar="REPORT", help="what lokwurmi analyse wrote of it")
     reader.add_argument("task", metavar="TASK", help="the name of a task in it")
@@ -79,15 +86,15 @@ def main(arguments: list[str] | None = None) -> int | None:
     need("matplotlib")
     picture = words.to or words.task + ".svg"
     if os.path.splitext(picture)[1] not in (".svg", ".png", ".pdf"):
-        sys.exit(f"{picture}: a picture's name ends with .svg, .png or .pdf")
+        raise Fault(f"{picture}: a picture's name ends with .svg, .png or .pdf")
     system, (tasks, _) = read_system(words.file), read_report(words.report)
     if words.task not in {it["name"] for it in system.get("task", [])} or words.task not in tasks:
-        sys.exit(f"{words.task}: no task of {words.file} and {words.report} has this name")
+        raise Fault(f"{words.task}: no task of {words.file} and {words.report} has this name")
     if words.window is not None and words.window < 1 or words.beside and words.beside[0] < 1:
-        sys.exit("a window and a period are at least 1")
+        raise Fault("a window and a period are at least 1")
     streams = input_of(system, {name: it["worst"] for name, it in tasks.items()}, words.task)
     if streams is None:
-        sys.exit(f"{words.task}: what starts it has no bound")
+        raise Fault(f"{words.task}: what starts it has no bound")
     beside = tuple(words.beside) if words.beside else None
     window = words.window or 2 * max(period for period, _, _ in [*streams, *([beside] if beside else [])])
     draw(streams, labels(system, words.task), beside, window, picture, f"Events that start {words.task}", words.tick)

@@ -4,10 +4,10 @@ import copy
 import io
 import logging
 import os
-import sys
 from fractions import Fraction
 from typing import Any, Iterable
 
+from lokwurmi_tools.faults import Fault
 from lokwurmi_tools.networks import BEHIND, ERRORS, LONGEST, QUEUED, Bus, Frame, named, plain
 from lokwurmi_tools.packages import need
 from lokwurmi_tools.progress import Progress
@@ -126,9 +126,9 @@ def loaded(file: str) -> tuple[dict[str, Any], str]:
         with contextlib.redirect_stdout(heard):
             found = canmatrix.formats.loadp(file)
     except OSError as fault:
-        sys.exit(f"{file}: can't be read: {fault}")
+        raise Fault(f"{file}: can't be read: {fault}")
     except Exception as fault:  # whatever the reader of this format raises
-        sys.exit(f"{file}: canmatrix can't read it: {type(fault).__name__}: {fault}")
+        raise Fault(f"{file}: canmatrix can't read it: {type(fault).__name__}: {fault}")
     finally:
         progress.clear()
     if found is None:
@@ -136,7 +136,7 @@ def loaded(file: str) -> tuple[dict[str, Any], str]:
         known = sorted(
             f".{ending}" for it, ending in canmatrix.formats.extensionMapping.items() if "load" in readers.get(it, [])
         )
-        sys.exit(f"{file}: canmatrix reads no files with this ending; it reads {', '.join(known)}")
+        raise Fault(f"{file}: canmatrix reads no files with this ending; it reads {', '.join(known)}")
     return found, heard.getvalue()
 
 
@@ -150,7 +150,7 @@ def matrices_in(file: str) -> tuple[dict[str, Any], list[str]]:
         elif file.lower().endswith(".arxml"):
             complete_arxml(file, found)
     except (ValueError, canmatrix.canmatrix.ArbitrationIdOutOfRange) as fault:
-        sys.exit(f"{file}: it isn't as such files are: {type(fault).__name__}: {fault}")
+        raise Fault(f"{file}: it isn't as such files are: {type(fault).__name__}: {fault}")
     said = [it.strip() for it in printed.splitlines() if it.strip()] + list(SAID)
     said += [str(it) for matrix in found.values() for it in matrix.load_errors]
     if file.lower().endswith((".xls", ".xlsx")):
@@ -225,11 +225,11 @@ def read_buses(words: Iterable[str]) -> list[Bus]:
     for told, file, matrix, said in found:
         name = plain(told)[:24]
         if name in {it.name for it in buses}:
-            sys.exit(f"{file}: two buses have the name {name}: name them, as front={file}")
+            raise Fault(f"{file}: two buses have the name {name}: name them, as front={file}")
         frames = frames_of(matrix, name, f"{name}." if len(found) > 1 else "", taken, said)
         rate = rate_in(matrix, matrix.baudrate, "Baudrate", "baudrate")
         data_rate = rate_in(matrix, matrix.fd_baudrate, "BaudrateCANFD", "FDBaudrate")
         buses.append(Bus(name, told, file, rate, data_rate, frames, said))
     if not buses:
-        sys.exit(f"{' '.join(words)}: there is no CAN bus in it")
+        raise Fault(f"{' '.join(words)}: there is no CAN bus in it")
     return buses

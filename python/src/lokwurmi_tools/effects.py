@@ -3,13 +3,15 @@
 The run is that of a trace, as `lokwurmi schedule` writes it; the bounds are those of `lokwurmi chain`.
 """
 import argparse
-import sys
 
+from lokwurmi_tools.accepted import read_system
 from lokwurmi_tools.chains import Bounds, Chain, bounds_by, read_chains
+from lokwurmi_tools.faults import Fault
 from lokwurmi_tools.program import add_program, schedule_by
 from lokwurmi_tools.runs import read_schedule, read_trace, schedule_in
-from lokwurmi_tools.seen import ASKED, READINGS, Gap, Late, Run, Seen, gaps_in, seen_of
-from lokwurmi_tools.system import read_system, sources_of
+from lokwurmi_tools.seen import ASKED, READINGS, Gap, Late, Run, gaps_in, seen_of
+from lokwurmi_tools.system import sources_of
+from lokwurmi_tools.words import reader_of
 
 EXAMPLES = """examples:
   ./lokwurmi effects examples/camera_brake.toml examples/camera_brake.trace.csv slip act
@@ -38,16 +40,20 @@ WHILE_RUNNING = ("start", "running")
 
 
 def asked_for(arguments: list[str] | None) -> argparse.Namespace:
-    form = argparse.RawDescriptionHelpFormatter
-    reader = argparse.ArgumentParser(prog="lokwurmi effects", description=__doc__, epilog=EXAMPLES, formatter_class=form)
+    reader = reader_of("effects", __doc__, EXAMPLES)
     reader.add_argument("file", metavar="FILE", help="a system file")
     reader.add_argument("trace", metavar="TRACE", help="a trace that obeys it")
     reader.add_argument("tasks", metavar="TASK", nargs="*", help="the tasks of a chain, in the order of the data")
     reader.add_argument("--chains", metavar="CHAINS", help="a file of chains, in place of the tasks")
     reader.add_argument("--schedule", metavar="SCHEDULE", help="a recorded schedule, in place of what lokwurmi writes")
     several = ", ".join(f"{it}: {words}" for it, words in READINGS.items())
-    reader.add_argument("--late", choices=[*READINGS, "none"], metavar="RULE", default="whenever", help=(
-        f"by which rule of reading the jobs are listed that are latest: {several}; none lists none (whenever)"))
+    reader.add_argument(
+        "--late",
+        choices=[*READINGS, "none"],
+        metavar="RULE",
+        default="whenever",
+        help=(f"by which rule of reading the jobs are listed that are latest: {several}; none lists none (whenever)"),
+    )
     add_program(reader)
     asked = reader.parse_args(arguments)
     if bool(asked.tasks) == (asked.chains is not None):
@@ -60,7 +66,7 @@ def chains_of(asked: argparse.Namespace, system: dict) -> list[Chain]:
         return read_chains(asked.chains, system)
     names = [it["name"] for it in system.get("task", [])]
     if unknown := [it for it in asked.tasks if it not in names]:
-        sys.exit(f"{asked.file}: the system has no task {unknown[0]}; it has {', '.join(names) or 'none'}")
+        raise Fault(f"{asked.file}: the system has no task {unknown[0]}; it has {', '.join(names) or 'none'}")
     return [Chain("", asked.tasks, None, None)]
 
 
@@ -69,7 +75,7 @@ def schedule_of(asked: argparse.Namespace, system: dict) -> list:
         return read_schedule(asked.schedule, system)
     text = schedule_by(asked.program, asked.file, asked.trace)
     if text is None:
-        sys.exit(f"{asked.program}: it doesn't take `schedule FILE TRACE`: name a schedule by --schedule")
+        raise Fault(f"{asked.program}: it doesn't take `schedule FILE TRACE`: name a schedule by --schedule")
     return schedule_in(text, "lokwurmi schedule", system)
 
 
@@ -193,4 +199,4 @@ def main(arguments: list[str] | None = None) -> int | None:
         if over:
             print(f"  BEYOND THE BOUND: {', '.join(over)}: is the schedule that of the trace, and does the trace obey?")
             status = 1
-    sys.exit(status)
+    return status

@@ -3,6 +3,8 @@ import sys
 import textwrap
 from typing import Any, Optional
 
+from lokwurmi_tools.faults import Fault
+
 # how long a line of a comment may be
 WIDTH = 118
 
@@ -45,7 +47,8 @@ def comments(line: str) -> list[str]:
 
 
 def put(text: str, file: Optional[str]) -> None:
-    """Writes the text into the file, or to the standard output where none is named; ends the tool where it can't be written."""
+    """Writes the text into the file, or to the standard output where none is named; ends the tool where it can't be
+    written."""
     if file is None:
         sys.stdout.write(text)
         return
@@ -53,4 +56,4 @@ def put(text: str, file: Optional[str]) -> None:
         with open(file, "w", encoding="utf-8") as it:
             it.write(text)
     except OSError as fault:
-        sys.exit(f"{file}: can't be written: {fault.strerror}")
+        raise Fault(f"{file}: can't be written: {fault.strerror}")

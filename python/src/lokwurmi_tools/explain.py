@@ -18,10 +18,12 @@ import os
 import sys
 
 from lokwurmi_tools.explained import Explained, explained_by
+from lokwurmi_tools.faults import Fault
 from lokwurmi_tools.helps import helps_for, lines_of_helps
 from lokwurmi_tools.packages import need
 from lokwurmi_tools.part_texts import lines_of_path, lines_of_task, shown
 from lokwurmi_tools.program import add_program
+from lokwurmi_tools.words import reader_of
 
 EXAMPLES = """examples:
   ./lokwurmi explain examples/can_bus.toml m3
@@ -34,9 +36,7 @@ PICTURES = (".svg", ".png", ".pdf")
 
 
 def asked_for(arguments: list[str] | None) -> argparse.Namespace:
-    reader = argparse.ArgumentParser(
-        prog="lokwurmi explain", description=__doc__, epilog=EXAMPLES, formatter_class=argparse.RawDescriptionHelpFormatter
-    )
+    reader = reader_of("explain", __doc__, EXAMPLES)
     reader.add_argument("file", metavar="FILE", help="a system file")
     reader.add_argument("task", metavar="TASK", nargs="?", help="the name of a task in it")
     reader.add_argument("--path", metavar="PATH", help="a path: whom it waits for, and what would help most")
@@ -48,9 +48,9 @@ def asked_for(arguments: list[str] | None) -> argparse.Namespace:
     add_program(reader)
     words = reader.parse_args(arguments)
     if sum((words.task is not None, words.path is not None, words.all)) != 1:
-        sys.exit("lokwurmi explain: name a task, or --path PATH, or --all")
+        raise Fault("name a task, or --path PATH, or --all")
     if words.to and os.path.splitext(words.to)[1] not in PICTURES:
-        sys.exit(f"{words.to}: a picture's name ends with {', '.join(PICTURES[:-1])} or {PICTURES[-1]}")
+        raise Fault(f"{words.to}: a picture's name ends with {', '.join(PICTURES[:-1])} or {PICTURES[-1]}")
     return words
 
 
@@ -59,7 +59,7 @@ def check_names(words: argparse.Namespace, explained: Explained) -> None:
     asked = (("task", words.task, explained.parts.tasks), ("path", words.path, explained.paths))
     for kind, name, known in asked:
         if name is not None and name not in known:
-            sys.exit(f"{words.file}: there is no {kind} {name}; it has {', '.join(known) or 'none'}")
+            raise Fault(f"{words.file}: there is no {kind} {name}; it has {', '.join(known) or 'none'}")
 
 
 def draw(words: argparse.Namespace, explained: Explained, tasks: list[dict], paths: list[dict]) -> None:
@@ -75,7 +75,7 @@ def draw(words: argparse.Namespace, explained: Explained, tasks: list[dict], pat
         else:
             bars.all(tasks, words.file)
     except NothingToDraw:
-        sys.exit("lokwurmi explain: none of these has a bound: there is nothing to draw")
+        raise Fault("none of these has a bound: there is nothing to draw")
 
 
 def main(arguments: list[str] | None = None) -> int | None:
@@ -102,4 +102,4 @@ def main(arguments: list[str] | None = None) -> int | None:
         draw(words, explained, told_tasks, told_paths)
     for it in explained.faults:
         print(f"lokwurmi explain: an error of this tool: {it}", file=sys.stderr)
-    sys.exit(1 if explained.faults else 0)
+    return 1 if explained.faults else 0

@@ -4,11 +4,11 @@ All of it is worked out here, by parts.py, and held against the report: `faults`
 """
 from fractions import Fraction
 
+from lokwurmi_tools.accepted import read_system
 from lokwurmi_tools.behind import Behind
 from lokwurmi_tools.parts import Job, Parts, Tired
 from lokwurmi_tools.program import written_by
 from lokwurmi_tools.report import reports_in
-from lokwurmi_tools.system import read_system
 
 # how many looks at windows are taken where there may be no end
 MOST = 3_000_000

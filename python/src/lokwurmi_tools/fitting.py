@@ -1,11 +1,11 @@
 """Makes a system of the frames that are taken, small enough for a system file, without leaving out a frame that delays
 another. For lokwurmi import network."""
 import math
-import sys
 from dataclasses import dataclass, field, replace
 from fractions import Fraction
 from typing import Any
 
+from lokwurmi_tools.faults import Fault
 from lokwurmi_tools.networks import BEHIND, ERRORS, LONGEST, QUEUED, named, plain, priorities
 from lokwurmi_tools.taking import Taken, Taker, first_of
 from lokwurmi_tools.times import text_of
@@ -33,7 +33,7 @@ def asked_frames(taker: Taker) -> set[str]:
     for name in taker.words.only:
         found = {it.name for it in every if name in (it.name, it.told)}
         if not found:
-            sys.exit(f"--only {name}: there is no such frame among those that are taken")
+            raise Fault(f"--only {name}: there is no such frame among those that are taken")
         asked |= found
     return asked
 
@@ -205,12 +205,12 @@ def proposals(system: System, taker: Taker) -> list[str]:
 def check_size(system: System, taker: Taker, most_names: int) -> None:
     """Refuses a system that is too large for a file, and proposes what makes it smaller."""
     if not system.tasks:
-        sys.exit("\n".join([*taker.report.lines(most_names), "no frame is taken, so that there is no system"]))
+        raise Fault("\n".join([*taker.report.lines(most_names), "no frame is taken, so that there is no system"]))
     beyond = [f"{has} {key}" for key, (has, most) in counts(system).items() if has > most]
     if beyond:
         most = ", ".join(f"{most} {key}" for key, (_, most) in counts(system).items())
         line = f"{' and '.join(beyond)} are too many: a system has {most} at most. What makes it fit:"
-        sys.exit("\n".join([*taker.report.lines(most_names), line, *proposals(system, taker)]))
+        raise Fault("\n".join([*taker.report.lines(most_names), line, *proposals(system, taker)]))
 
 
 def system_of(taker: Taker) -> System:

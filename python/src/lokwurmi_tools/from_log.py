@@ -26,11 +26,12 @@ otherwise.
 It needs python-can, and canmatrix with --database: apt-get install python3-can python3-canmatrix python3-lxml
 """
 import argparse
-import signal
 import sys
 
+from lokwurmi_tools.faults import Fault
 from lokwurmi_tools.program import add_program
 from lokwurmi_tools.times import time_of, word_of
+from lokwurmi_tools.words import reader_of
 
 
 def bus_of(word: str) -> tuple[str, str]:
@@ -67,7 +68,7 @@ def add_words(reader: argparse.ArgumentParser) -> None:
 
 
 def asked_for(arguments: list[str] | None) -> argparse.Namespace:
-    reader = argparse.ArgumentParser(prog="lokwurmi import log", description=__doc__, formatter_class=argparse.RawDescriptionHelpFormatter)
+    reader = reader_of("import log", __doc__)
     add_words(reader)
     words = reader.parse_args(arguments)
     if words.report and not words.system:
@@ -88,11 +89,11 @@ def main(arguments: list[str] | None = None) -> int | None:
     log = read_log(words.log, words.tick, words.drift, words.classical)
     if not log.channels:
         counts = "".join(f"; {count} {what}{NOTES.get(what, '')}" for what, count in log.counts.items())
-        sys.exit(f"{words.log}: there is no frame in it that can be taken{counts}")
+        raise Fault(f"{words.log}: there is no frame in it that can be taken{counts}")
     for what, count in log.counts.items():
         print(f"{words.log}: {count} {what}{NOTES.get(what, '')}", file=sys.stderr)
     names = Names(words, log)
     if words.system is None:
         made(words, log, names)
         return
-    sys.exit(compare(words, log, names))
+    return compare(words, log, names)

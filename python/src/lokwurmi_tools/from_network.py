@@ -16,15 +16,16 @@ It needs canmatrix: apt-get install python3-canmatrix python3-lxml
 """
 import argparse
 import re
-import signal
 import sys
 from fractions import Fraction
 
 from lokwurmi_tools.entries import comment, comments, entry, printable, put
+from lokwurmi_tools.faults import Fault
 from lokwurmi_tools.fitting import System, check_size, system_of
 from lokwurmi_tools.networks import Bus, plain
 from lokwurmi_tools.taking import Report, Taker
 from lokwurmi_tools.times import rate_of, text_of, time_of, word_of
+from lokwurmi_tools.words import reader_of
 
 # how many names of a kind a line of the report has on the standard error; in the file it has all
 MOST_NAMES = 12
@@ -66,15 +67,15 @@ def forwards_of(words: list[str], buses: list[Bus]) -> dict[str, str]:
     for word in words:
         names = word.split("=")
         if len(names) != 2:
-            sys.exit(f"--forward {word}: write it as FROM=TO, two frames")
+            raise Fault(f"--forward {word}: write it as FROM=TO, two frames")
         for it in names:
             if it not in known:
-                sys.exit(
+                raise Fault(
                     f"--forward {word}: there is no frame {it}; a frame of several buses is named as in the system,"
                     " BUS.FRAME"
                 )
         if names[1] in found:
-            sys.exit(
+            raise Fault(
                 "--forward: two frames are passed on as one; a task of several activators has to be written by hand"
                 " (format 2)"
             )
@@ -84,7 +85,7 @@ def forwards_of(words: list[str], buses: list[Bus]) -> dict[str, str]:
             way.add(at)
             at = found[at]
         if at in way:
-            sys.exit(f"--forward: {at} is forwarded in a ring")
+            raise Fault(f"--forward: {at} is forwarded in a ring")
     return found
 
 
@@ -182,7 +183,7 @@ def add_choices(reader: argparse.ArgumentParser) -> None:
 
 
 def asked_for(arguments: list[str] | None) -> argparse.Namespace:
-    reader = argparse.ArgumentParser(prog="lokwurmi import network", description=__doc__, formatter_class=argparse.RawDescriptionHelpFormatter)
+    reader = reader_of("import network", __doc__)
     what = "a database; NAME=FILE gives its bus a name, which is that of the file if absent"
     reader.add_argument("database", metavar="DATABASE", nargs="+", help=what)
     reader.add_argument("--to", metavar="SYSTEM", help="the system file; the standard output if absent")

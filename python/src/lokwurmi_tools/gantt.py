@@ -1,40 +1,41 @@
 """Draws a schedule as a Gantt chart: a lane a resource, a colour a task, and who ran there when.
 
-FILE is a system file, SCHEDULE has rows TASK,START,END as `lokwurmi audit` reads them and `lokwurmi schedule` writes them; -
-stands for what comes in. Where it is absent, `lokwurmi schedule` is called with --trace. The picture's name ends with .svg,
-.png or .pdf. The tasks of a path have its colour, as lokwurmi graph draws it, lighter from task to task.
+FILE is a system file, SCHEDULE has rows TASK,START,END as `lokwurmi audit` reads them and `lokwurmi schedule` writes
+them; - stands for what comes in. Where it is absent, `lokwurmi schedule` is called with --trace. The picture's name
+ends with .svg, .png or .pdf. The tasks of a path have its colour, as lokwurmi graph draws it, lighter from task to
+task.
 
-With a trace, the one that the schedule is of, triangles show when jobs came (above the lane) and when they were done (below
-it), and TDMA slots stand where the trace's phases put them; without one the phases are 0. With a report of `lokwurmi analyse`
-as well, a job that took longer than its bound, or that isn't done though its bound is past, is framed in red, with a red line
-from its bound on. --from and --until cut a part out. With --tick, as 1us, the times that are shown have units; --from and --until
-stay ticks.
+With a trace, the one that the schedule is of, triangles show when jobs came (above the lane) and when they were done
+(below it), and TDMA slots stand where the trace's phases put them; without one the phases are 0. With a report of
+`lokwurmi analyse` as well, a job that took longer than its bound, or that isn't done though its bound is past, is
+framed in red, with a red line from its bound on. --from and --until cut a part out. With --tick, as 1us, the times that
+are shown have units; --from and --until stay ticks.
 
---longest marks the job of a task that took longest, or the passage of a path that did: its jobs are framed, with a line for each
-from where it came to its end, and one for the whole below. Of a path only that stretch is drawn, and of a task where the run is
-more than 20 times as long, unless --from or --until say otherwise. Of several that took as long it is the first. Where a task
-and a path have one name, it is the task's, and path:NAME that of the path.
+--longest marks the job of a task that took longest, or the passage of a path that did: its jobs are framed, with a line
+for each from where it came to its end, and one for the whole below. Of a path only that stretch is drawn, and of a task
+where the run is more than 20 times as long, unless --from or --until say otherwise. Of several that took as long it is
+the first. Where a task and a path have one name, it is the task's, and path:NAME that of the path.
 
---chain marks a chain of tasks, each of which reads what the one before wrote last, or one of a file of chains by its name: its
-latest reaction in the run, in crimson, and its oldest data, dashed in green. Their jobs are framed, an arrow leads from the end of
-each, which writes, to where the next one reads, and a line below shows the whole, beside the bound that `lokwurmi chain` tells.
-When jobs read isn't in a schedule: --reading says by which rule they are taken to.
+--chain marks a chain of tasks, each of which reads what the one before wrote last, or one of a file of chains by its
+name: its latest reaction in the run, in crimson, and its oldest data, dashed in green. Their jobs are framed, an arrow
+leads from the end of each, which writes, to where the next one reads, and a line below shows the whole, beside the
+bound that `lokwurmi chain` tells. When jobs read isn't in a schedule: --reading says by which rule they are taken to.
 """
-import argparse
 import os
-import sys
 from typing import NamedTuple
 
+from lokwurmi_tools.accepted import read_system
 from lokwurmi_tools.arrows import Marked, draw_marked, marked_in
 from lokwurmi_tools.chains import bounds_by, read_chains
 from lokwurmi_tools.colours import PALE, hues, letters_on, shades
+from lokwurmi_tools.faults import Fault
 from lokwurmi_tools.packages import need
 from lokwurmi_tools.program import add_program, schedule_by
 from lokwurmi_tools.report import read_report
 from lokwurmi_tools.runs import jobs_in, passages_in, read_schedule, read_trace, schedule_in
 from lokwurmi_tools.seen import READINGS, Run
-from lokwurmi_tools.system import read_system
-from lokwurmi_tools.times import Scale, time_of, word_of
+from lokwurmi_tools.times import Scale
+from lokwurmi_tools.words import add_tick, reader_of
 
 try:
     import matplotlib
@@ -63,13 +64,14 @@ INK, PAPER, FAINT, LATE = "#1c2733", "#fefefe", "#9aa5b1", "#c0392b"
 MOST_SEGMENTS, MOST_SLOTS, MOST_NAMES = 20000, 400, 24
 # the bars, the slots behind them, and where the marks of jobs are, in parts of a lane
 BAR, BAND, CAME, DONE, BELOW = 0.44, 0.68, -0.34, 0.34, 0.5
-# the stretch of what took longest is drawn with so much of it on either side, where the run is more than so many times as long
+# the stretch of what took longest is drawn with so much of it on either side, where the run is more than so many times
+# as long
 MARGIN, LONG = 0.04, 20
 
 
 class Job(NamedTuple):
-    """A job: when it came, and when it was done, None where it wasn't; `last` is then the end of the run. The job of its task
-    before it was done at `after`."""
+    """A job: when it came, and when it was done, None where it wasn't; `last` is then the end of the run. The job of
+    its task before it was done at `after`."""
 
     name: str
     came: int
@@ -80,7 +82,8 @@ class Job(NamedTuple):
 
 
 class Longest(NamedTuple):
-    """What took longest: the name of a task or a path, its jobs, when the first came and the last was done, and the bound."""
+    """What took longest: the name of a task or a path, its jobs, when the first came and the last was done, and the
+    bound."""
 
     name: str
     jobs: list
@@ -115,7 +118,9 @@ class Chart(NamedTuple):
 
 def slots(resource, tasks, phase, start, until):
     """The slots of a TDMA resource in this time, each with its task; the gap has None."""
-    turns = [(it["name"], it["slot"]) for it in tasks if it["on"] == resource["name"]] if resource["kind"] == "tdma" else []
+    turns = (
+        [(it["name"], it["slot"]) for it in tasks if it["on"] == resource["name"]] if resource["kind"] == "tdma" else []
+    )
     if not turns:
         return
     turns.append((None, resource.get("gap", 0)))
@@ -143,17 +148,24 @@ def is_late(job):
 def draw_slots(axes, chart, colour):
     for place, resource in enumerate(chart.lanes()):
         bands = []
-        for band in slots(resource, chart.system["task"], chart.phases.get(resource["name"], 0), chart.start, chart.until):
+        for band in slots(
+            resource, chart.system["task"], chart.phases.get(resource["name"], 0), chart.start, chart.until
+        ):
             bands.append(band)
             if len(bands) > MOST_SLOTS:
                 break
         for name, start, end in bands if len(bands) <= MOST_SLOTS else ():
-            look = {"facecolor": colour[name], "alpha": 0.16, "linewidth": 0} if name else {"facecolor": "none", "edgecolor": FAINT, "hatch": "////", "linewidth": 0, "alpha": 0.6}
+            look = (
+                {"facecolor": colour[name], "alpha": 0.16, "linewidth": 0}
+                if name
+                else {"facecolor": "none", "edgecolor": FAINT, "hatch": "////", "linewidth": 0, "alpha": 0.6}
+            )
             axes.add_patch(Rectangle((start, place - BAND / 2), end - start, BAND, **look))
 
 
 def draw_bars(axes, chart, colour, unit):
-    """The segments, with the names of their tasks where there is room: a letter is about 4 points wide, and a point `unit` ticks."""
+    """The segments, with the names of their tasks where there is room: a letter is about 4 points wide, and a point
+    `unit` ticks."""
     place, bars = chart.place(), {}
     for name, start, end in chart.rows:
         bars.setdefault(name, []).append((max(start, chart.start), min(end, chart.until)))
@@ -162,35 +174,79 @@ def draw_bars(axes, chart, colour, unit):
         axes.add_collection(PatchCollection(boxes, facecolor=colour[name], edgecolor=PAPER, linewidth=0.4, zorder=2))
         for start, end in several:
             if (end - start) / unit > 4 * len(name) + 4:
-                axes.text((start + end) / 2, place[name], name, ha="center", va="center", fontsize=6.5, color=letters_on(colour[name]), zorder=4, clip_on=True)
+                axes.text(
+                    (start + end) / 2,
+                    place[name],
+                    name,
+                    ha="center",
+                    va="center",
+                    fontsize=6.5,
+                    color=letters_on(colour[name]),
+                    zorder=4,
+                    clip_on=True,
+                )
 
 
 def draw_jobs(axes, chart, colour):
     place = chart.place()
     for name, several in chart.jobs.items():
-        for times, where, mark in (([came for came, _ in several], CAME, "v"), ([done for _, done in several if done is not None], DONE, "^")):
+        for times, where, mark in (
+            ([came for came, _ in several], CAME, "v"),
+            ([done for _, done in several if done is not None], DONE, "^"),
+        ):
             times = [it for it in times if chart.start <= it <= chart.until]
-            axes.scatter(times, [place[name] + where] * len(times), marker=mark, s=17, color=colour[name], linewidths=0, zorder=3, clip_on=False)
+            axes.scatter(
+                times,
+                [place[name] + where] * len(times),
+                marker=mark,
+                s=17,
+                color=colour[name],
+                linewidths=0,
+                zorder=3,
+                clip_on=False,
+            )
 
 
 def draw_outline(axes, chart, job, colour):
     """A frame around the segments of a job: those of its task after the job before."""
     y = chart.place()[job.name]
     for name, start, end in chart.rows:
-        start, end = max(start, chart.start, job.came if job.after is None else job.after), min(end, job.last, chart.until)
+        start, end = max(start, chart.start, job.came if job.after is None else job.after), min(
+            end, job.last, chart.until
+        )
         if name == job.name and start < end:
-            axes.add_patch(Rectangle((start, y - BAR / 2), end - start, BAR, facecolor="none", edgecolor=colour, linewidth=1.4, zorder=5))
+            axes.add_patch(
+                Rectangle(
+                    (start, y - BAR / 2), end - start, BAR, facecolor="none", edgecolor=colour, linewidth=1.4, zorder=5
+                )
+            )
 
 
 def draw_late(axes, chart):
     place = chart.place()
     for it in chart.late:
         y, past = place[it.name], it.came + it.bound
-        axes.add_collection(LineCollection([[(max(past, chart.start), y + 0.26), (min(it.last, chart.until), y + 0.26)]], colors=LATE, linewidths=2.6, zorder=5))
+        axes.add_collection(
+            LineCollection(
+                [[(max(past, chart.start), y + 0.26), (min(it.last, chart.until), y + 0.26)]],
+                colors=LATE,
+                linewidths=2.6,
+                zorder=5,
+            )
+        )
         axes.add_collection(LineCollection([[(past, y - 0.3), (past, y + 0.3)]], colors=LATE, linewidths=1.2, zorder=5))
         draw_outline(axes, chart, it, LATE)
         took = "not done" if it.done is None else chart.scale.text(it.done - it.came)
-        axes.text(min(it.last, chart.until), y + BELOW, f"{it.name}: {took}, bound {chart.scale.text(it.bound)}", ha="right", va="center", fontsize=6.5, color=LATE, zorder=6)
+        axes.text(
+            min(it.last, chart.until),
+            y + BELOW,
+            f"{it.name}: {took}, bound {chart.scale.text(it.bound)}",
+            ha="right",
+            va="center",
+            fontsize=6.5,
+            color=LATE,
+            zorder=6,
+        )
 
 
 def longest_in(system, jobs, bounds, events, name):
@@ -211,8 +267,8 @@ def longest_in(system, jobs, bounds, events, name):
 
 
 def draw_span(axes, came, done, bound, y, text, whole=False):
-    """A line from where something came to its end, and a dotted one to its bound, with a text in its middle; of a whole passage
-    the bound may be outside of the picture."""
+    """A line from where something came to its end, and a dotted one to its bound, with a text in its middle; of a whole
+    passage the bound may be outside of the picture."""
     end = done if bound is None else max(done, came + bound)
     axes.plot([came, done], [y, y], color=INK, linewidth=1.2, marker="|", markersize=6, zorder=6)
     if end > done:
@@ -220,15 +276,36 @@ def draw_span(axes, came, done, bound, y, text, whole=False):
         axes.plot([end], [y], color=INK, marker="|", markersize=6, zorder=6)
     if text:
         look = {"facecolor": PAPER, "edgecolor": "none", "pad": 1.2}
-        axes.text((came + (done if whole else end)) / 2, y, text, ha="center", va="center", fontsize=7, color=INK, zorder=7, bbox=look, clip_on=True)
+        axes.text(
+            (came + (done if whole else end)) / 2,
+            y,
+            text,
+            ha="center",
+            va="center",
+            fontsize=7,
+            color=INK,
+            zorder=7,
+            bbox=look,
+            clip_on=True,
+        )
 
 
 def draw_longest(axes, chart, longest, unit):
-    """What took longest: each job is framed, with a line of its own, and of a path one more below all lanes for the whole."""
-    told = chart.scale.text(longest.done - longest.came) + (f", bound {chart.scale.text(longest.bound)}" if longest.bound is not None else "")
+    """What took longest: each job is framed, with a line of its own, and of a path one more below all lanes for the
+    whole."""
+    told = chart.scale.text(longest.done - longest.came) + (
+        f", bound {chart.scale.text(longest.bound)}" if longest.bound is not None else ""
+    )
     if not longest.is_path:
         draw_outline(axes, chart, longest.jobs[0], INK)
-        draw_span(axes, longest.came, longest.done, longest.bound, chart.place()[longest.name] + BELOW, f"{longest.name}: {told}")
+        draw_span(
+            axes,
+            longest.came,
+            longest.done,
+            longest.bound,
+            chart.place()[longest.name] + BELOW,
+            f"{longest.name}: {told}",
+        )
         return
     for job in longest.jobs:
         draw_outline(axes, chart, job, INK)
@@ -240,7 +317,15 @@ def draw_longest(axes, chart, longest, unit):
     for before, after in zip(longest.jobs, longest.jobs[1:]):
         ends = [chart.place()[it.name] + BELOW for it in (before, after)]
         axes.plot([after.came] * 2, ends, color=INK, linewidth=0.8, linestyle=(0, (2, 2)), zorder=1.5)
-    draw_span(axes, longest.came, longest.done, longest.bound, len(chart.lanes()) - 0.1, f"path {longest.name}: {told}", whole=True)
+    draw_span(
+        axes,
+        longest.came,
+        longest.done,
+        longest.bound,
+        len(chart.lanes()) - 0.1,
+        f"path {longest.name}: {told}",
+        whole=True,
+    )
 
 
 def draw_frame(axes, chart, below=0.0):
@@ -249,7 +334,9 @@ def draw_frame(axes, chart, below=0.0):
     axes.set_xlim(chart.start, max(chart.until, chart.start + 1))
     axes.set_ylim(len(lanes) - 0.36 + below, -0.58)
     axes.set_yticks(range(len(lanes)), [f"{it['name']}\n{it['kind']}" for it in lanes], fontsize=8, color=INK)
-    axes.hlines([k + 0.5 for k in range(len(lanes) - 1)], chart.start, chart.until, color=FAINT, linewidth=0.4, alpha=0.6)
+    axes.hlines(
+        [k + 0.5 for k in range(len(lanes) - 1)], chart.start, chart.until, color=FAINT, linewidth=0.4, alpha=0.6
+    )
     axes.tick_params(axis="x", labelsize=8, color=FAINT, labelcolor=INK)
     axes.tick_params(axis="y", length=0)
     axes.xaxis.grid(True, color=FAINT, linewidth=0.4, alpha=0.35)
@@ -276,14 +363,29 @@ def draw_legend(axes, chart, colour, width):
         if any(name not in on_paths for name in names):
             entries.append((Patch(color=PALE[0]), "tasks on no path"))
     if chart.jobs:
-        entries += [(Line2D([], [], color=INK, marker=mark, linestyle="none", markersize=4), text) for mark, text in (("v", "a job comes"), ("^", "it is done"))]
+        entries += [
+            (Line2D([], [], color=INK, marker=mark, linestyle="none", markersize=4), text)
+            for mark, text in (("v", "a job comes"), ("^", "it is done"))
+        ]
     if any(it["kind"] == "tdma" and it.get("gap") for it in chart.lanes()):
         entries.append((Patch(facecolor="none", edgecolor=FAINT, hatch="////", linewidth=0), "gap"))
     if chart.late:
         entries.append((Line2D([], [], color=LATE, linewidth=2.6), "later than its bound"))
     if entries:
         room = max(len(text) for _, text in entries) * 4.1 + 24
-        axes.legend(*zip(*entries), fontsize=7, ncols=max(1, min(len(entries), int((width - 0.8) * 72 / room))), loc="lower left", bbox_to_anchor=(0, 1), borderaxespad=0.2, columnspacing=1.1, handlelength=1.2, handletextpad=0.5, frameon=False, labelcolor=INK)
+        axes.legend(
+            *zip(*entries),
+            fontsize=7,
+            ncols=max(1, min(len(entries), int((width - 0.8) * 72 / room))),
+            loc="lower left",
+            bbox_to_anchor=(0, 1),
+            borderaxespad=0.2,
+            columnspacing=1.1,
+            handlelength=1.2,
+            handletextpad=0.5,
+            frameon=False,
+            labelcolor=INK,
+        )
 
 
 def chart_of(system, schedule, trace=None, bounds=None, start=None, until=None, scale=Scale()):
@@ -292,58 +394,97 @@ def chart_of(system, schedule, trace=None, bounds=None, start=None, until=None, 
     last = max([end for _, _, end in schedule] + [came for several in jobs.values() for came, _ in several], default=1)
     start, until = start or 0, last if until is None else until
     rows = [row for row in schedule if row[1] < until and row[2] > start]
-    late = [it for name in jobs for it in jobs_of(jobs, name, bounds or {}, last) if is_late(it) and it.came + it.bound < until and it.last > start]
+    late = [
+        it
+        for name in jobs
+        for it in jobs_of(jobs, name, bounds or {}, last)
+        if is_late(it) and it.came + it.bound < until and it.last > start
+    ]
     return Chart(system, rows, jobs, late, trace[2] if trace else {}, bounds or {}, start, until, scale)
 
 
 def drawn(chart, width=10.0, longest=None, run=None, marked=()):
     """The figure of a chart, with what took longest in it, and what is marked of a chain in its run."""
     # words stay words, and the same schedule gives the same picture
-    plt.rcParams.update({"svg.fonttype": "none", "svg.hashsalt": "lokwurmi", "font.family": "DejaVu Sans", "hatch.linewidth": 0.6})
+    plt.rcParams.update(
+        {"svg.fonttype": "none", "svg.hashsalt": "lokwurmi", "font.family": "DejaVu Sans", "hatch.linewidth": 0.6}
+    )
     colour = shades(chart.system)
     unit = (chart.until - chart.start) / (width * 72)
     below = (0.5 if longest and longest.is_path else 0.0) + 0.45 * len(marked)
-    figure, axes = plt.subplots(figsize=(width, 0.62 * (max(1, len(chart.lanes())) + below) + 1.25), layout="constrained")
+    figure, axes = plt.subplots(
+        figsize=(width, 0.62 * (max(1, len(chart.lanes())) + below) + 1.25), layout="constrained"
+    )
     draw_slots(axes, chart, colour)
     draw_bars(axes, chart, colour, unit)
     draw_jobs(axes, chart, colour)
     draw_late(axes, chart)
     if longest:
         draw_longest(axes, chart, longest, unit)
-    draw_marked(axes, chart.place(), run, marked, len(chart.lanes()) - 0.1 + (0.5 if longest and longest.is_path else 0.0), chart.scale)
+    draw_marked(
+        axes,
+        chart.place(),
+        run,
+        marked,
+        len(chart.lanes()) - 0.1 + (0.5 if longest and longest.is_path else 0.0),
+        chart.scale,
+    )
     draw_frame(axes, chart, below)
     draw_legend(axes, chart, colour, width)
     return figure
 
 
 def asked_for(arguments: list[str] | None):
-    reader = argparse.ArgumentParser(prog="lokwurmi gantt", description=__doc__, formatter_class=argparse.RawDescriptionHelpFormatter, epilog=EXAMPLES)
+    reader = reader_of("gantt", __doc__, EXAMPLES)
     reader.add_argument("file", metavar="FILE", help="a system file")
-    reader.add_argument("schedule", metavar="SCHEDULE", nargs="?", help="rows TASK,START,END, or - for the standard input; what lokwurmi schedule writes of the trace if absent")
-    reader.add_argument("--trace", metavar="TRACE", help="the trace that the schedule is of: marks when jobs came and were done")
-    reader.add_argument("--report", metavar="REPORT", help="what lokwurmi analyse wrote: marks jobs later than their bounds; wants --trace")
-    reader.add_argument("--longest", metavar="NAME", help="marks the job of this task that took longest, or the passage of this path; wants --trace")
-    reader.add_argument("--chain", metavar="TASK,TASK..", help="marks the latest reaction of this chain and its oldest data; wants --trace")
+    reader.add_argument(
+        "schedule",
+        metavar="SCHEDULE",
+        nargs="?",
+        help="rows TASK,START,END, or - for the standard input; what lokwurmi schedule writes of the trace if absent",
+    )
+    reader.add_argument(
+        "--trace", metavar="TRACE", help="the trace that the schedule is of: marks when jobs came and were done"
+    )
+    reader.add_argument(
+        "--report",
+        metavar="REPORT",
+        help="what lokwurmi analyse wrote: marks jobs later than their bounds; wants --trace",
+    )
+    reader.add_argument(
+        "--longest",
+        metavar="NAME",
+        help="marks the job of this task that took longest, or the passage of this path; wants --trace",
+    )
+    reader.add_argument(
+        "--chain",
+        metavar="TASK,TASK..",
+        help="marks the latest reaction of this chain and its oldest data; wants --trace",
+    )
     reader.add_argument("--chains", metavar="CHAINS", help="a file of chains: --chain is the name of one")
-    reader.add_argument("--reading", choices=READINGS, default="whenever", help="when jobs of the chain are taken to read (whenever)")
+    reader.add_argument(
+        "--reading", choices=READINGS, default="whenever", help="when jobs of the chain are taken to read (whenever)"
+    )
     reader.add_argument("--from", metavar="T", type=int, dest="start", help="the first tick that is drawn; 0 if absent")
-    reader.add_argument("--until", metavar="T", type=int, help="the tick at which the picture ends; that of the schedule if absent")
-    reader.add_argument("--tick", metavar="TIME", type=word_of(time_of), help="the time of a tick, as 1us: shows times in place of ticks")
+    reader.add_argument(
+        "--until", metavar="T", type=int, help="the tick at which the picture ends; that of the schedule if absent"
+    )
+    add_tick(reader)
     reader.add_argument("--to", metavar="PICTURE", required=True, help="a name that ends with .svg, .png or .pdf")
     add_program(reader)
     words = reader.parse_args(arguments)
     if os.path.splitext(words.to)[1] not in (".svg", ".png", ".pdf"):
-        sys.exit(f"{words.to}: a picture's name ends with .svg, .png or .pdf")
+        raise Fault(f"{words.to}: a picture's name ends with .svg, .png or .pdf")
     for name in ("report", "longest", "chain"):
         if getattr(words, name) and not words.trace:
-            sys.exit(f"lokwurmi gantt: --{name} wants --trace, which tells when jobs came")
+            raise Fault(f"--{name} wants --trace, which tells when jobs came")
     if words.chains and not words.chain:
-        sys.exit("lokwurmi gantt: --chains wants --chain, the name of one of them")
+        raise Fault("--chains wants --chain, the name of one of them")
     if not (words.schedule or words.trace):
-        sys.exit("lokwurmi gantt: name a SCHEDULE, or a trace by --trace, whose schedule `lokwurmi schedule` writes")
+        raise Fault("name a SCHEDULE, or a trace by --trace, whose schedule `lokwurmi schedule` writes")
     start = words.start or 0
     if start < 0 or words.until is not None and words.until <= start:
-        sys.exit("lokwurmi gantt: the time from --from to --until has no tick")
+        raise Fault("the time from --from to --until has no tick")
     return words
 
 
@@ -352,7 +493,7 @@ def check_longest(name, system):
     tasks, paths = ({it["name"] for it in system.get(part, [])} for part in ("task", "path"))
     if name not in tasks | paths and name.removeprefix("path:") not in paths:
         there = ", ".join(sorted(paths)) or "none"
-        sys.exit(f"{name}: the system has no task of this name, and no path; its paths are {there}")
+        raise Fault(f"{name}: the system has no task of this name, and no path; its paths are {there}")
 
 
 def chain_in(words, system):
@@ -360,11 +501,11 @@ def chain_in(words, system):
     if words.chains:
         chains = {it.name: it.tasks for it in read_chains(words.chains, system)}
         if words.chain not in chains:
-            sys.exit(f"{words.chains}: there is no chain {words.chain}; it has {', '.join(chains) or 'none'}")
+            raise Fault(f"{words.chains}: there is no chain {words.chain}; it has {', '.join(chains) or 'none'}")
         return chains[words.chain]
     tasks, names = words.chain.split(","), {it["name"] for it in system.get("task", [])}
     if unknown := [it for it in tasks if it not in names]:
-        sys.exit(f"{words.file}: the system has no task {unknown[0]}")
+        raise Fault(f"{words.file}: the system has no task {unknown[0]}")
     return tasks
 
 
@@ -376,7 +517,7 @@ def marked_of(words, system, run):
     bounds = bounds_by(words.program, words.file, tasks)
     marked = marked_in(run, tasks, words.reading, bounds.totals if bounds else {}, READINGS[words.reading])
     if not marked:
-        sys.exit(f"{' '.join(tasks)}: nothing of the chain is seen in this run")
+        raise Fault(f"{' '.join(tasks)}: nothing of the chain is seen in this run")
     return marked
 
 
@@ -390,7 +531,8 @@ def stretch_of_chain(marked: list[Marked], start, until, last):
 
 
 def stretch(longest, start, until, last):
-    """From when to when is drawn, where that isn't said: the stretch of what took longest, of a path, or in a long run."""
+    """From when to when is drawn, where that isn't said: the stretch of what took longest, of a path, or in a long
+    run."""
     whole = last - (start or 0) if until is None else until - (start or 0)
     took = longest.done - longest.came if longest else 0
     if not longest or start is not None or until is not None or not (longest.is_path or whole > LONG * took):
@@ -410,7 +552,7 @@ def main(arguments: list[str] | None = None) -> int | None:
     else:
         text = schedule_by(words.program, words.file, words.trace)
         if text is None:
-            sys.exit(f"{words.program}: it doesn't take `schedule FILE TRACE`: name a SCHEDULE")
+            raise Fault(f"{words.program}: it doesn't take `schedule FILE TRACE`: name a SCHEDULE")
         schedule = schedule_in(text, "lokwurmi schedule", system)
     report = read_report(words.report) if words.report else ({}, {})
     bounds = [{name: it["worst"] for name, it in part.items()} for part in report]
@@ -418,12 +560,17 @@ def main(arguments: list[str] | None = None) -> int | None:
     if words.longest:
         longest = longest_in(system, jobs_in(system, schedule, trace), bounds, trace[0], words.longest)
         if longest is None:
-            sys.exit(f"{words.longest}: no job of it is done")
+            raise Fault(f"{words.longest}: no job of it is done")
         start, until = stretch(longest, start, until, max((end for _, _, end in schedule), default=1))
     run = Run(system, schedule, trace) if words.chain else None
     marked = marked_of(words, system, run)
     start, until = stretch_of_chain(marked, start, until, max((end for _, _, end in schedule), default=1))
     chart = chart_of(system, schedule, trace, bounds[0], start, until, Scale(words.tick))
     if len(chart.rows) > MOST_SEGMENTS:
-        sys.exit(f"{words.schedule or words.trace}: there are {len(chart.rows)} segments in this time, and a picture takes {MOST_SEGMENTS}: cut a part out by --from and --until")
-    drawn(chart, longest=longest, run=run, marked=marked).savefig(words.to, metadata={"Date": None} if words.to.endswith(".svg") else None)
+        raise Fault(
+            f"{words.schedule or words.trace}: there are {len(chart.rows)} segments in this time,"
+            f" and a picture takes {MOST_SEGMENTS}: cut a part out by --from and --until"
+        )
+    drawn(chart, longest=longest, run=run, marked=marked).savefig(
+        words.to, metadata={"Date": None} if words.to.endswith(".svg") else None
+    )

@@ -1,8 +1,10 @@
-"""What a grid of variants varies, the script of each variant, and the row that a session over it brings: for campaign.py."""
+"""What a grid of variants varies, the script of each variant, and the row that a session over it brings: for
+campaign.py."""
 import contextlib
 import itertools
 import math
 import re
+
 import tomllib
 
 from lokwurmi_tools.report import PATH, SUMMARY, TASK
@@ -45,8 +47,8 @@ def is_script(it):
 
 
 class Entry:
-    """What an entry of a grid varies: the label of its column, whose value it is (None of scripts), which key, the values, and what
-    each of them costs."""
+    """What an entry of a grid varies: the label of its column, whose value it is (None of scripts), which key, the
+    values, and what each of them costs."""
 
     def __init__(self, place, entry, names):
         self.place = place
@@ -54,22 +56,40 @@ class Entry:
         costs, label = entry.pop("costs", None), entry.pop("label", None)
         if set(entry) == {"scripts"}:
             self.who, self.key, self.values = None, "script", entry["scripts"]
-            self.hold(isinstance(self.values, list) and all(map(is_script, self.values)), "scripts is a list of texts, each the lines of a script in ASCII")
-            self.hold(not any(it.split()[:1] == ["report"] for text in self.values for it in text.splitlines()), "a script of a grid has no report: there is one at its end")
+            self.hold(
+                isinstance(self.values, list) and all(map(is_script, self.values)),
+                "scripts is a list of texts, each the lines of a script in ASCII",
+            )
+            self.hold(
+                not any(it.split()[:1] == ["report"] for text in self.values for it in text.splitlines()),
+                "a script of a grid has no report: there is one at its end",
+            )
         else:
             kind = next((it for it in KEYS if it in entry), None)
             keys = [it for it in entry if it != kind]
-            self.hold(kind and len(keys) == 1 and keys[0] in KEYS[kind], "is scripts, or a task with one of best, worst, execution, priority, slot, or a source with one of period, jitter, distance; besides, costs and label")
+            self.hold(
+                kind and len(keys) == 1 and keys[0] in KEYS[kind],
+                "is scripts, or a task with one of best, worst, execution, priority, slot,"
+                " or a source with one of period, jitter, distance; besides, costs and label",
+            )
             self.who, self.key, self.values = (kind, entry[kind]), keys[0], entry[keys[0]]
             self.hold(entry[kind] in names[kind], f"no {kind} of the system has the name {entry[kind]}")
-            fits, what = (is_pair, "pairs [least, greatest] of numbers") if self.key == "execution" else (is_number, "numbers")
+            fits, what = (
+                (is_pair, "pairs [least, greatest] of numbers") if self.key == "execution" else (is_number, "numbers")
+            )
             self.hold(isinstance(self.values, list) and all(map(fits, self.values)), f"{self.key} is a list of {what}")
         self.hold(self.values, "has no value")
         self.costs = [0] * len(self.values) if costs is None else costs
-        self.hold(isinstance(self.costs, list) and len(self.costs) == len(self.values) and all(map(is_cost, self.costs)), f"costs is a list of {len(self.values)} numbers, one for each value")
+        self.hold(
+            isinstance(self.costs, list) and len(self.costs) == len(self.values) and all(map(is_cost, self.costs)),
+            f"costs is a list of {len(self.values)} numbers, one for each value",
+        )
         self.label = label if label is not None else f"{self.who[1]}.{self.key}" if self.who else f"script{place}"
         self.hold(isinstance(self.label, str) and self.label, "label is a text")
-        self.hold(self.label not in OWN and not self.label.startswith(("task.", "path.")), f"{self.label} is the name of another column: give the entry a label")
+        self.hold(
+            self.label not in OWN and not self.label.startswith(("task.", "path.")),
+            f"{self.label} is the name of another column: give the entry a label",
+        )
 
     def hold(self, is_so, why):
         if not is_so:
@@ -77,7 +97,11 @@ class Entry:
 
     def varies(self):
         """What of the system it varies: of an execution both numbers."""
-        return {(self.who, it) for it in (("best", "worst") if self.key == "execution" else (self.key,))} if self.who else set()
+        return (
+            {(self.who, it) for it in (("best", "worst") if self.key == "execution" else (self.key,))}
+            if self.who
+            else set()
+        )
 
     def shown(self, place):
         value = self.values[place]
@@ -91,7 +115,12 @@ def read_grid(file, system):
             grid = tomllib.load(it)
     except (OSError, ValueError) as fault:
         raise Wrong(f"{file}: can't be read: {fault}") from None
-    if set(grid) != {"vary"} or not isinstance(grid["vary"], list) or not all(isinstance(it, dict) for it in grid["vary"]) or not grid["vary"]:
+    if (
+        set(grid) != {"vary"}
+        or not isinstance(grid["vary"], list)
+        or not all(isinstance(it, dict) for it in grid["vary"])
+        or not grid["vary"]
+    ):
         raise Wrong(f"{file}: a grid has entries [[vary]], and nothing else")
     names = {kind: [it["name"] for it in system.get(kind, [])] for kind in KEYS}
     try:
@@ -122,7 +151,9 @@ def script_of(grid, chosen, system, spare):
             scripts.append(value if value.endswith("\n") or not value else value + "\n")
         elif entry.who[0] == "source":
             it = sources[entry.who[1]]
-            events.setdefault(entry.who[1], {"period": it["period"], "jitter": it.get("jitter", 0), "distance": it.get("distance", 0)})[entry.key] = value
+            events.setdefault(
+                entry.who[1], {"period": it["period"], "jitter": it.get("jitter", 0), "distance": it.get("distance", 0)}
+            )[entry.key] = value
         elif entry.key in ("priority", "slot"):
             turns.append((entry.key, entry.who[1], value))
         else:
@@ -144,7 +175,8 @@ VERDICTS = {0: "met", 1: "missed", 2: "overload"}
 
 
 def row_of(status, text, script):
-    """The verdict of a variant, which of its edits was refused first, and its bounds and latencies by the names of their columns."""
+    """The verdict of a variant, which of its edits was refused first, and its bounds and latencies by the names of
+    their columns."""
     found, refused = {}, ""
     for line in text.splitlines():
         if it := TASK.fullmatch(line):
@@ -160,7 +192,8 @@ def row_of(status, text, script):
 
 
 def fronted(rows, latency, cost):
-    """The places of those rows that meet all deadlines than which no other is lower in one of two columns and at most as high in the other."""
+    """The places of those rows that meet all deadlines than which no other is lower in one of two columns and at most
+    as high in the other."""
     points = []
     for place, row in enumerate(rows):
         with contextlib.suppress(ValueError, TypeError):
@@ -177,10 +210,25 @@ def fronted(rows, latency, cost):
 def columns_of(front, grid, system):
     """The two columns that --front names."""
     names = front.split(",")
-    added = [it.split()[1] for entry in grid if entry.who is None for text in entry.values for it in text.splitlines() if it.split()[:1] == ["add"] and len(it.split()) > 1]
-    there = ["cost", *(it.label for it in grid), *(f"path.{it['name']}" for it in system.get("path", [])), *(f"task.{it}" for it in [*(it["name"] for it in system.get("task", [])), *added])]
+    added = [
+        it.split()[1]
+        for entry in grid
+        if entry.who is None
+        for text in entry.values
+        for it in text.splitlines()
+        if it.split()[:1] == ["add"] and len(it.split()) > 1
+    ]
+    there = [
+        "cost",
+        *(it.label for it in grid),
+        *(f"path.{it['name']}" for it in system.get("path", [])),
+        *(f"task.{it}" for it in [*(it["name"] for it in system.get("task", [])), *added]),
+    ]
     if len(names) != 2:
-        raise Wrong(f"--front takes two columns, as --front {next((it for it in there if it.startswith('path.')), 'task.a')},cost")
+        raise Wrong(
+            "--front takes two columns, as"
+            f" --front {next((it for it in there if it.startswith('path.')), 'task.a')},cost"
+        )
     found = [next((it for it in (name, "path." + name, "task." + name) if it in there), None) for name in names]
     if None in found:
         raise Wrong(f"--front: there is no column {names[found.index(None)]}; there are {', '.join(there)}")

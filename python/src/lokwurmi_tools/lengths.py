@@ -13,12 +13,12 @@ from.
 """
 import argparse
 import math
-import signal
-import sys
 from dataclasses import dataclass
 from fractions import Fraction
 
+from lokwurmi_tools.faults import Fault
 from lokwurmi_tools.times import UNITS, rate_of, text_of, time_of, word_of
+from lokwurmi_tools.words import reader_of
 
 # the payloads that a CAN FD frame may have
 SIZES = (0, 1, 2, 3, 4, 5, 6, 7, 8, 12, 16, 20, 24, 32, 48, 64)
@@ -88,7 +88,7 @@ def ticks(least: Fraction, greatest: Fraction, tick: Fraction) -> tuple[int, int
 
 
 def asked_for(arguments: list[str] | None) -> argparse.Namespace:
-    reader = argparse.ArgumentParser(prog="lokwurmi lengths", description=__doc__, formatter_class=argparse.RawDescriptionHelpFormatter)
+    reader = reader_of("lengths", __doc__)
     reader.add_argument("kind", choices=("can", "fd", "ethernet", "error"), help="what kind of frame")
     reader.add_argument("bytes", metavar="BYTES", type=int, help="bytes of its payload; those of CAN FD are filled up")
     reader.add_argument("--bitrate", metavar="BITS", type=word_of(rate_of), required=True, help="bits per second")
@@ -125,7 +125,7 @@ def main(arguments: list[str] | None = None) -> int | None:
     exact = [it.time(bit, data_bit) for it in bits_of(words)]
     least, greatest = ticks(*exact, words.tick)
     if not 1 <= least or greatest > MOST_EXECUTION:
-        sys.exit(
+        raise Fault(
             f"it takes {text_of(exact[0])} to {text_of(exact[1])}, and 1 to {MOST_EXECUTION} ticks are possible: "
             "take another --tick"
         )

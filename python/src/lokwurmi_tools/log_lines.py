@@ -6,12 +6,14 @@ from dataclasses import dataclass
 from itertools import pairwise
 from typing import Any, Iterable, Optional
 
+from lokwurmi_tools.accepted import read_system
+from lokwurmi_tools.faults import Fault
 from lokwurmi_tools.logs import Key, Log, Seen, ahead, behind, first_breach, gaps_of, period_of, shown
 from lokwurmi_tools.networks import BEHIND, ERRORS
 from lokwurmi_tools.program import written_by
 from lokwurmi_tools.progress import Progress
 from lokwurmi_tools.report import read_report, reports_in
-from lokwurmi_tools.system import execution, input_of, read_system
+from lokwurmi_tools.system import execution, input_of
 
 MOST_PERIOD = 1_000_000_000
 
@@ -61,14 +63,14 @@ def channels_of(words: argparse.Namespace, log: Log, buses: list[str]) -> dict[s
     told = dict(words.bus)
     for bus, channel in told.items():
         if bus not in buses:
-            sys.exit(f"--bus {bus}={channel}: there is no such bus; there are {', '.join(buses)}")
+            raise Fault(f"--bus {bus}={channel}: there is no such bus; there are {', '.join(buses)}")
         if channel not in log.channels:
-            sys.exit(f"--bus {bus}={channel}: the log has no such channel; it has {', '.join(sorted(log.channels))}")
+            raise Fault(f"--bus {bus}={channel}: the log has no such channel; it has {', '.join(sorted(log.channels))}")
     if told:
         return told
     if len(buses) == 1 and len(log.channels) == 1:
         return {buses[0]: next(iter(log.channels))}
-    sys.exit(
+    raise Fault(
         f"which bus is which channel? --bus BUS=CHANNEL tells; the buses are {', '.join(buses)}, and the channels"
         f" {', '.join(sorted(log.channels))}"
     )
@@ -81,7 +83,7 @@ def identifiers_of(system: dict[str, Any], bus: str) -> dict[Key, str]:
     if not tasks:
         return {}
     if len({it.get("extended", False) for it in tasks}) > 1:
-        sys.exit(f"{bus}: it has identifiers of 11 and of 29 bits, which priorities don't tell: name the --database")
+        raise Fault(f"{bus}: it has identifiers of 11 and of 29 bits, which priorities don't tell: name the --database")
     places = [it["priority"] for it in tasks]
     # places in the order of the bus look like identifiers; they are written where there are identifiers of both
     # lengths, where all have 29 bits and no payload tells so, and where one is 0 and errors go before it
@@ -89,7 +91,7 @@ def identifiers_of(system: dict[str, Any], bus: str) -> dict[Key, str]:
     may_be = has_errors or any("payload" not in it for it in tasks)
     is_order = may_be and sorted(places) == list(range(min(places), min(places) + len(places)))
     if is_order or any(it["priority"] >= 2048 and not it.get("extended") for it in tasks):
-        sys.exit(f"{bus}: its priorities don't tell which identifiers it has: name the --database")
+        raise Fault(f"{bus}: its priorities don't tell which identifiers it has: name the --database")
     return {(it["priority"], it.get("extended", False)): it["name"] for it in tasks}
 
 
@@ -201,7 +203,9 @@ class Comparison:
                 if self.words.database
                 else "its priorities are no identifiers: name the --database"
             )
-            sys.exit(f"{self.words.system}: no frame of channel {channel} has the identifier of a task on {bus}: {why}")
+            raise Fault(
+                f"{self.words.system}: no frame of channel {channel} has the identifier of a task on {bus}: {why}"
+            )
         tasks = {it["name"]: it for it in self.system["task"]}
         least = {key: execution(tasks[name], resource)[0] for key, name in known.items()}
         for key, name in sorted(known.items(), key=lambda it: tasks[it[1]]["priority"]):
@@ -229,7 +233,7 @@ def compare(words: argparse.Namespace, log: Log, names: Names) -> int:
     system = read_system(words.system)
     resources = {it["name"]: it for it in system.get("resource", []) if it["kind"] == "can"}
     if not resources:
-        sys.exit(f"{words.system}: it has no CAN bus")
+        raise Fault(f"{words.system}: it has no CAN bus")
     found = Comparison(words, log, names, system, bounds_of(words))
     for bus, channel in channels_of(words, log, list(resources)).items():
         found.bus(resources[bus], channel)

@@ -1,12 +1,12 @@
 """Reads recorded logs of CAN buses by python-can, and fits event models to them, for the tools beside it."""
 import heapq
-import sys
 from array import array
 from dataclasses import dataclass, field
 from fractions import Fraction
 from itertools import pairwise, repeat
 from typing import Callable, Iterable, Iterator, Optional, Sequence
 
+from lokwurmi_tools.faults import Fault
 from lokwurmi_tools.packages import need
 from lokwurmi_tools.progress import Progress
 from lokwurmi_tools.times import UNITS
@@ -67,7 +67,7 @@ def messages_in(file: str) -> Iterator["can.Message"]:
         reader = can.LogReader(file)
         for number, message in enumerate(reader, 1):
             if getattr(reader, "timestamps_format", None) == "relative":
-                sys.exit(
+                raise Fault(
                     f"{file}: its times are relative to the line before, which python-can takes as absolute: write it"
                     " anew with absolute times"
                 )
@@ -75,9 +75,9 @@ def messages_in(file: str) -> Iterator["can.Message"]:
                 progress.show(f"{file}: {number} frames are read")
             yield message
     except OSError as fault:
-        sys.exit(f"{file}: can't be read: {fault.strerror or fault}")
+        raise Fault(f"{file}: can't be read: {fault.strerror or fault}")
     except Exception as fault:  # whatever the reader of this format raises
-        sys.exit(
+        raise Fault(
             f"{file}: python-can can't read it: {type(fault).__name__}: {fault}. It reads .log as `candump -l` or"
             " `candump -L` write it, .asc, .blf, .trc, .csv and .db, and these with .gz behind"
         )
@@ -107,7 +107,7 @@ class LogReader:
         self.begins = message.timestamp if self.begins is None else self.begins
         after = (message.timestamp - self.begins) * self.per_second
         if not abs(after) < MOST_TIME:
-            sys.exit(
+            raise Fault(
                 f"{self.file}: a frame has the time {message.timestamp} s, where the first has {self.begins} s: a line"
                 " of the log is broken, or the tick is too short"
             )

@@ -20,14 +20,17 @@ import sys
 import tempfile
 import time
 
+from lokwurmi_tools.accepted import read_system
 from lokwurmi_tools.explained import Explained
+from lokwurmi_tools.faults import Fault, OwnFault
 from lokwurmi_tools.program import add_program, often, written_by
 from lokwurmi_tools.progress import Progress
 from lokwurmi_tools.report import reports_in
 from lokwurmi_tools.sharing import Sharing
-from lokwurmi_tools.system import execution, inputs_of, read_system, sources_of
+from lokwurmi_tools.system import execution, inputs_of, sources_of
 from lokwurmi_tools.toml_text import toml_of
 from lokwurmi_tools.trials import Trial, reports_after
+from lokwurmi_tools.words import reader_of
 
 EXAMPLES = """examples:
   ./lokwurmi optimise examples/overload.toml --script better.script.txt
@@ -322,9 +325,7 @@ class Search(Sharing):
 
 
 def asked_for(arguments: list[str] | None) -> argparse.Namespace:
-    reader = argparse.ArgumentParser(
-        prog="lokwurmi optimise", description=__doc__, epilog=EXAMPLES, formatter_class=argparse.RawDescriptionHelpFormatter
-    )
+    reader = reader_of("optimise", __doc__, EXAMPLES)
     rounds = "how many rounds of each kind; 20 if absent"
     restarts = "how often it begins anew from a disturbed order; 4 if absent"
     reader.add_argument("file", metavar="FILE", help="a system file")
@@ -337,7 +338,7 @@ def asked_for(arguments: list[str] | None) -> argparse.Namespace:
     add_program(reader)
     words = reader.parse_args(arguments)
     if words.rounds < 1 or words.restarts < 0:
-        sys.exit("lokwurmi optimise: there is at least 1 round, and no negative number of restarts")
+        raise Fault("there is at least 1 round, and no negative number of restarts")
     return words
 
 
@@ -357,7 +358,7 @@ def confirmed(search: Search, words: argparse.Namespace, room: str) -> Verdict:
     script = write(words.script or os.path.join(room, "found.script"), text)
     verdict = verdict_in(written_by(search.program, "session", words.file, script))
     if (verdict.tasks, verdict.paths) != (search.best_verdict.tasks, search.best_verdict.paths):
-        sys.exit("lokwurmi optimise: an error of this tool: the edits don't make the order that was found")
+        raise OwnFault("the edits don't make the order that was found")
     return verdict
 
 
@@ -405,5 +406,5 @@ def main(arguments: list[str] | None = None) -> int | None:
     tell(search, verdict, words)
     if is_cut:
         print("lokwurmi optimise: interrupted: this is the best up to there", file=sys.stderr)
-        sys.exit(130)
-    sys.exit(0 if verdict.holds else 3)
+        return 130
+    return 0 if verdict.holds else 3

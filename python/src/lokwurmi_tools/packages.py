@@ -1,6 +1,7 @@
 """Packages that a command needs beside Python's own library.
 
-Where one is missing the command ends with a line, and where they are installed for Debian's Python alone it goes on there.
+Where one is missing the command ends with a line, and where they are installed for Debian's Python alone it goes on
+there.
 """
 import importlib
 import os

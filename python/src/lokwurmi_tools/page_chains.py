@@ -1,10 +1,10 @@
 """The chains of a file on a page, for lokwurmi page: bounds, deadlines and verdicts, and what a run shows of them."""
 import re
-import sys
 from fractions import Fraction
 
 from lokwurmi_tools.chains import Bounds, Chain, bounds_by, read_chains
 from lokwurmi_tools.colours import letters_on
+from lokwurmi_tools.faults import Fault
 from lokwurmi_tools.program import call
 from lokwurmi_tools.report import number
 from lokwurmi_tools.seen import Late, Run, gaps_in, seen_of
@@ -25,9 +25,9 @@ def verdicts_by(program: str, file: str, chains: str) -> dict[str, dict]:
     """What `lokwurmi chains` tells of each chain."""
     status, text = call(program, "chains", file, chains)
     if status == NO_WORDS:
-        sys.exit(f"{program}: it doesn't take `chains FILE CHAINS`, which --chains wants")
+        raise Fault(f"{program}: it doesn't take `chains FILE CHAINS`, which --chains wants")
     if status not in (0, 1, 2):
-        sys.exit(f"lokwurmi chains {file} {chains}: status {status}: {text.strip()}; docs/FILES.md tells what to do")
+        raise Fault(f"lokwurmi chains {file} {chains}: status {status}: {text.strip()}; docs/FILES.md tells what to do")
     return {it["name"]: it.groupdict() for it in map(LINE.fullmatch, text.splitlines()) if it}
 
 
@@ -65,12 +65,26 @@ class ChainTable:
             hue = self.system.shades[name]
             width = self.share(ticks or 0)
             label = next((it for it in (f"{name} {ticks}", name) if float(width) * 0.6 > len(it)), "")
-            parts.append({"name": name, "kind": kind, "ticks": ticks, "width": width, "hue": hue,
-                          "ink": letters_on(hue), "label": label if kind == "response" else ""})
+            parts.append(
+                {
+                    "name": name,
+                    "kind": kind,
+                    "ticks": ticks,
+                    "width": width,
+                    "hue": hue,
+                    "ink": letters_on(hue),
+                    "label": label if kind == "response" else "",
+                }
+            )
         bound = number(found[what])
         return {
-            "what": what, "bound": bound, "deadline": deadline, "verdict": found[f"{what}_verdict"], "parts": parts,
-            "at": None if deadline is None else self.share(deadline), "seen": late and late.ticks(),
+            "what": what,
+            "bound": bound,
+            "deadline": deadline,
+            "verdict": found[f"{what}_verdict"],
+            "parts": parts,
+            "at": None if deadline is None else self.share(deadline),
+            "seen": late and late.ticks(),
             "seen_at": late and percent(min(Fraction(late.ticks()) / self.scale, Fraction(1))),
             "room": None if None in (bound, deadline) else deadline - bound,
         }
@@ -81,8 +95,15 @@ class ChainTable:
             latest = seen_of(run, chain.tasks, "whenever").latest if run else dict.fromkeys(ASKED)
             limits = {"reaction": chain.reaction, "age": chain.age}
             bars = [self.bar(chain, what, limits[what], latest[what]) for what in ASKED]
-            rows.append({"name": chain.name, "tasks": chain.tasks, "bars": bars, "steps": self.bounds[chain.name].steps,
-                         "held": self.bounds[chain.name].totals.get("held")})
+            rows.append(
+                {
+                    "name": chain.name,
+                    "tasks": chain.tasks,
+                    "bars": bars,
+                    "steps": self.bounds[chain.name].steps,
+                    "held": self.bounds[chain.name].totals.get("held"),
+                }
+            )
         return rows
 
 
@@ -93,5 +114,10 @@ def chains_of(words, system, run) -> dict:
     rows = table.rows(seen)
     several = [bar for row in rows for bar in row["bars"]]
     counts = {it: sum(bar["verdict"] == it for bar in several) for it in ("met", "missed", "unknown")}
-    return {"rows": rows, "read": table.chains, "is_seen": seen is not None, "counts": counts,
-            "gaps": gaps_in(system.raw, run["of"][1][0]) if seen else []}
+    return {
+        "rows": rows,
+        "read": table.chains,
+        "is_seen": seen is not None,
+        "counts": counts,
+        "gaps": gaps_in(system.raw, run["of"][1][0]) if seen else [],
+    }

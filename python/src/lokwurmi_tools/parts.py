@@ -231,8 +231,16 @@ class Parts(Sharing):
         found = []
         for (source, *way), (period, jitter, distance) in zip(ways_to(self.system, name), self.inputs[name]):
             varies = [(it, self.bounds[it] - self.executions[it][0]) for it in way]
-            found.append({"source": source, "way": way, "period": period, "jitter": jitter, "distance": distance,
-                          "of": [(source, self.sources[source].get("jitter", 0)), *varies]})
+            found.append(
+                {
+                    "source": source,
+                    "way": way,
+                    "period": period,
+                    "jitter": jitter,
+                    "distance": distance,
+                    "of": [(source, self.sources[source].get("jitter", 0)), *varies],
+                }
+            )
         return found
 
     def settles(self, name: str, most: int | None = None) -> list[Step]:

@@ -7,6 +7,8 @@ import subprocess
 import sys
 from pathlib import Path
 
+from lokwurmi_tools.faults import Fault, Told
+
 # the folder of the repository, where this package lies in one
 TOP = Path(__file__).resolve().parents[3]
 # what is called: the script of the repository, which builds the programs, or an installed one
@@ -30,30 +32,37 @@ def often(program: str, crate: str = "cpa_cli") -> str:
 
 
 def add_program(reader: argparse.ArgumentParser) -> None:
-    where = "what is called; if absent the script lokwurmi of the repository, which builds the program, or lokwurmi in PATH"
+    where = (
+        "what is called; if absent the script lokwurmi of the repository, which builds the program, or lokwurmi in PATH"
+    )
     reader.add_argument("--program", metavar="PROGRAM", default=LAUNCHER, help=where)
 
 
 def call(program, *words):
-    """The status of a call, and what it writes. What it tells a terminal, as how far a build is, goes there; what it would say
-    beside its output is said by whoever calls."""
+    """The status of a call, and what it writes. What it tells a terminal, as how far a build is, goes there; what it
+    would say beside its output is said by whoever calls."""
     try:
-        done = subprocess.run([program, *words], stdout=subprocess.PIPE, text=True, check=False, env=os.environ | {"LOKWURMI_QUIET": "1"})
+        done = subprocess.run(
+            [program, *words], stdout=subprocess.PIPE, text=True, check=False, env=os.environ | {"LOKWURMI_QUIET": "1"}
+        )
     except OSError as fault:
-        sys.exit(f"{program}: can't be called: {fault.strerror}. `./lokwurmi --version` builds nothing, any other command of ./lokwurmi builds the program; --program names one")
+        raise Fault(
+            f"{program}: can't be called: {fault.strerror}. `./lokwurmi --version` builds nothing,"
+            " any other command of ./lokwurmi builds the program; --program names one"
+        )
     if done.returncode == 70:
-        sys.exit(f"{program}: the program isn't there, and couldn't be built")
+        raise Fault(f"{program}: the program isn't there, and couldn't be built")
     return done.returncode, done.stdout
 
 
 def end_refused(status, text, *words):
     """Ends the tool by the status of a refusal or a fault, with what `lokwurmi` says of it."""
-    from lokwurmi_tools.refusals.front import told_of
+    from lokwurmi_tools.accepted import told_of
 
     line = text.strip().split("\n", 1)[0]
     print(f"lokwurmi {shlex.join(words)}: status {status}: {line or 'nothing is written'}", file=sys.stderr)
-    sys.stderr.write(told_of(status, line, *words) or "docs/FILES.md, \"Statuses\", tells what to do\n")
-    sys.exit(status if status > 0 else 1)
+    sys.stderr.write(told_of(status, line, *words) or 'docs/FILES.md, "Statuses", tells what to do\n')
+    raise Told(status)
 
 
 def written_by(program, *words):

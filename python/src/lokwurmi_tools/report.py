@@ -2,16 +2,16 @@
 
 The lines are read by the Python package of this repository; here a text that is none ends the tool.
 """
-import sys
 
 from lokwurmi import lines
 from lokwurmi.errors import Unreadable
 from lokwurmi.lines import PATH, SUMMARY, TASK, number  # noqa: F401
+from lokwurmi_tools.faults import Fault
 
 
 def reports_in(rows, file):
-    """The reports of some lines, in order: the tasks and the paths of each, dictionaries by name, and which edits were refused
-    before it, the reason by the number of the line."""
+    """The reports of some lines, in order: the tasks and the paths of each, dictionaries by name, and which edits were
+    refused before it, the reason by the number of the line."""
     return read_by(lines.reports_in, rows, file)
 
 
@@ -24,7 +24,7 @@ def read_by(read, rows, file):
     try:
         return read(rows)
     except Unreadable as fault:
-        sys.exit(f"{file}: {fault}")
+        raise Fault(f"{file}: {fault}")
 
 
 def read_report(file):
@@ -33,5 +33,5 @@ def read_report(file):
         with open(file, encoding="ascii") as it:
             rows = it.read().splitlines()
     except (OSError, UnicodeDecodeError) as fault:
-        sys.exit(f"{file}: can't be read: {fault}")
+        raise Fault(f"{file}: can't be read: {fault}")
     return reports_in(rows, file)[-1][:2]

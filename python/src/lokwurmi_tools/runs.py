@@ -1,9 +1,9 @@
 """Reads traces and schedules, and tells the jobs in them, for the tools beside it."""
 import csv
 import io
-import sys
 from typing import NamedTuple
 
+from lokwurmi_tools.faults import Fault
 from lokwurmi_tools.system import activators, execution
 
 
@@ -17,7 +17,7 @@ def read(file):
         with open(0 if file == "-" else file, encoding="utf-8", newline="") as it:
             return it.read()
     except (OSError, UnicodeDecodeError) as fault:
-        sys.exit(f"{file}: can't be read: {fault}")
+        raise Fault(f"{file}: can't be read: {fault}")
 
 
 def rows_in(text, file):
@@ -25,7 +25,7 @@ def rows_in(text, file):
     try:
         return list(enumerate((row for row in csv.reader(io.StringIO(text, newline="")) if row), 1))
     except csv.Error as fault:
-        sys.exit(f"{file}: can't be read: {fault}")
+        raise Fault(f"{file}: can't be read: {fault}")
 
 
 def schedule_in(text, file, system):
@@ -33,11 +33,11 @@ def schedule_in(text, file, system):
     names, rows = {it["name"] for it in system.get("task", [])}, []
     for place, row in rows_in(text, file):
         if len(row) != 3 or not (is_number(row[1]) and is_number(row[2])):
-            sys.exit(f"{file}: row {place} isn't TASK,START,END: {','.join(row)}")
+            raise Fault(f"{file}: row {place} isn't TASK,START,END: {','.join(row)}")
         if row[0] not in names:
-            sys.exit(f"{file}: row {place}: the system has no task {row[0]}")
+            raise Fault(f"{file}: row {place}: the system has no task {row[0]}")
         if int(row[1]) >= int(row[2]):
-            sys.exit(f"{file}: row {place}: its end isn't after its start: {','.join(row)}")
+            raise Fault(f"{file}: row {place}: its end isn't after its start: {','.join(row)}")
         rows.append((row[0], int(row[1]), int(row[2])))
     return rows
 
@@ -47,11 +47,14 @@ def read_schedule(file, system):
 
 
 def read_trace(file):
-    """The times of the events of each source, the executions of each task, and the phase of each TDMA resource that has a row."""
+    """The times of the events of each source, the executions of each task, and the phase of each TDMA resource that has
+    a row."""
     events, executions, phases = {}, {}, {}
     for place, row in rows_in(read(file), file):
         if len(row) != 3 or row[0] not in ("event", "exec", "phase") or not is_number(row[2]):
-            sys.exit(f"{file}: row {place} is none of event, exec and phase with a name and a number: {','.join(row)}")
+            raise Fault(
+                f"{file}: row {place} is none of event, exec and phase with a name and a number: {','.join(row)}"
+            )
         if row[0] == "phase":
             phases[row[1]] = int(row[2])
         else:
@@ -60,8 +63,8 @@ def read_trace(file):
 
 
 def parts_in(segments, executions, greatest):
-    """What each job of a task ran, by its segments, each from when to before when, and whether it is done by them: each job takes
-    its execution, and the one before goes first."""
+    """What each job of a task ran, by its segments, each from when to before when, and whether it is done by them: each
+    job takes its execution, and the one before goes first."""
     jobs, left = [], 0
     for start, end in segments:
         while start < end:
@@ -88,8 +91,8 @@ def segments_of(schedule, tasks):
 
 
 def jobs_in(system, schedule, trace):
-    """The jobs of each task in the order in which they came, by a schedule and the trace that it is of: when each came, and
-    when it was done, None where it wasn't."""
+    """The jobs of each task in the order in which they came, by a schedule and the trace that it is of: when each came,
+    and when it was done, None where it wasn't."""
     events, executions, _ = trace
     resources = {it["name"]: it for it in system.get("resource", [])}
     tasks = {it["name"]: it for it in system.get("task", [])}
@@ -98,14 +101,18 @@ def jobs_in(system, schedule, trace):
         ends[name] = ends_in(segments[name], executions.get(name, []), execution(task, resources[task["on"]])[1])
     jobs = {}
     for name, task in tasks.items():
-        came = sorted(time for before in activators(task) for time in (ends[before] if before in tasks else events.get(before, [])))
+        came = sorted(
+            time
+            for before in activators(task)
+            for time in (ends[before] if before in tasks else events.get(before, []))
+        )
         jobs[name] = [(time, ends[name][place] if place < len(ends[name]) else None) for place, time in enumerate(came)]
     return jobs
 
 
 class Passage(NamedTuple):
-    """A job of a path's first task and the jobs that it leads to: when it came, when the last one was done, None where that isn't
-    so, and the place of each among the jobs of its task, as far as there are any."""
+    """A job of a path's first task and the jobs that it leads to: when it came, when the last one was done, None where
+    that isn't so, and the place of each among the jobs of its task, as far as there are any."""
 
     came: int
     done: int | None
@@ -116,8 +123,10 @@ class Passage(NamedTuple):
 
 
 def causes_in(system: dict, jobs: dict, events: dict) -> dict:
-    """What has started each job of each task, in the order in which they came: the name of a source or a task, and the place of
-    the event or the job there. What starts jobs at one time stands in the order of the tasks and then of the sources."""
+    """What has started each job of each task, in the order in which they came: the name of a source or a task, and the
+    place of the event or the job there. What starts jobs at one time stands in the order of the tasks and then of the
+    sources.
+    """
     tasks, sources = ([it["name"] for it in system.get(part, [])] for part in ("task", "source"))
     order = {name: place for place, name in enumerate([*tasks, *sources])}
     times = {name: events.get(name, []) for name in sources}

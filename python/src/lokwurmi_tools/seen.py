@@ -100,7 +100,7 @@ class Run:
     def stream_of(self, name: str, cause: tuple[str, int]) -> int:
         """The stream of a task that a job of it belongs to, by what started it."""
         before, place = cause
-        first = sum(self.count_streams(it) for it in self.after[name][:self.after[name].index(before)])
+        first = sum(self.count_streams(it) for it in self.after[name][: self.after[name].index(before)])
         return first + (self.stream_of(before, self.causes[before][place]) if before in self.tasks else 0)
 
     def inner_of(self, name: str) -> range:

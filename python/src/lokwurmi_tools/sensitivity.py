@@ -27,13 +27,16 @@ import threading
 import time
 from typing import NamedTuple
 
+from lokwurmi_tools.accepted import read_system
+from lokwurmi_tools.faults import Fault
 from lokwurmi_tools.packages import need
 from lokwurmi_tools.part_texts import shown
 from lokwurmi_tools.program import add_program, often, written_by
 from lokwurmi_tools.progress import Progress
 from lokwurmi_tools.report import reports_in
-from lokwurmi_tools.system import execution, read_system
+from lokwurmi_tools.system import execution
 from lokwurmi_tools.trials import Trial, reports_after
+from lokwurmi_tools.words import reader_of
 
 EXAMPLES = """examples:
   ./lokwurmi sensitivity examples/car_network.toml --to car.svg
@@ -391,7 +394,7 @@ def goals_in(several: list[str]) -> dict[str, int]:
     for it in several:
         name, _, deadline = it.partition("=")
         if not (deadline.isascii() and deadline.isdecimal() and 1 <= int(deadline) <= 1_000_000_000):
-            sys.exit(f"lokwurmi sensitivity: {it}: a goal is PATH=DEADLINE, of 1 to 1000000000")
+            raise Fault(f"{it}: a goal is PATH=DEADLINE, of 1 to 1000000000")
         found[name] = int(deadline)
     return found
 
@@ -403,9 +406,7 @@ def laws_text() -> str:
 
 
 def asked_for(arguments: list[str] | None) -> argparse.Namespace:
-    reader = argparse.ArgumentParser(
-        prog="lokwurmi sensitivity", description=__doc__, epilog=EXAMPLES + laws_text(), formatter_class=argparse.RawDescriptionHelpFormatter
-    )
+    reader = reader_of("sensitivity", __doc__, EXAMPLES + laws_text())
     jobs = "how many calls go at a time; as many as there are processors if absent"
     goal = "hold a path against this deadline; may be given several times"
     reader.add_argument("file", metavar="FILE", help="a system file")
@@ -419,9 +420,9 @@ def asked_for(arguments: list[str] | None) -> argparse.Namespace:
     add_program(reader)
     words = reader.parse_args(arguments)
     if words.to and os.path.splitext(words.to)[1] not in (".svg", ".png", ".pdf"):
-        sys.exit(f"{words.to}: a picture's name ends with .svg, .png or .pdf")
+        raise Fault(f"{words.to}: a picture's name ends with .svg, .png or .pdf")
     if words.jobs < 1:
-        sys.exit("lokwurmi sensitivity: there is at least 1 job")
+        raise Fault("there is at least 1 job")
     words.goals = goals_in(words.goal)
     return words
 
@@ -434,12 +435,12 @@ def main(arguments: list[str] | None = None) -> int | None:
     question = Question(words)
     for name in words.goals:
         if name not in question.found_paths:
-            sys.exit(f"{words.file}: there is no path {name}; it has {', '.join(question.found_paths) or 'none'}")
+            raise Fault(f"{words.file}: there is no path {name}; it has {', '.join(question.found_paths) or 'none'}")
     question.program = often(words.program)
     now = Found(question.text, words.goals, words.deadlines)
     if not now.holds():
         print(f"nothing may move, as this doesn't hold now: {', '.join(now.first())}", file=sys.stderr)
-        sys.exit(3)
+        return 3
     rows = rows_of(question, tuple(words.only or KINDS), words.jobs)
     if words.json:
         asked = {"file": words.file, "goals": words.goals, "deadlines": words.deadlines}

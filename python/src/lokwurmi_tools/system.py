@@ -1,12 +1,4 @@
-"""Reads a system file, for the tools beside it."""
-
-
-def read_system(file):
-    """The values of a system file. One that the program refuses ends the tool by the program's status, with what `lokwurmi` says."""
-    # that package reads entries by this module
-    from lokwurmi_tools.refusals.front import accepted
-
-    return accepted(file)
+"""What follows from the entries of a system: executions, activators, and the streams that start a task."""
 
 
 def execution(task, resource):
@@ -26,15 +18,19 @@ def activators(task):
 def sources_of(system, name):
     """The source of each stream that starts a task, in the order of its streams. There is no ring in a system."""
     tasks = {it["name"]: it for it in system.get("task", [])}
-    return [source for before in activators(tasks[name]) for source in (sources_of(system, before) if before in tasks else [before])]
+    return [
+        source
+        for before in activators(tasks[name])
+        for source in (sources_of(system, before) if before in tasks else [before])
+    ]
 
 
 def inputs_of(system, bounds):
-    """The streams that start each task, each a period, a jitter and a distance, where `bounds` has what each task's response
-    is at most.
+    """The streams that start each task, each a period, a jitter and a distance, where `bounds` has what each task's
+    response is at most.
 
-    What comes out of a task has more jitter by what its response varies, and is as far apart as its least execution, or as what
-    that leaves of the distance. None stands for an input without a bound.
+    What comes out of a task has more jitter by what its response varies, and is as far apart as its least execution, or
+    as what that leaves of the distance. None stands for an input without a bound.
     """
     sources = {it["name"]: it for it in system.get("source", [])}
     tasks = {it["name"]: it for it in system.get("task", [])}

@@ -3,11 +3,11 @@ of it. For lokwurmi import network."""
 import argparse
 import fnmatch
 import math
-import sys
 from dataclasses import dataclass, field
 from fractions import Fraction
 from typing import Any, Optional
 
+from lokwurmi_tools.faults import Fault
 from lokwurmi_tools.lengths import SIZES, Bits, bit_of, classical, error, flexible, padded, ticks
 from lokwurmi_tools.networks import ERRORS, QUEUED, Bus, Frame
 from lokwurmi_tools.times import UNITS, common, text_of
@@ -116,7 +116,7 @@ class Taker:
         names = [it.name for it in self.buses]
         unknown = [name for name in told if name and name not in names]
         if unknown:
-            sys.exit(f"{option} {unknown[0]}: there is no such bus; there are {', '.join(names)}")
+            raise Fault(f"{option} {unknown[0]}: there is no such bus; there are {', '.join(names)}")
         rate = told.get(bus.name) or told.get("") or own
         if own and own != rate:
             self.report.add(
@@ -128,10 +128,10 @@ class Taker:
         """The times of a bus's bits."""
         rate, tick = self.told_rate(bus, "--bitrate", self.words.bitrate, bus.bitrate), self.words.tick
         if not rate:
-            sys.exit(f"{bus.file}: the bit rate of bus {bus.name} isn't told: --bitrate {bus.name}=500000")
+            raise Fault(f"{bus.file}: the bit rate of bus {bus.name} isn't told: --bitrate {bus.name}=500000")
         bit = bit_of(rate) / tick
         if math.ceil(bit) > MOST_BIT:
-            sys.exit(
+            raise Fault(
                 f"a bit of bus {bus.name} takes {float(bit):g} ticks, and {MOST_BIT} is the most: take a longer --tick"
             )
         if bit.denominator > 1:
@@ -141,7 +141,7 @@ class Taker:
             self.report.add(self.report.changed, f"{what} greatest up{then}")
         data_rate = self.told_rate(bus, "--data-bitrate", self.words.data_bitrate, bus.data_bitrate)
         if data_rate and data_rate < rate:
-            sys.exit(f"bus {bus.name}: the data phase has {data_rate} bit/s, which is below {rate} of the bus")
+            raise Fault(f"bus {bus.name}: the data phase has {data_rate} bit/s, which is below {rate} of the bus")
         return Rates(bit, bit_of(data_rate) / tick if data_rate else None)
 
     def is_left(self, frame: Frame) -> Optional[str]:
@@ -227,7 +227,7 @@ class Taker:
             return None
         ticks_of_it = min(int(exact / self.words.tick), MOST_TICKS)
         if not ticks_of_it:
-            sys.exit(f"{frame.name}: its deadline of {text_of(exact)} is less than a tick: take a shorter --tick")
+            raise Fault(f"{frame.name}: its deadline of {text_of(exact)} is less than a tick: take a shorter --tick")
         if ticks_of_it != exact / self.words.tick:
             self.report.add(
                 self.report.changed,
@@ -251,7 +251,7 @@ class Taker:
             return period, jitter
         each = period // frame.values
         if not each:
-            sys.exit(
+            raise Fault(
                 f"{frame.name}: a part of its period for each of {frame.values} values is less than a tick: take a"
                 " shorter --tick"
             )
@@ -274,14 +274,14 @@ class Taker:
     def length(self, frame: Frame, rates: Rates) -> tuple[Fraction, Fraction]:
         """The least and the greatest time of a frame in ticks."""
         if frame.is_fd and frame.switches and rates.data_bit is None:
-            sys.exit(
+            raise Fault(
                 f"{frame.name}: it is a frame of CAN FD, and the bit rate of the data phase isn't told: --data-bitrate"
                 f" {frame.bus}=2000000; --data-bitrate of the same rate as --bitrate where it doesn't switch"
             )
         data_bit = rates.data_bit if frame.switches and rates.data_bit is not None else rates.bit
         least, greatest = (it.time(rates.bit, data_bit) for it in self.bits(frame))
         if not 1 <= least or greatest > MOST_EXECUTION:
-            sys.exit(
+            raise Fault(
                 f"{frame.name}: it takes {float(least):g} to {float(greatest):g} ticks, and 1 to {MOST_EXECUTION} are"
                 " possible: take another --tick"
             )
@@ -290,7 +290,7 @@ class Taker:
     def take(self, frame: Frame, rates: Rates) -> None:
         """Adds a frame to those of its bus."""
         if not 0 <= frame.identifier < (1 << 29 if frame.extended else 1 << 11) or frame.size < 0:
-            sys.exit(
+            raise Fault(
                 f"{frame.name}: the database gives it the identifier {frame.identifier} and {frame.size} bytes, which"
                 f" no frame has: mend it, or --without {frame.name}"
             )
@@ -301,9 +301,11 @@ class Taker:
             period, jitter = self.multiplexed(frame, period, jitter)
         forwarded = self.forwards.get(frame.name)
         if not period and not forwarded:
-            sys.exit(f"{frame.name}: its period of {text_of(exact)} is less than a tick: take a shorter --tick")
+            raise Fault(f"{frame.name}: its period of {text_of(exact)} is less than a tick: take a shorter --tick")
         if jitter > MOST_TICKS:
-            sys.exit(f"{frame.name}: its jitter is {jitter} ticks, and {MOST_TICKS} is the most: take a longer --tick")
+            raise Fault(
+                f"{frame.name}: its jitter is {jitter} ticks, and {MOST_TICKS} is the most: take a longer --tick"
+            )
         least, greatest = self.length(frame, rates)
         self.taken.setdefault(frame.bus, []).append(
             Taken(
@@ -327,7 +329,7 @@ class Taker:
         count, time = self.words.errors
         period = min(int(time / self.words.tick), MOST_TICKS) // count
         if not period:
-            sys.exit(f"--errors: a part of {text_of(time)} for each of {count} errors is less than a tick")
+            raise Fault(f"--errors: a part of {text_of(time)} for each of {count} errors is less than a tick")
         least, greatest = error(Bits(0))
         longest = max(it.greatest for it in taken)
         whole = ticks(least.time(rates.bit), greatest.time(rates.bit), Fraction(1))
@@ -342,7 +344,7 @@ class Taker:
             ),
         )
         if jitter > MOST_TICKS or whole[1] + longest > MOST_EXECUTION:
-            sys.exit(
+            raise Fault(
                 f"bus {bus.name}: an error takes {whole[1] + longest} ticks with a jitter of {jitter}, and"
                 f" {MOST_EXECUTION} and {MOST_TICKS} are the most: take a longer --tick"
             )
@@ -354,7 +356,7 @@ class Taker:
         for it in self.taken[bus.name]:
             other = found.setdefault((it.frame.identifier, it.frame.extended), it.frame.name)
             if other != it.frame.name:
-                sys.exit(
+                raise Fault(
                     f"{bus.file}: {other} and {it.frame.name} have the identifier {it.frame.shown}, so that the bus"
                     f" can't choose between them: leave one out, as --without {it.frame.name}"
                 )
@@ -397,7 +399,7 @@ class Taker:
         known = {it.name for it in self.buses}
         for name in self.words.bus:
             if name not in known:
-                sys.exit(f"--bus {name}: there is no such bus; there are {', '.join(sorted(known))}")
+                raise Fault(f"--bus {name}: there is no such bus; there are {', '.join(sorted(known))}")
         for bus in self.buses:
             if self.words.bus and bus.name not in self.words.bus:
                 self.report.add(self.report.left, "a bus that --bus doesn't name", bus.name)
@@ -433,7 +435,7 @@ class Taker:
         for name, before in self.forwards.items():
             for it in (before, name):
                 if it not in names:
-                    sys.exit(f"--forward {before}={name}: {it} is left out")
+                    raise Fault(f"--forward {before}={name}: {it} is left out")
             what = "a gateway passes on at once; where it takes time, put a task in between"
             self.report.add(self.report.assumed, what, f"{name} after {before}")
 

@@ -14,15 +14,16 @@ It needs tomlkit: apt-get install python3-tomlkit
 import argparse
 import math
 import re
-import signal
 import sys
 from dataclasses import dataclass, field
 from fractions import Fraction
 from typing import Any, Optional
 
 from lokwurmi_tools.entries import comments, printable, put
+from lokwurmi_tools.faults import Fault
 from lokwurmi_tools.lengths import bit_of, classical
 from lokwurmi_tools.times import UNITS, common, text_of, time_of, word_of
+from lokwurmi_tools.words import reader_of
 
 AMOUNT = re.compile(r"(\d+(?:\.\d+)?) ?(ns|us|ms|s|bits?|bytes?)", re.ASCII)
 UP, DOWN, NEITHER = "up", "down", "to neither side"
@@ -227,11 +228,11 @@ def parsed(file: str) -> tuple[str, Any]:
             text = it.read()
         return text, tomlkit.parse(text)
     except OSError as fault:
-        sys.exit(f"{file}: can't be read: {fault.strerror}")
+        raise Fault(f"{file}: can't be read: {fault.strerror}")
     except UnicodeDecodeError as fault:
-        sys.exit(f"{file}: it isn't UTF-8: {fault.reason} at byte {fault.start}")
+        raise Fault(f"{file}: it isn't UTF-8: {fault.reason} at byte {fault.start}")
     except tomlkit.exceptions.TOMLKitError as fault:
-        sys.exit(f"{file}: it isn't TOML: {fault}")
+        raise Fault(f"{file}: it isn't TOML: {fault}")
 
 
 def converted(file: str, tick: Fraction) -> tuple[str, list[str]]:
@@ -241,7 +242,7 @@ def converted(file: str, tick: Fraction) -> tuple[str, list[str]]:
     try:
         converter.convert(document)
     except Refusal as fault:
-        sys.exit(f"{file}: {fault}")
+        raise Fault(f"{file}: {fault}")
     lines = document.as_string().splitlines()
     told = converter.lines()
     head = [part for it in told for part in comments(it)]
@@ -252,7 +253,7 @@ def converted(file: str, tick: Fraction) -> tuple[str, list[str]]:
 
 
 def asked_for(arguments: list[str] | None) -> argparse.Namespace:
-    reader = argparse.ArgumentParser(prog="lokwurmi ticks", description=__doc__, formatter_class=argparse.RawDescriptionHelpFormatter)
+    reader = reader_of("ticks", __doc__)
     reader.add_argument("system", metavar="FILE", help="a system file whose times may have units")
     what = "the time of a tick, as 1us"
     reader.add_argument("--tick", metavar="TIME", type=word_of(time_of), required=True, help=what)

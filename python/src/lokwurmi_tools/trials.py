@@ -1,8 +1,8 @@
 """Tries edits of a system, each alone, in one session of the proved program, for the tools beside it."""
-import sys
 import tempfile
 from typing import NamedTuple
 
+from lokwurmi_tools.faults import OwnFault
 from lokwurmi_tools.program import call
 
 
@@ -33,7 +33,7 @@ def reports_after(program: str, file: str, trials: list[Trial], before: str) -> 
 
 
 def fail(text: str) -> None:
-    sys.exit(f"an error of this command: {text}")
+    raise OwnFault(f"{text}")
 
 
 def split(text: str) -> list[str]:

@@ -8,11 +8,12 @@ Each number of ticks becomes a time in the largest unit in which it is at least 
 """
 import argparse
 import re
-import signal
 import sys
 from fractions import Fraction
 
+from lokwurmi_tools.faults import Fault
 from lokwurmi_tools.times import UNITS, text_of, time_of, word_of
+from lokwurmi_tools.words import reader_of
 
 # the numbers of a report that are times, by the word before each
 TIMES = re.compile(r"\b(period|jitter|distance|best|worst|deadline|bound|end|reaction|age|wait|response) (\d+)\b")
@@ -37,7 +38,7 @@ def line_with_units(line: str, tick: Fraction, unit: str | None) -> str:
 
 
 def asked_for(arguments: list[str] | None) -> argparse.Namespace:
-    reader = argparse.ArgumentParser(prog="lokwurmi units", description=__doc__, formatter_class=argparse.RawDescriptionHelpFormatter)
+    reader = reader_of("units", __doc__)
     reader.add_argument("report", metavar="REPORT", nargs="?", help="a report; the standard input if absent")
     what = "the time of a tick, as 1us"
     reader.add_argument("--tick", metavar="TIME", type=word_of(time_of), required=True, help=what)
@@ -52,6 +53,6 @@ def main(arguments: list[str] | None = None) -> int | None:
             for line in it:
                 print(line_with_units(line.rstrip("\n"), words.tick, words.unit))
     except OSError as fault:
-        sys.exit(f"{words.report}: can't be read: {fault.strerror}")
+        raise Fault(f"{words.report}: can't be read: {fault.strerror}")
     except UnicodeDecodeError:
-        sys.exit(f"{words.report or 'the standard input'}: it isn't ASCII, and so no report")
+        raise Fault(f"{words.report or 'the standard input'}: it isn't ASCII, and so no report")

@@ -1,25 +1,25 @@
-"""Looks for a trace under which a task answers as late, or a path takes as long, as can be found, and shows how near that comes
-to the bound.
+"""Looks for a trace under which a task answers as late, or a path takes as long, as can be found, and shows how near
+that comes to the bound.
 
-What is printed as seen is exact: `lokwurmi simulate` replays the trace, whose events and executions obey the system, and by what
-it proves no run is later than the bound. Where the two are equal, the bound can't be lower. Where they aren't, either the bound
-isn't reached by any run, or the search hasn't found the run.
+What is printed as seen is exact: `lokwurmi simulate` replays the trace, whose events and executions obey the system,
+and by what it proves no run is later than the bound. Where the two are equal, the bound can't be lower. Where they
+aren't, either the bound isn't reached by any run, or the search hasn't found the run.
 
-The search begins with what is known of worst cases on the four kinds of resource, and then changes phases, jitter, executions
-and the phases of TDMA cycles, and keeps what is later. It makes so many tries (--tries), so that the same call gives the same
-answer for the same --seed; --seconds ends it before, and then it says so. A path is looked at after each of its tasks, and begins
-with what was found for these: with N tasks it takes N + 1 searches. An interrupt ends the search as well; what was seen by then
-is written, and the status is 130.
+The search begins with what is known of worst cases on the four kinds of resource, and then changes phases, jitter,
+executions and the phases of TDMA cycles, and keeps what is later. It makes so many tries (--tries), so that the same
+call gives the same answer for the same --seed; --seconds ends it before, and then it says so. A path is looked at after
+each of its tasks, and begins with what was found for these: with N tasks it takes N + 1 searches. An interrupt ends the
+search as well; what was seen by then is written, and the status is 130.
 
-A line `late` tells which job was late and when, in the trace that --to or --keep writes: the number of the job in the order in
-which its task was activated, when that was, and when the job ended; of a path from when to when the passage lasted, and its jobs.
-With --all, --keep writes as few and as short traces as do to show all that was seen: FOLDER/NAME.worst1.csv and so on for
-NAME.toml. A row that was bettered by the search for another is written once more at the end.
+A line `late` tells which job was late and when, in the trace that --to or --keep writes: the number of the job in the
+order in which its task was activated, when that was, and when the job ended; of a path from when to when the passage
+lasted, and its jobs. With --all, --keep writes as few and as short traces as do to show all that was seen:
+FOLDER/NAME.worst1.csv and so on for NAME.toml. A row that was bettered by the search for another is written once more
+at the end.
 
-With --chain it looks for a late reaction of a chain whose tasks read what the one before wrote last, or with --what age for old
-data, beside the bound of `lokwurmi chain`. All its traces have sources that stay near, as that bound wants it.
+With --chain it looks for a late reaction of a chain whose tasks read what the one before wrote last, or with --what age
+for old data, beside the bound of `lokwurmi chain`. All its traces have sources that stay near, as that bound wants it.
 """
-import argparse
 import concurrent.futures
 import itertools
 import os
@@ -33,12 +33,15 @@ import tempfile
 import threading
 import time
 
+from lokwurmi_tools.accepted import read_system
+from lokwurmi_tools.faults import Fault
 from lokwurmi_tools.program import add_program, often, schedule_by, written_by
 from lokwurmi_tools.progress import Progress
 from lokwurmi_tools.report import reports_in
 from lokwurmi_tools.runs import jobs_in, passages_in, read_trace, schedule_in
 from lokwurmi_tools.seen import ASKED, READINGS
-from lokwurmi_tools.system import activators, execution, read_system
+from lokwurmi_tools.system import activators, execution
+from lokwurmi_tools.words import reader_of
 from lokwurmi_tools.worst_chain import perform_chain
 
 EXAMPLES = """examples:
@@ -62,7 +65,7 @@ TOGETHER = 32
 
 
 def stop(text):
-    sys.exit(f"lokwurmi worst: {text}")
+    raise Fault(f"{text}")
 
 
 class System:
@@ -113,16 +116,18 @@ class System:
 
 
 class Plan:
-    """What a trace is made of. `start` has the first event of each source that has any, `used` how much of its jitter the first
-    one uses up, `long` how many jobs of a task take the greatest execution before the others take the least (None: all do),
-    `turned` single jobs that take the other one, `phase` where TDMA cycles stand."""
+    """What a trace is made of. `start` has the first event of each source that has any, `used` how much of its jitter
+    the first one uses up, `long` how many jobs of a task take the greatest execution before the others take the least
+    (None: all do), `turned` single jobs that take the other one, `phase` where TDMA cycles stand."""
 
     def __init__(self, start, used=None, long=None, turned=None, phase=None):
         self.start, self.used, self.long = dict(start), dict(used or {}), dict(long or {})
         self.turned, self.phase = dict(turned or {}), dict(phase or {})
 
     def copy(self):
-        return Plan(self.start, self.used, self.long, {task: set(jobs) for task, jobs in self.turned.items()}, self.phase)
+        return Plan(
+            self.start, self.used, self.long, {task: set(jobs) for task, jobs in self.turned.items()}, self.phase
+        )
 
     def without(self, system, names):
         """The plan without some sources. What is left comes sooner where the first event goes, and cycles with it."""
@@ -192,18 +197,29 @@ class Judge:
         trace = os.path.join(self.folder, f"{number}.csv")
         write(trace, rows_of(self.system, plan, span))
         # a group of its own: an interrupt of the terminal is for this script alone
-        run = subprocess.run([self.program, "simulate", self.system.path, trace], capture_output=True, text=True, check=False, process_group=0)
+        run = subprocess.run(
+            [self.program, "simulate", self.system.path, trace],
+            capture_output=True,
+            text=True,
+            check=False,
+            process_group=0,
+        )
         os.remove(trace)
         if run.returncode == 16:
             return {}
         if run.returncode:
-            stop(f"a trace was refused, which shouldn't be: status {run.returncode}, {run.stdout.strip() or run.stderr.strip()}")
+            stop(
+                f"a trace was refused, which shouldn't be: status {run.returncode},"
+                f" {run.stdout.strip() or run.stderr.strip()}"
+            )
         found = re.findall(r"^(task|path) (\S+) .*worst (\d+)$", run.stdout, re.M)
         return {(kind, name): int(worst) for kind, name, worst in found}
 
     def all(self, plans, span):
         """What is seen of each plan of a search; nothing of those that an interrupt leaves out."""
-        return list(self.pool.map(lambda it: {} if self.interrupt.is_set() else self.seen(it[0], it[1], span), enumerate(plans)))
+        return list(
+            self.pool.map(lambda it: {} if self.interrupt.is_set() else self.seen(it[0], it[1], span), enumerate(plans))
+        )
 
     def shows(self, plan, span, wanted):
         """Whether a plan shows what is wanted: the latest of some tasks and paths."""
@@ -223,13 +239,16 @@ class Judge:
 
 def travel_of(system, bounds, way, which):
     """How long a job is on its way to a task: with least or greatest executions, or as late as the bounds allow."""
-    return sum(bounds.get(one) or system.tasks[one]["worst"] if which == "bound" else system.tasks[one][which] for one in way)
+    return sum(
+        bounds.get(one) or system.tasks[one]["worst"] if which == "bound" else system.tasks[one][which] for one in way
+    )
 
 
 def known_plans(system, target, bounds):
-    """Plans that are known to be bad for a task: its rivals come with it, jitter is used up first, all take their greatest; a
-    frame of lower priority has just begun; the slot has just ended. Where tasks come along chains, these are started before, so
-    that they arrive then, with first jobs that take long and later ones that don't, or with all that take as long."""
+    """Plans that are known to be bad for a task: its rivals come with it, jitter is used up first, all take their
+    greatest; a frame of lower priority has just begun; the slot has just ended. Where tasks come along chains, these
+    are started before, so that they arrive then, with first jobs that take long and later ones that don't, or with all
+    that take as long."""
     task = system.tasks[target]
     resource = system.resources[task["on"]]
     higher, lower = system.rivals(target)
@@ -273,9 +292,9 @@ def known_plans(system, target, bounds):
 
 
 def path_plan(system, links, bounds, busy, which, late):
-    """A plan in which the passage of a path finds those tasks of it that are busy at their worst: their rivals come with it, and
-    a frame of lower priority a tick before; or the rivals come late, just before that frame has ended. What is already bound to
-    come elsewhere stays there."""
+    """A plan in which the passage of a path finds those tasks of it that are busy at their worst: their rivals come
+    with it, and a frame of lower priority a tick before; or the rivals come late, just before that frame has ended.
+    What is already bound to come elsewhere stays there."""
     source, way = system.streams(links[0])[0]
     start, at, ways = {source: -travel_of(system, bounds, way, "worst")}, 0, set(way)
     for name in links:
@@ -284,7 +303,10 @@ def path_plan(system, links, bounds, busy, which, late):
             at += task["worst"]
             continue
         higher, lower = system.rivals(name)
-        lower = sorted((one for one in lower if all(source not in start for source, _ in system.streams(one))), key=lambda one: -system.tasks[one]["worst"])
+        lower = sorted(
+            (one for one in lower if all(source not in start for source, _ in system.streams(one))),
+            key=lambda one: -system.tasks[one]["worst"],
+        )
         later = max(0, system.tasks[lower[0]]["worst"] - 2) if late and lower else 0
         for rival, ahead in [(one, 1) for one in lower[:1]] + [(one, -later) for one in higher]:
             for source, way in system.streams(rival):
@@ -295,8 +317,13 @@ def path_plan(system, links, bounds, busy, which, late):
 
 
 def path_plans(system, links, bounds):
-    """Plans that are bad for a path: each of its tasks is busy, or some are, as one that comes late may spare it others."""
-    some = [{links[k] for k in range(len(links)) if number >> k & 1} for number in range(1, 2 ** len(links))] if len(links) <= 4 else [set(links), *({name} for name in links)]
+    """Plans that are bad for a path: each of its tasks is busy, or some are, as one that comes late may spare it
+    others."""
+    some = (
+        [{links[k] for k in range(len(links)) if number >> k & 1} for number in range(1, 2 ** len(links))]
+        if len(links) <= 4
+        else [set(links), *({name} for name in links)]
+    )
     plans = []
     for busy in some:
         for which, late in itertools.product(("worst", "best", "bound"), (False, True)):
@@ -321,7 +348,9 @@ def change(system, plan, rng, sources, tasks):
                 new.start[name] = new.start.get(name, 0) + rng.randint(-size, size)
         elif what < 0.6 and sources:
             name = rng.choice(sources)
-            new.used[name] = rng.choice((0, system.sources[name].get("jitter", 0), rng.randint(0, system.sources[name].get("jitter", 0))))
+            new.used[name] = rng.choice(
+                (0, system.sources[name].get("jitter", 0), rng.randint(0, system.sources[name].get("jitter", 0)))
+            )
         elif what < 0.8 and tasks:
             name = rng.choice(tasks)
             new.long[name] = rng.choice((None, 0, 1, 1, 2, 3, rng.randint(0, 20)))
@@ -331,7 +360,9 @@ def change(system, plan, rng, sources, tasks):
         else:
             if rings := system.rings():
                 name = rng.choice(rings)
-                new.phase[name] = (new.phase.get(name, 0) + rng.choice((-1, 1, rng.randrange(system.cycle(name))))) % system.cycle(name)
+                new.phase[name] = (
+                    new.phase.get(name, 0) + rng.choice((-1, 1, rng.randrange(system.cycle(name))))
+                ) % system.cycle(name)
     return new
 
 
@@ -349,7 +380,8 @@ class Best:
 
 
 class Scope:
-    """What a search for a task or a path looks at: the tasks along the way, those that may delay them, and their sources."""
+    """What a search for a task or a path looks at: the tasks along the way, those that may delay them, and their
+    sources."""
 
     def __init__(self, system, target, bounds):
         kind, name = target
@@ -360,12 +392,19 @@ class Scope:
         near |= {one for task in near for _, way in system.streams(task) for one in way}
         self.sources = sorted({source for task in near for source, _ in system.streams(task)})
         self.tasks = sorted(task for task in near if system.tasks[task]["best"] < system.tasks[task]["worst"])
-        self.span = min(15 * sum(self.bounds.get(one) or 10 * system.tasks[one]["worst"] for one in reach) + 100, LATEST)
+        self.span = min(
+            15 * sum(self.bounds.get(one) or 10 * system.tasks[one]["worst"] for one in reach) + 100, LATEST
+        )
 
     def first_plans(self, system, target, best):
-        """What is tried first: what is known to be bad, and for a path what was found for its tasks and for itself by then."""
+        """What is tried first: what is known to be bad, and for a path what was found for its tasks and for itself by
+        then."""
         plans = path_plans(system, self.links, self.bounds) if len(self.links) > 1 else []
-        plans += [plan for task in dict.fromkeys([self.links[-1], *self.links]) for plan in known_plans(system, task, self.bounds)]
+        plans += [
+            plan
+            for task in dict.fromkeys([self.links[-1], *self.links])
+            for plan in known_plans(system, task, self.bounds)
+        ]
         if target[0] == "path":
             plans += [best.found[it][1] for it in (target, *(("task", one) for one in self.links)) if it in best.found]
         return plans
@@ -387,7 +426,8 @@ class Search:
         self.progress.show(f"{where}: seen {seen} of {of}, {made} of {tries} tries{left}")
 
     def is_over(self, target, made, ends):
-        """Whether a search is over: the bound is reached, it was interrupted, or the clock ended it, which is counted."""
+        """Whether a search is over: the bound is reached, it was interrupted, or the clock ended it, which is
+        counted."""
         bound = self.bounds.get(target)
         if bound is not None and self.best.found.get(target, (0,))[0] >= bound or self.judge.interrupt.is_set():
             return True
@@ -426,7 +466,8 @@ class Search:
 
 
 def needed(judge, plan, span, wanted, names):
-    """The plan without those of some sources that it doesn't need to show what is wanted, as found by leaving out several."""
+    """The plan without those of some sources that it doesn't need to show what is wanted, as found by leaving out
+    several."""
     if len(names) < len(plan.start):
         fewer = plan.without(judge.system, names)
         if judge.shows(fewer, span, wanted):
@@ -438,8 +479,8 @@ def needed(judge, plan, span, wanted, names):
 
 
 def shortest(judge, plan, span, wanted):
-    """The rows of a short trace of a plan that still shows what is wanted: without sources that it doesn't need, and as short as
-    is found by halving the time that it goes on."""
+    """The rows of a short trace of a plan that still shows what is wanted: without sources that it doesn't need, and as
+    short as is found by halving the time that it goes on."""
     plan = needed(judge, plan, span, wanted, sorted(plan.start))
     least, most = 0, span
     while most - least > 1:
@@ -452,21 +493,24 @@ def shortest(judge, plan, span, wanted):
 
 
 def cover(judge, best, targets):
-    """As few traces as are found to do to show the latest of each target, each with what it shows: the plan that shows most of
-    what is left comes first."""
+    """As few traces as are found to do to show the latest of each target, each with what it shows: the plan that shows
+    most of what is left comes first."""
     plans = {id(best.found[what][1]): best.found[what][1:] for what in targets if what in best.found}
     answers = {key: judge.seen("one", plan, span) for key, (plan, span) in plans.items()}
     left = {what: best.found[what][0] for what in targets if what in best.found}
     while left:
-        shows = {key: {what: worst for what, worst in left.items() if answer.get(what) == worst} for key, answer in answers.items()}
+        shows = {
+            key: {what: worst for what, worst in left.items() if answer.get(what) == worst}
+            for key, answer in answers.items()
+        }
         key = max(shows, key=lambda it: len(shows[it]))
         yield shortest(judge, *plans[key], shows[key]), shows[key]
         left = {what: worst for what, worst in left.items() if what not in shows[key]}
 
 
 def late_in(system, events, jobs, target):
-    """Which job of a task, or which passage of a path, takes longest in a run, the first of these, and from when to when. Jobs are
-    counted from 1 on."""
+    """Which job of a task, or which passage of a path, takes longest in a run, the first of these, and from when to
+    when. Jobs are counted from 1 on."""
     kind, name = target
     if kind == "task":
         took = [-1 if done is None else done - came for came, done in jobs[name]]
@@ -484,7 +528,10 @@ def tell_late(judge, rows, targets, trace=None):
     """A line for each target that a trace shows: which job is late there, and when; whether that could be told."""
     found = judge.jobs(rows)
     if found is None:
-        print(f"lokwurmi worst: which job is late isn't told, as {judge.scheduler} has no command `schedule`", file=sys.stderr)
+        print(
+            f"lokwurmi worst: which job is late isn't told, as {judge.scheduler} has no command `schedule`",
+            file=sys.stderr,
+        )
         return False
     for target in targets:
         say(f"late {late_in(judge.system, *found, target)}" + (f" trace {trace}" if trace else ""))
@@ -504,14 +551,21 @@ def line(what, seen, bound):
 
 
 def asked_for(arguments: list[str] | None):
-    parser = argparse.ArgumentParser(prog="lokwurmi worst", description=__doc__, formatter_class=argparse.RawDescriptionHelpFormatter, epilog=EXAMPLES)
+    parser = reader_of("worst", __doc__, EXAMPLES)
     parser.add_argument("file", help="a system file")
     parser.add_argument("task", nargs="?", help="the task whose response is to be late")
-    parser.add_argument("--path", help="a path that is to take long, in place of a task; its N tasks are looked at before: N + 1 searches")
+    parser.add_argument(
+        "--path",
+        help="a path that is to take long, in place of a task; its N tasks are looked at before: N + 1 searches",
+    )
     parser.add_argument("--all", action="store_true", help="all tasks and paths that have a bound, in a table")
-    parser.add_argument("--chain", metavar="TASK,TASK..", help="a chain whose tasks read what the one before wrote last")
+    parser.add_argument(
+        "--chain", metavar="TASK,TASK..", help="a chain whose tasks read what the one before wrote last"
+    )
     parser.add_argument("--what", choices=ASKED, default="reaction", help="what of the chain is to be late (reaction)")
-    parser.add_argument("--reading", choices=READINGS, default="whenever", help="when jobs of the chain are taken to read (whenever)")
+    parser.add_argument(
+        "--reading", choices=READINGS, default="whenever", help="when jobs of the chain are taken to read (whenever)"
+    )
     parser.add_argument("--to", metavar="TRACE", help="writes the trace to this file")
     parser.add_argument("--keep", metavar="FOLDER", help="writes the traces of --all into this folder")
     parser.add_argument("--tries", type=int, default=2000, help="how many traces are tried in a search (2000)")
@@ -534,7 +588,9 @@ def asked_for(arguments: list[str] | None):
 def report_of(path, program):
     """The bounds, as `analyse` prints them."""
     tasks, paths, _ = reports_in(written_by(program, "analyse", path).splitlines(), path)[-1]
-    return {("task", name): it["worst"] for name, it in tasks.items()} | {("path", name): it["worst"] for name, it in paths.items()}
+    return {("task", name): it["worst"] for name, it in tasks.items()} | {
+        ("path", name): it["worst"] for name, it in paths.items()
+    }
 
 
 def targets_of(options, bounds, system):
@@ -545,7 +601,10 @@ def targets_of(options, bounds, system):
     target = ("task", options.task) if options.path is None else ("path", options.path)
     kind, name = target
     if target not in bounds:
-        stop(f"{options.file} has no {kind} {name}; it has {', '.join(sorted(one for what, one in bounds if what == kind)) or 'none'}")
+        stop(
+            f"{options.file} has no {kind} {name};"
+            f" it has {', '.join(sorted(one for what, one in bounds if what == kind)) or 'none'}"
+        )
     before = [("task", one) for one in system.paths[name]["tasks"]] if kind == "path" else []
     return [*dict.fromkeys(before), target], [target]
 
@@ -556,7 +615,8 @@ def say(text):
 
 
 def tell(search, told):
-    """A line for each target that is told, when it was looked for, and once more where another search saw more; what was seen."""
+    """A line for each target that is told, when it was looked for, and once more where another search saw more; what
+    was seen."""
     rows = {}
     for target in search.run():
         if target in told and target in search.best.found:
@@ -574,7 +634,10 @@ def tell_sum(rows, bounds):
     ratios = [seen / bounds[target] for target, seen in rows.items() if bounds[target]]
     if ratios:
         reached = sum(ratio == 1 for ratio in ratios)
-        say(f"middle ratio {statistics.median(ratios):.4f}, least {min(ratios):.4f}, {reached} of {len(ratios)} bounds reached")
+        say(
+            f"middle ratio {statistics.median(ratios):.4f}, least {min(ratios):.4f},"
+            f" {reached} of {len(ratios)} bounds reached"
+        )
 
 
 def keep(options, judge, best, rows):
@@ -619,10 +682,17 @@ def perform(options, folder):
         if not judge.interrupt.is_set():
             raise
     if judge.interrupt.is_set():
-        print(f"lokwurmi worst: interrupted in search {search.place + 1} of {len(targets)}: what is written was seen by then", file=sys.stderr)
+        print(
+            f"lokwurmi worst: interrupted in search {search.place + 1} of {len(targets)}:"
+            " what is written was seen by then",
+            file=sys.stderr,
+        )
         return 130
     if search.cut:
-        print(f"the clock ended the search of {search.cut} of {len(targets)}: another call may see more (--seconds)", file=sys.stderr)
+        print(
+            f"the clock ended the search of {search.cut} of {len(targets)}: another call may see more (--seconds)",
+            file=sys.stderr,
+        )
     return 0
 
 
@@ -640,4 +710,4 @@ def main(arguments: list[str] | None = None) -> int | None:
         # who reads the table has enough of it
         os.dup2(os.open(os.devnull, os.O_WRONLY), sys.stdout.fileno())
         status = 1
-    sys.exit(status)
+    return status

@@ -12,12 +12,14 @@ import time
 from dataclasses import dataclass, field
 from typing import NamedTuple
 
+from lokwurmi_tools.accepted import read_system
 from lokwurmi_tools.chains import bounds_by
+from lokwurmi_tools.faults import Fault
 from lokwurmi_tools.program import LAUNCHER, built, call
 from lokwurmi_tools.progress import Progress
 from lokwurmi_tools.runs import read_trace, schedule_in
 from lokwurmi_tools.seen import Late, Run, seen_of
-from lokwurmi_tools.system import execution, read_system, sources_of
+from lokwurmi_tools.system import execution, sources_of
 
 MOST_EVENTS = 4000
 # of how many plans the next ones are made
@@ -199,7 +201,7 @@ class ChainSearch:
         if status == TOO_LONG or status < 0:
             return None
         if status:
-            sys.exit(f"lokwurmi worst: a trace was refused: status {status}, {text.strip()}")
+            raise Fault(f"a trace was refused: status {status}, {text.strip()}")
         run = Run(self.system, schedule_in(text, "lokwurmi schedule", self.system), read_trace(self.trace))
         late = seen_of(run, self.tasks, self.options.reading).latest[self.what]
         return late and Found(late, plan, run)
@@ -267,11 +269,11 @@ def perform_chain(options, folder: str) -> int:
     """The whole of a call for a chain; its status."""
     tasks, names = options.chain.split(","), [it["name"] for it in read_system(options.file).get("task", [])]
     if unknown := [it for it in tasks if it not in names]:
-        sys.exit(f"lokwurmi worst: {options.file} has no task {unknown[0]}; it has {', '.join(names) or 'none'}")
+        raise Fault(f"{options.file} has no task {unknown[0]}; it has {', '.join(names) or 'none'}")
     search = ChainSearch(options, tasks, folder)
     found = search.run()
     if found is None:
-        sys.exit("lokwurmi worst: in no trace that was tried a chain of jobs was whole: more --tries may find one")
+        raise Fault("in no trace that was tried a chain of jobs was whole: more --tries may find one")
     found = search.shortest(found)
     if options.to:
         write(options.to, search.maker.rows(found.plan))

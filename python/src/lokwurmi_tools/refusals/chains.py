@@ -1,9 +1,10 @@
-"""Why a file of chains is refused, in words: the first reason that applies, with the place that the program tells, found by the
-same rules in the same order (docs/FILES.md, "Chains with deadlines")."""
+"""Why a file of chains is refused, in words: the first reason that applies, with the place that the program tells,
+found by the same rules in the same order (docs/FILES.md, "Chains with deadlines")."""
 from __future__ import annotations
 
-import tomllib
 from collections.abc import Callable, Iterator, Sequence
+
+import tomllib
 
 from lokwurmi_tools.refusals.document import Document
 from lokwurmi_tools.refusals.keys import MOST_IN_CHAIN, MOST_IN_NAME, is_integer, is_name, is_texts
@@ -63,7 +64,8 @@ class Chains:
 
 
 def fault_in(file: File, tasks: Sequence[str]) -> tuple[str, Remark] | None:
-    """The end of the program's line for a file of chains over these tasks, and what to say; None where there is no fault."""
+    """The end of the program's line for a file of chains over these tasks, and what to say; None where there is no
+    fault."""
     try:
         chains = Chains(file.text)
     except (UnicodeError, tomllib.TOMLDecodeError, RecursionError):
@@ -111,29 +113,40 @@ def of_form(chains: Chains) -> Found:
     types |= {it: ("a whole number", is_integer) for it in DEADLINES}
     for at, entry in enumerate(chains.entries):
         if not isinstance(entry, dict):
-            yield at, Remark(f"chain {at + 1} is no table", chains.place(at).span, (), '{ name = "..", tasks = [..] }', MORE)
+            yield at, Remark(
+                f"chain {at + 1} is no table", chains.place(at).span, (), '{ name = "..", tasks = [..] }', MORE
+            )
             continue
         for key, value in entry.items():
             if key not in KEYS:
                 near = OTHER_KEYS.get(key.lower().replace("-", "_")) or nearest(key, KEYS)
                 says = f"{chains.called(at)}: the key `{printable(key)}` isn't known"
                 says += f"; did you mean `{near}`?" if near else ""
-                yield at, Remark(says, chains.key(at, key), (), "the keys of a chain are name, tasks, reaction and age", MORE)
+                yield at, Remark(
+                    says, chains.key(at, key), (), "the keys of a chain are name, tasks, reaction and age", MORE
+                )
             elif not types[key][1](value):
                 says = f"{chains.called(at)}: `{key}` has to be {types[key][0]}"
                 helps = "write ticks alone, without quotes, unit or point" if key in DEADLINES else ""
                 yield at, Remark(says, chains.value(at, key), (), helps, MORE)
         for key in ("name", "tasks"):
             if key not in entry:
-                helps = 'write name = "brake"' if key == "name" else 'write tasks = ["first", "second"], in the order of the data'
-                yield at, Remark(f"{chains.called(at)}: the key `{key}` is missing", chains.place(at).span, (), helps, MORE)
+                helps = (
+                    'write name = "brake"'
+                    if key == "name"
+                    else 'write tasks = ["first", "second"], in the order of the data'
+                )
+                yield at, Remark(
+                    f"{chains.called(at)}: the key `{key}` is missing", chains.place(at).span, (), helps, MORE
+                )
 
 
 def of_range(chains: Chains) -> Found:
     for at, entry in enumerate(chains.entries):
         for key in DEADLINES:
             if key in entry and not 1 <= entry[key] <= MOST_DEADLINE:
-                says = f"{chains.called(at)}: `{key}` is {entry[key]}, {'below 1' if entry[key] < 1 else f'above {MOST_DEADLINE}'}"
+                where = "below 1" if entry[key] < 1 else f"above {MOST_DEADLINE}"
+                says = f"{chains.called(at)}: `{key}` is {entry[key]}, {where}"
                 yield at, Remark(says, chains.value(at, key), (), f"`{key}` is 1 to {MOST_DEADLINE} ticks", MORE)
 
 
@@ -161,7 +174,10 @@ def of_nothing(chains: Chains, tasks: Sequence[str]) -> Found:
         for item, name in enumerate(entry["tasks"]):
             if name not in known:
                 says = f'{chains.called(at)}: no task is called "{printable(name)}"{mean(name, tasks)}'
-                helps = f"the tasks of the system are {some_of(tasks)}; a chain has tasks alone, and begins behind the source"
+                helps = (
+                    f"the tasks of the system are {some_of(tasks)};"
+                    " a chain has tasks alone, and begins behind the source"
+                )
                 yield at, Remark(says, chains.task(at, item), (), helps, MORE)
 
 
@@ -187,6 +203,10 @@ def of_word(document: Document, word: str) -> Remark:
     """What to say of a word of `chain` that names no task."""
     tasks = [it["name"] for it in document.entries["task"]]
     sources = {it["name"] for it in document.entries["source"]}
-    helps = "it is a source: a chain has tasks alone, and begins behind the source" if word in sources else f"its tasks are {some_of(tasks)}"
+    helps = (
+        "it is a source: a chain has tasks alone, and begins behind the source"
+        if word in sources
+        else f"its tasks are {some_of(tasks)}"
+    )
     says = f'no task is called "{printable(word)}"{mean(word, tasks)}'
     return Remark(says, None, (), helps, "Chains that read registers")

@@ -1,15 +1,15 @@
 """A system file that is TOML: its entries, where each key and value stands, and what its names name."""
 from __future__ import annotations
 
-import tomllib
 from collections.abc import Iterator
 
-from lokwurmi_tools.system import activators
+import tomllib
 
 from lokwurmi_tools.refusals.keys import PARTS
 from lokwurmi_tools.refusals.newer import older
 from lokwurmi_tools.refusals.places import Place, places_in
 from lokwurmi_tools.refusals.remark import Span
+from lokwurmi_tools.system import activators
 
 Entry = dict[str, object]
 

@@ -1,15 +1,15 @@
-"""Edits of a session in words: why one is refused, by the nine rules in their order (docs/FILES.md, "Edits that are refused")."""
+"""Edits of a session in words: why one is refused, by the nine rules in their order (docs/FILES.md, "Edits that are
+refused")."""
 from __future__ import annotations
 
 from collections.abc import Callable, Iterator
 from dataclasses import dataclass
 
-from lokwurmi_tools.system import activators, execution
-
 from lokwurmi_tools.refusals.document import Document, Names
 from lokwurmi_tools.refusals.keys import KEYS, MOST_ENTRIES, MOST_IN_CHAIN
 from lokwurmi_tools.refusals.remark import File, Remark, mean
 from lokwurmi_tools.refusals.script import Line, is_form, lines_in
+from lokwurmi_tools.system import activators, execution
 
 MORE = "Edits that are refused"
 WITH_PRIORITIES = ("preemptive", "can")
@@ -61,12 +61,22 @@ class Bench:
             if name in self.names.sources:
                 yield 1, f'"{name}" is a source, and a task is wanted', word, "a source is edited by: source NAME P J D"
             else:
-                yield 1, f'no task is called "{name}"{mean(name, list(self.names.tasks))}', word, "names are as in the file, and as earlier edits made them"
+                yield (
+                    1,
+                    f'no task is called "{name}"{mean(name, list(self.names.tasks))}',
+                    word,
+                    "names are as in the file, and as earlier edits made them",
+                )
 
     def out_of_range(self, key: str, number: int, word: int) -> Found:
         rule = KEYS["task"][key]
         if not rule.least <= number <= rule.most:
-            yield 3, f"{number} isn't {rule.least} to {rule.most}", word, f"the range is that of `{key}` in a system file"
+            yield (
+                3,
+                f"{number} isn't {rule.least} to {rule.most}",
+                word,
+                f"the range is that of `{key}` in a system file",
+            )
 
     def taken(self, resource: str, number: int, name: str, word: int) -> Found:
         used = {
@@ -75,7 +85,12 @@ class Bench:
         if self.has_priorities(resource) and number in used:
             free = next(it for it in range(number, number + len(used) + 1) if it not in used)
             swap = f"swap {name} {used[number]}, or " if name in self.names.tasks else ""
-            yield 4, f'"{used[number]}" has the priority {number} on {resource}', word, f"{swap}take a priority that is free, as {free}"
+            yield (
+                4,
+                f'"{used[number]}" has the priority {number} on {resource}',
+                word,
+                f"{swap}take a priority that is free, as {free}",
+            )
 
     def crossed(self, best: int, worst: int, word: int) -> Found:
         if best > worst:
@@ -112,7 +127,12 @@ def break_turn(bench: Bench, name: str, number: int, key: str) -> Found:
         on = bench.names.task(name)["on"]
         if bench.has_priorities(on) != (key == "priority"):
             other = "slot" if key == "priority" else "priority"
-            yield 2, f"tasks on {on}, which is {bench.names.resources[on]['kind']}, have a {other} and no {key}", 0, f"write {other} {name} N"
+            yield (
+                2,
+                f"tasks on {on}, which is {bench.names.resources[on]['kind']}, have a {other} and no {key}",
+                0,
+                f"write {other} {name} N",
+            )
         elif key == "priority":
             yield from bench.taken(on, number, name, 2)
     yield from bench.out_of_range(key, number, 2)
@@ -128,9 +148,19 @@ def break_swap(bench: Bench, first: str, second: str) -> Found:
     if first in bench.names.tasks and second in bench.names.tasks:
         here, there = (bench.names.task(it)["on"] for it in (first, second))
         if here != there:
-            yield 2, f'"{first}" is on {here}, and "{second}" on {there}', 2, "priorities of one resource can be exchanged; give each a new one by: priority TASK N"
+            yield (
+                2,
+                f'"{first}" is on {here}, and "{second}" on {there}',
+                2,
+                "priorities of one resource can be exchanged; give each a new one by: priority TASK N",
+            )
         elif not bench.has_priorities(here):
-            yield 2, f"tasks on {here}, which is {bench.names.resources[here]['kind']}, have no priorities", 0, "give each a new slot by: slot TASK N"
+            yield (
+                2,
+                f"tasks on {here}, which is {bench.names.resources[here]['kind']}, have no priorities",
+                0,
+                "give each a new slot by: slot TASK N",
+            )
 
 
 def do_swap(bench: Bench, first: str, second: str) -> None:
@@ -153,9 +183,19 @@ def break_source(bench: Bench, name: str, period: int, jitter: int, distance: in
     for key, number, word in (("period", period, 2), ("jitter", jitter, 3)):
         rule = KEYS["source"][key]
         if not rule.least <= number <= rule.most:
-            yield 3, f"the {key} {number} isn't {rule.least} to {rule.most}", word, f"the range is that of `{key}` in a system file"
+            yield (
+                3,
+                f"the {key} {number} isn't {rule.least} to {rule.most}",
+                word,
+                f"the range is that of `{key}` in a system file",
+            )
     if distance > period:
-        yield 3, f"the distance {distance} is above the period {period}", 4, "the form is: source NAME P J D, period, jitter and distance"
+        yield (
+            3,
+            f"the distance {distance} is above the period {period}",
+            4,
+            "the form is: source NAME P J D, period, jitter and distance",
+        )
 
 
 def do_source(bench: Bench, name: str, period: int, jitter: int, distance: int) -> None:
@@ -166,9 +206,19 @@ def do_source(bench: Bench, name: str, period: int, jitter: int, distance: int) 
 def break_add(bench: Bench, name: str, on: str, after: str, best: int, worst: int, number: int) -> Found:
     known = [*sorted(bench.names.sources), *bench.names.tasks]
     if on not in bench.names.resources:
-        yield 1, f'no resource is called "{on}"{mean(on, list(bench.names.resources))}', 2, "the form is: add NAME RES AFTER MIN MAX N"
+        yield (
+            1,
+            f'no resource is called "{on}"{mean(on, list(bench.names.resources))}',
+            2,
+            "the form is: add NAME RES AFTER MIN MAX N",
+        )
     if after not in known:
-        yield 1, f'no source and no task is called "{after}"{mean(after, known)}', 3, "the form is: add NAME RES AFTER MIN MAX N"
+        yield (
+            1,
+            f'no source and no task is called "{after}"{mean(after, known)}',
+            3,
+            "the form is: add NAME RES AFTER MIN MAX N",
+        )
     yield from bench.out_of_range("best", best, 4)
     yield from bench.out_of_range("worst", worst, 5)
     if on in bench.names.resources:
@@ -180,7 +230,12 @@ def break_add(bench: Bench, name: str, on: str, after: str, best: int, worst: in
     if len(bench.entries["task"]) >= MOST_ENTRIES["task"]:
         yield 8, f"there are {MOST_ENTRIES['task']} tasks already", 0, "remove one first"
     if after in bench.names.tasks and bench.names.chains()[after] >= MOST_IN_CHAIN:
-        yield 9, f"the chain up to it would have more than {MOST_IN_CHAIN} tasks", 3, "activate it by an earlier one of the chain"
+        yield (
+            9,
+            f"the chain up to it would have more than {MOST_IN_CHAIN} tasks",
+            3,
+            "activate it by an earlier one of the chain",
+        )
 
 
 def do_add(bench: Bench, name: str, on: str, after: str, best: int, worst: int, number: int) -> None:

@@ -1,16 +1,18 @@
-"""Tells a refusal or a notice in words: the front of this package, for the launcher and for the tools of tools/."""
+"""Tells a refusal or a notice in words: the front of this package, for the launcher; accepted.py is for the
+commands."""
 from __future__ import annotations
 
 import os
 import re
 import stat
 import sys
-import tomllib
 from collections.abc import Sequence
-from typing import NoReturn
+from typing import TextIO
+
+import tomllib
 
 from lokwurmi_tools.refusals import chains, edits, lines, notices, schedule, script
-from lokwurmi_tools.refusals.document import Document, Entry
+from lokwurmi_tools.refusals.document import Document
 from lokwurmi_tools.refusals.judge import Refusal, first_refusal
 from lokwurmi_tools.refusals.remark import File, Look, Remark, decoded, listed, nearest, page, printable
 from lokwurmi_tools.refusals.toml_faults import fault_in
@@ -36,7 +38,7 @@ OTHERS = {
 MOST_NOTICES = 10
 
 
-def look_for(stream) -> Look:
+def look_for(stream: TextIO) -> Look:
     """Colours where the stream is a terminal that has them, and nobody forbids them."""
     return Look(stream.isatty() and not os.environ.get("NO_COLOR") and os.environ.get("TERM", "dumb") != "dumb")
 
@@ -268,53 +270,6 @@ class Call:
             f" {'it' if len(wrote) == 1 else 'them'} ({page('FILES.md')}, \"{edits.MORE}\")\n"
         )
         return "".join(texts)
-
-
-# ---- for the commands of this package
-
-
-def accepted(name: str) -> Entry:
-    """The values of a system file; ends with the program's status, and says why, where the program refuses it."""
-    try:
-        with open(name, "rb") as it:
-            data = it.read()
-    except OSError:
-        end(UNREADABLE, f"cannot read {name}", name)
-    file = File(name, decoded(data).replace("\r\n", "\n"))
-    remark, found, document = fault_in(file), None, None
-    if remark is None:
-        document = Document(file.text)
-        found = first_refusal(document)
-    if remark or found:
-        status, line = asked(name) or ((NO_TOML, f"not TOML {name}") if remark else (NO_SYSTEM, found.line))
-        if status >= UNREADABLE:
-            here = remark if status == NO_TOML else found.remark if found and found.line == line else None
-            end(status, line, name, look_for(sys.stderr).text(file, here) if here else None)
-    if document is None:
-        sys.exit(f"{printable(name)}: the program accepts it, but it can't be read here: {remark.says}")
-    return document.values
-
-
-def asked(name: str) -> tuple[int, str] | None:
-    """What the program says of a file that seems to be refused, where it is built."""
-    from lokwurmi_tools.program import LAUNCHER, call, is_built
-
-    if not is_regular(name) or not is_built():
-        return None
-    status, text = call(LAUNCHER, "analyse", name)
-    return status, text.split("\n", 1)[0]
-
-
-def end(status: int, line: str, name: str, told: str | None = None) -> NoReturn:
-    """Says what there is to say of a refused file, and ends."""
-    told = told or Call(status, line, "analyse", [name], look_for(sys.stderr)).told()
-    sys.stderr.write(told or f"{printable(line)}\n")
-    sys.exit(status)
-
-
-def told_of(status: int, line: str, command: str, *words: str) -> str | None:
-    """What to say of a call that was refused, by the program's line."""
-    return Call(status, line, command, words, look_for(sys.stderr)).told()
 
 
 def unreadable(name: str) -> Remark:

@@ -1,16 +1,24 @@
-"""Why a system file is refused, in words: the first reason of status 14 that applies, with the part and the place that the
-program tells, found by the same rules in the same order (docs/FILES.md, "Refusals")."""
+"""Why a system file is refused, in words: the first reason of status 14 that applies, with the part and the place that
+the program tells, found by the same rules in the same order (docs/FILES.md, "Refusals")."""
 from __future__ import annotations
 
 from collections.abc import Callable, Iterator
 from dataclasses import dataclass
 
-from lokwurmi_tools.system import activators
-
 from lokwurmi_tools.refusals import form
 from lokwurmi_tools.refusals.document import Document, Entry, Names
-from lokwurmi_tools.refusals.keys import KEYS, MOST_ENTRIES, MOST_IN_CHAIN, MOST_IN_NAME, MOST_STREAMS, PARTS, is_name, is_name_letter
+from lokwurmi_tools.refusals.keys import (
+    KEYS,
+    MOST_ENTRIES,
+    MOST_IN_CHAIN,
+    MOST_IN_NAME,
+    MOST_STREAMS,
+    PARTS,
+    is_name,
+    is_name_letter,
+)
 from lokwurmi_tools.refusals.remark import Note, Remark, listed, mean
+from lokwurmi_tools.system import activators
 
 SECTIONS = {
     2: "2: a number out of its range",
@@ -120,7 +128,9 @@ def no_name(document: Document) -> Found:
             else (
                 "has a blank"
                 if wrong == " "
-                else f"has {wrong!r}" if wrong else f"has {len(name)} letters, and {MOST_IN_NAME} are the most"
+                else f"has {wrong!r}"
+                if wrong
+                else f"has {len(name)} letters, and {MOST_IN_NAME} are the most"
             )
         )
         tidy = "".join(it if is_name_letter(it) else "_" for it in name.strip())

@@ -19,7 +19,8 @@ LOW_BITS = 18
 
 @dataclass(frozen=True)
 class Key:
-    """What a key holds: `text`, `integer`, `truth`, `texts` or `after`; of an integer the range; whether each entry has it."""
+    """What a key holds: `text`, `integer`, `truth`, `texts` or `after`; of an integer the range; whether each entry has
+    it."""
 
     holds: str
     least: int = 0

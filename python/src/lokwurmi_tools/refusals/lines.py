@@ -1,4 +1,5 @@
-"""What a line of the program says by itself, for files that can't be read again, and where it is read otherwise here."""
+"""What a line of the program says by itself, for files that can't be read again, and where it is read otherwise
+here."""
 from __future__ import annotations
 
 import re

@@ -1,5 +1,6 @@
-"""TOML 1.1 for a reader of TOML 1.0. The program reads TOML 1.1, in which an inline table may go over several lines, have comments
-and end with a comma; Python's tomllib reads TOML 1.0. What is new is put out by blanks, so that all else stays in its place."""
+"""TOML 1.1 for a reader of TOML 1.0. The program reads TOML 1.1, in which an inline table may go over several lines,
+have comments and end with a comma; Python's tomllib reads TOML 1.0. What is new is put out by blanks, so that all else
+stays in its place."""
 from __future__ import annotations
 
 import re
@@ -62,7 +63,8 @@ class Blanks:
 
 
 def older(text: str) -> str:
-    """The same text with blanks for line ends, comments and last commas in inline tables, letter by letter as long as before."""
+    """The same text with blanks for line ends, comments and last commas in inline tables, letter by letter as long as
+    before."""
     blanks = Blanks(text)
     for it in TOKEN.finditer(text):
         blanks.take(it)

@@ -1,11 +1,10 @@
 """Notices: what a user would want to know of a file that the program accepts."""
 from __future__ import annotations
 
-from lokwurmi_tools.system import activators
-
 from lokwurmi_tools.refusals.document import Document, Names
 from lokwurmi_tools.refusals.keys import LOW_BITS, MOST_SHORT
 from lokwurmi_tools.refusals.remark import Note, Remark, listed
+from lokwurmi_tools.system import activators
 
 MOST = 5
 
@@ -49,7 +48,9 @@ def long_identifiers(document: Document) -> list[Remark]:
         others = (
             f", and so has one more on {resource['name']}"
             if len(frames) == 2
-            else f", and so have {len(frames) - 1} more on {resource['name']}" if len(frames) > 2 else ""
+            else f", and so have {len(frames) - 1} more on {resource['name']}"
+            if len(frames) > 2
+            else ""
         )
         says = (
             f"{document.called('task', at)} has a priority above {MOST_SHORT:#x}, the greatest identifier of 11 bits,"
@@ -70,8 +71,8 @@ def long_identifiers(document: Document) -> list[Remark]:
 
 
 def mixed_identifiers(document: Document) -> list[Remark]:
-    """One notice a bus with frames of both lengths, where the priorities look like identifiers, and these are compared on the
-    bus in another order."""
+    """One notice a bus with frames of both lengths, where the priorities look like identifiers, and these are compared
+    on the bus in another order."""
     names, remarks = Names(document), []
     for resource in document.entries["resource"]:
         if resource["kind"] != "can":
@@ -79,17 +80,21 @@ def mixed_identifiers(document: Document) -> list[Remark]:
         frames = [(at, it) for at, it in names.on(resource["name"]) if "payload" in it]
         long = [(at, it) for at, it in frames if it.get("extended") and it["priority"] > MOST_SHORT]
         short = [(at, it) for at, it in frames if not it.get("extended")]
-        pair = next(((a, b) for a in long for b in short if a[1]["priority"] >> LOW_BITS < b[1]["priority"] <= MOST_SHORT), None)
+        pair = next(
+            ((a, b) for a in long for b in short if a[1]["priority"] >> LOW_BITS < b[1]["priority"] <= MOST_SHORT), None
+        )
         if pair:
             (at, first), (other, second) = pair
             says = (
-                f"{document.called('task', at)} has a priority like an identifier of 29 bits, and goes on the bus before"
+                f"{document.called('task', at)} has a priority like an identifier of 29 bits,"
+                " and goes on the bus before"
                 f" {second['name']}, whose priority is smaller"
             )
             note = Note(f"{second['name']} has 11 bits", document.value_span("task", other, "priority"))
             helps = (
-                f"the first 11 bits are compared first, here {first['priority'] >> LOW_BITS:#x} and {second['priority']:#x}:"
-                f" give the frames of {resource['name']} the priorities 0, 1, 2 and so on in the order of the bus; as it"
+                f"the first 11 bits are compared first, here {first['priority'] >> LOW_BITS:#x}"
+                f" and {second['priority']:#x}: give the frames of {resource['name']} the priorities"
+                " 0, 1, 2 and so on in the order of the bus; as it"
                 " stands bounds may be too low for the bus"
             )
             span = document.value_span("task", at, "priority")

@@ -1,5 +1,5 @@
-"""Where the keys and values of a TOML document stand in its text. The document is one that tomllib has accepted, so that this
-looks for ends alone and judges nothing."""
+"""Where the keys and values of a TOML document stand in its text. The document is one that tomllib has accepted, so
+that this looks for ends alone and judges nothing."""
 from __future__ import annotations
 
 from dataclasses import dataclass, field

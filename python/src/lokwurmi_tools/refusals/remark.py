@@ -1,4 +1,5 @@
-"""Remarks on a file as compilers make them: the place, what is wrong, the line with a mark below the word, and what helps."""
+"""Remarks on a file as compilers make them: the place, what is wrong, the line with a mark below the word, and what
+helps."""
 from __future__ import annotations
 
 import os
@@ -26,7 +27,8 @@ class Note:
 
 @dataclass(frozen=True)
 class Remark:
-    """What is wrong in a stretch of a file, or with the file as a whole; what helps; and the section of docs/FILES.md."""
+    """What is wrong in a stretch of a file, or with the file as a whole; what helps; and the section of
+    docs/FILES.md."""
 
     says: str
     span: Span | None = None

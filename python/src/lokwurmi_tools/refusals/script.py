@@ -166,7 +166,9 @@ def wrong_word(sort: str, word: str) -> str:
         return f"`{word}` is no name: " + (
             "names stand without quotes here"
             if quoted
-            else f"it has {wrong!r}" if wrong else "it has more than 64 letters"
+            else f"it has {wrong!r}"
+            if wrong
+            else "it has more than 64 letters"
         )
     if re.fullmatch(r"[+-]\d+", word):
         return f"`{word}` is no number: it has a sign"

@@ -2,6 +2,7 @@
 from __future__ import annotations
 
 import re
+
 import tomllib
 
 from lokwurmi_tools.refusals.newer import older, open_mark

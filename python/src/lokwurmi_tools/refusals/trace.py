@@ -3,12 +3,11 @@ from __future__ import annotations
 
 from dataclasses import dataclass, field
 
-from lokwurmi_tools.system import activators, execution
-
 from lokwurmi_tools.refusals.document import Document, Names
 from lokwurmi_tools.refusals.keys import KEYS
 from lokwurmi_tools.refusals.remark import File, Note, Remark, listed, mean, nearest
 from lokwurmi_tools.refusals.rows import MOST_ROWS, Row, is_number, rows_in
+from lokwurmi_tools.system import activators, execution
 
 MOST_TIME = 10_000_000
 MOST_PHASE = 1_000_000_000
