@@ -195,6 +195,9 @@ class Kept(unittest.TestCase):
         draw = Random(7)
         for number in range(int(os.environ.get("LOKWURMI_SYSTEMS", "4"))):
             system = random_system(draw, 0)
+            for it in system.resources.values():
+                # so that no busy window is followed for long
+                it.limit = 5000
             sessions = [Session(system, engine) for engine in engines]
             for _ in range(4):
                 line, seen = random_edit(draw, sessions[0].to_system()), []

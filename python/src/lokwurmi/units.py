@@ -357,7 +357,7 @@ class Converter:
         if side == NEITHER:
             raise UnitsRefused(
                 f"{what}: {key} of {text_of(time)} is {float(number):.12g} ticks, and has no safe side: a longer slot"
-                f" helps its task and delays the others. With --tick {text_of(common(self.tick, time))} it is whole"
+                f" helps its task and delays the others. With a tick of {text_of(common(self.tick, time))} it is whole"
             )
         rounded = math.ceil(number) if side == UP else math.floor(number)
         self.told.append(Rounding(what, key, Time(time), side, rounded))
@@ -380,7 +380,7 @@ class Converter:
             longer = "shorter" if number < least else "longer"
             raise UnitsRefused(
                 f"{self.line_of(key, word)}{what}: {key} of {text_of(time)} is {number} ticks, and {least} to {most}"
-                f" are possible: take a {longer} --tick"
+                f" are possible: take a {longer} tick"
             )
         item[key] = number
 

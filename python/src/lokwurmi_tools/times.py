@@ -1,39 +1,11 @@
-"""Times with a unit, for the tools beside it: a number of nanoseconds, which may be a fraction."""
+"""Times with a unit, for the commands: those of lokwurmi.units, how they are shown on an axis, and how words are read."""
 import argparse
-import re
 from fractions import Fraction
-from math import gcd
 from typing import Any, Callable
 
-UNITS = {"ns": 1, "us": 1_000, "ms": 1_000_000, "s": 1_000_000_000}
-TIME = re.compile(r"(\d+(?:\.\d+)?) ?(ns|us|ms|s)", re.ASCII)
+from lokwurmi.units import UNITS, amount_of, common, text_of, time_of, unit_of
 
-
-def amount_of(word: str) -> Fraction:
-    """A time in nanoseconds, of a word such as 250us, 0.5ms or 0s."""
-    found = TIME.fullmatch(word)
-    if not found:
-        raise ValueError(f"{word} is no time: write a number and a unit, as 250us, 0.5ms or 1s")
-    return Fraction(found[1]) * UNITS[found[2]]
-
-
-def time_of(word: str) -> Fraction:
-    """The same of a time that isn't 0."""
-    time = amount_of(word)
-    if not time:
-        raise ValueError(f"{word} is no time above 0: write a number and a unit, as 250us, 0.5ms or 1s")
-    return time
-
-
-def unit_of(nanoseconds: Fraction) -> str:
-    """The largest unit in which a time is at least 1."""
-    return next((it for it in ("s", "ms", "us") if nanoseconds >= UNITS[it]), "ns")
-
-
-def text_of(nanoseconds: Fraction) -> str:
-    """A time in the largest unit in which it is at least 1."""
-    unit = unit_of(nanoseconds)
-    return f"{float(nanoseconds / UNITS[unit]):.12g}{unit}"
+__all__ = ["UNITS", "Scale", "amount_of", "common", "rate_of", "text_of", "time_of", "unit_of", "word_of"]
 
 
 class Scale:
@@ -56,12 +28,6 @@ class Scale:
         unit = unit_of(last * self.tick)
         axes.xaxis.set_major_formatter(lambda at, _: f"{at * float(self.tick / UNITS[unit]):.12g}")
         axes.set_xlabel(f"{unit}, where a tick is {text_of(self.tick)}")
-
-
-def common(one: Fraction, other: Fraction) -> Fraction:
-    """The longest time of which both are multiples."""
-    whole = one.denominator * other.denominator
-    return Fraction(gcd(int(one * whole), int(other * whole)), whole)
 
 
 def word_of(reader: Callable[[str], Any]) -> Callable[[str], Any]:
