@@ -13,7 +13,7 @@ The jobs and passages in schedules of random systems are those of the step rules
 schedule or a picture's name is refused.
 
 Each command tells its words without the packages that it needs beside Python's own. Where they are missing it goes on under
-Debian's Python, once, or ends with a line that says what to install; the README names the packages of all commands.
+Debian's Python, once, or ends with a line that says what to install; docs/BUILDING.md names the packages of all commands.
 
     python3 bench/check_tools.py
 """
@@ -368,8 +368,8 @@ def packages_of(files):
 
 
 def check_named():
-    """The README names the packages of all commands, and the tutorial too."""
-    for page in ("README.md", "docs/TUTORIAL.md"):
+    """docs/BUILDING.md names the packages of all commands, and the tutorial too."""
+    for page in ("docs/BUILDING.md", "docs/TUTORIAL.md"):
         with open(page, encoding="utf-8") as it:
             text = it.read()
         wanted = packages_of(sorted(glob.glob(f"{SOURCES}/lokwurmi_tools/*.py")))
