@@ -13,9 +13,9 @@ fault() {
   faults=$((faults + 1))
 }
 [ -e $library ] || { fault "library/build builds $library, which isn't there" && exit 1; }
-for it in library/report bench/library_calls bench/library_refused; do
+for it in library/report library/edits bench/library_calls bench/library_refused; do
   flags=()
-  [ $it != bench/library_refused ] || flags=(-Wl,--wrap=malloc,--wrap=realloc)
+  [ "$it" != bench/library_refused ] || flags=("-Wl,--wrap=malloc" "-Wl,--wrap=realloc")
   cc -std=c11 -O2 -Wall -Wextra -Werror -Ilibrary "${flags[@]}" -o "$room/${it##*/}" $it.c $library || exit 1
 done
 tried=0
@@ -29,6 +29,16 @@ for file in examples/*.toml; do
   { [ $here = $there ] && cmp -s "$room/here" "$room/there"; } || fault "$file: another report than the program's"
 done
 echo "$tried examples: reports as the program's"
+verdicts=(met missed overload)
+for worst in {2..12}; do
+  echo "exec b 2 $worst" >"$room/script"
+  "$program" session examples/two_tasks.toml "$room/script" >"$room/session"
+  verdict=${verdicts[$?]}
+  echo "$worst $(sed -n 's/^task b .* //p' "$room/session") $verdict"
+done >"$room/there"
+"$room/edits" examples/two_tasks.toml b 1 2 2 12 >"$room/here"
+cmp -s "$room/here" "$room/there" || fault "library/edits: other bounds than the program's"
+echo "edits of a kept session: bounds as the program's"
 if command -v valgrind >/dev/null; then
   valgrind -q --leak-check=full --show-leak-kinds=all --error-exitcode=99 "$room/library_calls" || fault "valgrind, over library_calls"
   valgrind -q --leak-check=full --error-exitcode=99 "$room/library_refused" examples/two_tasks.toml || fault "valgrind, over library_refused"
