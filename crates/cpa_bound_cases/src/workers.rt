@@ -8,7 +8,7 @@ use cpa_model::System;
 use cpa_units::Bound::{Overload, Within};
 use cpa_units::{Bound, ResId, ResSet, TaskId};
 use cpa_workers::{Gate, NoGate, Shared};
-use gates::{FREE, IN_TURN, MEET, held};
+use gates::{FREE, IN_TURN, MEET, TURNED, held};
 use std::alloc::Global;
 use std::sync::atomic::Ordering::SeqCst;
 use std::test::Fail;
@@ -34,23 +34,24 @@ fn finds_bounds<H: Sync, R: Round<H>>(
     Ok(right)
 }
 
-/// The bound of the first task in the reading of the second resource, after a round over all.
-fn seen_by_second<H: Sync, R: Round<H>>(
+/// The bound of a task in the reading of a resource, after a round over all.
+fn seen_in_round<H: Sync, R: Round<H>>(
     rt: &H,
     alloc: Global,
     system: &System,
     round: &mut R,
+    (res, task): (ResId, TaskId),
 ) -> Result<Option<Bound>, Fail> {
     let mut x = floor(alloc, system)?;
     let mut kept = Readings::none(alloc, system)?;
     let mut trail = Trail::with_room(alloc, system.tasks())?;
     let dirty = ResSet::first(system.resources());
     round.round(rt, alloc, system, &mut x, dirty, &mut kept, &mut trail)?;
-    if system.resources() < 2 {
+    if res.0 >= system.resources() {
         return Ok(None);
     }
-    match kept.get(ResId(1)) {
-        Some(reading) if reading.seen.len() > 0 => Ok(Some(reading.seen.get(TaskId(0)))),
+    match kept.get(res) {
+        Some(reading) if task.0 < reading.seen.len() => Ok(Some(reading.seen.get(task))),
         _ => Ok(None),
     }
 }
@@ -62,7 +63,20 @@ fn raise_is_seen(rt: HostRuntime) -> Result<(), Fail> {
     let system = read_system(alloc, ENDLESS_JITTER.as_bytes())?;
     let (gate, meetings) = held(alloc, IN_TURN)?;
     let mut round: Shared<Box<dyn Gate>> = Shared::new(2, gate);
-    let seen = seen_by_second(&rt, alloc, &system, &mut round)?;
+    let seen = seen_in_round(&rt, alloc, &system, &mut round, (ResId(1), TaskId(0)))?;
+    assert!(rt; meetings.missed.load(SeqCst) == 0 && seen == Some(Within(90)));
+    Ok(())
+}
+
+/// While one worker is held before p, the other analyses q and goes on to r; p then sees what came of q, which it
+/// wouldn't on one thread, where p comes first.
+#[test]
+fn raise_is_seen_back(rt: HostRuntime) -> Result<(), Fail> {
+    let alloc = rt.alloc();
+    let system = read_system(alloc, ENDLESS_JITTER.as_bytes())?;
+    let (gate, meetings) = held(alloc, TURNED)?;
+    let mut round: Shared<Box<dyn Gate>> = Shared::new(2, gate);
+    let seen = seen_in_round(&rt, alloc, &system, &mut round, (ResId(0), TaskId(2)))?;
     assert!(rt; meetings.missed.load(SeqCst) == 0 && seen == Some(Within(90)));
     Ok(())
 }

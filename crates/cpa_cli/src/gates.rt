@@ -1,9 +1,13 @@
 //! What workers pass, and what a gate sees of them: that analyses run beside each other, and which there are.
 
+ghost use Rattle.std.specs.Prelude.{None};
+
 use crate::anew::edit_once;
-use crate::calls::call_with;
+use crate::calls::{call_with, given_words, held_files};
 use crate::cases::{CROSSING_CHAINS, CROSSING_CHAINS_REPORT, ENDLESS_JITTER};
 use cpa_fix::Round;
+use cpa_io::{MemoryFiles, Sink, SinkFault};
+use cpa_run::run_with;
 use cpa_units::ResId;
 use cpa_workers::{Gate, Shared};
 use std::alloc::{AllocError, Global};
@@ -148,5 +152,53 @@ fn other_rounds_are_seen(rt: HostRuntime) -> Result<(), Fail> {
         new_gate(rt.alloc(), false)?,
     )?;
     assert!(rt; load[0] > 0 && slack[0] > 0 && buffers[0] > 0);
+    Ok(())
+}
+
+/// A sink that keeps how many analyses a gate had let through at its first two puts.
+#[derive(Drop)]
+struct Marking {
+    seen: Arc<Seen>,
+    puts: u32,
+    first: u64,
+    second: u64,
+}
+
+impl Sink for Marking {
+    ghost sent = { λ _. None };
+
+    ghost faults = { λ _. 0 };
+
+    fn put(&mut self, piece: &[u8]) -> Result<usize, SinkFault> {
+        if !piece.is_empty() {
+            let count = self.seen.met.load(SeqCst);
+            if self.puts == 0 {
+                self.first = count;
+            }
+            if self.puts == 1 {
+                self.second = count;
+            }
+            self.puts = self.puts.saturating_add(1);
+        }
+        Ok(piece.len())
+    }
+}
+
+/// A report is sent before the next edit is analysed.
+#[test]
+fn report_comes_before_edit(rt: HostRuntime) -> Result<(), Fail> {
+    let alloc = rt.alloc();
+    let (gate, seen) = new_gate(alloc, false)?;
+    let words = given_words(alloc, &["session", "sys", "scr"], &[])?;
+    let texts: &[(&str, &str)] = &[("sys", ENDLESS_JITTER), ("scr", "report\nexec c 2 5\n")];
+    let mut files = MemoryFiles::new(alloc, held_files(alloc, texts, None)?, Vec::new(alloc));
+    let mut sink = Marking {
+        seen,
+        puts: 0,
+        first: 0,
+        second: 0,
+    };
+    run_with(&rt, alloc, words.as_slice(), &mut files, &mut sink, gate);
+    assert!(rt; sink.puts == 2 && 0 < sink.first && sink.first < sink.second);
     Ok(())
 }

@@ -19,13 +19,13 @@ use Rattle.cpa_model.specs.declared.entries.Kind.{Kind}
 use Rattle.cpa_model.specs.declared.entries.Kind.TheVariants.{Preemptive, RoundRobin, Tdma, Can}
 use Rattle.cpa_model.specs.declared.entries.Turn.{Turn}
 use Rattle.cpa_model.specs.declared.entries.Turn.TheVariants.{Priority, Slot}
-use Rattle.cpa_model.specs.SystemLists.{SystemLists, task_at}
+use Rattle.cpa_model.specs.SystemLists.{SystemLists, task_at, activator_name}
 use Rattle.cpa_file.specs.Fields.{required, optional, has_only}
 use Rattle.cpa_file.specs.Lists.{read_all}
 use Rattle.cpa_file.specs.Entries.{resource_entry, source_entry, as_after, task_entry, task_fields, path_entry}
 use Rattle.cpa_file.specs.Document.{draft_of, lists_of, has_form, entries_at, items_at}
 use Rattle.cpa_model.specs.declared.entries.Activator.{Activator}
-use Rattle.cpa_model.specs.Redraft.{activator_name, redraft_resource, redraft_source, redraft_task, redraft_path, redraft}
+use Rattle.cpa_model.specs.Redraft.{redraft_resource, redraft_source, redraft_task, redraft_path, redraft}
 use Rattle.cpa_file.specs.Printed.{put, resource_data, source_data, activator_data, after_data, task_names_data, task_data, has_one, name_data, path_data, system_data}
 
 put_by : (o : Ordering) (a b c : List (String Global × Value)) → members_view (match_ordering o a b c) ≡ match_ordering o (members_view a) (members_view b) (members_view c)

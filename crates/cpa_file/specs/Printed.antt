@@ -16,9 +16,8 @@ use Rattle.cpa_model.specs.declared.entries.Kind.TheVariants.{Preemptive, RoundR
 use Rattle.cpa_model.specs.declared.entries.Turn.{Turn}
 use Rattle.cpa_model.specs.declared.entries.Turn.TheVariants.{Priority, Slot}
 use Rattle.cpa_model.specs.declared.entries.Activator.{Activator}
-use Rattle.cpa_model.specs.SystemLists.{SystemLists, resource_at, task_at}
+use Rattle.cpa_model.specs.SystemLists.{SystemLists, resource_at, task_at, activator_name}
 use Rattle.cpa_file.specs.Document.{document_of}
-use Rattle.cpa_model.specs.Redraft.{activator_name}
 
 -- a key with its value in its place among members that ascend
 abbrev pub put : List ℕ → Data → Members → Members

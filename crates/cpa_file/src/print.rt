@@ -5,9 +5,8 @@ ghost use Rattle.std.specs.Option.{ForSome};
 ghost use Rattle.toml.specs.Data.{string, integer, table};
 ghost use Rattle.toml.specs.View.{view, table_view};
 ghost use Rattle.cpa_model.specs.Rules.{IsSystem, IsResource, IsSource, IsActivator, IsTask, IsPath, KindFits};
-ghost use Rattle.cpa_model.specs.SystemLists.{resource_at, source_at, task_at, path_at, task_places, slot_of};
+ghost use Rattle.cpa_model.specs.SystemLists.{resource_at, source_at, task_at, path_at, task_places, slot_of, activator_name};
 ghost use Rattle.cpa_file.specs.Reading.{reading_of, Accepted};
-ghost use Rattle.cpa_model.specs.Redraft.{activator_name};
 ghost use Rattle.cpa_file.specs.Printed.{put, kind_text, with_kind_number, resource_data, source_data, with_turn, activator_data, after_data, task_names_data, task_data, format_of, with_deadline, name_data, path_data, system_data, IsPrinted};
 
 use cpa_model::{

@@ -22,8 +22,8 @@ use Rattle.cpa_sound.proofs.BeyondLaws.{nothing_is_beyond}
 use Rattle.cpa_sim.proofs.JobCount.{few_jobs}
 use Rattle.cpa_gen.specs.MadeTraces.{made_trace}
 use Rattle.cpa_gen.specs.declared.seen.Tally.{Tally}
-use Rattle.cpa_gen.specs.Adding.{IsSmall, MOST_JOBS, no_tally, seen_plus, tallies_plus, tally_at, tally_of, tally_plus}
-use Rattle.cpa_gen.specs.Seen.{SeenLists, jobs_in, run_made, seen_over, tally_over}
+use Rattle.cpa_gen.specs.Adding.{IsSmall, MOST_JOBS, seen_plus, tallies_plus, tally_of, tally_plus}
+use Rattle.cpa_gen.specs.Seen.{SeenLists, jobs_in, no_tally, run_made, seen_over, tally_at, tally_over}
 use Rattle.cpa_gen.proofs.ListLaws.{same_table, table, table_at, table_length}
 use Rattle.cpa_gen.proofs.ObeyLaws.{made_traces_obey}
 use Rattle.cpa_gen.proofs.ReplayLaws.{made_traces_replay}

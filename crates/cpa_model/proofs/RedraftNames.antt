@@ -19,10 +19,10 @@ use Rattle.cpa_model.specs.declared.entries.Task.{Task}
 use Rattle.cpa_model.specs.declared.entries.Activator.{Activator}
 use Rattle.cpa_model.specs.declared.entries.Activator.TheVariants as activator
 use Rattle.cpa_model.specs.Chains.{activators}
-use Rattle.cpa_model.specs.SystemLists.{SystemLists, resource_at, source_at, task_at, no_resource, no_source, no_task}
+use Rattle.cpa_model.specs.SystemLists.{SystemLists, resource_at, source_at, task_at, activator_name, no_resource, no_source, no_task}
 use Rattle.cpa_model.specs.Rules.{IsSystem, IsActivator, activity_names}
 use Rattle.cpa_model.specs.Built.{built_activator, task_named}
-use Rattle.cpa_model.specs.Redraft.{redraft_resource, redraft_source, redraft_task, activator_name, word_of, redraft}
+use Rattle.cpa_model.specs.Redraft.{redraft_resource, redraft_source, redraft_task, word_of, redraft}
 use Rattle.cpa_model.proofs.BuiltLaws.{link_from, links_from, map-same}
 
 -- the names of the resources stay

@@ -27,10 +27,10 @@ use Rattle.cpa_model.specs.declared.entries.Task.{Task}
 use Rattle.cpa_model.specs.declared.entries.Path.{Path}
 use Rattle.cpa_model.specs.declared.entries.Activator.{Activator}
 use Rattle.cpa_model.specs.declared.entries.Activator.TheVariants as activator
-use Rattle.cpa_model.specs.SystemLists.{SystemLists, resource_at, task_at, streams_of, is_task as is_the_task, no_task}
+use Rattle.cpa_model.specs.SystemLists.{SystemLists, resource_at, task_at, activator_name, streams_of, is_task as is_the_task, no_task}
 use Rattle.cpa_model.specs.Chains.{activators}
 use Rattle.cpa_model.specs.Rules.{IsSystem, IsTask, IsPath}
-use Rattle.cpa_model.specs.Redraft.{redraft_resource, redraft_source, redraft_task, redraft_path, activator_name, redraft}
+use Rattle.cpa_model.specs.Redraft.{redraft_resource, redraft_source, redraft_task, redraft_path, redraft}
 use Rattle.cpa_model.proofs.ActivatorLaws.{task-one}
 use Rattle.cpa_model.proofs.BuiltLaws.{link_from, any-more, streams-same}
 use Rattle.cpa_model.proofs.RedraftNames.{place_of-resource, link_of-task, link_of-activator, links_of-redraft, names-differ, tasks-redraft, task_at-redraft, kind_of-redraft}

@@ -9,8 +9,6 @@ use Rattle.cpa_model.specs.declared.entries.Kind.{Kind}
 use Rattle.cpa_model.specs.declared.entries.Kind.TheVariants.{Preemptive, RoundRobin, Tdma, Can}
 use Rattle.cpa_model.specs.declared.entries.Turn.{Turn}
 use Rattle.cpa_model.specs.declared.entries.Turn.TheVariants.{Priority, Slot}
-use Rattle.cpa_model.specs.declared.entries.Activator.{Activator}
-use Rattle.cpa_model.specs.declared.entries.Activator.TheVariants as activator
 use Rattle.cpa_draft.specs.declared.draft.DraftResource.{DraftResource}
 use Rattle.cpa_draft.specs.declared.draft.DraftSource.{DraftSource}
 use Rattle.cpa_draft.specs.declared.draft.DraftTask.{DraftTask}
@@ -21,7 +19,7 @@ use Rattle.cpa_draft.specs.DraftLists.{DraftLists}
 use Rattle.cpa_draft.specs.Refusals.{first_refusal}
 use Rattle.cpa_model.specs.Built.{system_of}
 use Rattle.cpa_model.specs.Rules.{IsSystem}
-use Rattle.cpa_model.specs.SystemLists.{SystemLists, resource_at, source_at, task_at}
+use Rattle.cpa_model.specs.SystemLists.{SystemLists, resource_at, task_at, activator_name}
 
 abbrev pub word_of : Kind → KindWord
 word_of Preemptive = word.Preemptive
@@ -42,10 +40,6 @@ redraft_resource r = record { name = r.name; kind = word_of r.kind; limit = Some
 
 abbrev pub redraft_source : Source → DraftSource
 redraft_source r = record { name = r.name; period = pos r.period; jitter = Some (pos r.jitter); distance = Some (pos r.distance) }
-
-abbrev pub activator_name : SystemLists → Activator → List ℕ
-activator_name s (activator.Source k) = (source_at s k.0).name
-activator_name s (activator.Task j) = (task_at s j.0).name
 
 abbrev pub priority_at : Turn → Option ℤ
 priority_at (Priority number) = Some (pos number)

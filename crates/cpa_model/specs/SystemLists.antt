@@ -128,6 +128,11 @@ abbrev pub is_task : ℕ → Activator → Bool
 is_task j (activator.Source source) = false
 is_task j (activator.Task task) = task.0 == j
 
+-- the name of an activator
+abbrev pub activator_name : SystemLists → Activator → List ℕ
+activator_name s (activator.Source k) = (source_at s k.0).name
+activator_name s (activator.Task j) = (task_at s j.0).name
+
 -- whether source k is among the activators of task i
 abbrev pub is_fed_by : SystemLists → ℕ → ℕ → Bool
 is_fed_by s k i = list_any (is_source k) (task_at s i).after

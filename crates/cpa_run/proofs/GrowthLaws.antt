@@ -7,14 +7,19 @@ use Rattle.cpa_units.specs.declared.places.ResId.{ResId}
 use Rattle.cpa_units.specs.declared.places.TaskId.{TaskId}
 use Rattle.cpa_model.specs.Rules.{IsSystem}
 use Rattle.cpa_model.specs.SystemLists.{SystemLists, resource_named, task_named, no_resource, no_task}
-use Rattle.cpa_assign.specs.Orders.{IsOrderOf, IsOrderable}
+use Rattle.cpa_local.specs.Solution.{least_of}
+use Rattle.cpa_assign.specs.Orders.{IsOrderOf, IsOrderable, with_order}
 use Rattle.cpa_assign.specs.OrderText.{assign_text}
+use Rattle.cpa_local.proofs.SolutionLaws.{least_of-is_least}
+use Rattle.cpa_sound.proofs.Soundness.{least_solutions_bound_every_run}
 use Rattle.cpa_assign.proofs.DecidedLaws.{orders_are_decided}
+use Rattle.cpa_assign.proofs.KeptLaws.{order_keeps_rules}
 use Rattle.cpa_assign.proofs.OneOrderLaws.{best_order_is_one}
 use Rattle.cpa_slack.specs.declared.slack.Slack.{Slack}
-use Rattle.cpa_slack.specs.Slack.{IsSlack}
+use Rattle.cpa_slack.specs.Slack.{IsSlack, longer}
 use Rattle.cpa_slack.specs.SlackText.{slack_text}
 use Rattle.cpa_slack.proofs.OneSlackLaws.{slack_exists, slack_is_one}
+use Rattle.cpa_slack.proofs.SlackLaws.{longer-rules}
 use Rattle.cpa_call.specs.Answers.{Answer, reply}
 use Rattle.cpa_run.specs.Work.{IsAssigned, order_status, IsGrowth, slack_status}
 
@@ -35,13 +40,22 @@ task-there s name i e = (position-Some _ s.tasks i.0 no_task (task_at_place _ i 
 
 -- ---- orders
 
-pub assigned-at : (s : SystemLists) (r : ℕ) (order : Option (List TaskId)) → IsOrderOf s r order → IsAssigned s r (reply (order_status order) (assign_text s r order))
-assigned-at s r order is = record { order = order; is_best = is; status_is = refl; text_is = refl }
+pub assigned-at : (s : SystemLists) (r : ℕ) (order : Option (List TaskId)) → IsSystem s → IsOrderable s r → IsOrderOf s r order → IsAssigned s r (reply (order_status order) (assign_text s r order))
+assigned-at s r order rules able is =
+    record {
+      order = order;
+      is_best = is;
+      hold = λ o ordered.
+          let kept = order_keeps_rules s r o rules able.kind ordered in
+          least_solutions_bound_every_run (with_order s r o) (least_of (with_order s r o)) kept (least_of-is_least (with_order s r o) kept);
+      status_is = refl;
+      text_is = refl;
+    }
 
 pub some-assigned : (s : SystemLists) (r : ℕ) → IsSystem s → IsOrderable s r → (answer : Answer) × IsAssigned s r answer
 some-assigned s r rules able =
     let it = orders_are_decided s r rules able in
-    (reply (order_status it.0) (assign_text s r it.0), assigned-at s r it.0 it.1)
+    (reply (order_status it.0) (assign_text s r it.0), assigned-at s r it.0 rules able it.1)
 
 pub one-assigned : (s : SystemLists) (r : ℕ) (a b : Answer) → IsAssigned s r a → IsAssigned s r b → a ≡ b
 one-assigned s r a b h k =
@@ -52,13 +66,22 @@ one-assigned s r a b h k =
 
 -- ---- growths
 
-pub growth-at : (s : SystemLists) (i : ℕ) (slack : Slack) → IsSlack s i slack → IsGrowth s i (reply (slack_status slack) (slack_text s i slack))
-growth-at s i slack is = record { slack = slack; is_most = is; status_is = refl; text_is = refl }
+pub growth-at : (s : SystemLists) (i : ℕ) (slack : Slack) → IsSystem s → i < length s.tasks → IsSlack s i slack → IsGrowth s i (reply (slack_status slack) (slack_text s i slack))
+growth-at s i slack rules there is =
+    record {
+      slack = slack;
+      is_most = is;
+      hold = λ k few.
+          let kept = longer-rules s i k rules there few in
+          least_solutions_bound_every_run (longer s i k) (least_of (longer s i k)) kept (least_of-is_least (longer s i k) kept);
+      status_is = refl;
+      text_is = refl;
+    }
 
 pub some-growth : (s : SystemLists) (i : ℕ) → IsSystem s → i < length s.tasks → (answer : Answer) × IsGrowth s i answer
 some-growth s i rules there =
     let it = slack_exists s i rules there in
-    (reply (slack_status it.0) (slack_text s i it.0), growth-at s i it.0 it.1)
+    (reply (slack_status it.0) (slack_text s i it.0), growth-at s i it.0 rules there it.1)
 
 pub one-growth : (s : SystemLists) (i : ℕ) (a b : Answer) → IsGrowth s i a → IsGrowth s i b → a ≡ b
 one-growth s i a b h k =

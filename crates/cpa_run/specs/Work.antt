@@ -1,10 +1,11 @@
 -- What comes of the work that a call has to do.
-use Rattle.std.specs.Prelude.{◌≡◌, ◌<◌, ℕ, List, length, Option, Some, None}
+use Rattle.std.specs.Prelude.{◌≡◌, ◌<◌, ◌≤◌, ◌+◌, ℕ, List, length, Option, Some, None}
 use Rattle.std.specs.List.{range_with_len}
 use Rattle.cpa_units.specs.declared.bound.Bound.{Bound}
+use Rattle.cpa_units.specs.declared.limits.TheConstants.{MAX_EXECUTION}
 use Rattle.cpa_units.specs.declared.places.TaskId.{TaskId}
-use Rattle.cpa_model.specs.SystemLists.{SystemLists}
-use Rattle.cpa_local.specs.Solution.{IsLeast}
+use Rattle.cpa_model.specs.SystemLists.{SystemLists, task_at}
+use Rattle.cpa_local.specs.Solution.{IsLeast, least_of}
 use Rattle.cpa_file.specs.Reading.{Accepted, reading_of}
 use Rattle.cpa_file.specs.Printed.{IsPrinted}
 use Rattle.cpa_edit.specs.Script.{AreNamed}
@@ -16,11 +17,11 @@ use Rattle.cpa_words.specs.Words.{AreWorkers, AreTraces, IsSize}
 use Rattle.cpa_gen.specs.MadeSystems.{made_system}
 use Rattle.cpa_gen.specs.Seen.{seen_over}
 use Rattle.cpa_gen.specs.Texts.{load_text, hammer_text}
-use Rattle.cpa_assign.specs.Orders.{IsOrderOf, IsOrderable}
+use Rattle.cpa_assign.specs.Orders.{IsOrder, IsOrderOf, IsOrderable, with_order}
 use Rattle.cpa_assign.specs.OrderText.{assign_text}
 use Rattle.cpa_slack.specs.declared.slack.Slack.{Slack}
 use Rattle.cpa_slack.specs.declared.slack.Slack.TheVariants.{Missed, Add}
-use Rattle.cpa_slack.specs.Slack.{IsSlack}
+use Rattle.cpa_slack.specs.Slack.{IsSlack, longer}
 use Rattle.cpa_slack.specs.SlackText.{slack_text}
 use Rattle.cpa_trace.specs.Trace.{TraceLists, Obeys}
 use Rattle.cpa_buffer.specs.Laws.{BuffersSuffice}
@@ -72,6 +73,8 @@ order_status None = 3
 pub record IsAssigned (s : SystemLists) (r : ℕ) (answer : Answer) : Type 0 where
   pub order : Option (List TaskId)
   pub is_best : IsOrderOf s r order
+  -- under each order of the resource the least solution bounds every run
+  pub hold : (o : List ℕ) → IsOrder s r o → BoundsHold (with_order s r o) (least_of (with_order s r o))
   pub status_is : answer.status ≡ Some (order_status order)
   pub text_is : answer.text ≡ assign_text s r order
 
@@ -84,6 +87,8 @@ slack_status Missed = 3
 pub record IsGrowth (s : SystemLists) (i : ℕ) (answer : Answer) : Type 0 where
   pub slack : Slack
   pub is_most : IsSlack s i slack
+  -- however much longer the task may take, the least solution bounds every run
+  pub hold : (k : ℕ) → (task_at s i).worst + k ≤ MAX_EXECUTION → BoundsHold (longer s i k) (least_of (longer s i k))
   pub status_is : answer.status ≡ Some (slack_status slack)
   pub text_is : answer.text ≡ slack_text s i slack
 

@@ -15,7 +15,8 @@ use Rattle.cpa_sim.specs.Arrivals.{AreGiven}
 use Rattle.cpa_sim.specs.Lines.{LineCounts, worked, served_line}
 use Rattle.cpa_sim.proofs.JobLists.{AreInOrder}
 use Rattle.cpa_sim.specs.Simulation.{line_at, dispatch_at, runner, runs_at, waiting, IsServed, IsAt}
-use Rattle.cpa_sim.specs.Served.{first_open, numbered, served_at, last_of, ran_by, RanWithin}
+use Rattle.cpa_sim.specs.Served.{first_open, numbered, served_at}
+use Rattle.cpa_sim.specs.LastServed.{last_of, ran_by, RanWithin}
 use Rattle.cpa_sim.proofs.LineLaws.{ordered-more}
 use Rattle.cpa_sim.proofs.SameTaskLaws.{SameTasksRun, chosen, jobs_at, left_at, picked, chosen-pending, after, task}
 use Rattle.cpa_sim.proofs.InvariantLaws.{CanRun, holds-always}

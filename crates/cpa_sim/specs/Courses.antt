@@ -12,7 +12,7 @@ use Rattle.cpa_sim.specs.Lines.{LineCounts}
 use Rattle.cpa_sim.specs.Orders.{AreOrders, ArePlaces, AreReached}
 use Rattle.cpa_sim.specs.Outcome.{CanReplay, events_from, is_over}
 use Rattle.cpa_sim.specs.Simulation.{IsAt, IsSoon}
-use Rattle.cpa_sim.specs.Served.{RanWithin}
+use Rattle.cpa_sim.specs.LastServed.{RanWithin}
 
 -- what is known of a run as far as it was followed, and whether its jobs are kept
 pub record CourseLists : Type 0 where

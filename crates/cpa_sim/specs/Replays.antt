@@ -2,7 +2,8 @@
 use Rattle.std.specs.Prelude.{ℕ, ◌≡◌, ◌<◌, ◌≤◌, false, length}
 use Rattle.cpa_model.specs.SystemLists.{SystemLists}
 use Rattle.cpa_trace.specs.Trace.{TraceLists}
-use Rattle.cpa_sim.specs.Served.{served_at, ran_by}
+use Rattle.cpa_sim.specs.Served.{served_at}
+use Rattle.cpa_sim.specs.LastServed.{ran_by}
 use Rattle.cpa_sim.specs.Courses.{CourseLists, IsCourse}
 
 -- a run of a system under a trace, up to which time it was followed, and the moment before that

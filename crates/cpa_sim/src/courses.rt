@@ -5,7 +5,8 @@ ghost use Rattle.cpa_model.specs.SystemLists.{SystemLists};
 ghost use Rattle.cpa_trace.specs.Trace.{TraceLists};
 ghost use Rattle.cpa_sim.specs.Lines.{kept_of};
 ghost use Rattle.cpa_sim.specs.Outcome.{CanReplay, end_of};
-ghost use Rattle.cpa_sim.specs.Served.{served_at, ran_by, RanWithin};
+ghost use Rattle.cpa_sim.specs.Served.{served_at};
+ghost use Rattle.cpa_sim.specs.LastServed.{ran_by, RanWithin};
 ghost use Rattle.cpa_sim.specs.Courses.{IsCourse};
 
 use crate::feeds::quiet_from;

@@ -243,12 +243,12 @@ module _ (s : SystemLists) (tr : TraceLists) where
             rw e (ap (jobs_in from) (arrived-one s tr t i) ∙ started-count i t (events_before times (t + 1)) a (omega arith) (numbers-source i k t (activator-there s rules i a h starts) starts))
 
         -- the event that started a job came when the job did
-        record Event (l a : ℕ) : Type 0 where
-          is_after : a ≤ time_of tr k (jobs_in from l)
-          is_by : time_of tr k (jobs_in from l) < a + 1
-          there : jobs_in from l < length times
+        pub record Event (l a : ℕ) : Type 0 where
+          pub is_after : a ≤ time_of tr k (jobs_in from l)
+          pub is_by : time_of tr k (jobs_in from l) < a + 1
+          pub there : jobs_in from l < length times
 
-        event : (l a : ℕ) → a < last + 1 → from l ≡ true → (arrived_before s tr i a ≤ l) × (l < arrived_before s tr i (a + 1)) → Event l a
+        pub event : (l a : ℕ) → a < last + 1 → from l ≡ true → (arrived_before s tr i a ≤ l) × (l < arrived_before s tr i (a + 1)) → Event l a
         event l a soon own arrives =
             let n : ℕ = jobs_in from l in
             let order = in_order-from s tr k obeys in

@@ -35,5 +35,6 @@ pub mod SlotRuns
 pub mod FieldLaws
 pub mod PathLaws
 pub mod Soundness
+mod CauseInstants
 pub mod BeyondLaws
 mod WorkedCases

@@ -112,7 +112,7 @@ module _ (s : SystemLists) (tr : TraceLists) (rules : IsSystem s) (obeys : Obeys
       ]
 
   -- what is complete at a time is complete by it
-  complete-by : (i k time t : ℕ) → i < length s.tasks → HasJob s tr t i k → time ≤ t → k < ended_count ((run s tr time).jobs i) → IsDoneBy s tr t i k time
+  pub complete-by : (i k time t : ℕ) → i < length s.tasks → HasJob s tr t i k → time ≤ t → k < ended_count ((run s tr time).jobs i) → IsDoneBy s tr t i k time
   complete-by i k time t h has le done =
       let o = order s tr rules obeys i h in
       let later = ended-mono (course_of s tr i) (task_at s i).best (task_at s i).worst o time t le in
@@ -236,10 +236,10 @@ least_solutions_bound_every_run s x rules least = closed_vectors_bound_every_run
 -- ---- what causes lead to
 
 module _ (s : SystemLists) (tr : TraceLists) (rules : IsSystem s) (obeys : Obeys s tr) (t : ℕ) where
-  causes-kept : KeepsCauses s (course_of s tr) (causes_at s tr t) t
+  pub causes-kept : KeepsCauses s (course_of s tr) (causes_at s tr t) t
   causes-kept = keeps-causes s tr obeys rules t (order s tr rules obeys)
 
-  has-arrived : (i k : ℕ) → HasJob s tr t i k → k < (course_of s tr i).arrived (t + 1)
+  pub has-arrived : (i k : ℕ) → HasJob s tr t i k → k < (course_of s tr i).arrived (t + 1)
   has-arrived i k has = omega (arith, has, arrived-one s tr t i)
 
   own-stream : (i k : ℕ) → i < length s.tasks → HasJob s tr t i k → (stream_of s tr t i k < length (streams_of s i)) × (stream_at s i (stream_of s tr t i k) ≡ origin_of s tr t i k)

@@ -64,6 +64,13 @@ task = [
 ]
 "#;
 
+/// A task that needs one tick for each event.
+const ONE_TICK: &str = r#"format = 1
+resource = [{ name = "cpu", kind = "preemptive" }]
+source = [{ name = "s", period = 10 }]
+task = [{ name = "t", on = "cpu", after = "s", best = 1, worst = 1, priority = 1 }]
+"#;
+
 /// The files that all calls are made over, and beside them `long`, which is a byte too long for a system.
 const HELD: [(&str, &str); 10] = [
     ("sys", FOUR_KINDS),
@@ -132,6 +139,17 @@ fn held(alloc: Global) -> Result<Vec<(String, Vec<u8>)>, AllocError> {
     Ok(held)
 }
 
+/// A trace with an event every ten ticks, and the schedule of a task that needs one tick for each.
+fn long_run(alloc: Global, events: u32) -> Result<(Vec<u8>, Vec<u8>), AllocError> {
+    let mut trace = Vec::new(alloc);
+    let mut schedule = Vec::new(alloc);
+    for time in (0..u64::from(events)).map(|k| 10 * k) {
+        trace.extend_from_slice(format!(in alloc; "event,s,{time}\n")?.as_bytes())?;
+        schedule.extend_from_slice(format!(in alloc; "t,{time},{}\n", time + 1)?.as_bytes())?;
+    }
+    Ok((trace, schedule))
+}
+
 /// The status and the bytes sent of a call.
 fn call(alloc: Global, words: &[&str], faults: &Faults) -> Result<(u8, MemorySink), AllocError> {
     let (loads, piece, puts) = *faults;
@@ -156,5 +174,26 @@ fn answers_calls(rt: HostRuntime) -> Result<(), Fail> {
         }
     }
     assert!(rt; wrong.is_none(), "{wrong:?}");
+    Ok(())
+}
+
+/// A schedule that is longer than what is sent at once: 6,000 rows, above 65,536 bytes.
+#[test]
+fn sends_long_schedule(rt: HostRuntime) -> Result<(), Fail> {
+    let alloc = rt.alloc();
+    let (trace, schedule) = long_run(alloc, 6000)?;
+    let mut held = Vec::new(alloc);
+    held.push((
+        String::from_str(alloc, "sys")?,
+        Vec::from_slice(alloc, ONE_TICK.as_bytes())?,
+    ))?;
+    held.push((String::from_str(alloc, "tr")?, trace))?;
+    let mut words = Vec::new(alloc);
+    words.push(String::from_str(alloc, "sys")?)?;
+    words.push(String::from_str(alloc, "tr")?)?;
+    let mut files = MemoryFiles::new(alloc, held, Vec::new(alloc));
+    let mut sink = MemorySink::new(alloc, 4096, Vec::new(alloc));
+    let status = write_schedule(alloc, words.as_slice(), &mut files, &mut sink);
+    assert!(rt; schedule.len() > 65536 && status == 0 && sink.sent() == schedule.as_slice());
     Ok(())
 }

@@ -35,6 +35,9 @@ pub(crate) type Places = [(usize, usize); 3];
 /// Holds the first resource until the second was entered, and the second until the third was.
 pub(crate) const IN_TURN: Places = [(0, 1), (1, 2), (2, 2)];
 
+/// Holds the first resource until the third was entered.
+pub(crate) const TURNED: Places = [(0, 2), (1, 1), (2, 2)];
+
 /// Holds each analysis until that of another resource has begun. The first resource is one side, all others are the other. On
 /// one thread the first is held too long.
 pub(crate) const MEET: Places = [(0, 1), (1, 0), (1, 0)];

@@ -19,12 +19,12 @@ returns-in_err-text-clause-part g c =
 pub returns-clause-sends : goal.returns-clause-sends
 returns-clause-sends g c =
     sends-by (IsGrowth c.args.system.now c.args.task.0) c.slack_status.result c.as_slice.result.now (g.K.Sink.sent c.args.sink.now) (g.K.Sink.sent c.send.new.sink) c.send.result
-    (rw (c.slack_status.ensures, c.as_slice.ensures.value, c.in_ok-text.ensures) (growth-at c.args.system.now c.args.task.0 c.in_ok-slack.slack c.in_ok-slack.ensures.slack))
+    (rw (c.slack_status.ensures, c.as_slice.ensures.value, c.in_ok-text.ensures) (growth-at c.args.system.now c.args.task.0 c.in_ok-slack.slack c.has_rules.ensures c.requires c.in_ok-slack.ensures.slack))
     c.send.ensures.sent c.send.ensures.status
 
 pub returns-clause-part : goal.returns-clause-part
 returns-clause-part g c =
     on_err_weaker c.send.result
     (λ part. part-reply (IsGrowth c.args.system.now c.args.task.0) c.slack_status.result c.as_slice.result.now (g.K.Sink.sent c.args.sink.now) (g.K.Sink.sent c.send.new.sink)
-    (rw (c.slack_status.ensures, c.as_slice.ensures.value, c.in_ok-text.ensures) (growth-at c.args.system.now c.args.task.0 c.in_ok-slack.slack c.in_ok-slack.ensures.slack)) part)
+    (rw (c.slack_status.ensures, c.as_slice.ensures.value, c.in_ok-text.ensures) (growth-at c.args.system.now c.args.task.0 c.in_ok-slack.slack c.has_rules.ensures c.requires c.in_ok-slack.ensures.slack)) part)
     c.send.ensures.part

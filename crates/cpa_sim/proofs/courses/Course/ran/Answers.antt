@@ -3,7 +3,7 @@ use Rattle.std.proofs.lemmas.List.{get_or_read}
 use Rattle.cpa_model.specs.SystemLists.{place_of}
 use Rattle.cpa_sim.specs.declared.dispatches.Dispatch.{Dispatch}
 use Rattle.cpa_sim.specs.Simulation.{no_dispatch}
-use Rattle.cpa_sim.specs.Served.{RanWithin}
+use Rattle.cpa_sim.specs.LastServed.{RanWithin}
 use Rattle.cpa_sim.specs.Courses.{CourseLists}
 use Rattle.cpa_sim.proofs.courses.Course.ran.Goals as goal
 
