@@ -1,7 +1,7 @@
 -- A reply that was given is the answer.
 use Rattle.std.proofs.Common.{◌≡◌, ℕ, List, length, Ok, Err, IfOk, sym, ap, Some}
 use Rattle.std.specs.Prelude.{Result}
-use Rattle.std.specs.Result.{IsOkAnd, IsErr, OnErr}
+use Rattle.std.specs.Result.{IsOkAnd}
 use Rattle.cpa_units.specs.declared.places.NoMemory.{NoMemory}
 use Rattle.cpa_call.specs.declared.ended.Reply.{Reply}
 use Rattle.cpa_call.specs.Answers.{Answer, reply}
@@ -12,8 +12,3 @@ pub gives-by : (P : Answer → Type 0) (r : Result Reply NoMemory) (status used 
     → IsOkAnd r (λ it. (status ≡ it.status) × (used ≡ length it.text.items) × (now ≡ over it.text.items before)) → Gives P status before now used
 gives-by P (Ok it) status used before now is h = record { answer = reply it.status it.text.items; is_output = is; status_is = ap Some (sym h.0); used_is = h.1; out_is = h.2 }
 gives-by P (Err e) status used before now is h = absurd h
-
--- what holds where there is no reply
-pub where-none : (P : Type 0) (r : Result Reply NoMemory) → IsErr r → OnErr r P → P
-where-none P (Err e) none h = h
-where-none P (Ok it) none h = absurd (let no : ⊥ = cc in no)

@@ -390,7 +390,11 @@ pub extern "C" fn lokwurmi_chain(
         schedule: b"",
         chains: b"",
     };
-    give(cpa_memory::chain(alloc, texts, names, while_running != 0), out, used)
+    give(
+        cpa_memory::chain(alloc, texts, names, while_running != 0),
+        out,
+        used,
+    )
 }
 
 /// The bounds of the chains in a text, with the verdicts on their deadlines.

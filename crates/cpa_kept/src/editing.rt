@@ -17,12 +17,7 @@ use cpa_units::NoMemory;
 use std::alloc::Global;
 
 /// Makes an edit that stands in a line, or says the rule that it breaks.
-fn make(
-    alloc: Global,
-    session: &mut Session,
-    line: u32,
-    edit: &Edit,
-) -> Result<Reply, NoMemory>
+fn make(alloc: Global, session: &mut Session, line: u32, edit: &Edit) -> Result<Reply, NoMemory>
     ensures answers { IfOk result (λ r. IsMade session.old line (edited session.old edit.now) (Some session.new) (reply r.status r.text.items)) }
     ensures status { IfOk result (λ r. r.status ≢ 30) }
     ensures unchanged { OnErr result (session.new ≡ session.old) }

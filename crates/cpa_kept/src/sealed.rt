@@ -37,7 +37,9 @@ impl Sealed {
         ensures { result.kept ≡ Some parts.value }
     {
         let Parts { ptr, alloc: _ } = parts;
-        Sealed { ptr: ptr as *mut u8 }
+        Sealed {
+            ptr: ptr as *mut u8,
+        }
     }
 
     /// The box of the session.

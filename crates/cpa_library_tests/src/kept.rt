@@ -6,7 +6,8 @@ use std::alloc::Global;
 use std::test::Fail;
 
 /// Two tasks on one processor; the path of the second has the deadline 9.
-const SYSTEM: &str = "format = 1\nresource = [{ name = \"cpu\", kind = \"preemptive\" }]\nsource = [{ name = \"sa\", period = 10 }, { name = \"sb\", period = 20 }]\ntask = [{ name = \"a\", on = \"cpu\", after = \"sa\", best = 1, worst = 3, priority = 1 }, { name = \"b\", on = \"cpu\", after = \"sb\", best = 2, worst = 7, priority = 2 }]\npath = [{ name = \"p\", tasks = [\"b\"], deadline = 9 }]\n";
+const SYSTEM: &str =
+    "format = 1\nresource = [{ name = \"cpu\", kind = \"preemptive\" }]\nsource = [{ name = \"sa\", period = 10 }, { name = \"sb\", period = 20 }]\ntask = [{ name = \"a\", on = \"cpu\", after = \"sa\", best = 1, worst = 3, priority = 1 }, { name = \"b\", on = \"cpu\", after = \"sb\", best = 2, worst = 7, priority = 2 }]\npath = [{ name = \"p\", tasks = [\"b\"], deadline = 9 }]\n";
 
 /// What is seen after an edit: its status, the verdict, both bounds, and the latency of the path.
 #[derive(Clone, Copy, Debug, PartialEq, Eq)]

@@ -3,7 +3,8 @@
 use cpa_memory::{Texts, chain, chains, schedule};
 use std::test::Fail;
 
-const SYSTEM: &str = "format = 1\nresource = [{ name = \"cpu\", kind = \"preemptive\" }]\nsource = [{ name = \"sa\", period = 10 }, { name = \"sb\", period = 20 }]\ntask = [{ name = \"a\", on = \"cpu\", after = \"sa\", best = 1, worst = 3, priority = 1 }, { name = \"b\", on = \"cpu\", after = \"sb\", best = 2, worst = 7, priority = 2 }]\n";
+const SYSTEM: &str =
+    "format = 1\nresource = [{ name = \"cpu\", kind = \"preemptive\" }]\nsource = [{ name = \"sa\", period = 10 }, { name = \"sb\", period = 20 }]\ntask = [{ name = \"a\", on = \"cpu\", after = \"sa\", best = 1, worst = 3, priority = 1 }, { name = \"b\", on = \"cpu\", after = \"sb\", best = 2, worst = 7, priority = 2 }]\n";
 
 const CHAINS: &str = "format = 1\nchain = [{ name = \"c\", tasks = [\"a\", \"b\"] }]\n";
 

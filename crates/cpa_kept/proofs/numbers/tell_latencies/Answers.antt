@@ -1,4 +1,4 @@
-use Rattle.std.proofs.Common.{◌≡◌, ap, sym, subst, ◌∙◌, length, map}
+use Rattle.std.proofs.Common.{ap, sym, subst, ◌∙◌, length, map}
 use Rattle.std.proofs.lemmas.List.{length-map}
 use Rattle.cpa_units.specs.Words.{word_of}
 use Rattle.cpa_model.specs.Rules.{IsSystem}

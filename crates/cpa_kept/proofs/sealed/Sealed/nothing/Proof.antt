@@ -1,8 +1,7 @@
 -- `nothing` has a pointer that leads nowhere, and owns nothing.
 use mathlib.Core.Path.{refl}
-use mathlib.Core.List.{List, [], ◌∷◌}
+use mathlib.Core.List.{[], ◌∷◌}
 use seplogic.Ra.Ura.{Ura}
-use mir.Val.{Val}
 use base.Logic.{SProp, ent, emp}
 use base.Fml.{ftrue}
 use prog.Memory.{Memory}
@@ -12,7 +11,7 @@ use types.Logic.{Logic}
 use contract.Monad.{Fun}
 use contract.Running.{tables, tables_of}
 use sound.WpLaws.{WpFn-mono}
-use types.Kit.{‵, raw, ◌⊛◌, ◌$◌, ◌∵◌, !, qed, drop, join, split, suffices, done}
+use types.Kit.{‵, raw, ◌⊛◌, ◌$◌, ◌∵◌, !, qed, drop, join, suffices, done}
 use types.Part.{agg}
 use types.Run.{lit, no_more, and_then, returns, enter}
 use types.ByLocal.{alloc_all, pass_all, free_all, look_at, sets}
