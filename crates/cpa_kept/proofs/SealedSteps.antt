@@ -17,7 +17,7 @@ use denote.Struct.Owning.{shape}
 use mir.Syntax.{impl, tnil, dnil}
 use Rattle.std.specs.Box.Ownership.{box_owns}
 use Rattle.std_alloc.proofs.BoxSteps.Form.{Bx}
-use Rattle.libc.specs.Heap.{chunk}
+use Rattle.cpa_kept.specs.Sealed.{frees}
 use Rattle.std_heap.specs.contracts.Global as Heap
 use Rattle.std_heap.specs.contracts.GlobalAllocator.TheImpl.{ghosts, dict}
 use Rattle.std_heap.proofs.Global.TheLaws as heap
@@ -45,7 +45,7 @@ alone v = vstruct (vcons v vnil)
 module _ {M : Type 1} {𝓤 : Ura M} {𝓛 : Logic 𝓤} {K : Type 0} {Γ : List (Item 𝓤)} {G : Goal 𝓤 𝓛.H} where
   -- a block of the heap, sealed
   pub sealed_in : K → (b o : ℕ) (x : Session.the_row.Denot)
-      → Step K 𝓛 (‵ (Sealed.the_row.own_val (record { ptr = block_ptr b o; kept = Some x }) (alone (vptr b o) ∷ [])) ∷ Γ) G (‵ (box_owns chunk Session.the_row (block_ptr b o) x) ∷ Γ) G
+      → Step K 𝓛 (‵ (Sealed.the_row.own_val (record { ptr = block_ptr b o; kept = Some x }) (alone (vptr b o) ∷ [])) ∷ Γ) G (‵ (box_owns frees Session.the_row (block_ptr b o) x) ∷ Γ) G
   sealed_in t b o x = step (λ s. let v : Val = alone (vptr b o) in
       nothing t $ feq_i t (List Val) (vptr b o ∷ []) (vptr b o ∷ []) refl $ fjoin t $ feq_i t (List Val) (v ∷ []) (v ∷ []) refl $ fjoin t $
       fpack t (Valss (RawPtr ∷ [])) (within (shape (Sealed.the_type)) (block_ptr b o, tt) (v ∷ [])) (vptr b o ∷ [], tt) $ fjoin t $ s)
@@ -58,9 +58,9 @@ module _ {M : Type 1} {𝓤 : Ura M} {𝓛 : Logic 𝓤} {K : Type 0} {Γ : List
 
   -- what is sealed is a block of the heap
   pub sealed_out : K → (p : Ptr) (x : Session.the_row.Denot) (vs : List Val)
-      → ((b o : ℕ) → p ≡ block_ptr b o → vs ≡ alone (vptr b o) ∷ [] → Seq K 𝓛 (‵ (box_owns chunk Session.the_row (block_ptr b o) x) ∷ Γ) G)
+      → ((b o : ℕ) → p ≡ block_ptr b o → vs ≡ alone (vptr b o) ∷ [] → Seq K 𝓛 (‵ (box_owns frees Session.the_row (block_ptr b o) x) ∷ Γ) G)
       → Seq K 𝓛 (‵ (Sealed.the_row.own_val (record { ptr = p; kept = Some x }) vs) ∷ Γ) G
   sealed_out t p x vs k =
       fsplit t $ fpick t (λ vss. fsplit t $ feq_l t (λ ev. fsplit t $ feq_l t (λ ep. drop t $
-      in_a_block t p (λ q. box_owns chunk Session.the_row q x) (fst∗ 𝓤 (never 𝓤) (sem 𝓛 (chunk (bare (lone (Session.the_row).mir)) null_ptr))) (λ b o e. k b o e
+      in_a_block t p (λ q. box_owns frees Session.the_row q x) (fst∗ 𝓤 (never 𝓤) (sem 𝓛 (frees (bare (lone (Session.the_row).mir)) null_ptr))) (λ b o e. k b o e
       (subst (λ (q : Ptr). vs ≡ alone (ptr_val q) ∷ []) e (subst (λ (ps : List Val). vs ≡ vstruct (of_list (ps ++ [])) ∷ []) ep ev))))))

@@ -6,17 +6,17 @@ use denote.RawPtr.{Ptr}
 use denote.Struct.Struct.{exits_of}
 use denote.Struct.Owning.{shape, fields, to}
 use denote.Param.Send.{IsSend, AllSend, owning_send, struct_send, sendable}
-use Rattle.libc.specs.Heap.{chunk-Keyless}
+use Rattle.std.proofs.Crossing as crossing
 use Rattle.std_alloc.proofs.SendSync.{quiet, lies}
 use Rattle.cpa_session.specs.contracts.session.Session as Session
 use Rattle.cpa_session.proofs.session.Session.TheSendSync.{the_send as session}
-use Rattle.cpa_kept.specs.Sealed.{sealed_owns}
+use Rattle.cpa_kept.specs.Sealed.{heap, sealed_owns}
 use Rattle.cpa_kept.specs.contracts.sealed.Sealed.{the_row, the_type}
 
 -- what is owned names no thread
 owned : (p : Ptr) (kept : Option (Session.the_row.Denot)) → Keyless (sealed_owns p kept)
 owned p None = tt
-owned p (Some x) = (lies Session.the_row session p x, chunk-Keyless (raw (lone (Session.the_row).mir)) p)
+owned p (Some x) = (lies Session.the_row session p x, crossing.frees.frees heap (raw (lone (Session.the_row).mir)) p)
 
 pub send : IsSend the_row
 send =

@@ -27,7 +27,7 @@ use Rattle.std.proofs.Common.{Some}
 use Rattle.std_alloc.proofs.BoxSteps.Form.{D, B, word, box_typed}
 use Rattle.std_alloc.proofs.BoxSteps.Steps.{box_out}
 use Rattle.std.specs.Box.Ownership.{box_owns}
-use Rattle.libc.specs.Heap.{chunk}
+use Rattle.cpa_kept.specs.Sealed.{frees}
 use Rattle.cpa_session.specs.contracts.session.Session as Session
 use Rattle.cpa_kept.proofs.SealedSteps.{E, FromParts as From, alone, sealed_in}
 use Rattle.cpa_kept.specs.contracts.sealed.Sealed.of_parts as F
@@ -48,7 +48,7 @@ module _ {M : Type 1} {𝓤 : Ura M} (𝓛 : Logic 𝓤) (at_mem : Memory → SP
       let v : D E = record { ptr = z.0.3.0.ptr; alloc = z.0.3.0.alloc; value = z.0.3.0.value } in
       let To = type_at (F.signature).result tt in
       qed 𝓛 ((‵ ftrue ⊛ ‵ (fsep ((B E).own_val v z.0.4.0) ftrue)) ∷ raw (emp 𝓤) ∷ []) ∵ split ! $ drop ! $ fsplit ! $
-      box_out E ! v z.0.4.0 (λ b o hv e ws fa. fjoin ! $ use1 𝓛 (‵ (box_owns chunk Session.the_row (block_ptr b o) v.value)) (id⊢ 𝓤 _) $ keep ! (0 ∷ []) $ sealed_in ! b o v.value $
+      box_out E ! v z.0.4.0 (λ b o hv e ws fa. fjoin ! $ use1 𝓛 (‵ (box_owns frees Session.the_row (block_ptr b o) v.value)) (id⊢ 𝓤 _) $ keep ! (0 ∷ []) $ sealed_in ! b o v.value $
       let w = word E hv b o in
       let made : To.Denot = record { ptr = block_ptr b o; kept = Some v.value } in
       let Γ : List (Item 𝓤) = ‵ (To.own_val made (alone (vptr b o) ∷ [])) ∷ [] in
