@@ -63,7 +63,7 @@ afresh() {
   rm -rf "$work"
   mkdir -p "$work"/{docs,examples,python/src,library}
   cp "$top/lokwurmi" "$work/" && cp -r "$top"/python/src/{lokwurmi,lokwurmi_tools} "$work/python/src/" || exit 1
-  cp "$top"/library/lokwurmi.h "$work/library/" && cp "$top"/python/{pyproject.toml,README.md} "$work/python/" || exit 1
+  cp "$top"/library/lokwurmi.{h,map,pc} "$work/library/" && cp "$top"/python/{pyproject.toml,README.md} "$work/python/" || exit 1
   cp "$top/examples/two_tasks.toml" "$work/examples/" && cp "$top/docs/FILES.md" "$work/docs/" || exit 1
   cat >"$work/crates.txt" <<'END'
 # the crates, and what they use
@@ -727,6 +727,7 @@ if command -v cc >/dev/null; then
   call install "$to"
   hold "install takes the library along" [ -e "$to/lib/liblokwurmi.so" ]
   hold "install takes the library along: what C needs" [ -e "$to/include/lokwurmi.h" ]
+  hold "install takes the library along: what pkg-config needs" grep -q "^prefix=$to$" "$to/lib/pkgconfig/lokwurmi.pc"
   call uninstall "$to"
   hold "uninstall takes it away" is "$(cd "$to" && find . | sort | tr '\n' ' ')" ". ./bin ./bin/another "
   CC=none-such call build-library

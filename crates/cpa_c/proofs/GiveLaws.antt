@@ -5,7 +5,8 @@ use Rattle.std.specs.Result.{IsOkAnd}
 use Rattle.cpa_units.specs.declared.places.NoMemory.{NoMemory}
 use Rattle.cpa_call.specs.declared.ended.Reply.{Reply}
 use Rattle.cpa_call.specs.Answers.{Answer, reply}
-use Rattle.cpa_c.specs.Given.{Gives, over}
+use Rattle.cpa_memory.specs.Given.{over}
+use Rattle.cpa_c.specs.Given.{Gives}
 
 pub gives-by : (P : Answer → Type 0) (r : Result Reply NoMemory) (status used : ℕ) (before now : List ℕ) → IfOk r (λ it. P (reply it.status it.text.items))
     → IsOkAnd r (λ it. (status ≡ it.status) × (used ≡ length it.text.items) × (now ≡ over it.text.items before)) → Gives P status before now used

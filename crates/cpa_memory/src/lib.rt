@@ -1,11 +1,13 @@
 //! One command over texts in memory: the status and the text that the program answers where files hold these texts.
 //!
-//! No thread is started, no file is read and nothing is written, so that a library may do it. Want of memory is the only fault.
+//! No thread is started, no file is read and nothing is written, so that a library may do it. Running out of memory is the only fault.
 #![tactic(auto)]
 
 mod calling;
 mod texts;
+mod worded;
 mod written;
 
 pub use calling::call;
-pub use texts::{SCHEDULE, SCRIPT, SYSTEM, TRACE, Texts};
+pub use texts::{CHAINS, SCHEDULE, SCRIPT, SYSTEM, TRACE, Texts};
+pub use worded::{chain, chains, schedule};

@@ -19,6 +19,9 @@ pub const TRACE: &str = "trace";
 /// The name under which the schedule is held.
 pub const SCHEDULE: &str = "schedule";
 
+/// The name under which the chains are held.
+pub const CHAINS: &str = "chains";
+
 /// Texts in memory, each held under a name of its own. A command looks only at those that it names.
 #[derive(Clone, Copy)]
 pub struct Texts<'a> {
@@ -26,6 +29,7 @@ pub struct Texts<'a> {
     pub script: &'a [u8],
     pub trace: &'a [u8],
     pub schedule: &'a [u8],
+    pub chains: &'a [u8],
 }
 
 /// The text under a name.
@@ -40,6 +44,8 @@ fn find<'a>(texts: &Texts<'a>, name: &str) -> Option<&'a [u8]>
         Some(texts.trace)
     } else if name == SCHEDULE {
         Some(texts.schedule)
+    } else if name == CHAINS {
+        Some(texts.chains)
     } else {
         None
     }

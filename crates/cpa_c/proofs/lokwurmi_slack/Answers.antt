@@ -9,7 +9,7 @@ use Rattle.cpa_c.proofs.lokwurmi_slack.Goals as goal
 pub returns : goal.returns
 returns c = record {
   told = λ named enough.
-      subst (λ (n : List ℕ). Gives (IsAnswerTo (plan_for (held_of c.args.system.now [] [] []) (Slack (codes "system") n 1))) c.answer.result c.args.out.now c.answer.new.out c.answer.new.used)
+      subst (λ (n : List ℕ). Gives (IsAnswerTo (plan_for (held_of c.args.system.now [] [] [] []) (Slack (codes "system") n 1))) c.answer.result c.args.out.now c.answer.new.out c.answer.new.used)
       c.in-Ok.ensures.cases.0 (c.answer.ensures.told enough);
   refused = λ no. absurd (no c.in-Ok.ensures.cases.1);
   wanting = λ short. c.answer.ensures.wanting short;

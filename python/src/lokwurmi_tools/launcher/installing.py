@@ -18,6 +18,7 @@ from lokwurmi_tools.launcher import helping
 from lokwurmi_tools.launcher.build import FAILED, build_noted
 from lokwurmi_tools.launcher.completing import completion_text
 from lokwurmi_tools.launcher.manual import man_text
+from lokwurmi_tools.launcher.library import ARCHIVE, SHARED, pkg_config
 from lokwurmi_tools.launcher.places import LIBRARY, TOP, digest, is_installed, kit_of, program
 from lokwurmi_tools.launcher.shown import say
 from lokwurmi_tools.launcher.table import PROGRAMS, VERSION
@@ -26,6 +27,7 @@ COPY = Path("lib") / "lokwurmi"
 RECORD = COPY / "INSTALLED"
 MAN = Path("share") / "man" / "man1" / "lokwurmi.1"
 COMPLETION = Path("share") / "bash-completion" / "completions" / "lokwurmi"
+PKG_CONFIG = Path("lib/pkgconfig/lokwurmi.pc")
 # what is copied of the repository, beside the programs
 TAKEN = ("docs", "examples", "python/src/lokwurmi", "python/src/lokwurmi_tools")
 LEFT_OUT = ("__pycache__",)
@@ -111,12 +113,17 @@ class Copy:
         self.place(name, lambda to: to.symlink_to(target))
 
 
+def has_library() -> bool:
+    """Whether the library is built."""
+    return (LIBRARY / SHARED).exists()
+
+
 def places(prefix: Path) -> dict[Path, Path]:
     """Where each file of the repository goes, below the prefix."""
     found = {COPY / it.relative_to(TOP): it for it in sources()}
     found |= {COPY / program(it).relative_to(TOP): program(it) for it in PROGRAMS}
-    if (LIBRARY / "liblokwurmi.so").exists():
-        found |= {Path("lib") / it: LIBRARY / it for it in ("liblokwurmi.a", "liblokwurmi.so")}
+    if has_library():
+        found |= {Path("lib") / it: LIBRARY / it for it in (ARCHIVE, SHARED)}
         found[Path("include") / "lokwurmi.h"] = TOP / "library" / "lokwurmi.h"
         found |= {COPY / "library" / it.name: it for it in LIBRARY.glob("*.whl")}
     return found
@@ -144,7 +151,7 @@ def need_room(prefix: Path) -> None:
 
 def copy_all(prefix: Path) -> Copy:
     found = places(prefix)
-    own = [Path("bin") / "lokwurmi", MAN, COMPLETION, RECORD]
+    own = [Path("bin") / "lokwurmi", MAN, COMPLETION, RECORD, *([PKG_CONFIG] if has_library() else [])]
     refuse_others(prefix, [*found, *own])
     copy, head = Copy(prefix), head_of()
     # listed before they are there, so that an install that breaks off is taken away too
@@ -155,6 +162,8 @@ def copy_all(prefix: Path) -> Copy:
     copy.link(os.path.join("..", COPY, "lokwurmi"), own[0])
     copy.text(man_text(), MAN)
     copy.text(completion_text(), COMPLETION)
+    if has_library():
+        copy.text(pkg_config(prefix, "lib", "include"), PKG_CONFIG)
     # by whoever may write here, for those who may not; what Python has compiled goes with its sources
     compileall.compile_dir(prefix / COPY / "python", quiet=2, invalidation_mode=PycInvalidationMode.CHECKED_HASH)
     remove(prefix, Record([it for it in copy.before.files if it not in set(copy.written)], []))
@@ -180,8 +189,8 @@ def install(prefix: Path) -> int:
             + (f" and {len(found) - 1} more" if len(found) > 1 else ""))
     copy = copy_all(prefix)
     say(f"{len(copy.written)} files are written below {prefix}: bin/lokwurmi, the proved programs and the tools in {COPY}, {MAN}, {COMPLETION}")
-    if (LIBRARY / "liblokwurmi.so").exists():
-        say("the library too: lib/liblokwurmi.a, lib/liblokwurmi.so, include/lokwurmi.h")
+    if has_library():
+        say(f"the library too: lib/{ARCHIVE}, lib/{SHARED}, include/lokwurmi.h, {PKG_CONFIG}")
     else:
         say("the library isn't built, and isn't there: ./lokwurmi build-library builds it")
     say(f"for `import lokwurmi` in Python: export PYTHONPATH={prefix / COPY}/python/src")

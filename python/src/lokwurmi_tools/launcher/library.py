@@ -2,6 +2,7 @@
 from __future__ import annotations
 
 import os
+import re
 import shutil
 import subprocess
 import sys
@@ -15,9 +16,9 @@ from lokwurmi_tools.launcher.places import LIBRARY, SOURCES, TOP, is_installed
 from lokwurmi_tools.launcher.shown import say
 
 CRATE = "cpa_c"
-ARCHIVE, SHARED = "liblokwurmi.a", "liblokwurmi.so"
+ARCHIVE, SHARED, PKG_CONFIG = "liblokwurmi.a", "liblokwurmi.so", "lokwurmi.pc"
 # what the shared object shows: the functions of library/lokwurmi.h
-EXPORTS = "{ global: lokwurmi_*; local: *; };\n"
+EXPORTS = TOP / "library" / "lokwurmi.map"
 
 
 class Stopped(Exception):
@@ -50,20 +51,29 @@ def c_functions() -> Path:
     return found
 
 
+def pkg_config(prefix: Path, libraries: str, headers: str) -> str:
+    """What pkg-config is to say of the library, which lies in two folders of a prefix."""
+    text = (TOP / "library" / PKG_CONFIG).read_text(encoding="utf-8")
+    places = {"prefix": str(prefix), "libdir": f"${{prefix}}/{libraries}", "includedir": f"${{prefix}}/{headers}"}
+    for key, value in places.items():
+        text = re.sub(rf"^{key}=.*$", f"{key}={value}", text, flags=re.MULTILINE)
+    return text
+
+
 def link(archive: Path, cc: str) -> None:
-    """Writes the archive of all functions, and the shared object."""
+    """Writes the archive of all functions, the shared object, and what pkg-config says of them."""
     allocating = c_functions()
     with tempfile.TemporaryDirectory(prefix="lokwurmi-") as folder:
         room = Path(folder)
         for it in (archive, allocating):
             call(["ar", "x", str(it)], room)
         call(["ar", "rcsD", ARCHIVE, *sorted(it.name for it in room.glob("*.o"))], room)
-        (room / "exports").write_text(EXPORTS, encoding="utf-8")
-        flags = ["-Wl,--whole-archive", ARCHIVE, "-Wl,--no-whole-archive", "-Wl,--version-script=exports", "-Wl,-z,defs"]
-        call([cc, "-shared", "-o", SHARED, *flags], room)
+        flags = ["-Wl,--whole-archive", ARCHIVE, "-Wl,--no-whole-archive", f"-Wl,-soname,{SHARED}", "-Wl,-z,defs"]
+        call([cc, "-shared", "-o", SHARED, *flags, f"-Wl,--version-script={EXPORTS}"], room)
         LIBRARY.mkdir(parents=True, exist_ok=True)
         for name in (ARCHIVE, SHARED):
             shutil.copy(room / name, LIBRARY / name)
+    (LIBRARY / PKG_CONFIG).write_text(pkg_config(TOP / "library", "out", "."), encoding="utf-8")
     shutil.copy(LIBRARY / SHARED, SOURCES / "lokwurmi" / SHARED)
 
 
