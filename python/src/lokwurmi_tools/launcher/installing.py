@@ -1,7 +1,7 @@
 """`install` and `uninstall`: a copy of the proved programs, of what goes with them, and of the tools.
 
-The copy has the folders of the repository without the sources, below PREFIX/lib/lokwurmi, so that all finds its way there as
-in the repository. PREFIX/lib/lokwurmi/INSTALLED says what it is a copy of, and lists the files.
+The copy has the folders of the repository without the sources, below PREFIX/lib/lokwurmi, so that all finds its
+way there as in the repository. PREFIX/lib/lokwurmi/INSTALLED says what it is a copy of, and lists the files.
 """
 from __future__ import annotations
 
@@ -127,7 +127,9 @@ def refuse_others(prefix: Path, names: list[Path]) -> None:
     before = set(Record.at(prefix).files)
     for it in names:
         if it not in before and os.path.lexists(prefix / it):
-            raise Refused(f"{prefix / it} is there, and no install has listed it: take it away first, or name another PREFIX")
+            raise Refused(
+                f"{prefix / it} is there, and no install has listed it: take it away first, or name another PREFIX"
+            )
 
 
 def need_room(prefix: Path) -> None:
@@ -176,10 +178,15 @@ def install(prefix: Path) -> int:
         build_noted(it)
     found = helping.changed()
     if found:
-        say(f"note: the repository has changes that aren't committed, and --version of the copy says so: {found[0]}"
-            + (f" and {len(found) - 1} more" if len(found) > 1 else ""))
+        say(
+            f"note: the repository has changes that aren't committed, and --version of the copy says so: {found[0]}"
+            + (f" and {len(found) - 1} more" if len(found) > 1 else "")
+        )
     copy = copy_all(prefix)
-    say(f"{len(copy.written)} files are written below {prefix}: bin/lokwurmi, the proved programs and the tools in {COPY}, {MAN}, {COMPLETION}")
+    say(
+        f"{len(copy.written)} files are written below {prefix}: bin/lokwurmi, the proved programs and the tools in"
+        f" {COPY}, {MAN}, {COMPLETION}"
+    )
     if (LIBRARY / "liblokwurmi.so").exists():
         say("the library too: lib/liblokwurmi.a, lib/liblokwurmi.so, include/lokwurmi.h")
     else:
@@ -192,7 +199,8 @@ def install(prefix: Path) -> int:
 
 
 def remove(prefix: Path, record: Record) -> int:
-    """Takes files away, what Python has compiled of them, and the folders that are empty then; how many files there were."""
+    """Takes files away, what Python has compiled of them, and the folders that are empty then; how many files there
+    were."""
     count, folders = 0, [prefix / it for it in record.folders]
     for it in record.files:
         path = prefix / it

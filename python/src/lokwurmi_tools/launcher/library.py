@@ -59,7 +59,13 @@ def link(archive: Path, cc: str) -> None:
             call(["ar", "x", str(it)], room)
         call(["ar", "rcsD", ARCHIVE, *sorted(it.name for it in room.glob("*.o"))], room)
         (room / "exports").write_text(EXPORTS, encoding="utf-8")
-        flags = ["-Wl,--whole-archive", ARCHIVE, "-Wl,--no-whole-archive", "-Wl,--version-script=exports", "-Wl,-z,defs"]
+        flags = [
+            "-Wl,--whole-archive",
+            ARCHIVE,
+            "-Wl,--no-whole-archive",
+            "-Wl,--version-script=exports",
+            "-Wl,-z,defs",
+        ]
         call([cc, "-shared", "-o", SHARED, *flags], room)
         LIBRARY.mkdir(parents=True, exist_ok=True)
         for name in (ARCHIVE, SHARED):
@@ -72,7 +78,9 @@ def build_wheel() -> Path:
     platform = sysconfig.get_platform().replace("-", "_")
     with tempfile.TemporaryDirectory(prefix="lokwurmi-") as folder:
         room, out = Path(folder, "python"), Path(folder, "out")
-        shutil.copytree(TOP / "python", room, ignore=shutil.ignore_patterns("__pycache__", "*.egg-info", "build", "tests"))
+        shutil.copytree(
+            TOP / "python", room, ignore=shutil.ignore_patterns("__pycache__", "*.egg-info", "build", "tests")
+        )
         (room / "setup.cfg").write_text(f"[bdist_wheel]\nplat_name = {platform}\n", encoding="utf-8")
         flags = ["--no-deps", "--no-build-isolation", "--no-index", "--quiet", "--disable-pip-version-check"]
         try:
@@ -105,5 +113,8 @@ def perform(words: list[str]) -> int:
     except Stopped as fault:
         say(f"build-library: {fault}")
         return FAILED
-    say(f"{LIBRARY / ARCHIVE}, {LIBRARY / SHARED} (also in python/src/lokwurmi), and {made}; docs/LIBRARY.md says how they are used")
+    say(
+        f"{LIBRARY / ARCHIVE}, {LIBRARY / SHARED} (also in python/src/lokwurmi), and {made}; docs/LIBRARY.md says how"
+        " they are used"
+    )
     return 0

@@ -1,4 +1,5 @@
-"""`--unproved`: an answer by the same sources, which the toolchain's `rt try` compiles and runs with checks, and no proof.
+"""`--unproved`: an answer by the same sources, which the toolchain's `rt try` compiles and runs with checks, and no
+proof.
 
 Nothing of it is kept, so that nothing unproved ever lies where the proved programs are.
 """
@@ -40,7 +41,10 @@ ENDED = re.compile(r"^run=ended status=(\d+) .*proved=no$", re.MULTILINE)
 # what `rt try` says where there is no answer, and what that is in words
 WHY = (
     ("wrote more than 1048576 bytes", "what it writes is above 1 MiB, the limit of a call without proofs"),
-    ("did not end within the time limit", f"it took more than {SECONDS // 60} minutes, the limit of a call without proofs"),
+    (
+        "did not end within the time limit",
+        f"it took more than {SECONDS // 60} minutes, the limit of a call without proofs",
+    ),
 )
 PROVED_INSTEAD = "the proved program has no such limit: call it without --unproved"
 
@@ -170,7 +174,10 @@ def answer_unproved(command: Command, words: list[str], operands: Operands, quie
     need_rt("--unproved compiles the sources")
     of_words.note_missing(operands)
     # said to whoever is quiet too: nothing else tells such an answer from a proved one
-    say("unproved: this answer is by the same sources, compiled without proofs in a minute or so, and not by the proved program")
+    say(
+        "unproved: this answer is by the same sources, compiled without proofs in a minute or so, and not by the proved"
+        " program"
+    )
     if not quiet:
         note_changes()
     call = Unproved(command, words, operands)
