@@ -746,6 +746,11 @@ if command -v cc >/dev/null; then
   hold "install takes the library along: what C needs" [ -e "$to/include/lokwurmi.h" ]
   call uninstall "$to"
   hold "uninstall takes it away" is "$(cd "$to" && find . | sort | tr '\n' ' ')" ". ./bin ./bin/another "
+  touch "$work/crates/cpa_c/src/lib.rt"
+  call install "$to"
+  hold "install leaves a library out that is older than its sources" said "the library isn't among them: crates/cpa_c/src/lib.rt is newer than the library"
+  hold "install leaves it out: no shared object anywhere" is "$(find "$to" -name '*.so' | wc -l)" 0
+  call uninstall "$to"
   CC=none-such call build-library
   hold "build-library without a C compiler: says so" is "$status $(grep -c 'there is no C compiler none-such' "$room/said")" "70 1"
 fi

@@ -94,6 +94,18 @@ def build_wheel() -> Path:
         return Path(shutil.copy(made, LIBRARY / made.name))
 
 
+def archive() -> Path:
+    """What the toolchain builds of the library."""
+    return TOP / "crates" / CRATE / "out" / f"lib{CRATE}.a"
+
+
+def why_lacking() -> str:
+    """Why there is no library to be copied, if there is none: it isn't built, or a source is newer."""
+    if not (LIBRARY / SHARED).exists():
+        return "the library isn't built yet"
+    return Graph(CRATE).why_stale(archive(), "the library")
+
+
 def perform(words: list[str]) -> int:
     if words:
         say(f"build-library takes no words, and here is {words[0]}")
@@ -102,13 +114,12 @@ def perform(words: list[str]) -> int:
         say("build-library needs the sources, which an installed copy hasn't")
         return FAILED
     graph = Graph(CRATE)
-    archive = TOP / "crates" / CRATE / "out" / f"lib{CRATE}.a"
     try:
         cc = compiler()
-        if why := graph.why_stale(archive, "the library"):
-            build_for(graph, why, ["lib"], archive)
+        if why := graph.why_stale(archive(), "the library"):
+            build_for(graph, why, ["lib"], archive())
         say("the archive, the shared object and the wheel are built")
-        link(archive, cc)
+        link(archive(), cc)
         made = build_wheel()
     except Stopped as fault:
         say(f"build-library: {fault}")
