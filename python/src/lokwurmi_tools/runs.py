@@ -154,3 +154,12 @@ def passages_in(system: dict, jobs: dict, events: dict, way: list[str]) -> list[
             places.append(place)
         found.append(Passage(came, jobs[way[-1]][places[-1]][1] if len(places) == len(way) else None, tuple(places)))
     return found
+
+
+def write(file: str, rows: Iterable[str]) -> None:
+    """Writes the rows of a trace."""
+    try:
+        with open(file, "w", encoding="ascii") as it:
+            it.write("".join(row + "\n" for row in rows))
+    except OSError as fault:
+        raise Fault(f"{file}: can't be written: {fault.strerror}") from fault

@@ -18,7 +18,7 @@ from lokwurmi_tools.chains import bounds_by
 from lokwurmi_tools.faults import Fault
 from lokwurmi_tools.program import LAUNCHER, built, call
 from lokwurmi_tools.progress import Progress
-from lokwurmi_tools.runs import read_trace, schedule_in
+from lokwurmi_tools.runs import read_trace, schedule_in, write
 from lokwurmi_tools.seen import Late, Run, seen_of
 from lokwurmi_tools.system import execution, sources_of
 
@@ -280,8 +280,3 @@ def perform_chain(options: argparse.Namespace, folder: str) -> int:
         write(options.to, search.maker.rows(found.plan))
     print(told(search, found, options.to), flush=True)
     return search.status
-
-
-def write(file: str, rows: list[str]) -> None:
-    with open(file, "w", encoding="ascii") as it:
-        it.write("".join(row + "\n" for row in rows))
