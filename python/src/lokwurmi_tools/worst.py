@@ -29,11 +29,12 @@ import tempfile
 from collections.abc import Iterable
 
 from lokwurmi.errors import LokwurmiError
+from lokwurmi.traces import write
 from lokwurmi_tools.faults import Fault
 from lokwurmi_tools.kinds import Jobs, Times
 from lokwurmi_tools.program import add_program, written_by
 from lokwurmi_tools.report import reports_in
-from lokwurmi_tools.runs import passages_in, write
+from lokwurmi_tools.runs import passages_in
 from lokwurmi_tools.seen import ASKED, READINGS
 from lokwurmi_tools.words import reader_of
 from lokwurmi_tools.worst_chain import perform_chain

@@ -13,12 +13,13 @@ import time
 from dataclasses import dataclass, field
 from typing import NamedTuple
 
+from lokwurmi.traces import write
 from lokwurmi_tools.accepted import read_system
-from lokwurmi_tools.chains import bounds_by
+from lokwurmi_tools.chains import bounds_by, totals_of
 from lokwurmi_tools.faults import Fault
 from lokwurmi_tools.program import LAUNCHER, built, call
 from lokwurmi_tools.progress import Progress
-from lokwurmi_tools.runs import read_trace, schedule_in, write
+from lokwurmi_tools.runs import read_trace, schedule_in
 from lokwurmi_tools.seen import Late, Run, seen_of
 from lokwurmi_tools.system import execution, sources_of
 
@@ -187,7 +188,7 @@ class ChainSearch:
         self.options, self.tasks, self.what, self.status = options, tasks, options.what, 0
         self.system = read_system(options.file)
         bounds = bounds_by(options.program, options.file, tasks)
-        self.bound = bounds.totals.get(self.what) if bounds else None
+        self.bound = totals_of(bounds).get(self.what)
         self.trace = os.path.join(folder, "chain.csv")
         self.maker = Maker(self.system, tasks, self.bound or UNBOUNDED)
         self.draw = random.Random(f"{options.seed} {self.what} {' '.join(tasks)}")

@@ -9,11 +9,12 @@ import threading
 import time
 from collections.abc import Iterator
 
+from lokwurmi.traces import write
 from lokwurmi_tools.faults import OwnFault
 from lokwurmi_tools.kinds import Jobs, Times
 from lokwurmi_tools.program import often, schedule_by
 from lokwurmi_tools.progress import Progress
-from lokwurmi_tools.runs import jobs_in, read_trace, schedule_in, write
+from lokwurmi_tools.runs import jobs_in, read_trace, schedule_in
 from lokwurmi_tools.worst_plans import LATEST, Plan, System, change, known_plans, path_plans, rows_of
 
 # how many plans are replayed between two looks at the clock
