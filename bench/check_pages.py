@@ -204,6 +204,15 @@ def check_called(page, text, python):
             hold(f"{page}: {words}", done.stdout[: len(told)] if cut else done.stdout, told)
 
 
+def check_scripts(page, text, python):
+    """The calls of scripts of examples/python and of the Python package in the blocks of a page, and what they write. What
+    the pages' own scripts print is held by the tests of python/tests."""
+    for words, told in re.findall(r"^```\n\$ python3 ((?:examples/python/|-m lokwurmi ).*)\n((?:(?!```).*\n)*)```", text, re.M):
+        environment = os.environ | {"PYTHONPATH": os.path.join(TOP, "python", "src")}
+        done = subprocess.run([python, *shlex.split(words)], stdout=subprocess.PIPE, text=True, check=False, env=environment)
+        hold(f"{page}: {words}", done.stdout, told)
+
+
 def latest(name):
     """Of an example the bounds that are numbers, and the latest that its traces in examples/worst/ show."""
     found = {}
@@ -263,6 +272,7 @@ with tempfile.TemporaryDirectory() as room:
                 hold(f"{page}: {words}", call(*shlex.split(words)), told)
         if python and page != "docs/TUTORIAL.md":
             check_called(page, text, python)
+            check_scripts(page, text, python)
             check_drawn(page, text, room, python)
     page = read("docs/FILES.md")
     for system, told in re.findall(r"```toml\n((?:(?!```).*\n)*)```\n\n`(system refused .*?)`", page):

@@ -156,15 +156,15 @@ def check_refused(room):
     for said, old, new, tick in (
         ('line 3: source s: period = "1 week" is no time', "1 ms", "1 week", "1us"),
         (
-            "line 3: source s: period of 100ns is 0 ticks, and 1 to 1000000000 are possible: take a shorter --tick",
+            "line 3: source s: period of 100ns is 0 ticks, and 1 to 1000000000 are possible: take a shorter tick",
             "1 ms",
             "100 ns",
             "1us",
         ),
         ("line 5: task t: best of 100ns is 0 ticks", '"1 us", worst', '"100 ns", worst', "1us"),
-        ("and 1 to 1000000 are possible: take a longer --tick", '"2 us"', '"2 s"', "1us"),
+        ("and 1 to 1000000 are possible: take a longer tick", '"2 us"', '"2 s"', "1us"),
         ("task t: slot of 5us is 2.5 ticks, and has no safe side", 'best = "1 us"', 'best = "2 us"', "2us"),
-        ("With --tick 1us it is whole", 'best = "1 us"', 'best = "2 us"', "2us"),
+        ("With a tick of 1us it is whole", 'best = "1 us"', 'best = "2 us"', "2us"),
         ("is told in bits, and its resource has no bit rate", '"2 us"', '"8 bit"', "1us"),
         ("is told in bits, and is on no resource", '"1 ms"', '"8 bit"', "1us"),
         ("it isn't TOML", "format", "format format", "1us"),

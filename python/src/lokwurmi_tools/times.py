@@ -1,52 +1,11 @@
-"""Times with a unit, for the tools beside it: a number of nanoseconds, which may be a fraction."""
+"""Times with a unit, for the commands: those of lokwurmi.units, how they are shown on an axis, and how words are read."""
 import argparse
-import re
 from fractions import Fraction
-from math import gcd
 from typing import Any, Callable
 
-UNITS = {"ns": 1, "us": 1_000, "ms": 1_000_000, "s": 1_000_000_000}
-TIME = re.compile(r"(\d+(?:\.\d+)?) ?(ns|us|ms|s)", re.ASCII)
+from lokwurmi.units import UNITS, amount_of, common, decimal_text, text_of, time_of, unit_of
 
-
-def amount_of(word: str) -> Fraction:
-    """A time in nanoseconds, of a word such as 250us, 0.5ms or 0s."""
-    found = TIME.fullmatch(word)
-    if not found:
-        raise ValueError(f"{word} is no time: write a number and a unit, as 250us, 0.5ms or 1s")
-    return Fraction(found[1]) * UNITS[found[2]]
-
-
-def time_of(word: str) -> Fraction:
-    """The same of a time that isn't 0."""
-    time = amount_of(word)
-    if not time:
-        raise ValueError(f"{word} is no time above 0: write a number and a unit, as 250us, 0.5ms or 1s")
-    return time
-
-
-def unit_of(nanoseconds: Fraction) -> str:
-    """The largest unit in which a time is at least 1."""
-    return next((it for it in ("s", "ms", "us") if nanoseconds >= UNITS[it]), "ns")
-
-
-def digits_of(number: Fraction) -> str:
-    """A fraction as a decimal number: with all digits where these have an end, as those of times in ticks do."""
-    places, rest = 0, number.denominator
-    for factor in (10, 5, 2):
-        while rest % factor == 0:
-            rest, places = rest // factor, places + 1
-    if rest != 1:
-        return f"{float(number):.12g}"
-    digits = str(number.numerator * 10**places // number.denominator).rjust(places + 1, "0")
-    whole, part = (digits[:-places], digits[-places:].rstrip("0")) if places else (digits, "")
-    return f"{whole}.{part}" if part else whole
-
-
-def text_of(nanoseconds: Fraction) -> str:
-    """A time in the largest unit in which it is at least 1."""
-    unit = unit_of(nanoseconds)
-    return f"{float(nanoseconds / UNITS[unit]):.12g}{unit}"
+__all__ = ["TICKS", "UNITS", "Scale", "amount_of", "common", "rate_of", "text_of", "time_of", "unit_of", "word_of"]
 
 
 class Scale:
@@ -63,7 +22,9 @@ class Scale:
             return "0"
         time = abs(ticks) * self.tick
         unit = unit_of(time)
-        return f"{'-' if ticks < 0 else ''}{digits_of(time / UNITS[unit])}{unit}"
+        # a time of a tick is a decimal number, and so is each multiple of it
+        digits = decimal_text(time / UNITS[unit]) or f"{float(time / UNITS[unit]):.12g}"
+        return f"{'-' if ticks < 0 else ''}{digits}{unit}"
 
     def length(self, ticks: int) -> str:
         """The same with the word ticks."""
@@ -81,12 +42,6 @@ class Scale:
 
 # numbers of ticks as they are
 TICKS = Scale()
-
-
-def common(one: Fraction, other: Fraction) -> Fraction:
-    """The longest time of which both are multiples."""
-    whole = one.denominator * other.denominator
-    return Fraction(gcd(int(one * whole), int(other * whole)), whole)
 
 
 def word_of(reader: Callable[[str], Any]) -> Callable[[str], Any]:

@@ -23,9 +23,7 @@ LINES = re.compile(r"(task \S+(?: \S+)??|path \S+|summary|step \S+ \S+|chain) (?
 
 def shown(time: Fraction, unit: str | None) -> str:
     """A time in a unit, or in the one that fits it."""
-    if not time:
-        return "0"
-    return f"{float(time / UNITS[unit]):.12g}{unit}" if unit else text_of(time)
+    return text_of(time, unit) if time else "0"
 
 
 def line_with_units(line: str, tick: Fraction, unit: str | None) -> str:
