@@ -1,9 +1,11 @@
 #!/usr/bin/env python3
-"""Checks what comes from the one table of commands, python/src/lokwurmi_tools/launcher/table.py, and --write writes it anew.
+"""Checks what comes from the one table of commands, python/src/lokwurmi_tools/launcher/table.py, and --write writes
+it anew.
 
-The tables of commands in README.md and docs/FILES.md stand between two marks each. The script `lokwurmi`, help, completion, the
-man page and the refusals in words have to have the same commands, words and files; each example has to name files that are there,
-in words that are accepted. docs/MAP.md has to have the seconds of docs/times.csv. Outside the gate; takes a second.
+The tables of commands in README.md and docs/FILES.md stand between two marks each. The script `lokwurmi`, help,
+completion, the man page and the refusals in words have to have the same commands, words and files; each example
+has to name files that are there, in words that are accepted. docs/MAP.md has to have the seconds of
+docs/times.csv. Outside the gate; takes a second.
 """
 from __future__ import annotations
 
@@ -97,14 +99,14 @@ def check_tables(faults: Faults, write: bool) -> None:
         page = TOP / name
         text = page.read_text(encoding="utf-8")
         wanted = with_table(text, mark, table())
-        faults.hold(wanted is not None, f"{name}: no marks of the table \"{mark}\"")
+        faults.hold(wanted is not None, f'{name}: no marks of the table "{mark}"')
         if wanted is None or wanted == text:
             continue
         if write:
             page.write_text(wanted, encoding="utf-8")
-            print(f"{name}: the table \"{mark}\" is written")
+            print(f'{name}: the table "{mark}" is written')
         else:
-            faults.hold(False, f"{name}: the table \"{mark}\" differs: python3 bench/check_commands.py --write")
+            faults.hold(False, f'{name}: the table "{mark}" differs: python3 bench/check_commands.py --write')
 
 
 def check_script(faults: Faults) -> None:
@@ -158,7 +160,9 @@ def check_times(faults: Faults) -> None:
     shown = {it[0]: it[1:] for it in re.findall(r"^\| `(\w+)` \| (\S+) \| (\S+) \| (.+) \|$", text, re.MULTILINE)}
     with open(TOP / "docs" / "times.csv", encoding="utf-8", newline="") as it:
         kept = {row["crate"]: row for row in csv.DictReader(it)}
-    faults.hold(set(shown) == set(kept), f"crates of docs/times.csv alone or of docs/MAP.md alone: {set(shown) ^ set(kept)}")
+    faults.hold(
+        set(shown) == set(kept), f"crates of docs/times.csv alone or of docs/MAP.md alone: {set(shown) ^ set(kept)}"
+    )
     for name, row in kept.items():
         edits = f"{row['edits']} ({row['edit_count']})" if row["edits"] else "none"
         wanted = (row["proofs"] or "none", row["tests"] or "none", edits)

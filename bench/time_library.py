@@ -1,9 +1,11 @@
-"""Times a call of the library in this process beside a start of the program: python3 bench/time_library.py [--times N] [FILE ..].
+"""Times a call of the library in this process beside a start of the program.
 
-Both analyse the same file; the program's start is that of posix_spawn up to its end, with its output thrown away. Told are
-the least and the median of N calls each, in microseconds: of a plain loop in Python (a task's execution is changed, and the
-system analysed), of an edit of a kept session with its bounds, and of starts of the program, once with the file alone and
-once with a script of that edit. A library without sessions that are kept is timed without them.
+    python3 bench/time_library.py --times 1000 examples/car_network.toml
+
+Both analyse the same file. The start of the program is that of posix_spawn up to its end, with its output thrown away.
+Said are the least and the median of N calls each, in microseconds: of a plain loop in Python, in which an execution is
+changed and the system analysed; of an edit of a kept session with its bounds; and of starts of the program, once with
+the file alone and once with a script of that edit. A library without sessions that are kept is timed without them.
 """
 import argparse
 import os
@@ -32,7 +34,7 @@ def times(count: int, call: Callable[[], object]) -> str:
 
 def start(sink: int, *words: str) -> None:
     """Starts the program, and waits for its end."""
-    child = os.posix_spawn(words[0], words, {}, file_actions=[(os.POSIX_SPAWN_DUP2, sink, 1)])
+    child = os.posix_spawn(words[0], words, os.environ, file_actions=[(os.POSIX_SPAWN_DUP2, sink, 1)])
     os.waitpid(child, 0)
 
 
@@ -40,7 +42,7 @@ def executions(system: System) -> tuple[str, int, Iterator[int]]:
     """A task with the lowest priority of its resource, its least execution, and greatest executions in turn."""
     tasks = [it for it in system.tasks.values() if it.payload is None]
     task = max(tasks, key=lambda it: it.priority or 0)
-    best, worst = int(task.best or 1), int(task.worst or 1)
+    best, worst = system.execution(task)
     return task.name, best, cycle([max(best, worst - 1), worst])
 
 
@@ -57,7 +59,8 @@ def time_file(file: str, count: int, library: Library, program: str, sink: int) 
     print(f"{file} loop in Python {times(count, changed)}")
     if library.has("open"):
         with System.from_file(file).session(engine=library) as session:
-            print(f"{file} edit of a session, as a line {times(count, lambda: session.edit(f'exec {name} {best} {next(worst)}'))}")
+            line = times(count, lambda: session.edit(f"exec {name} {best} {next(worst)}"))
+            print(f"{file} edit of a session, as a line {line}")
             print(f"{file} its bounds {times(count, lambda: session._open().numbers())}")
 
             def edited() -> int | None:
@@ -70,14 +73,16 @@ def time_file(file: str, count: int, library: Library, program: str, sink: int) 
     with tempfile.NamedTemporaryFile("w", suffix=".txt") as script:
         script.write(f"exec {name} {best} {next(worst)}\n")
         script.flush()
-        print(f"{file} program, session of one edit {times(count, lambda: start(sink, program, 'session', file, script.name))}")
+        edit = times(count, lambda: start(sink, program, "session", file, script.name))
+        print(f"{file} program, session of one edit {edit}")
 
 
 def main() -> None:
     reader = argparse.ArgumentParser(description=__doc__, formatter_class=argparse.RawDescriptionHelpFormatter)
     reader.add_argument("--times", type=int, default=500, help="how many calls (500)")
     reader.add_argument("--program", help="the program; that of the package if absent")
-    reader.add_argument("files", metavar="FILE", nargs="*", default=["examples/two_tasks.toml", "examples/car_network.toml"])
+    files = ["examples/two_tasks.toml", "examples/car_network.toml"]
+    reader.add_argument("files", metavar="FILE", nargs="*", default=files, help=f"a system file ({' '.join(files)})")
     asked = reader.parse_args()
     library, program = Library(), str(Program(asked.program).file)
     sink = os.open(os.devnull, os.O_WRONLY)

@@ -38,9 +38,9 @@ def draw(system: System, task: str, executions: list[int], found: Curves, file: 
     for name, bounds in found.items():
         heights = [float("nan") if it is None else it for it in bounds]
         (line,) = axes.plot(executions, heights, drawstyle="steps-mid", label=f"path {name}")
-        deadline = system.paths[name].deadline
+        deadline = system.ticks(system.paths[name], "deadline")
         if deadline is not None:
-            axes.axhline(int(deadline), color=line.get_color(), linestyle=":", label=f"deadline of {name}")
+            axes.axhline(deadline, color=line.get_color(), linestyle=":", label=f"deadline of {name}")
     axes.set_xlabel(f"greatest execution of {task}, in ticks")
     axes.set_ylabel("worst-case latency, in ticks")
     axes.set_ylim(bottom=0)
@@ -65,9 +65,9 @@ def main() -> None:
         system = System.from_file(asked.file)
         if asked.task not in system.tasks or system.tasks[asked.task].payload is not None:
             sys.exit(f"{asked.file}: {asked.task} is no task with best and worst")
-        task = system.tasks[asked.task]
-        executions = list(range(int(task.best or 1), (asked.up_to or 2 * int(task.worst or 1)) + 1))
-        draw(system, task.name, executions, curves(system, task.name, executions), asked.to)
+        best, worst = system.execution(asked.task)
+        executions = list(range(best, (asked.up_to or 2 * worst) + 1))
+        draw(system, asked.task, executions, curves(system, asked.task, executions), asked.to)
     except (OSError, LokwurmiError) as fault:
         sys.exit(f"{asked.file}: {fault}")
 

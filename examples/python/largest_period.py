@@ -31,8 +31,8 @@ def smallest_met(system: System, source: str) -> int | None:
         changed.sources[source].period = period
         return changed.analyse().ok
 
-    least = max(1, int(system.sources[source].distance or 0))
-    low, high = least, max(least, int(system.sources[source].period))
+    least = max(1, system.ticks(system.sources[source], "distance") or 0)
+    low, high = least, max(least, system.ticks(system.sources[source], "period") or 1)
     while not is_met(high):
         if high >= MOST:
             return None

@@ -26,9 +26,9 @@ Bounds = dict[str, int | None]
 def variants(system: System, count: int, seed: int) -> Iterator[dict[str, int]]:
     """So many variants: greatest executions by task, in ticks."""
     draw = Random(seed)
-    tasks = [it for it in system.tasks.values() if it.payload is None]
+    ranges = {it.name: system.execution(it) for it in system.tasks.values() if it.payload is None}
     for _ in range(count):
-        yield {it.name: max(it.best, it.worst * draw.randint(LEAST, GREATEST) // 100) for it in tasks}
+        yield {name: max(best, worst * draw.randint(LEAST, GREATEST) // 100) for name, (best, worst) in ranges.items()}
 
 
 def by_analyses(system: System, count: int, seed: int) -> Iterator[tuple[str, Bounds]]:

@@ -1,12 +1,10 @@
 """Chains and schedules. Expected numbers are the sums of docs/FILES.md, "Chains that read registers"."""
-import os
 import pickle
 import unittest
 import warnings
 from pathlib import Path
-from random import Random
 
-from engine_for_tests import both_engines, need_engine, some_engines
+from engine_for_tests import need_engine, some_engines
 from lokwurmi import (
     Chain,
     ChainsRefused,
@@ -22,7 +20,6 @@ from lokwurmi import (
     us,
 )
 from lokwurmi.chains import chains_in
-from made import random_system
 
 TOP = Path(__file__).resolve().parents[2]
 EXAMPLES = TOP / "examples"
@@ -162,29 +159,6 @@ class Schedules(unittest.TestCase):
                 self.assertIsNone(system.audit(trace, found.rows, engine=engine))
         system.tick = "1ms"
         self.assertEqual(system.schedule(trace).time(), ms(24))
-
-
-class LikeTheProgram(unittest.TestCase):
-    def test_random(self) -> None:
-        library, program = both_engines()
-        if not library.has("chain"):
-            raise unittest.SkipTest("the library is an older one")
-        draw = Random(3)
-        for number in range(int(os.environ.get("LOKWURMI_SYSTEMS", "30"))):
-            text = random_system(draw).to_toml().encode()
-            tasks = [f"t{draw.randint(0, 9)}" for _ in range(draw.randint(1, 4))]
-            trace = "".join(f"event,s0,{at}\n" for at in range(0, 3000, 500)).encode()
-            deadline = f"reaction = {draw.randint(1, 2000)}, age = {draw.randint(1, 2000)}"
-            names = ", ".join(f'"{it}"' for it in tasks)
-            chains = f'format = 1\nchain = [{{ name = "c", tasks = [{names}], {deadline} }}]\n'.encode()
-            for command, files, words in (
-                ("chain", [text], tasks),
-                ("chain", [text], [*tasks, "--while-running"]),
-                ("chains", [text, chains], []),
-                ("schedule", [text, trace], []),
-            ):
-                with self.subTest((number, command)):
-                    self.assertEqual(library.call(command, files, words), program.call(command, files, words))
 
 
 if __name__ == "__main__":

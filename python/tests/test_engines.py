@@ -1,76 +1,94 @@
 """The library answers as the program does."""
 import os
 import unittest
+from collections import Counter
 from concurrent.futures import ThreadPoolExecutor
 from pathlib import Path
 from random import Random
 
 import lokwurmi
-from lokwurmi import Library, NoEngine, Program, System
+from engine_for_tests import both_engines
+from lokwurmi import Chain, Library, NoEngine, System
+from lokwurmi.chains import written
+from lokwurmi_tools.progress import Progress
 from made import random_system
 
 TOP = Path(__file__).resolve().parents[2]
 EXAMPLES = TOP / "examples"
 
 
-def engines():
-    try:
-        return Library(), Program()
-    except NoEngine as fault:
-        raise unittest.SkipTest(str(fault))
-
-
 class LikeTheProgram(unittest.TestCase):
     def setUp(self) -> None:
-        self.library, self.program = engines()
+        self.library, self.program = both_engines()
 
-    def compare(self, command, files, words=()):
+    def compare(self, command: str, files: list[bytes], words: tuple[str | int, ...] = ()) -> tuple[int, str]:
+        """What both answer; a command that the library or the program hasn't is left out."""
+        if not self.library.has(command):
+            return 0, ""
         here = self.library.call(command, files, words)
-        there = self.program.call(command, files, words)
+        try:
+            there = self.program.call(command, files, words)
+        except NoEngine:
+            return here
         self.assertEqual(here, there, (command, files, words))
         return here
 
+    def compare_all(self, text: bytes, system: System, trace: bytes, script: bytes, draw: Random) -> None:
+        """Compares all commands over a system."""
+        self.compare("session", [text, script])
+        _, schedule = self.compare("schedule", [text, trace])
+        for command in ("simulate", "buffers"):
+            self.compare(command, [text, trace])
+        self.compare("audit", [text, trace, schedule.encode()])
+        self.compare("audit", [text, trace, b"t0,0,1\n"])
+        self.compare("hammer", [text], (draw.randint(0, 99), 2))
+        self.compare("assign", [text], (draw.choice(list(system.resources)),))
+        tasks = [draw.choice(list(system.tasks)) for _ in range(draw.randint(1, 4))]
+        # such a name would be a word that isn't accepted
+        if all(it.isascii() and it.isalnum() for it in tasks):
+            self.compare("slack", [text], (tasks[0],))
+            self.compare("chain", [text], (*tasks,))
+            self.compare("chain", [text], (*tasks, "--while-running"))
+        deadlines = {key: draw.choice([None, draw.randint(1, 2000)]) for key in ("reaction", "age")}
+        chains, _ = written([Chain("c", tasks, **deadlines), Chain("d", tasks[:1], 0 if draw.random() < 0.1 else 50)])
+        self.compare("chains", [text, chains.encode()])
+
     def test_examples(self) -> None:
+        draw = Random(2)
         for file in sorted(EXAMPLES.glob("*.toml")):
             if file.name.endswith(".chains.toml"):
-                # chains are no system, and neither engine has a call for them
                 continue
             with self.subTest(file.name):
-                text = file.read_bytes()
+                text, system = file.read_bytes(), System.from_file(file)
                 self.compare("analyse", [text])
-                for script in EXAMPLES.glob(f"{file.stem}*.script.txt"):
-                    self.compare("session", [text, script.read_bytes()])
-                for trace in EXAMPLES.glob(f"{file.stem}*.trace.csv"):
-                    self.compare("simulate", [text, trace.read_bytes()])
-                    self.compare("buffers", [text, trace.read_bytes()])
-                    for schedule in EXAMPLES.glob(f"{file.stem}*.schedule.csv"):
-                        self.compare("audit", [text, trace.read_bytes(), schedule.read_bytes()])
-                self.compare("hammer", [text], (7, 3))
-                system = System.from_toml(text.decode())
+                traces = sorted(EXAMPLES.glob(f"{file.stem}*.trace.csv"))
+                scripts = sorted(EXAMPLES.glob(f"{file.stem}*.script.txt"))
+                trace = traces[0].read_bytes() if traces else b""
+                self.compare_all(text, system, trace, scripts[0].read_bytes() if scripts else b"report\n", draw)
+                for schedule in EXAMPLES.glob(f"{file.stem}*.schedule.csv"):
+                    self.compare("audit", [text, trace, schedule.read_bytes()])
+                for chains in EXAMPLES.glob(f"{file.stem}.chains.toml"):
+                    self.compare("chains", [text, chains.read_bytes()])
                 for name in system.resources:
                     self.compare("assign", [text], (name,))
-                for name in list(system.tasks)[:3]:
-                    self.compare("slack", [text], (name,))
 
     def test_random_systems(self) -> None:
-        draw = Random(1)
-        seen: dict[int, int] = {}
-        for number in range(int(os.environ.get("LOKWURMI_SYSTEMS", "60"))):
+        """All functions over random systems, as many as LOKWURMI_SYSTEMS says."""
+        draw, seen = Random(1), Counter[int]()
+        count, progress = int(os.environ.get("LOKWURMI_SYSTEMS", "40")), Progress("random systems")
+        for number in range(count):
+            progress.show(f"{number} of {count}{progress.left(number / count)}")
             with self.subTest(number):
                 system = random_system(draw)
                 text = system.to_toml().encode()
-                status, _ = self.compare("analyse", [text])
-                seen[status] = seen.get(status, 0) + 1
+                seen[self.compare("analyse", [text])[0]] += 1
+                self.compare("generate", [], (draw.randint(0, 999), draw.randint(0, 8)))
                 if system.tasks:
                     name = draw.choice(list(system.tasks))
                     script = f"exec {name} 1 3\nreport\nexec {name} 2 1\nremove {name}\npriority {name} 50\n"
-                    self.compare("session", [text, script.encode()])
-                    if name.isascii() and name.isalnum():
-                        self.compare("slack", [text], (name,))
-                    self.compare("assign", [text], ("r0",))
                     trace = "".join(f"event,s0,{at}\n" for at in range(0, 3000, 500))
-                    self.compare("simulate", [text, trace.encode()])
-                    self.compare("buffers", [text, trace.encode()])
+                    self.compare_all(text, system, trace.encode(), script.encode(), draw)
+        progress.clear()
         print(f"random systems by status: {dict(sorted(seen.items()))}")
 
     def test_refusals(self) -> None:
@@ -101,11 +119,22 @@ class LikeTheProgram(unittest.TestCase):
             ("generate", [], (2**70, 1)),
             ("generate", [], (1, 0)),
             ("generate", [], (4_294_967_295, 128)),
+            ("schedule", [good, b"event,zz,5\n"], ()),
+            ("chain", [good], ()),
+            ("chain", [good], ("zz",)),
+            ("chain", [good], ("a", "zz", "--while-running")),
+            ("chain", [good], ("a",) * 32),
+            ("chain", [good], ("a",) * 33),
+            ("chain", [good], ("-a",)),
+            ("chain", [good], ("",)),
+            ("chain", [b"x = ["], ("zz",)),
+            ("chains", [good, b"x = ["], ()),
+            ("chains", [good, b"format = 2\n"], ()),
+            ("chains", [good, long], ()),
+            ("chains", [good, b'format = 1\nchain = [{ name = "c", tasks = ["zz"] }]\n'], ()),
         ):
             with self.subTest((command, words)):
-                status, text = self.library.call(command, files, words)
-                expected, line = self.program.call(command, files, words)
-                self.assertEqual((status, text), (expected, line))
+                self.compare(command, files, words)
 
     def test_long_texts(self) -> None:
         """A text longer than the buffer at first is given whole."""

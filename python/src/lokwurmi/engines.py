@@ -257,7 +257,7 @@ class Program:
         other = BESIDE.get(command)
         if self.file.name != "cpa_cli" or other is None:
             return [str(self.file), command]
-        places = [self.file.with_name(other), self.file.parents[2] / other / "out" / other]
+        places = [self.file.with_name(other), self.file.parent.parent.parent / other / "out" / other]
         there = next((it for it in places if it.is_file()), None)
         if there is None:
             raise NoEngine(f"{command} has a program of its own, and there is none at {places[0]}, nor at {places[1]}:"
@@ -313,7 +313,11 @@ def default_engine(command: str = "analyse") -> Engine:
         except NoEngine:
             _chosen = Program()
     if isinstance(_chosen, Library) and not _chosen.has(command):
-        return Program()
+        try:
+            return Program()
+        except NoEngine:
+            # the library says what it lacks
+            return _chosen
     return _chosen
 
 

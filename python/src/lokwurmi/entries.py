@@ -4,6 +4,7 @@ A number is one of ticks. Where the system has a tick, a time with a unit may st
 and on a resource with a bit rate also "84 byte" or "111 bit". It's rounded to the side that is safe for its key as the
 system file is written, and stays as it is here.
 """
+from collections.abc import Mapping
 from dataclasses import dataclass, fields
 from enum import StrEnum
 from typing import Any
@@ -126,13 +127,11 @@ def is_time(word: Any) -> bool:
     return True
 
 
-def check_no_time(it: Entry) -> None:
+def check_no_time(kind: str, entry: Mapping[str, Any]) -> None:
     """Raises NoTick where an entry has a time with a unit, or a bit rate."""
-    kind = kind_name(it)
-    for key in TIMES[kind] | ({"bit": None, "bitrate": None} if kind == "resource" else {}):
-        value = getattr(it, key)
-        if key == "bitrate" and value is not None or is_time(value):
-            raise NoTick(f"{key} of {kind} {it.name!r} is {value}")
+    for key, value in entry.items():
+        if key == "bitrate" or (key in TIMES[kind] or key == "bit") and is_time(value):
+            raise NoTick(f"{key} of {kind} {entry.get('name')!r} is {value}")
 
 
 def text_in_ticks(it: Entry) -> str:
@@ -141,6 +140,6 @@ def text_in_ticks(it: Entry) -> str:
     for value in found.values():
         # most values are numbers and names
         if not isinstance(value, int) and (not isinstance(value, str) or value[:1].isdigit()) or "bitrate" in found:
-            check_no_time(it)
+            check_no_time(kind_name(it), found)
             break
     return entry_text(found)

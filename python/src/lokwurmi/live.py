@@ -6,11 +6,11 @@ from typing import TYPE_CHECKING, Any
 
 from . import reports
 from .engines import EDIT_REFUSED, SCRIPT_REFUSED, Engine, Kept, Library, default_engine
-from .entries import Kind, Resource, Source, Task, Ticks, is_time, keys_of
-from .errors import CallFailed, EditRefused, NoTick, ScriptRefused, SessionClosed, refusal
+from .entries import Kind, Resource, Source, Task, Ticks
+from .errors import CallFailed, EditRefused, ScriptRefused, SessionClosed, refusal
 from .lines import REFUSED
 from .reports import Verdict
-from .units import TIMES, Converter, Rounding, frame_bits, warn
+from .units import Rounding, warn
 
 if TYPE_CHECKING:
     from .model import System
@@ -102,7 +102,7 @@ class Session:
         entry: dict[str, Any] = {"name": name} | {key: it for key, it in given.items() if it is not None}
         if kind == "task" and "on" not in entry and name in self._system.tasks:
             entry["on"] = self._system.tasks[name].on
-        told = _convert(self._system, kind, entry)
+        told = self._system._convert(kind, entry)
         self._roundings += told
         warn(told)
         return entry
@@ -111,7 +111,8 @@ class Session:
         """Sets the least and the greatest execution of a task, in ticks or with units; one that isn't given stays."""
         with self._lock:
             name = task if isinstance(task, str) else task.name
-            before = _execution(self._system, name)
+            # the program refuses a name of nothing
+            before = self._system.execution(name) if name in self._system.tasks else (1, 1)
             found = self._ticks("task", name, best=best, worst=worst)
             self._edit(f"exec {name} {found.get('best', before[0])} {found.get('worst', before[1])}")
 
@@ -138,9 +139,8 @@ class Session:
             name = _named(source)
             stays = {"period": 1, "jitter": 0, "distance": 0}
             if name in self._system.sources:
-                there = keys_of(self._system.sources[name])
-                _convert(self._system, "source", there)
-                stays |= there
+                there = self._system.sources[name]
+                stays |= {key: it for key in stays if (it := self._system.ticks(there, key)) is not None}
             found = stays | self._ticks("source", name, period=period, jitter=jitter, distance=distance)
             self._edit(f"source {name} {found['period']} {found['jitter']} {found['distance']}")
 
@@ -166,7 +166,8 @@ class Session:
             if self._found is None:
                 tasks, paths = kept.numbers()
                 bounds = dict(zip(self._system.tasks, tasks, strict=True))
-                self._found = MappingProxyType(bounds), MappingProxyType(dict(zip(self._system.paths, paths, strict=True)))
+                latencies = dict(zip(self._system.paths, paths, strict=True))
+                self._found = MappingProxyType(bounds), MappingProxyType(latencies)
             return self._found
 
     @property
@@ -206,36 +207,6 @@ class Session:
 
 def _named(it: "str | Task | Source | Resource") -> str:
     return it if isinstance(it, str) else it.name
-
-
-def _convert(system: "System", kind: str, entry: dict[str, Any]) -> list[Rounding]:
-    """Turns the times of an entry of a system into ticks, and gives what was rounded."""
-    if system.tick is None:
-        for key, value in entry.items():
-            if key in TIMES[kind] and is_time(value):
-                raise NoTick(f"{key} of {kind} {entry['name']!r} is {value}")
-        return []
-    document = {kind: [entry]}
-    if entry.get("on") in system.resources:
-        document["resource"] = [keys_of(system.resources[entry["on"]])]
-    converter = Converter(system.tick.nanoseconds)
-    converter.convert(document)
-    return converter.told
-
-
-def _execution(system: "System", name: str) -> tuple[Any, Any]:
-    """The least and the greatest execution of a task, in ticks; those of a frame by its payload."""
-    if name not in system.tasks:
-        # the program refuses the name
-        return 1, 1
-    entry = keys_of(system.tasks[name])
-    _convert(system, "task", entry)
-    if "payload" not in entry:
-        return entry["best"], entry["worst"]
-    bus = keys_of(system.resources[entry["on"]])
-    _convert(system, "resource", bus)
-    least, greatest = frame_bits(entry["payload"], entry.get("extended", False))
-    return least * bus.get("bit", 1), greatest * bus.get("bit", 1)
 
 
 def _apply(system: "System", words: list[str]) -> None:

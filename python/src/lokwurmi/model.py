@@ -17,7 +17,7 @@ from .entries import (KINDS, Entry, Kind, Path, Resource, Source, Task, Ticks, c
                       text_in_ticks)
 from .errors import ChainsRefused, LokwurmiError, SystemRefused, UnitsRefused
 from .toml import entry_text
-from .units import Converter, Rounding, Time, text_of, tick_of, warn, whole_ticks
+from .units import Converter, Rounding, Time, frame_bits, text_of, tick_of, warn, whole_ticks
 
 if TYPE_CHECKING:
     from .live import Session
@@ -101,14 +101,19 @@ class System:
 
     def _tell(self, it: Entry) -> None:
         """Says at once what is rounded of an entry, or why it can't be."""
+        self._warn(self._convert(kind_name(it), keys_of(it)))
+
+    def _convert(self, kind: str, entry: dict[str, Any]) -> list[Rounding]:
+        """Turns the times of an entry into ticks, and gives what was rounded; raises NoTick where there is no tick."""
         if self._tick is None:
-            return check_no_time(it)
-        document: dict[str, list[dict[str, Any]]] = {kind_name(it): [keys_of(it)]}
-        if isinstance(it, Task) and it.on in self.resources:
-            document["resource"] = [keys_of(self.resources[it.on])]
+            check_no_time(kind, entry)
+            return []
+        document = {kind: [entry]}
+        if entry.get("on") in self.resources:
+            document["resource"] = [keys_of(self.resources[entry["on"]])]
         converter = Converter(self._tick.nanoseconds)
         converter.convert(document)
-        self._warn(converter.told)
+        return converter.told
 
     def _warn(self, roundings: Iterable[Rounding]) -> None:
         """Warns of roundings of which it hasn't warned yet."""
@@ -165,6 +170,27 @@ class System:
     def copy(self) -> "System":
         """An equal system of its own."""
         return copy.deepcopy(self)
+
+    def ticks(self, it: Entry, key: str) -> int | None:
+        """An attribute of an entry in ticks, rounded as the system file has it; None where it isn't set.
+
+            >>> system = System(tick="10us")
+            >>> system.ticks(system.source("s", "1 ms", jitter="15 us"), "jitter")
+            2
+        """
+        entry = keys_of(it)
+        self._convert(kind_name(it), entry)
+        return entry.get(key)
+
+    def execution(self, task: str | Task) -> tuple[int, int]:
+        """The least and the greatest execution of a task in ticks; those of a frame by its payload."""
+        entry = keys_of(self.tasks[_name(task)])
+        self._convert("task", entry)
+        if "payload" not in entry:
+            return entry["best"], entry["worst"]
+        least, greatest = frame_bits(entry["payload"], entry.get("extended", False))
+        bit = self.ticks(self.resources[entry["on"]], "bit")
+        return least * (bit or 1), greatest * (bit or 1)
 
     # ---- files
 

@@ -27,7 +27,7 @@ from typing import Any, NamedTuple
 
 from lokwurmi_tools.accepted import read_system
 from lokwurmi_tools.arrows import Marked, draw_marked, marked_in
-from lokwurmi_tools.chains import bounds_by, read_chains
+from lokwurmi_tools.chains import bounds_by, read_chains, totals_of
 from lokwurmi_tools.colours import PALE, hues, letters_on, shades
 from lokwurmi_tools.faults import Fault
 from lokwurmi_tools.kinds import Bounds, Schedule, Times, Trace, Values
@@ -515,7 +515,7 @@ def marked_of(words: argparse.Namespace, system: Values, run: Run | None) -> lis
         return []
     tasks = chain_in(words, system)
     bounds = bounds_by(words.program, words.file, tasks)
-    marked = marked_in(run, tasks, words.reading, bounds.totals if bounds else {}, READINGS[words.reading])
+    marked = marked_in(run, tasks, words.reading, totals_of(bounds), READINGS[words.reading])
     if not marked:
         raise Fault(f"{' '.join(tasks)}: nothing of the chain is seen in this run")
     return marked

@@ -4,13 +4,13 @@ import os
 import tempfile
 
 from lokwurmi.errors import RULES
+from lokwurmi.traces import text_of
 from lokwurmi_tools import optimise, sensitivity
 from lokwurmi_tools.helps import WARNING, change_text, helps_for, less_text
 from lokwurmi_tools.kinds import Found, Values
 from lokwurmi_tools.page_system import System
 from lokwurmi_tools.program import often, written_by
 from lokwurmi_tools.report import reports_in
-from lokwurmi_tools.runs import read
 from lokwurmi_tools.times import Scale
 
 # for how many paths a page tells what would help, and how many changes of each
@@ -54,7 +54,7 @@ def cells_of(columns: list[tuple[Found, Found]], part: int, name: str) -> list[V
 def changes_of(words: argparse.Namespace, system: System) -> Values:
     """What the reports of a session changed: the edits before each, and the bounds that aren't the same in all."""
     reports = reports_in(written_by(words.program, "session", words.file, words.session).splitlines(), words.session)
-    steps = steps_in(read(words.session).split("\n"), reports)
+    steps = steps_in(text_of(words.session).split("\n"), reports)
     columns = [(system.found_tasks, system.found_paths)] + [it[:2] for it in reports[: len(steps)]]
     kept, rows = 0, []
     for part, kind in ((0, "task"), (1, "path")):

@@ -8,7 +8,6 @@ from typing import Any
 
 from lokwurmi import lines
 from lokwurmi.errors import Unreadable
-from lokwurmi.lines import PATH, SUMMARY, TASK, number  # noqa: F401
 from lokwurmi_tools.faults import Fault
 from lokwurmi_tools.kinds import Found
 

@@ -5,14 +5,7 @@ from typing import Any, Callable
 
 from lokwurmi.units import UNITS, amount_of, common, decimal_text, text_of, time_of, unit_of
 
-__all__ = [
-    "TICKS", "UNITS", "Scale", "amount_of", "common", "digits_of", "rate_of", "text_of", "time_of", "unit_of", "word_of",
-]
-
-
-def digits_of(number: Fraction) -> str:
-    """A fraction as a decimal number: with all digits where these have an end, as those of times in ticks do."""
-    return decimal_text(number) or f"{float(number):.12g}"
+__all__ = ["TICKS", "UNITS", "Scale", "amount_of", "common", "rate_of", "text_of", "time_of", "unit_of", "word_of"]
 
 
 class Scale:
@@ -29,7 +22,9 @@ class Scale:
             return "0"
         time = abs(ticks) * self.tick
         unit = unit_of(time)
-        return f"{'-' if ticks < 0 else ''}{digits_of(time / UNITS[unit])}{unit}"
+        # a time of a tick is a decimal number, and so is each multiple of it
+        digits = decimal_text(time / UNITS[unit]) or f"{float(time / UNITS[unit]):.12g}"
+        return f"{'-' if ticks < 0 else ''}{digits}{unit}"
 
     def length(self, ticks: int) -> str:
         """The same with the word ticks."""

@@ -13,8 +13,9 @@ import time
 from dataclasses import dataclass, field
 from typing import NamedTuple
 
+from lokwurmi.traces import write
 from lokwurmi_tools.accepted import read_system
-from lokwurmi_tools.chains import bounds_by
+from lokwurmi_tools.chains import bounds_by, totals_of
 from lokwurmi_tools.faults import Fault
 from lokwurmi_tools.program import LAUNCHER, built, call
 from lokwurmi_tools.progress import Progress
@@ -187,7 +188,7 @@ class ChainSearch:
         self.options, self.tasks, self.what, self.status = options, tasks, options.what, 0
         self.system = read_system(options.file)
         bounds = bounds_by(options.program, options.file, tasks)
-        self.bound = bounds.totals.get(self.what) if bounds else None
+        self.bound = totals_of(bounds).get(self.what)
         self.trace = os.path.join(folder, "chain.csv")
         self.maker = Maker(self.system, tasks, self.bound or UNBOUNDED)
         self.draw = random.Random(f"{options.seed} {self.what} {' '.join(tasks)}")
@@ -280,8 +281,3 @@ def perform_chain(options: argparse.Namespace, folder: str) -> int:
         write(options.to, search.maker.rows(found.plan))
     print(told(search, found, options.to), flush=True)
     return search.status
-
-
-def write(file: str, rows: list[str]) -> None:
-    with open(file, "w", encoding="ascii") as it:
-        it.write("".join(row + "\n" for row in rows))

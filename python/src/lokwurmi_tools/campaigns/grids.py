@@ -7,7 +7,8 @@ import tomllib
 from collections.abc import Iterable, Sequence
 from typing import Any
 
-from lokwurmi.lines import PATH, REFUSED, SUMMARY, TASK
+from lokwurmi.errors import Unreadable
+from lokwurmi.lines import reports_in
 from lokwurmi_tools.campaigns.faults import Wrong
 from lokwurmi_tools.system import execution
 
@@ -121,7 +122,7 @@ def read_grid(file: str, system: dict) -> list[Entry]:
         raise Wrong(f"{file}: a grid has entries [[vary]], and nothing else")
     names = {kind: [it["name"] for it in system.get(kind, [])] for kind in KEYS}
     try:
-        found = []
+        found: list[Entry] = []
         for place, it in enumerate(grid["vary"], 1):
             entry = Entry(place, it, names)
             for other in found:
@@ -178,17 +179,15 @@ VERDICTS = {0: "met", 1: "missed", 2: "overload"}
 def row_of(status: int, text: str, script: str) -> tuple[str, str, dict[str, int | None]]:
     """The verdict of a variant, which of its edits was refused first, and its bounds and latencies by the names of
     their columns."""
-    found, refused = {}, ""
-    for line in text.splitlines():
-        if it := TASK.fullmatch(line):
-            found["task." + it["name"]] = it["worst"]
-        elif it := PATH.fullmatch(line):
-            found["path." + it["name"]] = it["worst"]
-        elif it := REFUSED.fullmatch(line):
-            edit = " ".join(script.split("\n")[int(it[1]) - 1].split())
-            refused = refused or f"{edit}: {it[2]}"
-        elif not SUMMARY.fullmatch(line):
-            raise Wrong(f"session wrote no report: {text[:200]}")
+    try:
+        tasks, paths, edits = reports_in(text.splitlines())[-1]
+    except Unreadable as fault:
+        raise Wrong(f"session wrote no report: {text[:200]}") from fault
+    refused = ""
+    for line, rule in sorted(edits.items())[:1]:
+        refused = f"{' '.join(script.split(chr(10))[line - 1].split())}: {rule}"
+    found = {f"task.{name}": it["worst"] for name, it in tasks.items()}
+    found |= {f"path.{name}": it["worst"] for name, it in paths.items()}
     return ("refused" if refused else VERDICTS[status]), refused, found
 
 

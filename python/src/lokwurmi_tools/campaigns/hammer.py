@@ -4,7 +4,8 @@ import subprocess
 import sys
 from collections.abc import Iterable
 
-from lokwurmi.lines import HAMMERED, HAMMERED_SUMMARY
+from lokwurmi.errors import Unreadable
+from lokwurmi.reports import Hammered, hammered
 from lokwurmi_tools.campaigns.engine import run
 from lokwurmi_tools.campaigns.faults import Failed, Wrong, say
 from lokwurmi_tools.campaigns.kept import Kept
@@ -13,32 +14,30 @@ from lokwurmi_tools.campaigns.worker import Answer
 MOST_TRACES, MOST_NUMBER, MOST_CALLS = 10_000, 4_294_967_295, 1_000_000
 
 
-def sums(text: str) -> tuple[list[list], list[int]]:
-    """The tasks of a summary of hammer, each a list of its name, jobs, worst and bound, and the three numbers of its
-    last line."""
-    *lines, last = text.splitlines() or [""]
-    found = [HAMMERED.fullmatch(it) for it in lines]
-    end = HAMMERED_SUMMARY.fullmatch(last)
-    if None in found or not end:
-        raise Failed(f"hammer wrote no summary: {text[:200]}")
-    return [[it[1], int(it[2]), it[3], it[4]] for it in found], [int(it) for it in end.groups()]
+def sums(text: str) -> Hammered:
+    """What `hammer` wrote."""
+    try:
+        return hammered(text)
+    except Unreadable as fault:
+        raise Failed(f"hammer wrote no summary: {text[:200]}") from fault
 
 
 def joined(texts: Iterable[str]) -> str:
     """The text of one hammer over all traces of several."""
-    tasks, ends = None, [0, 0, 0]
-    for text in texts:
-        more, end = sums(text)
-        ends = [a + b for a, b in zip(ends, end)]
-        if tasks is None:
-            tasks = more
-            continue
-        for task, other in zip(tasks, more, strict=True):
-            task[1] += other[1]
-            if other[2] != "none":
-                task[2] = str(max(int(other[2]), int(task[2]) if task[2] != "none" else 0))
-    lines = [f"task {name} jobs {jobs} worst {worst} bound {bound}" for name, jobs, worst, bound in tasks]
-    return "\n".join([*lines, "summary traces {} jobs {} beyond {}".format(*ends)]) + "\n"
+    tasks: dict[str, list] = {}
+    traces = jobs = beyond = 0
+    for it in map(sums, texts):
+        traces, jobs, beyond = traces + it.traces, jobs + it.jobs, beyond + it.beyond
+        for name, (count, worst, bound) in it.tasks.items():
+            found = tasks.setdefault(name, [0, None, bound])
+            found[0] += count
+            found[1] = max((at for at in (found[1], worst) if at is not None), default=None)
+    lines = [
+        f"task {name} jobs {count} worst {'none' if worst is None else worst}"
+        f" bound {'overload' if bound is None else bound}\n"
+        for name, (count, worst, bound) in tasks.items()
+    ]
+    return "".join(lines) + f"summary traces {traces} jobs {jobs} beyond {beyond}\n"
 
 
 def first_beyond(words: argparse.Namespace, number: int, traces: int) -> int:
@@ -50,7 +49,7 @@ def first_beyond(words: argparse.Namespace, number: int, traces: int) -> int:
         text = subprocess.run(
             [words.program, "hammer", words.file, str(number), str(middle)], capture_output=True, text=True, check=False
         ).stdout
-        low, high = (low, middle) if sums(text)[1][2] else (middle + 1, high)
+        low, high = (low, middle) if sums(text).beyond else (middle + 1, high)
     return low - 1
 
 
@@ -84,7 +83,7 @@ def hammer(words: argparse.Namespace, kept: Kept) -> int:
     found = []
 
     def look(key: str, answer: Answer) -> bool:
-        if sums(answer[1])[1][2]:
+        if sums(answer[1]).beyond:
             found.append(key)
         return bool(found)
 

@@ -12,7 +12,7 @@ import sys
 import time
 from collections.abc import Callable
 from pathlib import Path
-from typing import NoReturn
+from typing import NoReturn, TextIO
 
 from lokwurmi_tools.launcher import helping, shown
 from lokwurmi_tools.launcher.graph import Graph, is_kept
@@ -56,6 +56,7 @@ class Build:
         out = TOP / "crates" / graph.top / "out"
         self.log_path, self.start_path = out / "lokwurmi.log", out / "lokwurmi.start"
         self.work = Work()
+        self.log: TextIO | None = None
         self.current = self.failed = ""
         self.partial = ""
         self.jobs = at_a_time()
@@ -109,8 +110,10 @@ class Build:
     # ---- what rt says
 
     def look(self) -> None:
-        """Reads what rt has written since: where several are proved at a time it heads what it says of a crate once that is
-        through, and else it names a crate when it begins with it."""
+        """Reads what rt has written since: where several are proved at a time it heads what it says of a crate once
+        that is through, and else it names a crate when it begins with it."""
+        if self.log is None:
+            return
         lines = (self.partial + self.log.read()).split("\n")
         self.partial = lines.pop()
         for line in lines:
@@ -131,7 +134,7 @@ class Build:
             say(line)
 
     def said_of_failed(self) -> list[str]:
-        """What rt said of the crate that failed; where they went one after the other, of the last that it began with."""
+        """What rt said of the crate that failed; where they went one by one, of the last that it began with."""
         lines = self.log_path.read_text(encoding="utf-8", errors="replace").splitlines()
         heads = [at for at, it in enumerate(lines) if it.startswith("== ")]
         if not self.failed:
@@ -142,7 +145,8 @@ class Build:
         return [line for at, end in zip(mine, ends) for line in lines[at:end]]
 
     def no_failure(self) -> str:
-        """Why a crate has no library though nothing was found wrong, if that is so: a check that was killed has no last line."""
+        """Why a crate has no library though nothing was found wrong, if that is so: a check that was killed has no
+        last line."""
         said = self.said_of_failed() if self.failed else []
         if not self.failed or any(it.startswith("logic=not-proved") or "error" in it for it in said):
             return ""
@@ -153,8 +157,8 @@ class Build:
     # ---- what runs
 
     def watch(self, crate: str, *words: str, libraries: bool = False) -> bool:
-        """Runs rt in a crate, and shows how far it is; whether it passed. With `libraries` it is ended once all below the
-        summit are proved, or one has failed."""
+        """Runs rt in a crate, and shows how far it is; whether it passed. With `libraries` it is ended once all below
+        the summit are proved, or one has failed."""
         with open(self.log_path, "ab") as output:
             self.work.start(["rt", *words], TOP / "crates" / crate, output, kept=(self.lock,))
         while (status := self.work.status()) is None:
@@ -173,10 +177,12 @@ class Build:
         return self.done.issuperset(set(self.graph.order) - set(self.graph.summit))
 
     def run_rt(self) -> bool:
-        """Proves the libraries several at a time, and then the summit with all processors, or all one after the other.
+        """Proves the libraries several at a time, and then the summit with all processors, or all one after the
+        other.
 
-        rt lets only one of its runs work in a crate and those below it, so that several at a time are its own affair. Where a
-        library is lacking, rt reads all sources below once before it begins; so those of the summit are built each for itself.
+        rt lets only one of its runs work in a crate and those below it, so that several at a time are its own
+        affair. Where a library is lacking, rt reads all sources below once before it begins; so those of the
+        summit are built each for itself.
         """
         if self.jobs > 1 and not self.are_libraries_done():
             if not self.watch(self.graph.top, "all", "check", "--jobs", str(self.jobs), libraries=True):
@@ -199,10 +205,12 @@ class Build:
         self.work.end()
         self.start_path.unlink(missing_ok=True)
         try:
+            # what rt has said since it was looked at last
+            self.look()
             shown.wipe()
             say(
-                f"interrupted after {clock(self.plan.so_far)}, with {self.count()} proved; all that it started has ended, and"
-                " the next call goes on from there"
+                f"interrupted after {clock(self.plan.so_far)}, with {self.count()} proved; all that it started has"
+                " ended, and the next call goes on from there"
             )
         except OSError:
             pass

@@ -1,4 +1,5 @@
-"""The script by which bash completes the words of `lokwurmi`: the words of the tables of commands, and what goes by them."""
+"""The script by which bash completes the words of `lokwurmi`: the words of the tables of commands, and what goes by
+them."""
 from __future__ import annotations
 
 import shlex

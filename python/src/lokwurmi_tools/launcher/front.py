@@ -4,6 +4,7 @@ from __future__ import annotations
 import os
 import sys
 from collections.abc import Callable
+from functools import partial
 
 from lokwurmi_tools.launcher import helping
 from lokwurmi_tools.launcher.places import SOURCES, is_installed, program
@@ -69,7 +70,10 @@ def unproved(words: list[str]) -> int:
     if operands is None:
         return refuse(words, helping.names(), is_quiet())
     if is_installed():
-        print(f"lokwurmi: {UNPROVED} compiles the sources, which an installed copy hasn't; what it calls is proved", file=sys.stderr)
+        print(
+            f"lokwurmi: {UNPROVED} compiles the sources, which an installed copy hasn't; what it calls is proved",
+            file=sys.stderr,
+        )
         return FAILED
     from lokwurmi_tools.launcher.unproved import answer_unproved
 
@@ -109,7 +113,8 @@ OWN_STEPS: dict[str, Callable[[list[str]], int]] = {
 
 
 def build(words: list[str]) -> int:
-    """Builds the program that a command needs, where it is stale, and then runs it: what it would refuse isn't worth a build."""
+    """Builds the program that a command needs, where it is stale, and then runs it: what it would refuse isn't worth
+    a build."""
     from lokwurmi_tools.launcher.running import run
     from lokwurmi_tools.launcher.telling import tell
 
@@ -122,7 +127,7 @@ def build(words: list[str]) -> int:
         return FAILED
     from lokwurmi_tools.launcher.build import build as build_program
 
-    build_program(command.crate, words, lambda: note_missing(operands))
+    build_program(command.crate, words, partial(note_missing, operands))
     status = run([str(program(command.crate)), *command.handed(words[1:])])
     if not is_quiet():
         tell(status, None, words)

@@ -73,8 +73,8 @@ class Graph:
     def why_stale(self, product: Path | None = None, called: str = "the program") -> str:
         """Why the program has to be built, or another product, if it has to be.
 
-        A build gives it the time at which it began, so that what changed meanwhile is newer. Folders count, since a source
-        that was taken away leaves no other trace.
+        A build gives it the time at which it began, so that what changed meanwhile is newer. Folders count, since
+        a source that was taken away leaves no other trace.
         """
         product = product or program(self.top)
         if not os.access(product, os.R_OK if product.suffix else os.X_OK):

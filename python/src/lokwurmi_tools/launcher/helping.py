@@ -127,4 +127,3 @@ def installed_version() -> str:
     if other:
         told[-1] = f"NOT the proved build: {', '.join(other)} isn't what was installed"
     return "\n".join(told) + "\n"
-

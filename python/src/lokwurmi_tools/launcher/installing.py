@@ -1,7 +1,7 @@
 """`install` and `uninstall`: a copy of the proved programs, of what goes with them, and of the tools.
 
-The copy has the folders of the repository without the sources, below PREFIX/lib/lokwurmi, so that all finds its way there as
-in the repository. PREFIX/lib/lokwurmi/INSTALLED says what it is a copy of, and lists the files.
+The copy has the folders of the repository without the sources, below PREFIX/lib/lokwurmi, so that all finds its
+way there as in the repository. PREFIX/lib/lokwurmi/INSTALLED says what it is a copy of, and lists the files.
 """
 from __future__ import annotations
 
@@ -17,8 +17,8 @@ from typing import NamedTuple
 from lokwurmi_tools.launcher import helping
 from lokwurmi_tools.launcher.build import FAILED, build_noted
 from lokwurmi_tools.launcher.completing import completion_text
+from lokwurmi_tools.launcher.library import ARCHIVE, SHARED, pkg_config, why_lacking
 from lokwurmi_tools.launcher.manual import man_text
-from lokwurmi_tools.launcher.library import ARCHIVE, SHARED, pkg_config
 from lokwurmi_tools.launcher.places import LIBRARY, TOP, digest, is_installed, kit_of, program
 from lokwurmi_tools.launcher.shown import say
 from lokwurmi_tools.launcher.table import PROGRAMS, VERSION
@@ -27,7 +27,7 @@ COPY = Path("lib") / "lokwurmi"
 RECORD = COPY / "INSTALLED"
 MAN = Path("share") / "man" / "man1" / "lokwurmi.1"
 COMPLETION = Path("share") / "bash-completion" / "completions" / "lokwurmi"
-PKG_CONFIG = Path("lib/pkgconfig/lokwurmi.pc")
+PKG_CONFIG = Path("lib") / "pkgconfig" / "lokwurmi.pc"
 # what is copied of the repository, beside the programs
 TAKEN = ("docs", "examples", "python/src/lokwurmi", "python/src/lokwurmi_tools")
 LEFT_OUT = ("__pycache__",)
@@ -43,12 +43,12 @@ def default_prefix() -> Path:
     return TOP.parent.parent if is_installed() else Path.home() / ".local"
 
 
-def sources() -> Iterator[Path]:
+def sources(has_library: bool) -> Iterator[Path]:
     """The files that are copied of the repository."""
     yield TOP / "lokwurmi"
     for folder in TAKEN:
         for it in sorted((TOP / folder).rglob("*")):
-            if it.is_file() and not set(LEFT_OUT) & set(it.parts):
+            if it.is_file() and not set(LEFT_OUT) & set(it.parts) and (has_library or it.name != SHARED):
                 yield it
 
 
@@ -113,16 +113,11 @@ class Copy:
         self.place(name, lambda to: to.symlink_to(target))
 
 
-def has_library() -> bool:
-    """Whether the library is built."""
-    return (LIBRARY / SHARED).exists()
-
-
-def places(prefix: Path) -> dict[Path, Path]:
+def places(has_library: bool) -> dict[Path, Path]:
     """Where each file of the repository goes, below the prefix."""
-    found = {COPY / it.relative_to(TOP): it for it in sources()}
+    found = {COPY / it.relative_to(TOP): it for it in sources(has_library)}
     found |= {COPY / program(it).relative_to(TOP): program(it) for it in PROGRAMS}
-    if has_library():
+    if has_library:
         found |= {Path("lib") / it: LIBRARY / it for it in (ARCHIVE, SHARED)}
         found[Path("include") / "lokwurmi.h"] = TOP / "library" / "lokwurmi.h"
         found |= {COPY / "library" / it.name: it for it in LIBRARY.glob("*.whl")}
@@ -134,7 +129,9 @@ def refuse_others(prefix: Path, names: list[Path]) -> None:
     before = set(Record.at(prefix).files)
     for it in names:
         if it not in before and os.path.lexists(prefix / it):
-            raise Refused(f"{prefix / it} is there, and no install has listed it: take it away first, or name another PREFIX")
+            raise Refused(
+                f"{prefix / it} is there, and no install has listed it: take it away first, or name another PREFIX"
+            )
 
 
 def need_room(prefix: Path) -> None:
@@ -149,9 +146,9 @@ def need_room(prefix: Path) -> None:
         raise Refused(f"{above} can't be written: {fault.strerror}; name another PREFIX, as ~/.local") from fault
 
 
-def copy_all(prefix: Path) -> Copy:
-    found = places(prefix)
-    own = [Path("bin") / "lokwurmi", MAN, COMPLETION, RECORD, *([PKG_CONFIG] if has_library() else [])]
+def copy_all(prefix: Path, has_library: bool) -> Copy:
+    found = places(has_library)
+    own = [Path("bin") / "lokwurmi", MAN, COMPLETION, RECORD, *([PKG_CONFIG] if has_library else [])]
     refuse_others(prefix, [*found, *own])
     copy, head = Copy(prefix), head_of()
     # listed before they are there, so that an install that breaks off is taken away too
@@ -162,7 +159,7 @@ def copy_all(prefix: Path) -> Copy:
     copy.link(os.path.join("..", COPY, "lokwurmi"), own[0])
     copy.text(man_text(), MAN)
     copy.text(completion_text(), COMPLETION)
-    if has_library():
+    if has_library:
         copy.text(pkg_config(prefix, "lib", "include"), PKG_CONFIG)
     # by whoever may write here, for those who may not; what Python has compiled goes with its sources
     compileall.compile_dir(prefix / COPY / "python", quiet=2, invalidation_mode=PycInvalidationMode.CHECKED_HASH)
@@ -172,8 +169,8 @@ def copy_all(prefix: Path) -> Copy:
 
 
 def missing_folders(prefix: Path, names: list[Path]) -> list[Path]:
-    """The folders below the prefix that aren't there yet."""
-    found = {above for it in names for above in it.parents if above != Path(".")}
+    """The folders that aren't there yet: the prefix itself, and those below."""
+    found = {above for it in names for above in it.parents}
     return [it for it in found if not (prefix / it).exists()]
 
 
@@ -185,23 +182,34 @@ def install(prefix: Path) -> int:
         build_noted(it)
     found = helping.changed()
     if found:
-        say(f"note: the repository has changes that aren't committed, and --version of the copy says so: {found[0]}"
-            + (f" and {len(found) - 1} more" if len(found) > 1 else ""))
-    copy = copy_all(prefix)
-    say(f"{len(copy.written)} files are written below {prefix}: bin/lokwurmi, the proved programs and the tools in {COPY}, {MAN}, {COMPLETION}")
-    if has_library():
-        say(f"the library too: lib/{ARCHIVE}, lib/{SHARED}, include/lokwurmi.h, {PKG_CONFIG}")
+        say(
+            f"note: the repository has changes that aren't committed, and --version of the copy says so: {found[0]}"
+            + (f" and {len(found) - 1} more" if len(found) > 1 else "")
+        )
+    lacking = why_lacking()
+    copy = copy_all(prefix, not lacking)
+    tell_written(prefix, len(set(copy.written)), lacking)
+    return 0
+
+
+def tell_written(prefix: Path, count: int, lacking: str) -> None:
+    """Says what was written, and what whoever calls it needs."""
+    say(
+        f"{count} files are written below {prefix}: bin/lokwurmi, the programs and tools in {COPY}, {MAN}, {COMPLETION}"
+    )
+    if lacking:
+        say(f"the library isn't among them: {lacking}; ./lokwurmi build-library builds it")
     else:
-        say("the library isn't built, and isn't there: ./lokwurmi build-library builds it")
+        say(f"the library too: lib/{ARCHIVE}, lib/{SHARED}, include/lokwurmi.h, {PKG_CONFIG}")
     say(f"for `import lokwurmi` in Python: export PYTHONPATH={prefix / COPY}/python/src")
     folder = str(prefix / "bin")
     if folder not in os.environ.get("PATH", "").split(os.pathsep):
         say(f"{folder} isn't in the search path: export PATH={folder}:$PATH")
-    return 0
 
 
 def remove(prefix: Path, record: Record) -> int:
-    """Takes files away, what Python has compiled of them, and the folders that are empty then; how many files there were."""
+    """Takes files away, what Python has compiled of them, and the folders that are empty then; how many files there
+    were."""
     count, folders = 0, [prefix / it for it in record.folders]
     for it in record.files:
         path = prefix / it

@@ -82,7 +82,9 @@ def build_wheel() -> Path:
     platform = sysconfig.get_platform().replace("-", "_")
     with tempfile.TemporaryDirectory(prefix="lokwurmi-") as folder:
         room, out = Path(folder, "python"), Path(folder, "out")
-        shutil.copytree(TOP / "python", room, ignore=shutil.ignore_patterns("__pycache__", "*.egg-info", "build", "tests"))
+        shutil.copytree(
+            TOP / "python", room, ignore=shutil.ignore_patterns("__pycache__", "*.egg-info", "build", "tests")
+        )
         (room / "setup.cfg").write_text(f"[bdist_wheel]\nplat_name = {platform}\n", encoding="utf-8")
         flags = ["--no-deps", "--no-build-isolation", "--no-index", "--quiet", "--disable-pip-version-check"]
         try:
@@ -96,6 +98,18 @@ def build_wheel() -> Path:
         return Path(shutil.copy(made, LIBRARY / made.name))
 
 
+def archive() -> Path:
+    """What the toolchain builds of the library."""
+    return TOP / "crates" / CRATE / "out" / f"lib{CRATE}.a"
+
+
+def why_lacking() -> str:
+    """Why there is no library to be copied, if there is none: it isn't built, or a source is newer."""
+    if not (LIBRARY / SHARED).exists():
+        return "the library isn't built yet"
+    return Graph(CRATE).why_stale(archive(), "the library")
+
+
 def perform(words: list[str]) -> int:
     if words:
         say(f"build-library takes no words, and here is {words[0]}")
@@ -104,16 +118,18 @@ def perform(words: list[str]) -> int:
         say("build-library needs the sources, which an installed copy hasn't")
         return FAILED
     graph = Graph(CRATE)
-    archive = TOP / "crates" / CRATE / "out" / f"lib{CRATE}.a"
     try:
         cc = compiler()
-        if why := graph.why_stale(archive, "the library"):
-            build_for(graph, why, ["lib"], archive)
+        if why := graph.why_stale(archive(), "the library"):
+            build_for(graph, why, ["lib"], archive())
         say("the archive, the shared object and the wheel are built")
-        link(archive, cc)
+        link(archive(), cc)
         made = build_wheel()
     except Stopped as fault:
         say(f"build-library: {fault}")
         return FAILED
-    say(f"{LIBRARY / ARCHIVE}, {LIBRARY / SHARED} (also in python/src/lokwurmi), and {made}; docs/LIBRARY.md says how they are used")
+    say(
+        f"{LIBRARY / ARCHIVE}, {LIBRARY / SHARED} (also in python/src/lokwurmi), and {made}; docs/LIBRARY.md says how"
+        " they are used"
+    )
     return 0

@@ -7,10 +7,19 @@ from lokwurmi_tools.launcher.table import COMMANDS, OWN, VERSION, WORDS, Command
 STATUSES = (
     ("0", "all is done; no deadline is missed, and no bound is overload."),
     ("1, 2", "of analyse, session, load and chains: a deadline is missed; of these and chain: a bound is overload."),
-    ("3", "of assign: no order of priorities meets; of slack: a deadline is missed already, or a path with one has no bound."),
+    (
+        "3",
+        (
+            "of assign: no order of priorities meets; of slack: a deadline is missed already, or a path with one has no"
+            " bound."
+        ),
+    ),
     ("4", "of audit: the recorded schedule isn't that of the run."),
     ("10", "the words aren't accepted."),
-    ("11 to 19", "a file can't be read, is too long, or is refused; the line on standard output says which one and where."),
+    (
+        "11 to 19",
+        "a file can't be read, is too long, or is refused; the line on standard output says which one and where.",
+    ),
     ("20", "the output couldn't be written."),
     ("30", "out of memory."),
     ("70", "of the launcher: the program couldn't be built, installed or tried."),
@@ -24,9 +33,10 @@ lokwurmi \\- bounds on the timing of distributed real\\-time systems, with proof
 .RB [ \\-\\-quiet ]
 .I COMMAND WORD ..
 .SH DESCRIPTION
-Lokwurmi reads which tasks run where, for how long and how often, and writes bounds on the worst\\-case response time of each
-task and on the worst latency of each path.
-In every trace that obeys the sources and execution ranges, each job and each path with a printed bound is complete within it.
+Lokwurmi reads which tasks run where, for how long and how often.
+It writes bounds on the worst\\-case response time of each task and on the worst latency of each path.
+In every trace that obeys the sources and execution ranges, each job and each path with a printed bound is complete
+within it.
 The commands of the first list are proved: each function of the program is proved to meet its contract.
 What the second list has isn't.
 """
@@ -42,12 +52,12 @@ how many crates a build proves at a time.
 .B NO_COLOR
 no colours in a terminal.
 .SH PREMISES
-A trace starts with no pending job; events, executions and phases are as the system file allows; in each tick runs who the step
-rule says, and switching takes no time.
+A trace starts with no pending job; events, executions and phases are as the system file allows.
+In each tick runs who the step rule says, and switching takes no time.
 It isn't claimed that hardware behaves so, that a bound is reached, or that none is tighter.
 .SH SEE ALSO
-The folder docs of the repository, or of an installed copy (lib/lokwurmi/docs): TUTORIAL.md, FILES.md with all words, keys and
-statuses, SOUNDNESS.md.
+The folder docs of the repository, or of an installed copy (lib/lokwurmi/docs): TUTORIAL.md, FILES.md with all words,
+keys and statuses, SOUNDNESS.md.
 """
 
 

@@ -47,7 +47,7 @@ def note_built(crate: str, kit: str, product: Path) -> None:
 
 
 def kit_of(crate: str) -> str:
-    """The toolchain that has proved and built a program; none where the program isn't the one that a build has noted."""
+    """The toolchain that has proved and built a program; none where no build has noted this program."""
     try:
         kit, noted = record_of(crate).read_text(encoding="utf-8").splitlines()
     except (OSError, ValueError):

@@ -50,7 +50,8 @@ class Plan:
         return time.monotonic() - self.begun
 
     def left_by_weights(self) -> int:
-        """Seconds that are left, as `rt all` hands crates out: whatever gets free takes the next, and waits for what that uses."""
+        """Seconds that are left, as `rt all` hands crates out: whatever gets free takes the next, and waits for what
+        that uses."""
         free = [0] * self.jobs
         end: dict[str, int] = {}
         for it in self.queue:
@@ -75,9 +76,12 @@ class Plan:
         return f"some {int(rest + 30) // 60} minutes to go" if rest >= 90 else "about a minute to go"
 
     def under_way(self, current: str) -> str:
-        """The crates that are under way: the one that rt named last, or those that rt has taken up and that wait for no other."""
+        """The crates that are under way: the one that rt named last, or those that rt has taken up and that wait for
+        no other."""
         waiting = [it for it in self.queue if it not in self.done][: self.jobs]
-        found = [current] if current else [it for it in waiting if all(below in self.done for below in self.graph.uses[it])]
+        found = (
+            [current] if current else [it for it in waiting if all(below in self.done for below in self.graph.uses[it])]
+        )
         more = f" and {len(found) - 3} more" if len(found) > 3 else ""
         return ", ".join(found[:3]) + more
 

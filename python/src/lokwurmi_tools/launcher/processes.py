@@ -20,12 +20,27 @@ class Work:
         self.mark = f"{os.getpid()}.{random.randrange(10**9)}"
         self.running: subprocess.Popen[bytes] | None = None
 
-    def start(self, words: list[str], folder: Path, output: IO[bytes], errors: IO[bytes] | int = subprocess.STDOUT,
-              given: int | None = subprocess.DEVNULL, kept: tuple[int, ...] = ()) -> None:
-        """Starts a command, with a group of its own, so that an interrupt of the terminal comes to this process alone."""
+    def start(
+        self,
+        words: list[str],
+        folder: Path,
+        output: IO[bytes],
+        errors: IO[bytes] | int = subprocess.STDOUT,
+        given: int | None = subprocess.DEVNULL,
+        kept: tuple[int, ...] = (),
+    ) -> None:
+        """Starts a command, with a group of its own, so that an interrupt of the terminal comes to this process
+        alone."""
         environment = os.environ | {MARK: self.mark}
         self.running = subprocess.Popen(
-            words, cwd=folder, stdin=given, stdout=output, stderr=errors, env=environment, process_group=0, pass_fds=kept
+            words,
+            cwd=folder,
+            stdin=given,
+            stdout=output,
+            stderr=errors,
+            env=environment,
+            process_group=0,
+            pass_fds=kept,
         )
 
     def status(self) -> int | None:
@@ -49,7 +64,8 @@ class Work:
         return found
 
     def end(self) -> None:
-        """Ends all of it: as an interrupt of a terminal does, and where that isn't enough within three seconds, by more."""
+        """Ends all of it: as an interrupt of a terminal does, and where that isn't enough within three seconds, by
+        more."""
         if self.running is None:
             return
         for number in (signal.SIGINT, signal.SIGTERM, signal.SIGKILL):

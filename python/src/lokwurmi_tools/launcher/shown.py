@@ -6,7 +6,8 @@ import sys
 
 
 def is_live() -> bool:
-    """Whether this is a terminal whose line can be written over, and this process has it: in the background it leaves it alone."""
+    """Whether this is a terminal whose line can be written over, and this process has it: in the background it leaves
+    it alone."""
     if not sys.stderr.isatty() or os.environ.get("TERM", "dumb") == "dumb":
         return False
     try:

@@ -7,7 +7,10 @@ def start() -> int:
     if sys.version_info < (3, 11):
         # a hint by the script has to do where only words are lacking
         if sys.argv[1] != "tell":
-            print(f"lokwurmi: {sys.executable} is {sys.version.split()[0]}, and Python 3.11 or later is needed", file=sys.stderr)
+            print(
+                f"lokwurmi: {sys.executable} is {sys.version.split()[0]}, and Python 3.11 or later is needed",
+                file=sys.stderr,
+            )
         return 70
     packages = os.path.dirname(os.path.dirname(os.path.dirname(os.path.abspath(__file__))))
     sys.path.insert(0, packages)

@@ -1,4 +1,5 @@
-"""The one table of commands: what help, completion, the man page, and the tables of README.md and docs/FILES.md come from.
+"""The one table of commands: what help, completion, the man page, and the tables of README.md and docs/FILES.md come
+from.
 
 The tools, which are no part of what is proved, stand in lokwurmi_tools/commands.py.
 """
@@ -7,7 +8,8 @@ from __future__ import annotations
 from typing import NamedTuple
 
 VERSION = "1.0"
-# the toolchain that has proved the whole repository, and one that has proved all but chains, the library, and what they changed
+# the toolchain that has proved the whole repository, and one that has proved all but chains, the library, and what
+# they changed
 KITS = ("rattle-kit-13f", "rattle-kit-13b")
 # the command of the launcher's own that a build without proofs is called by
 UNPROVED = "--unproved"
@@ -121,7 +123,10 @@ COMMANDS = (
     Command(
         "assign",
         ("FILE", "RESOURCE"),
-        "priorities on a resource under which the bounds of its tasks are within their deadlines, or that there are none",
+        (
+            "priorities on a resource under which the bounds of its tasks are within their deadlines, or that there are"
+            " none"
+        ),
         "priorities by which deadlines are met",
         "examples/deadline_order.toml cpu",
         statuses="3: no order meets them",
@@ -155,7 +160,10 @@ COMMANDS = (
     Command(
         "schedule",
         ("FILE", "TRACE"),
-        "the schedule that the trace brings by the step rules: which task gets the ticks of its resource, from when to when",
+        (
+            "the schedule that the trace brings by the step rules: which task gets the ticks of its resource, from when"
+            " to when"
+        ),
         "the schedule of the run under a trace",
         "examples/crossing_chains.toml examples/crossing_chains.trace.csv",
         crate="cpa_schedule",
@@ -163,8 +171,10 @@ COMMANDS = (
     Command(
         "chain",
         ("FILE", "TASK", MORE_TASKS),
-        "how soon a chain of tasks, each of which reads what the one before wrote last, reacts at the latest, and how old its"
-        " data can be, at the end of a job and until it is overwritten",
+        (
+            "how soon a chain of tasks, each of which reads what the one before wrote last, reacts at the latest, and"
+            " how old its data can be, at the end of a job and until it is overwritten"
+        ),
         "how late a chain reacts, how old data gets",
         "examples/effects.toml sense filter act",
         crate="cpa_chain",
@@ -207,7 +217,8 @@ MOST_TASKS = 32
 
 
 class Own(NamedTuple):
-    """A call that the launcher answers itself: its words, what it does, and more of that for its own help and the man page."""
+    """A call that the launcher answers itself: its words, what it does, and more of that for its own help and the man
+    page."""
 
     usage: str
     brief: str
@@ -222,15 +233,20 @@ OWN = (
     Own(
         "--unproved COMMAND ..",
         "a first look: the same sources, no proofs",
-        "The toolchain compiles the sources and runs them with checks, in a minute or so, and proves nothing. Standard output and"
-        " status are as ever, of up to 1 MiB and ten minutes. It never stands in for a proved answer by itself.",
+        (
+            "The toolchain compiles the sources and runs them with checks, in a minute or so, and proves nothing."
+            " Standard output and status are as ever, of up to 1 MiB and ten minutes. It never stands in for a proved"
+            " answer by itself."
+        ),
         "--unproved analyse examples/two_tasks.toml",
     ),
     Own(
         "install [PREFIX]",
         "copies programs and tools to PREFIX",
-        "PREFIX is ~/.local if absent. The copy needs neither the checkout, nor the toolchain, nor a C compiler, also on"
-        " another machine of the same kind. Programs that aren't built are proved and built first.",
+        (
+            "PREFIX is ~/.local if absent. The copy needs neither the checkout, nor the toolchain, nor a C compiler,"
+            " also on another machine of the same kind. Programs that aren't built are proved and built first."
+        ),
         "install ~/.local",
     ),
     Own(
@@ -242,8 +258,10 @@ OWN = (
     Own(
         "build-library",
         "the library for C and Python, proved",
-        "It writes library/out/liblokwurmi.a, library/out/liblokwurmi.so and a wheel of the Python package, and needs a C compiler"
-        " (cc, or what CC names). docs/LIBRARY.md tells how they are used.",
+        (
+            "It writes library/out/liblokwurmi.a, library/out/liblokwurmi.so and a wheel of the Python package, and"
+            " needs a C compiler (cc, or what CC names). docs/LIBRARY.md tells how they are used."
+        ),
         "build-library",
     ),
     Own(

@@ -1,6 +1,7 @@
 """What is said beside what the program writes: refusals in words, hints by status, and notices."""
 from __future__ import annotations
 
+import io
 import os
 import re
 import signal
@@ -19,18 +20,25 @@ IN_FILES = range(11, 20)
 # what a status says, and the section of docs/FILES.md with more
 HINTS = {
     3: (
-        "assign: no order of priorities meets the deadlines of the tasks; slack: a deadline is missed already, or a path with"
-        " one has no bound. What to do: ",
+        (
+            "assign: no order of priorities meets the deadlines of the tasks; slack: a deadline is missed already, or a"
+            " path with one has no bound. What to do: "
+        ),
         "Statuses",
     ),
     4: (
-        "the recorded schedule isn't that of the run under this trace: the line has the first segment that differs, and what is"
-        " expected in its place. What it may mean: ",
+        (
+            "the recorded schedule isn't that of the run under this trace: the line has the first segment that differs,"
+            " and what is expected in its place. What it may mean: "
+        ),
         "Recorded schedules",
     ),
     11: ("the file couldn't be opened or read: look at its name, its folder and its permissions. More: ", "Statuses"),
     12: (
-        "the file is longer than such a file may be: 1 MiB for a system or a script, 16 MiB for a trace or a schedule. More: ",
+        (
+            "the file is longer than such a file may be: 1 MiB for a system or a script, 16 MiB for a trace or a"
+            " schedule. More: "
+        ),
         "Statuses",
     ),
     13: (
@@ -38,30 +46,44 @@ HINTS = {
         "Refusals",
     ),
     14: (
-        "the file is TOML but no system: the line has the number of the reason, and the list and place of the entry, from 1, or"
-        ' file 0 for the file as a whole. Where a task\'s "after" is a list, the file has format = 2. Each reason, and what to'
-        " change: ",
+        (
+            "the file is TOML but no system: the line has the number of the reason, and the list and place of the"
+            ' entry, from 1, or file 0 for the file as a whole. Where a task\'s "after" is a list, the file has format'
+            " = 2. Each reason, and what to change: "
+        ),
         "Refusals",
     ),
-    15: ("a line of the script is none of its forms, or there are too many: no edit was made. The forms: ", "The script"),
+    15: (
+        "a line of the script is none of its forms, or there are too many: no edit was made. The forms: ",
+        "The script",
+    ),
     16: (
-        "a row of the trace isn't one that fits the system, or the trace has too many rows or starts too many jobs. What to"
-        " change: ",
+        (
+            "a row of the trace isn't one that fits the system, or the trace has too many rows or starts too many jobs."
+            " What to change: "
+        ),
         "Status 16",
     ),
     17: (
-        "the trace is readable, but does what the system file rules out, so no bound is claimed for it. What it tells you: ",
+        (
+            "the trace is readable, but does what the system file rules out, so no bound is claimed for it. What it"
+            " tells you: "
+        ),
         "Status 17",
     ),
     18: (
-        "the word after the file names nothing that the command can take: assign wants a preemptive or CAN resource on which"
-        " each task is activated by sources alone, slack a task, chain tasks; or the file of chains is refused. Each number, and"
-        " what to change: ",
+        (
+            "the word after the file names nothing that the command can take: assign wants a preemptive or CAN resource"
+            " on which each task is activated by sources alone, slack a task, chain tasks; or the file of chains is"
+            " refused. Each number, and what to change: "
+        ),
         "Status 18",
     ),
     19: (
-        "a row of the schedule isn't TASK,START,END with a task of the system and times in range, or there are too many. What"
-        " to change: ",
+        (
+            "a row of the schedule isn't TASK,START,END with a task of the system and times in range, or there are too"
+            " many. What to change: "
+        ),
         "Status 19",
     ),
     20: ("the output couldn't be written whole: is the disk full, or was the pipe closed? More: ", "Statuses"),
@@ -86,8 +108,9 @@ def run_again(command: Command, words: list[str]) -> subprocess.CompletedProcess
 
 
 def line_again(status: int, command: Command, words: list[str]) -> str:
-    """The line of a call that was refused, once more: nothing where a file can't be read a second time, or it ends otherwise
-    now. It isn't had by a pipe, which would take from the program the fault of an output that can't be written."""
+    """The line of a call that was refused, once more: nothing where a file can't be read a second time, or it ends
+    otherwise now. It isn't had by a pipe, which would take from the program the fault of an output that can't be
+    written."""
     found = operands_of(command, words)
     for it in found.words if found else []:
         # a word that is no file is a name
@@ -101,7 +124,8 @@ def line_again(status: int, command: Command, words: list[str]) -> str:
 
 
 def refused_edits(command: Command, words: list[str]) -> str:
-    """What the program writes of a session's edits alone: once more, without the reports that the script asks for in between."""
+    """What the program writes of a session's edits alone: once more, without the reports that the script asks for in
+    between."""
     found = operands_of(command, words)
     if command.name != "session" or not found or not all(os.path.isfile(it) for it in found.files):
         return ""
@@ -110,7 +134,11 @@ def refused_edits(command: Command, words: list[str]) -> str:
         with open(script, "rb") as it:
             text = re.sub(rb"(?m)^[ \t]*report[ \t]*\r?$", b"", it.read())
         done = subprocess.run(
-            [program(command.crate), "session", file, "/dev/stdin"], input=text, capture_output=True, timeout=PATIENCE, check=False
+            [program(command.crate), "session", file, "/dev/stdin"],
+            input=text,
+            capture_output=True,
+            timeout=PATIENCE,
+            check=False,
         )
     except (OSError, subprocess.TimeoutExpired):
         return ""
@@ -119,13 +147,15 @@ def refused_edits(command: Command, words: list[str]) -> str:
 
 
 def in_words(status: int, line: str, command: Command, words: list[str]) -> bool:
-    """Says it by reading the files again, where that finds something to say, in time, and nothing is wrong with what would."""
+    """Says it by reading the files again, where that finds something to say, in time, and nothing is wrong with what
+    would."""
     found = operands_of(command, words)
     if status == 10 or found is None:
         return False
     signal.signal(signal.SIGALRM, out_of_patience)
     signal.alarm(PATIENCE)
-    sys.stderr.reconfigure(encoding="utf-8", errors="backslashreplace")  # type: ignore[union-attr]
+    if isinstance(sys.stderr, io.TextIOWrapper):
+        sys.stderr.reconfigure(encoding="utf-8", errors="backslashreplace")
     try:
         from lokwurmi_tools.refusals.front import main
 

@@ -1,4 +1,5 @@
-"""`--unproved`: an answer by the same sources, which the toolchain's `rt try` compiles and runs with checks, and no proof.
+"""`--unproved`: an answer by the same sources, which the toolchain's `rt try` compiles and runs with checks, and no
+proof.
 
 Nothing of it is kept, so that nothing unproved ever lies where the proved programs are.
 """
@@ -40,7 +41,10 @@ ENDED = re.compile(r"^run=ended status=(\d+) .*proved=no$", re.MULTILINE)
 # what `rt try` says where there is no answer, and what that is in words
 WHY = (
     ("wrote more than 1048576 bytes", "what it writes is above 1 MiB, the limit of a call without proofs"),
-    ("did not end within the time limit", f"it took more than {SECONDS // 60} minutes, the limit of a call without proofs"),
+    (
+        "did not end within the time limit",
+        f"it took more than {SECONDS // 60} minutes, the limit of a call without proofs",
+    ),
 )
 PROVED_INSTEAD = "the proved program has no such limit: call it without --unproved"
 
@@ -139,7 +143,7 @@ class Unproved:
             text, said = output.read(), errors.read().decode("utf-8", "replace")
         ended = ENDED.findall(said)
         if not ended or int(ended[-1]) != status:
-            return self.tell_failure(said)
+            return self.tell_failure(status, said)
         return self.answer(status, self.handed.restored(text), quiet)
 
     def answer(self, status: int, text: bytes, quiet: bool) -> int:
@@ -156,12 +160,18 @@ class Unproved:
             tell(status, lines[0] if status > 2 else edits, [self.command.name, *self.words])
         return status
 
-    def tell_failure(self, said: str) -> int:
+    def tell_failure(self, status: int, said: str) -> int:
         """Says why there is no answer: a limit in words, else what `rt try` says."""
         why = next((words for form, words in WHY if f"checked: no-answer: the program {form}" in said), "")
-        if not why:
+        if why:
+            what = f"{why}; {PROVED_INSTEAD}"
+        elif status < 0:
+            what = f"rt try was ended by signal {-status}, which isn't of this call: call it again"
+        else:
+            what = f"rt try ended with status {status}" + (
+                "; what it says stands above" if said else ", and said nothing"
+            )
             sys.stderr.write(said)
-        what = f"{why}; {PROVED_INSTEAD}" if why else "what rt try says stands above"
         say(f"no answer, after {self.so_far()}: {what}")
         return FAILED
 
@@ -170,7 +180,10 @@ def answer_unproved(command: Command, words: list[str], operands: Operands, quie
     need_rt("--unproved compiles the sources")
     of_words.note_missing(operands)
     # said to whoever is quiet too: nothing else tells such an answer from a proved one
-    say("unproved: this answer is by the same sources, compiled without proofs in a minute or so, and not by the proved program")
+    say(
+        "unproved: this answer is by the same sources, compiled without proofs in a minute or so, and not by the proved"
+        " program"
+    )
     if not quiet:
         note_changes()
     call = Unproved(command, words, operands)

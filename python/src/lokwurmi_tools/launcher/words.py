@@ -153,7 +153,8 @@ def wrong_workers(command: Command, word: str, rest: list[str], seen: bool) -> s
 
 def first_fault(command: Command, words: list[str]) -> str:
     """The first thing that is wrong with the words after a command that is known."""
-    rest, given, seen = list(words), [], False
+    rest, seen = list(words), False
+    given: list[str] = []
     if command.option == RUNNING:
         rest = without_flag(rest)
         if RUNNING in rest and len(rest) < len(words):
@@ -161,7 +162,9 @@ def first_fault(command: Command, words: list[str]) -> str:
     while rest:
         it = rest.pop(0)
         if it == RUNNING:
-            return f"{RUNNING} stands first or last" if command.option == RUNNING else f"{command.name} takes no {RUNNING}"
+            return (
+                f"{RUNNING} stands first or last" if command.option == RUNNING else f"{command.name} takes no {RUNNING}"
+            )
         if it == WORKERS or it.startswith(f"{WORKERS}="):
             if fault := wrong_workers(command, it, rest, seen):
                 return fault
@@ -175,7 +178,8 @@ def first_fault(command: Command, words: list[str]) -> str:
 
 
 def said_of(words: list[str], names: list[str]) -> str:
-    """What is said of words that aren't accepted: what is wrong, and a command's own words, or the nearest command and all."""
+    """What is said of words that aren't accepted: what is wrong, and a command's own words, or the nearest command
+    and all."""
     if words and words[0] in BY_NAME:
         command = BY_NAME[words[0]]
         fault = first_fault(command, words[1:]) or f"the words of {command.name} are not accepted"
@@ -193,7 +197,9 @@ def said_of(words: list[str], names: list[str]) -> str:
         )
     else:
         near = nearest(words[0], names)
-        head = f"{shown(words[0])} is no command" + (f"; the nearest is {near} (lokwurmi --help {near}):" if near else ":")
+        head = f"{shown(words[0])} is no command" + (
+            f"; the nearest is {near} (lokwurmi --help {near}):" if near else ":"
+        )
     return f"lokwurmi: {head}\n{commands_listed()}More: lokwurmi --help, and {PAGE}\n"
 
 
@@ -216,4 +222,7 @@ def note_missing(operands: Operands) -> None:
     """Says which files can't be read, before what takes long."""
     for it in operands.files:
         if not os.access(it, os.R_OK) or os.path.isdir(it):
-            print(f"lokwurmi: note: {shown(it)} can't be read, and has to be there once the program is built", file=sys.stderr)
+            print(
+                f"lokwurmi: note: {shown(it)} can't be read, and has to be there once the program is built",
+                file=sys.stderr,
+            )
