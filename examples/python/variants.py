@@ -3,7 +3,7 @@
 
     python3 examples/python/variants.py examples/crossing_chains.toml --variants 1000 --seed 1
 
-Each greatest execution is drawn from 70 to 130 % of what the file has. The time that a variant takes is told on
+Each greatest execution is drawn from 70 to 130 % of what the file has. The time that a variant takes stands on
 standard error. With --session each variant is a few edits of one session, which keeps the bounds that they can't reach.
 """
 import argparse

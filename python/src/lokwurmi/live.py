@@ -98,7 +98,7 @@ class Session:
         _apply(self._system, edit.split())
 
     def _ticks(self, kind: str, name: str, **given: Ticks | None) -> dict[str, Any]:
-        """Times of an entry in ticks, rounded and told as those of a system."""
+        """Times of an entry in ticks, rounded and reported as those of a system."""
         entry: dict[str, Any] = {"name": name} | {key: it for key, it in given.items() if it is not None}
         if kind == "task" and "on" not in entry and name in self._system.tasks:
             entry["on"] = self._system.tasks[name].on

@@ -38,7 +38,7 @@ class System:
     systems are equal where their entries are, in ticks.
 
     With a `tick`, times may have units. Those that are no whole number of ticks are rounded to their safe side, which
-    is told by a RoundingWarning, by `roundings`, and at the head of the file:
+    is reported by a RoundingWarning, by `roundings`, and at the head of the file:
 
         >>> from lokwurmi import System
         >>> from lokwurmi.units import ms, us

@@ -364,7 +364,7 @@ class Converter:
         return rounded
 
     def set_time(self, kind: str, item: Entry, key: str, bit: Fraction | None) -> None:
-        """Replaces a time of an entry that is told with a unit."""
+        """Replaces a time of an entry that has a unit."""
         word = item[key]
         if not isinstance(word, (str, Time)):
             if isinstance(word, int) and not isinstance(word, bool):
@@ -385,8 +385,8 @@ class Converter:
         item[key] = number
 
     def set_bit(self, item: Entry) -> None:
-        """The time of a bit of a bus: told by its bit rate, or with a unit. It's rounded up; where it isn't whole the
-        lengths of frames are told in its place."""
+        """The time of a bit of a bus: by its bit rate, or with a unit. It's rounded up; where it isn't whole, frames
+        get their lengths in its place."""
         name, rate, told = str(item.get("name", "?")), item.get("bitrate"), item.get("bit")
         if rate is not None:
             if not isinstance(rate, int) or isinstance(rate, bool) or rate < 1:
