@@ -90,7 +90,7 @@ class Session:
         if status == EDIT_REFUSED and (found := REFUSED.fullmatch(text.rstrip("\n"))):
             raise EditRefused(line.strip(), int(found[2]))
         if status == SCRIPT_REFUSED:
-            raise refusal(status, text)
+            raise refusal(status, text.rstrip("\n") + "\n")
         if status:
             raise CallFailed(status, text)
         self._found = None

@@ -1,7 +1,7 @@
 """Times with units, and how they become whole ticks.
 
 A time is exact: a fraction of nanoseconds. A system counts in whole ticks, so a time that isn't a whole number of them
-is rounded to the side that is safe for its key, and each rounding is told:
+is rounded to the side that is safe for its key, and each rounding is reported:
 
     >>> from lokwurmi.units import ms, us
     >>> ms("16.667") + us(3)
@@ -349,7 +349,7 @@ class Converter:
         return Fraction(found[1]) * bit * (8 if found[2].startswith("byte") else 1)
 
     def ticks(self, what: str, key: str, time: Fraction, side: str, most: int) -> int:
-        """A time in whole ticks, rounded to a side, which is told."""
+        """A time in whole ticks, rounded to a side, which is kept for the report."""
         self.exact.append((time, most))
         number = time / self.tick
         if number.denominator == 1:
