@@ -103,8 +103,9 @@ class Session:
         if kind == "task" and "on" not in entry and name in self._system.tasks:
             entry["on"] = self._system.tasks[name].on
         told = self._system._convert(kind, entry)
-        self._roundings += told
-        warn(told)
+        if told:
+            self._roundings += told
+            warn(told)
         return entry
 
     def exec(self, task: str | Task, best: Ticks | None = None, worst: Ticks | None = None) -> None:

@@ -117,9 +117,9 @@ class System:
 
     def _warn(self, roundings: Iterable[Rounding]) -> None:
         """Warns of roundings of which it hasn't warned yet."""
-        new = [it for it in roundings if str(it) not in self._told]
-        self._told |= {str(it) for it in new}
-        warn(new)
+        if new := [it for it in roundings if str(it) not in self._told]:
+            self._told |= {str(it) for it in new}
+            warn(new)
 
     def resource(
         self, name: str, kind: str, *, limit: Ticks | None = None, gap: Ticks | None = None, bit: Ticks | None = None,
