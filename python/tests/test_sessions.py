@@ -114,9 +114,12 @@ class Kept(unittest.TestCase):
 
     def test_end(self) -> None:
         for session in self.each():
+            self.assertIn("worst-case response time", session._repr_html_())
             session.close()
             session.close()
             self.assertTrue(session.is_closed)
+            self.assertIn("closed", session._repr_html_())
+            self.assertEqual(repr(session), "Session(closed)")
             for call in (lambda: session.bounds, session.report, lambda: session.edit("exec b 2 5")):
                 self.assertRaises(SessionClosed, call)
 

@@ -71,7 +71,10 @@ class Session:
         return self._kept is None
 
     def __repr__(self) -> str:
-        return f"Session({'closed' if self.is_closed else self._system!r})"
+        return f"Session({'closed' if self.is_closed else repr(self._system)})"
+
+    def _repr_html_(self) -> str:
+        return "<div>A session that is closed</div>" if self.is_closed else self.report()._repr_html_()
 
     def _open(self) -> Kept:
         if self._kept is None:

@@ -313,8 +313,8 @@ class Converter:
     """In nanoseconds."""
     text: str = ""
     told: list[Rounding] = field(default_factory=list)
-    bare: list[str] = field(default_factory=list)
-    """The keys with a number that has no unit, and so counts ticks."""
+    bare: list[tuple[str, str, str]] = field(default_factory=list)
+    """The keys with a number that has no unit, and so counts ticks: key, kind and name of the entry."""
     exact: list[tuple[Fraction, int]] = field(default_factory=list)
     """The times, each with the most ticks that it may be."""
     bits: dict[str, Fraction] = field(default_factory=dict)
@@ -368,7 +368,7 @@ class Converter:
         word = item[key]
         if not isinstance(word, (str, Time)):
             if isinstance(word, int) and not isinstance(word, bool):
-                self.bare.append(f"{key} of {kind} {item.get('name', '?')}")
+                self.bare.append((key, kind, item.get("name", "?")))
             return
         what, (side, least, most) = f"{kind} {item.get('name', '?')}", TIMES[kind][key]
         time = self.nanoseconds(what, key, word, bit)
@@ -401,7 +401,7 @@ class Converter:
             bit = self.nanoseconds(f"resource {name}", "bit", told, None)
         else:
             if isinstance(told, int):
-                self.bare.append(f"bit of resource {name}")
+                self.bare.append(("bit", "resource", name))
                 self.bits[name] = told * self.tick
             return
         self.bits[name] = bit
@@ -465,7 +465,8 @@ class Converter:
         if any(it.key == "period" for it in self.told):
             found.append("  a period that is rounded is too short for `chain`, which takes it as the longest, too")
         if self.bare:
-            found.append(f"taken as ticks, since they have no unit: {', '.join(self.bare)}")
+            several = ", ".join(f"{key} of {kind} {name}" for key, kind, name in self.bare)
+            found.append(f"taken as ticks, since they have no unit: {several}")
         return [it for it in found if it]
 
 
