@@ -99,7 +99,10 @@ class StandIn(unittest.TestCase):
 
     def test_default(self) -> None:
         """What an older library lacks is asked of a program, where there is one."""
-        script = "from lokwurmi import default_engine\nprint([type(default_engine(it)).__name__ for it in ('analyse', 'chain')])"
+        script = (
+            "from lokwurmi import default_engine\n"
+            "print([type(default_engine(it)).__name__ for it in ('analyse', 'chain')])"
+        )
         for program, told in (("/nowhere/lokwurmi", "['Library', 'Program']\n"), (None, "['Library', 'Library']\n")):
             environment = {
                 "PYTHONPATH": str(HERE.parent / "src"),
