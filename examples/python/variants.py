@@ -84,7 +84,7 @@ def main() -> None:
                 paths.setdefault(name, []).append(bound)
             progress.show(f"{place} of {asked.variants}{progress.left(place / asked.variants)}")
     except (OSError, LokwurmiError) as fault:
-        sys.exit(f"{asked.file}: {fault}")
+        sys.exit(str(fault))
     took = time.perf_counter() - begun
     progress.clear()
     print(f"{asked.variants} variants: " + ", ".join(f"{verdicts[it]} {it}" for it in ("met", "missed", "overload")))

@@ -78,8 +78,8 @@ def main(words: list[str] | None = None) -> int:
     except NoEngine as fault:
         print(fault, file=sys.stderr)
         return NO_ENGINE
-    except (LokwurmiError, UnicodeDecodeError) as fault:
-        print(f"{asked.file}: {fault}", file=sys.stderr)
+    except LokwurmiError as fault:
+        print(fault, file=sys.stderr)
         return REFUSED_WORDS
     if status >= REFUSED_WORDS:
         told = str(refusal(status, wrote))

@@ -5,11 +5,11 @@ and on a resource with a bit rate also "84 byte" or "111 bit". It's rounded to t
 system file is written, and stays as it is here.
 """
 from collections.abc import Mapping
-from dataclasses import dataclass, fields
+from dataclasses import MISSING, dataclass, fields
 from enum import StrEnum
 from typing import Any
 
-from .errors import NoTick
+from .errors import LokwurmiError, NoTick
 from .toml import value_text
 from .units import TIMES, Time, amount_of
 
@@ -107,6 +107,18 @@ _PARTS = {
     kind: [(key, f"{key} = ", key in (*TIMES[name], "bit", "bitrate")) for key in _KEYS[kind]]
     for name, kind in KINDS.items()
 }
+
+
+def entry_of(key: str, place: int, found: Any) -> Entry:
+    """An entry of a file, which is the one of its list in such a place."""
+    kind = KINDS[key]
+    if not isinstance(found, dict):
+        raise LokwurmiError(f"{key} {place} is no table: write {{ name = .. }}")
+    if unknown := [it for it in found if it not in _KEYS[kind]]:
+        raise LokwurmiError(f"{key} {place} has a key {unknown[0]}; the keys are {', '.join(_KEYS[kind])}")
+    if lacking := [it.name for it in fields(kind) if it.default is MISSING and it.name not in found]:
+        raise LokwurmiError(f"{key} {place} lacks {lacking[0]} (docs/FILES.md, \"The system\")")
+    return kind(**found)  # type: ignore[no-any-return]
 
 
 def kind_name(it: Entry) -> str:
