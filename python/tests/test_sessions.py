@@ -32,8 +32,9 @@ class Kept(unittest.TestCase):
     def each(self):
         """A session of the system of two tasks by each engine that is there."""
         for engine in some_engines():
-            with self.subTest(engine), two_tasks().session(engine=engine) as session:
-                yield session
+            session = two_tasks().session(engine=engine)
+            self.addCleanup(session.close)
+            yield session
 
     def test_bounds(self) -> None:
         """b takes what it needs and 3 for each a, one each 10 ticks: 7 + 3, then 5 + 3, then 8 + 2 * 3."""
