@@ -335,7 +335,7 @@ def check_packages(room):
     chart = ["chart", "--to", picture, "examples/pedal.report.txt"]
     page = ["page", "--to", os.path.join(room, "page.html"), "examples/pedal.toml"]
     hammer = ["campaign", "hammer", "--traces", "1", "examples/pedal.toml"]
-    with_none, lying = script(room, "none", bare), script(room, "lying", f'[ "$1" = -c ] && exit 0\n{bare}')
+    with_none, lying = script(room, "none", bare), script(room, "lying", f'case "$2" in "import tomllib"*) exit 0 ;; esac\n{bare}')
     nowhere = os.path.join(room, "nowhere")
     with_all = script(room, "all", f'exec "{sys.executable}" "$@"\n')
     for words, debian, status, said in (

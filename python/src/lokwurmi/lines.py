@@ -107,3 +107,17 @@ def seen_in(lines: Sequence[str]) -> tuple[dict[str, dict[str, Any]], dict[str, 
     if end is None:
         raise Unreadable("there is no whole run; its last line begins with summary")
     return tasks, paths, end
+
+
+def texts_in(text: str) -> list[str]:
+    """The reports in what a session wrote, each as its text, which ends with the line of its summary."""
+    found, start = [], 0
+    while start < len(text):
+        # no line before that of the summary begins with its word
+        last = start if text.startswith("summary ", start) else text.find("\nsummary ", start) + 1
+        end = text.find("\n", last) + 1
+        if not end or not last and start:
+            raise Unreadable("there is no whole report; its last line begins with summary")
+        found.append(text[start:end])
+        start = end
+    return found

@@ -1,15 +1,10 @@
 """Draws the latest reaction of a chain and its oldest data into a Gantt chart, for lokwurmi gantt: the jobs of both,
 and an arrow from the end of each, which writes, to when the next one reads."""
-from typing import NamedTuple
+from typing import Any, NamedTuple
 
+from lokwurmi_tools.plotting import Rectangle
 from lokwurmi_tools.seen import NEVER, Late, Run, Watch, seen_of
 from lokwurmi_tools.times import Scale
-
-try:
-    from matplotlib.patches import Rectangle
-except ImportError:
-    # told by lokwurmi gantt
-    pass
 
 # the latest reaction, and the oldest data, which is dashed besides, so that one isn't taken for the other without
 # colours
@@ -50,7 +45,7 @@ def marked_in(run: Run, tasks: list[str], reading: str, bounds: dict[str, int | 
     return [Marked(what, it, tasks, read_times(run, watch, it, what), bounds.get(what), rule) for what, it in several]
 
 
-def draw_frames(axes, places: dict[str, int], run: Run, it: Marked) -> None:
+def draw_frames(axes: Any, places: dict[str, int], run: Run, it: Marked) -> None:
     colour, style, more = LOOKS[it.what]
     for name, k in zip(it.tasks, it.late.jobs):
         for start, end in run.jobs[name][k].parts:
@@ -59,7 +54,7 @@ def draw_frames(axes, places: dict[str, int], run: Run, it: Marked) -> None:
             axes.add_patch(Rectangle((start, y), end - start, high, **look))
 
 
-def draw_arrows(axes, places: dict[str, int], run: Run, it: Marked) -> None:
+def draw_arrows(axes: Any, places: dict[str, int], run: Run, it: Marked) -> None:
     """From the edge of the bar of what writes to that of what reads; on one lane over it."""
     colour, style, more = LOOKS[it.what]
     look = {"color": colour, "linestyle": style, "linewidth": 1.3}
@@ -77,7 +72,7 @@ def draw_arrows(axes, places: dict[str, int], run: Run, it: Marked) -> None:
         axes.annotate("", xytext=start, xy=end, arrowprops=head | look, zorder=8, annotation_clip=True)
 
 
-def draw_whole(axes, places: dict[str, int], it: Marked, y: float, scale: Scale) -> None:
+def draw_whole(axes: Any, places: dict[str, int], it: Marked, y: float, scale: Scale) -> None:
     """A line below all lanes from when to when, with what it is, and faint ones up to where it begins and ends."""
     colour, style, _ = LOOKS[it.what]
     since, until = it.late.since, it.late.until
@@ -92,7 +87,7 @@ def draw_whole(axes, places: dict[str, int], it: Marked, y: float, scale: Scale)
     axes.text((since + until) / 2, y, text, fontsize=7, color=colour, zorder=7, bbox=look, **middle)
 
 
-def draw_marked(axes, places: dict[str, int], run: Run, marked: list[Marked], below: float, scale: Scale) -> None:
+def draw_marked(axes: Any, places: dict[str, int], run: Run, marked: list[Marked], below: float, scale: Scale) -> None:
     """All that is marked, with a line for each from `below` on."""
     for row, it in enumerate(marked):
         draw_frames(axes, places, run, it)

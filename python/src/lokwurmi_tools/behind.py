@@ -3,16 +3,21 @@
 It reads the report and the file: which demand has no end, by the rates of events and the greatest executions, and whose
 input has no bound. It is no part of what is proved, and tells of each such task one cause, where there may be several.
 """
+from collections.abc import Collection
 from fractions import Fraction
 
+from lokwurmi_tools.kinds import Found, Values
 from lokwurmi_tools.sharing import LIMIT, Sharing
 from lokwurmi_tools.system import activators, execution, sources_of
+
+# how a task comes to have no bound, and because of which others
+Edge = tuple[str, list[str]]
 
 
 class Behind(Sharing):
     """A system file and the tasks of its report."""
 
-    def __init__(self, system, found):
+    def __init__(self, system: Values, found: Found):
         super().__init__(system)
         self.over = [name for name in self.tasks if found[name]["worst"] is None]
         sources = {it["name"]: it for it in system.get("source", [])}
@@ -22,21 +27,21 @@ class Behind(Sharing):
         }
         self.greatest = {name: execution(it, self.resources[it["on"]])[1] for name, it in self.tasks.items()}
 
-    def loads(self, name):
+    def loads(self, name: str) -> dict[str, Fraction]:
         """What a task asks for of its resource at most, as a share of the time, by the sources of its streams."""
         found = {}
         for source, rate in self.rates[name]:
             found[source] = found.get(source, 0) + rate * self.greatest[name]
         return found
 
-    def load(self, name):
+    def load(self, name: str) -> Fraction:
         return sum(self.loads(name).values(), Fraction(0))
 
-    def is_unbounded(self, name):
+    def is_unbounded(self, name: str) -> bool:
         """Whether its input has no bound: that of a task along its chain hasn't."""
         return any(it in self.over or self.is_unbounded(it) for it in activators(self.tasks[name]) if it in self.tasks)
 
-    def room(self, name):
+    def room(self, name: str) -> Fraction:
         """What part of the time the task's slot is, on TDMA; on others all of it."""
         if self.kind(name) != "tdma":
             return Fraction(1)
@@ -44,7 +49,7 @@ class Behind(Sharing):
         slots = task["slot"] + sum(self.tasks[it]["slot"] for it in self.beside(name))
         return Fraction(task["slot"], slots + self.resources[task["on"]].get("gap", 0))
 
-    def demand(self, name, endless=()):
+    def demand(self, name: str, endless: Collection[str] = ()) -> Fraction:
         """The share of the time that a task's jobs and all that goes before them ask for. In a ring a rival takes no
         more than its turns, and all of these if its own demand is among the endless ones."""
         own = self.load(name)
@@ -53,7 +58,7 @@ class Behind(Sharing):
         turns = {it: own * self.tasks[it]["slot"] / self.tasks[name]["slot"] for it in self.rivals(name)}
         return own + sum((turns[it] if it in endless else min(self.load(it), turns[it]) for it in turns), Fraction(0))
 
-    def edges(self, name):
+    def edges(self, name: str) -> Edge:
         """The tasks without a bound because of which this one has none, and how: they start it, or may go before it."""
         before = [it for it in activators(self.tasks[name]) if it in self.over]
         if before:
@@ -66,7 +71,7 @@ class Behind(Sharing):
         rivals = [it for it in self.rivals(name) if self.is_unbounded(it)]
         return ("rivals", rivals) if rivals else ("own", [])
 
-    def causes(self):
+    def causes(self) -> tuple[list[Values], list[Values]]:
         """The causes, each with the tasks that have no bound because of it, and for each such task what is next behind
         it."""
         why = {name: self.edges(name) for name in self.over}
@@ -91,7 +96,7 @@ class Behind(Sharing):
             {"name": name, "on": self.tasks[name]["on"], "why": how, "of": of} for name, (how, of) in why.items()
         ]
 
-    def single(self, name):
+    def single(self, name: str) -> Values:
         """A task whose own busy window has no end, or one beyond the limit."""
         demand, room = self.demand(name), self.room(name)
         return {
@@ -104,7 +109,7 @@ class Behind(Sharing):
             "before": self.rivals(name),
         }
 
-    def circle(self, several, why):
+    def circle(self, several: list[str], why: dict[str, Edge]) -> Values:
         """A way round a circle of tasks, and the loads and limits of the resources that it is over."""
         way, at = [], several[0]
         while at not in way:
@@ -126,7 +131,7 @@ class Behind(Sharing):
         }
 
 
-def reached(name, why):
+def reached(name: str, why: dict[str, Edge]) -> set[str]:
     """The tasks that lie behind one, however far."""
     found, left = set(), list(why[name][1])
     while left:

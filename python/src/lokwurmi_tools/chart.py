@@ -6,29 +6,24 @@ greatest; a task without a bound, and a path that has one, have a hatched bar ov
 tasks are left out. With --tick, as 1us, the numbers are times and not ticks.
 """
 import os
+from collections.abc import Callable
+from typing import Any
 
 from lokwurmi_tools.faults import Fault
+from lokwurmi_tools.kinds import Found, Values
 from lokwurmi_tools.packages import need
+from lokwurmi_tools.plotting import Line2D, Patch, bare, begun, check_name, save
 from lokwurmi_tools.report import read_report
 from lokwurmi_tools.times import Scale
 from lokwurmi_tools.words import add_tick, reader_of
-
-try:
-    import matplotlib
-    from matplotlib.lines import Line2D
-    from matplotlib.patches import Patch
-
-    matplotlib.use("Agg")
-    import matplotlib.pyplot as plt
-except ImportError:
-    # told by `need`, after words that ask for help
-    pass
 
 LEAST, GREATEST, MISSED, NONE = "#9dbfd9", "#3f7cac", "#d9822b", "#c0392b"
 HUES = ["#3f7cac", "#5b9a68", "#8a6bb1", "#a3862a", "#2a8c8c", "#7d6b5d", "#6f8c1f", "#5b6770"]
 
 
-def rows(axes, names, entries, hue_of, width, scale):
+def rows(
+    axes: Any, names: list[str], entries: list[Values], hue_of: Callable[[Values], str], width: float, scale: Scale
+) -> None:
     """A bar each: light to its least time, dark to its greatest, hatched over the whole width where there is none."""
     for place, (name, entry) in enumerate(zip(names, entries)):
         worst = entry["worst"]
@@ -45,15 +40,14 @@ def rows(axes, names, entries, hue_of, width, scale):
     axes.tick_params(axis="x", labelsize=8)
     scale.axis(axes, round(width))
     axes.xaxis.label.set_size(8)
-    for side in ("top", "right"):
-        axes.spines[side].set_visible(False)
+    bare(axes)
 
 
-def widest(entries):
+def widest(entries: list[Values]) -> float:
     return max([1, *[it["worst"] or 0 for it in entries], *[it.get("deadline") or 0 for it in entries]]) * 1.03
 
 
-def draw_paths(axes, paths, scale):
+def draw_paths(axes: Any, paths: Found, scale: Scale) -> None:
     entries = list(paths.values())
     rows(
         axes, list(paths), entries, lambda it: MISSED if it["verdict"] == "missed" else GREATEST, widest(entries), scale
@@ -81,7 +75,7 @@ def draw_paths(axes, paths, scale):
     )
 
 
-def draw_tasks(axes, tasks, scale):
+def draw_tasks(axes: Any, tasks: Found, scale: Scale) -> None:
     resources = list(dict.fromkeys(it["on"] for it in tasks.values()))
     order = sorted(tasks, key=lambda name: resources.index(tasks[name]["on"]))
     entries = [tasks[name] for name in order]
@@ -106,24 +100,17 @@ def main(arguments: list[str] | None = None) -> int | None:
     need("matplotlib")
     tasks, paths = read_report(words.report)
     picture = words.to or os.path.splitext(words.report)[0] + ".svg"
-    if os.path.splitext(picture)[1] not in (".svg", ".png", ".pdf"):
-        raise Fault(f"{picture}: a picture's name ends with .svg, .png or .pdf")
+    check_name(picture)
     parts = [(draw_paths, paths)] if paths else []
     if tasks and not words.paths:
         parts.append((draw_tasks, tasks))
     if not parts:
         raise Fault(f"{words.report}: there is nothing to draw")
-    # words stay words, and the same report gives the same picture
-    plt.rcParams.update({"svg.fonttype": "none", "svg.hashsalt": "lokwurmi", "font.family": "DejaVu Sans"})
     heights = [max(1.2, len(entries) * 0.16) for _, entries in parts]
-    figure, axes = plt.subplots(
-        len(parts),
-        1,
-        figsize=(8, sum(heights) + 1.1 * len(parts)),
-        height_ratios=heights,
-        squeeze=False,
-        layout="constrained",
+    figure, axes = begun(
+        len(parts), 1, figsize=(8, sum(heights) + 1.1 * len(parts)), height_ratios=heights, squeeze=False
     )
     for (draw, entries), it in zip(parts, axes[:, 0]):
         draw(it, entries, Scale(words.tick))
-    figure.savefig(picture, metadata={"Date": None} if picture.endswith(".svg") else None)
+    save(figure, picture)
+    return 0

@@ -1,4 +1,5 @@
 """The colours of paths and tasks, for the tools beside it."""
+from lokwurmi_tools.kinds import Values
 
 # those of paths, and paler ones for what is on none
 HUES = [
@@ -20,21 +21,21 @@ PALE = ["#8fa9bd", "#c2a38c", "#9dbd9a", "#b3a3c9", "#cdbb7a", "#c79aa8", "#8fbc
 ON_DARK, ON_PALE = "#ffffff", "#18222d"
 
 
-def parts_of(colour):
+def parts_of(colour: str) -> list[int]:
     return [int(colour[place : place + 2], 16) for place in (1, 3, 5)]
 
 
-def lighter(colour, share):
+def lighter(colour: str, share: float) -> str:
     """The colour with a share of white."""
     return "#" + "".join(f"{round(it + (255 - it) * share):02x}" for it in parts_of(colour))
 
 
-def letters_on(colour):
+def letters_on(colour: str) -> str:
     red, green, blue = parts_of(colour)
     return ON_DARK if 0.299 * red + 0.587 * green + 0.114 * blue < 150 else ON_PALE
 
 
-def hues(system):
+def hues(system: Values) -> dict[str, str]:
     """The colour of each task that is on a path: that of the first such path."""
     found = {}
     for place, path in enumerate(system.get("path", [])):
@@ -43,7 +44,7 @@ def hues(system):
     return found
 
 
-def shades(system):
+def shades(system: Values) -> dict[str, str]:
     """A colour a task: along a path that of the path, lighter from task to task; tasks on none take turns with paler
     ones."""
     found, hue, others = {}, hues(system), 0
@@ -57,7 +58,7 @@ def shades(system):
     return found
 
 
-def hues_of_sources(system):
+def hues_of_sources(system: Values) -> dict[str, str]:
     """A colour a source: that of the first path that begins behind it, or a paler one."""
     tasks, found = {it["name"]: it for it in system.get("task", [])}, {}
     for place, path in enumerate(system.get("path", [])):

@@ -6,29 +6,22 @@ FILE is a system file that `lokwurmi analyse` accepts, REPORT what it wrote of i
 period. The picture's name ends with .svg, .png or .pdf; without --to it is the name of the task with .svg. With --tick,
 as 1us, the window is drawn as a time.
 """
-import os
+from fractions import Fraction
 
 from lokwurmi_tools.accepted import read_system
 from lokwurmi_tools.faults import Fault
+from lokwurmi_tools.kinds import Stream, Values
 from lokwurmi_tools.packages import need
+from lokwurmi_tools.plotting import bare, begun, check_name, save
 from lokwurmi_tools.report import read_report
 from lokwurmi_tools.system import activators, first_windows, input_of, most_events
 from lokwurmi_tools.times import UNITS, unit_of
 from lokwurmi_tools.words import add_tick, reader_of
 
-try:
-    import matplotlib
-
-    matplotlib.use("Agg")
-    import matplotlib.pyplot as plt
-except ImportError:
-    # told by `need`, after words that ask for help
-    pass
-
 HUES = ["#3f7cac", "#d9a441", "#5b9a68", "#8a6bb1", "#2a8c8c", "#a83254"]
 
 
-def labels(system, name):
+def labels(system: Values, name: str) -> list[str]:
     """The way of each stream of a task: its source, and the tasks that it comes by."""
     tasks = {it["name"]: it for it in system.get("task", [])}
     found = []
@@ -37,12 +30,19 @@ def labels(system, name):
     return found
 
 
-def draw(streams, names, beside, window, picture, title, tick=None):
+def draw(
+    streams: list[Stream],
+    names: list[str],
+    beside: Stream | None,
+    window: int,
+    picture: str,
+    title: str,
+    tick: Fraction | None = None,
+) -> None:
     # between two of these windows no stream gets room for one more event
     every = [*streams, *([beside] if beside else [])]
     windows = sorted({0, window, *(it for stream in every for it in first_windows(stream, window))})
-    plt.rcParams.update({"svg.fonttype": "none", "svg.hashsalt": "lokwurmi", "font.family": "DejaVu Sans"})
-    figure, axes = plt.subplots(figsize=(8, 3.6), layout="constrained")
+    figure, axes = begun(figsize=(8, 3.6))
     heights = [[most_events(stream, it) for it in windows] for stream in streams]
     hues = [HUES[k % len(HUES)] for k in range(len(streams))]
     axes.stackplot(windows, heights, labels=names, colors=hues, step="post", linewidth=0)
@@ -64,13 +64,12 @@ def draw(streams, names, beside, window, picture, title, tick=None):
     axes.set_ylabel("events at most", fontsize=8)
     axes.tick_params(labelsize=8)
     axes.yaxis.get_major_locator().set_params(integer=True)
-    for side in ("top", "right"):
-        axes.spines[side].set_visible(False)
+    bare(axes)
     axes.set_title(title, fontsize=9, loc="left")
     # the stream on top comes first
     handles, texts = axes.get_legend_handles_labels()
     axes.legend(handles[::-1], texts[::-1], fontsize=7, loc="upper left", frameon=False)
-    figure.savefig(picture, metadata={"Date": None} if picture.endswith(".svg") else None)
+    save(figure, picture)
 
 
 def main(arguments: list[str] | None = None) -> int | None:
@@ -85,8 +84,7 @@ def main(arguments: list[str] | None = None) -> int | None:
     words = reader.parse_args(arguments)
     need("matplotlib")
     picture = words.to or words.task + ".svg"
-    if os.path.splitext(picture)[1] not in (".svg", ".png", ".pdf"):
-        raise Fault(f"{picture}: a picture's name ends with .svg, .png or .pdf")
+    check_name(picture)
     system, (tasks, _) = read_system(words.file), read_report(words.report)
     if words.task not in {it["name"] for it in system.get("task", [])} or words.task not in tasks:
         raise Fault(f"{words.task}: no task of {words.file} and {words.report} has this name")
@@ -98,3 +96,4 @@ def main(arguments: list[str] | None = None) -> int | None:
     beside = tuple(words.beside) if words.beside else None
     window = words.window or 2 * max(period for period, _, _ in [*streams, *([beside] if beside else [])])
     draw(streams, labels(system, words.task), beside, window, picture, f"Events that start {words.task}", words.tick)
+    return 0

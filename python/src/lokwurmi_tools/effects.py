@@ -5,7 +5,7 @@ The run is that of a trace, as `lokwurmi schedule` writes it; the bounds are tho
 import argparse
 
 from lokwurmi_tools.accepted import read_system
-from lokwurmi_tools.chains import Bounds, Chain, bounds_by, read_chains
+from lokwurmi_tools.chains import Chain, ChainReport, bounds_by, read_chains, totals_of
 from lokwurmi_tools.faults import Fault
 from lokwurmi_tools.program import add_program, schedule_by
 from lokwurmi_tools.runs import read_schedule, read_trace, schedule_in
@@ -109,9 +109,9 @@ def table(rows: list[list[str]]) -> str:
     return text
 
 
-def bound_row(what: str, bounds: Bounds) -> list[str]:
+def bound_row(what: str, bounds: ChainReport) -> list[str]:
     """A row of bounds; `-` where the program doesn't tell one."""
-    words = {name: "overload" if bound is None else str(bound) for name, bound in bounds.totals.items()}
+    words = {name: "overload" if bound is None else str(bound) for name, bound in totals_of(bounds).items()}
     return [what, *(words.get(it, "-") for it in ASKED)]
 
 
@@ -127,7 +127,7 @@ class Told:
     def bound_of(self, reading: str, what: str) -> int | None:
         """The bound for a rule of reading: the tighter one, where there is one for it."""
         known = self.tighter if self.tighter and reading in WHILE_RUNNING else self.bounds
-        return known.totals.get(what) if known else None
+        return totals_of(known).get(what)
 
     def rows(self) -> list[list[str]]:
         rows = [["ticks, and part of the bound", *ASKED]]

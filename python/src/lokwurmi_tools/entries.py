@@ -1,25 +1,18 @@
 """Entries and comments of a system file, for the tools that write one."""
 import sys
 import textwrap
-from typing import Any, Optional
+from typing import Any
 
+from lokwurmi.toml import value_text
 from lokwurmi_tools.faults import Fault
 
 # how long a line of a comment may be
 WIDTH = 118
 
 
-def written(value: Any) -> str:
-    if isinstance(value, bool):
-        return "true" if value else "false"
-    if isinstance(value, list):
-        return "[" + ", ".join(map(written, value)) + "]"
-    return str(value) if isinstance(value, int) else f'"{value}"'
-
-
 def entry(keys: dict[str, Any]) -> str:
     """An entry on a line, of the keys that have a value."""
-    return "{ " + ", ".join(f"{key} = {written(value)}" for key, value in keys.items() if value is not None) + " }"
+    return "{ " + ", ".join(f"{key} = {value_text(value)}" for key, value in keys.items() if value is not None) + " }"
 
 
 def printable(line: str) -> str:
@@ -46,7 +39,7 @@ def comments(line: str) -> list[str]:
     return [comment(it) for it in parts]
 
 
-def put(text: str, file: Optional[str]) -> None:
+def put(text: str, file: str | None) -> None:
     """Writes the text into the file, or to the standard output where none is named; ends the tool where it can't be
     written."""
     if file is None:

@@ -14,7 +14,6 @@ that the proved program has written, the tool says so and ends with 1. They are 
 """
 import argparse
 import json
-import os
 import sys
 
 from lokwurmi_tools.explained import Explained, explained_by
@@ -22,8 +21,10 @@ from lokwurmi_tools.faults import Fault
 from lokwurmi_tools.helps import helps_for, lines_of_helps
 from lokwurmi_tools.packages import need
 from lokwurmi_tools.part_texts import lines_of_path, lines_of_task, shown
+from lokwurmi_tools.plotting import check_name
 from lokwurmi_tools.program import add_program
-from lokwurmi_tools.words import reader_of
+from lokwurmi_tools.times import Scale
+from lokwurmi_tools.words import add_tick, reader_of
 
 EXAMPLES = """examples:
   ./lokwurmi explain examples/can_bus.toml m3
@@ -32,7 +33,6 @@ EXAMPLES = """examples:
 
 docs/PARTS.md tells how to read it.
 """
-PICTURES = (".svg", ".png", ".pdf")
 
 
 def asked_for(arguments: list[str] | None) -> argparse.Namespace:
@@ -45,12 +45,13 @@ def asked_for(arguments: list[str] | None) -> argparse.Namespace:
     reader.add_argument(
         "--to", metavar="PICTURE", help="draw it, by matplotlib, into a picture whose name ends with .svg, .png or .pdf"
     )
+    add_tick(reader)
     add_program(reader)
     words = reader.parse_args(arguments)
     if sum((words.task is not None, words.path is not None, words.all)) != 1:
         raise Fault("name a task, or --path PATH, or --all")
-    if words.to and os.path.splitext(words.to)[1] not in PICTURES:
-        raise Fault(f"{words.to}: a picture's name ends with {', '.join(PICTURES[:-1])} or {PICTURES[-1]}")
+    if words.to:
+        check_name(words.to)
     return words
 
 
@@ -95,8 +96,9 @@ def main(arguments: list[str] | None = None) -> int | None:
         told = {"file": words.file, "tasks": told_tasks, "paths": told_paths, "faults": explained.faults}
         print(json.dumps(told, indent=1))
     else:
-        blocks = [lines_of_task(it) for it in told_tasks] + [lines_of_path(it) for it in told_paths]
-        blocks[-1] += [line for it in helps for line in lines_of_helps(it)]
+        scale = Scale(words.tick)
+        blocks = [lines_of_task(it, scale) for it in told_tasks] + [lines_of_path(it, scale) for it in told_paths]
+        blocks[-1] += [line for it in helps for line in lines_of_helps(it, scale)]
         print(shown("\n\n".join("\n".join(it) for it in blocks)))
     if words.to:
         draw(words, explained, told_tasks, told_paths)

@@ -21,33 +21,24 @@ name: its latest reaction in the run, in crimson, and its oldest data, dashed in
 leads from the end of each, which writes, to where the next one reads, and a line below shows the whole, beside the
 bound that `lokwurmi chain` tells. When jobs read isn't in a schedule: --reading says by which rule they are taken to.
 """
-import os
-from typing import NamedTuple
+import argparse
+from collections.abc import Sequence
+from typing import Any, NamedTuple
 
 from lokwurmi_tools.accepted import read_system
 from lokwurmi_tools.arrows import Marked, draw_marked, marked_in
-from lokwurmi_tools.chains import bounds_by, read_chains
+from lokwurmi_tools.chains import bounds_by, read_chains, totals_of
 from lokwurmi_tools.colours import PALE, hues, letters_on, shades
 from lokwurmi_tools.faults import Fault
+from lokwurmi_tools.kinds import Bounds, Schedule, Times, Trace, Values
 from lokwurmi_tools.packages import need
+from lokwurmi_tools.plotting import Line2D, LineCollection, Patch, PatchCollection, Rectangle, begun, check_name, save
 from lokwurmi_tools.program import add_program, schedule_by
 from lokwurmi_tools.report import read_report
 from lokwurmi_tools.runs import jobs_in, passages_in, read_schedule, read_trace, schedule_in
 from lokwurmi_tools.seen import READINGS, Run
 from lokwurmi_tools.times import Scale
 from lokwurmi_tools.words import add_tick, reader_of
-
-try:
-    import matplotlib
-    from matplotlib.collections import LineCollection, PatchCollection
-    from matplotlib.lines import Line2D
-    from matplotlib.patches import Patch, Rectangle
-
-    matplotlib.use("Agg")
-    import matplotlib.pyplot as plt
-except ImportError:
-    # told by `need`, after words that ask for help
-    pass
 
 EXAMPLES = """examples:
   ./lokwurmi gantt examples/pedal.toml examples/pedal.schedule.csv --to pedal.svg
@@ -106,17 +97,19 @@ class Chart(NamedTuple):
     until: int
     scale: Scale = Scale()
 
-    def lanes(self):
+    def lanes(self) -> list[str]:
         used = {it["on"] for it in self.system.get("task", [])}
         return [it for it in self.system.get("resource", []) if it["name"] in used]
 
-    def place(self):
+    def place(self) -> dict[str, int]:
         """The lane of each task."""
         lane = {it["name"]: k for k, it in enumerate(self.lanes())}
         return {it["name"]: lane[it["on"]] for it in self.system.get("task", [])}
 
 
-def slots(resource, tasks, phase, start, until):
+def slots(
+    resource: Values, tasks: list[Values], phase: int, start: int | None, until: int | None
+) -> list[tuple[int, int, str]]:
     """The slots of a TDMA resource in this time, each with its task; the gap has None."""
     turns = (
         [(it["name"], it["slot"]) for it in tasks if it["on"] == resource["name"]] if resource["kind"] == "tdma" else []
@@ -132,7 +125,7 @@ def slots(resource, tasks, phase, start, until):
             time += ticks
 
 
-def jobs_of(jobs, name, bounds, end):
+def jobs_of(jobs: Any, name: str, bounds: Bounds | None, end: int) -> list[Job]:
     """The jobs of a task."""
     after = 0
     for came, done in jobs.get(name, ()):
@@ -140,12 +133,12 @@ def jobs_of(jobs, name, bounds, end):
         after = done
 
 
-def is_late(job):
+def is_late(job: Job) -> bool:
     """Whether a job took longer than its bound, or is pending at the end of the run though this is past."""
     return job.bound is not None and job.last > job.came + job.bound
 
 
-def draw_slots(axes, chart, colour):
+def draw_slots(axes: Any, chart: Chart, colour: dict[str, str]) -> None:
     for place, resource in enumerate(chart.lanes()):
         bands = []
         for band in slots(
@@ -163,7 +156,7 @@ def draw_slots(axes, chart, colour):
             axes.add_patch(Rectangle((start, place - BAND / 2), end - start, BAND, **look))
 
 
-def draw_bars(axes, chart, colour, unit):
+def draw_bars(axes: Any, chart: Chart, colour: dict[str, str], unit: float) -> None:
     """The segments, with the names of their tasks where there is room: a letter is about 4 points wide, and a point
     `unit` ticks."""
     place, bars = chart.place(), {}
@@ -187,7 +180,7 @@ def draw_bars(axes, chart, colour, unit):
                 )
 
 
-def draw_jobs(axes, chart, colour):
+def draw_jobs(axes: Any, chart: Chart, colour: dict[str, str]) -> None:
     place = chart.place()
     for name, several in chart.jobs.items():
         for times, where, mark in (
@@ -207,7 +200,7 @@ def draw_jobs(axes, chart, colour):
             )
 
 
-def draw_outline(axes, chart, job, colour):
+def draw_outline(axes: Any, chart: Chart, job: Job, colour: dict[str, str]) -> None:
     """A frame around the segments of a job: those of its task after the job before."""
     y = chart.place()[job.name]
     for name, start, end in chart.rows:
@@ -222,7 +215,7 @@ def draw_outline(axes, chart, job, colour):
             )
 
 
-def draw_late(axes, chart):
+def draw_late(axes: Any, chart: Chart) -> None:
     place = chart.place()
     for it in chart.late:
         y, past = place[it.name], it.came + it.bound
@@ -249,7 +242,7 @@ def draw_late(axes, chart):
         )
 
 
-def longest_in(system, jobs, bounds, events, name):
+def longest_in(system: Values, jobs: Any, bounds: Bounds | None, events: Times, name: str) -> Longest | None:
     """The job of a task, or the passage of a path, that took longest: the first of these."""
     ways = {it["name"]: it["tasks"] for it in system.get("path", [])}
     is_path = name.startswith("path:") or name not in jobs
@@ -266,7 +259,7 @@ def longest_in(system, jobs, bounds, events, name):
     return Longest(name, way, passage.came, passage.done, of_paths.get(name), True)
 
 
-def draw_span(axes, came, done, bound, y, text, whole=False):
+def draw_span(axes: Any, came: int, done: int, bound: int | None, y: float, text: str, whole: bool = False) -> None:
     """A line from where something came to its end, and a dotted one to its bound, with a text in its middle; of a whole
     passage the bound may be outside of the picture."""
     end = done if bound is None else max(done, came + bound)
@@ -290,7 +283,7 @@ def draw_span(axes, came, done, bound, y, text, whole=False):
         )
 
 
-def draw_longest(axes, chart, longest, unit):
+def draw_longest(axes: Any, chart: Chart, longest: Longest | None, unit: float) -> None:
     """What took longest: each job is framed, with a line of its own, and of a path one more below all lanes for the
     whole."""
     told = chart.scale.text(longest.done - longest.came) + (
@@ -328,7 +321,7 @@ def draw_longest(axes, chart, longest, unit):
     )
 
 
-def draw_frame(axes, chart, below=0.0):
+def draw_frame(axes: Any, chart: Chart, below: float = 0.0) -> None:
     """The lanes, and below them room for as many parts of one."""
     lanes = chart.lanes()
     axes.set_xlim(chart.start, max(chart.until, chart.start + 1))
@@ -349,7 +342,7 @@ def draw_frame(axes, chart, below=0.0):
         spine.set_color(FAINT)
 
 
-def draw_legend(axes, chart, colour, width):
+def draw_legend(axes: Any, chart: Chart, colour: dict[str, str], width: float) -> None:
     """The tasks, or where there are many the paths, and the marks that are there."""
     ran, entries = {row[0] for row in chart.rows}, []
     names = [it["name"] for it in chart.system.get("task", []) if it["name"] in ran]
@@ -388,7 +381,15 @@ def draw_legend(axes, chart, colour, width):
         )
 
 
-def chart_of(system, schedule, trace=None, bounds=None, start=None, until=None, scale=Scale()):
+def chart_of(
+    system: Values,
+    schedule: Schedule,
+    trace: Trace | None = None,
+    bounds: Bounds | None = None,
+    start: int | None = None,
+    until: int | None = None,
+    scale: Scale = Scale(),
+) -> Chart:
     """What is drawn of a schedule, and of the jobs in it where there is a trace."""
     jobs = jobs_in(system, schedule, trace) if trace else {}
     last = max([end for _, _, end in schedule] + [came for several in jobs.values() for came, _ in several], default=1)
@@ -403,18 +404,18 @@ def chart_of(system, schedule, trace=None, bounds=None, start=None, until=None, 
     return Chart(system, rows, jobs, late, trace[2] if trace else {}, bounds or {}, start, until, scale)
 
 
-def drawn(chart, width=10.0, longest=None, run=None, marked=()):
+def drawn(
+    chart: Chart,
+    width: float = 10.0,
+    longest: Longest | None = None,
+    run: Run | None = None,
+    marked: Sequence[Marked] = (),
+) -> Any:
     """The figure of a chart, with what took longest in it, and what is marked of a chain in its run."""
-    # words stay words, and the same schedule gives the same picture
-    plt.rcParams.update(
-        {"svg.fonttype": "none", "svg.hashsalt": "lokwurmi", "font.family": "DejaVu Sans", "hatch.linewidth": 0.6}
-    )
     colour = shades(chart.system)
     unit = (chart.until - chart.start) / (width * 72)
     below = (0.5 if longest and longest.is_path else 0.0) + 0.45 * len(marked)
-    figure, axes = plt.subplots(
-        figsize=(width, 0.62 * (max(1, len(chart.lanes())) + below) + 1.25), layout="constrained"
-    )
+    figure, axes = begun(figsize=(width, 0.62 * (max(1, len(chart.lanes())) + below) + 1.25))
     draw_slots(axes, chart, colour)
     draw_bars(axes, chart, colour, unit)
     draw_jobs(axes, chart, colour)
@@ -434,7 +435,7 @@ def drawn(chart, width=10.0, longest=None, run=None, marked=()):
     return figure
 
 
-def asked_for(arguments: list[str] | None):
+def asked_for(arguments: list[str] | None) -> argparse.Namespace:
     reader = reader_of("gantt", __doc__, EXAMPLES)
     reader.add_argument("file", metavar="FILE", help="a system file")
     reader.add_argument(
@@ -473,8 +474,7 @@ def asked_for(arguments: list[str] | None):
     reader.add_argument("--to", metavar="PICTURE", required=True, help="a name that ends with .svg, .png or .pdf")
     add_program(reader)
     words = reader.parse_args(arguments)
-    if os.path.splitext(words.to)[1] not in (".svg", ".png", ".pdf"):
-        raise Fault(f"{words.to}: a picture's name ends with .svg, .png or .pdf")
+    check_name(words.to)
     for name in ("report", "longest", "chain"):
         if getattr(words, name) and not words.trace:
             raise Fault(f"--{name} wants --trace, which tells when jobs came")
@@ -488,7 +488,7 @@ def asked_for(arguments: list[str] | None):
     return words
 
 
-def check_longest(name, system):
+def check_longest(name: str, system: Values) -> None:
     """Ends the tool where no task and no path has the name."""
     tasks, paths = ({it["name"] for it in system.get(part, [])} for part in ("task", "path"))
     if name not in tasks | paths and name.removeprefix("path:") not in paths:
@@ -496,7 +496,7 @@ def check_longest(name, system):
         raise Fault(f"{name}: the system has no task of this name, and no path; its paths are {there}")
 
 
-def chain_in(words, system):
+def chain_in(words: argparse.Namespace, system: Values) -> tuple[list[str], str]:
     """The tasks of the chain that is asked for."""
     if words.chains:
         chains = {it.name: it.tasks for it in read_chains(words.chains, system)}
@@ -509,19 +509,21 @@ def chain_in(words, system):
     return tasks
 
 
-def marked_of(words, system, run):
+def marked_of(words: argparse.Namespace, system: Values, run: Run | None) -> list[Marked]:
     """What is marked of the chain: nothing where none is asked for."""
     if not words.chain:
         return []
     tasks = chain_in(words, system)
     bounds = bounds_by(words.program, words.file, tasks)
-    marked = marked_in(run, tasks, words.reading, bounds.totals if bounds else {}, READINGS[words.reading])
+    marked = marked_in(run, tasks, words.reading, totals_of(bounds), READINGS[words.reading])
     if not marked:
         raise Fault(f"{' '.join(tasks)}: nothing of the chain is seen in this run")
     return marked
 
 
-def stretch_of_chain(marked: list[Marked], start, until, last):
+def stretch_of_chain(
+    marked: list[Marked], start: int | None, until: int | None, last: int
+) -> tuple[int | None, int | None]:
     """From when to when is drawn, where that isn't said: the stretch of what is marked."""
     if not marked or start is not None or until is not None:
         return start, until
@@ -530,7 +532,7 @@ def stretch_of_chain(marked: list[Marked], start, until, last):
     return max(0, first - more), min(last, end + more)
 
 
-def stretch(longest, start, until, last):
+def stretch(longest: Longest | None, start: int | None, until: int | None, last: int) -> tuple[int | None, int | None]:
     """From when to when is drawn, where that isn't said: the stretch of what took longest, of a path, or in a long
     run."""
     whole = last - (start or 0) if until is None else until - (start or 0)
@@ -571,6 +573,5 @@ def main(arguments: list[str] | None = None) -> int | None:
             f"{words.schedule or words.trace}: there are {len(chart.rows)} segments in this time,"
             f" and a picture takes {MOST_SEGMENTS}: cut a part out by --from and --until"
         )
-    drawn(chart, longest=longest, run=run, marked=marked).savefig(
-        words.to, metadata={"Date": None} if words.to.endswith(".svg") else None
-    )
+    save(drawn(chart, longest=longest, run=run, marked=marked), words.to)
+    return 0

@@ -4,11 +4,12 @@ program.
 What is told of a change is what the proved program says of the system with it. Which changes are tried is this tool's
 choice: there may be others that help more, and several together may do what none does alone.
 """
-from typing import NamedTuple
+from typing import Any, NamedTuple
 
 from lokwurmi_tools.explained import Explained
 from lokwurmi_tools.report import reports_in
 from lokwurmi_tools.system import sources_of
+from lokwurmi_tools.times import TICKS, Scale
 from lokwurmi_tools.trials import Trial, reports_after
 
 # how many of the best are told, and what has to be said beside them
@@ -85,7 +86,7 @@ class Changes:
             if "slot" in parts.tasks[it]:
                 self.slot(name, it, longer=False)
 
-    def put(self, kind: str, of: str, for_task: str, now, then, edits: list[str], back: list[str]) -> None:
+    def put(self, kind: str, of: str, for_task: str, now: Any, then: Any, edits: list[str], back: list[str]) -> None:
         key = (kind, of, for_task if kind == "priority" else then)
         self.found.setdefault(key, Change(kind, of, for_task, now, then, Trial(edits, back)))
 
@@ -140,22 +141,22 @@ def helps_for(explained: Explained, path: str, program: str, file: str) -> list[
     return sorted(found, key=lambda it: float("inf") if it.worst is None else it.worst)
 
 
-def change_text(it: Change) -> str:
+def change_text(it: Change, scale: Scale = TICKS) -> str:
     """A change in words."""
     if it.kind == "priority":
         return f"{it.name} {it.then}"
     what = {"worst": "greatest execution of", "slot": "slot of", "period": "period of"}[it.kind]
-    return f"{what} {it.name} {it.now} → {it.then}"
+    return f"{what} {it.name} {scale.text(int(it.now))} → {scale.text(int(it.then))}"
 
 
-def less_text(it: Help) -> str:
+def less_text(it: Help, scale: Scale = TICKS) -> str:
     """By how much a path takes less, and what is worse then."""
-    less = "and it had no bound" if it.before is None else f"-{it.before - it.worst}"
+    less = "and it had no bound" if it.before is None else scale.text((it.worst or 0) - it.before)
     more = f" and {len(it.harms) - 2} more" if len(it.harms) > 2 else ""
     return less + (f", but then {', '.join(it.harms[:2])}{more}" if it.harms else "")
 
 
-def lines_of_helps(several: list[Help]) -> list[str]:
+def lines_of_helps(several: list[Help], scale: Scale = TICKS) -> list[str]:
     """The best changes in lines, and how many did what."""
     count = {effect: sum(it.effect == effect for it in several) for effect in ("shorter", "longer", "same")}
     if not several:
@@ -164,8 +165,12 @@ def lines_of_helps(several: list[Help]) -> list[str]:
     best = [it for it in several if it.effect == "shorter"][:BEST]
     if not best:
         return [head, "    none makes it shorter"]
-    texts, wide = [change_text(it.change) for it in best], max(len(change_text(it.change)) for it in best)
-    far = max(len(str(it.worst)) for it in best)
-    lines = [f"    {text:<{wide}}  {it.worst:>{far}}  {less_text(it)}" for text, it in zip(texts, best)]
+    texts = [change_text(it.change, scale) for it in best]
+    wide = max(map(len, texts))
+    far = max(len(scale.text(it.worst or 0)) for it in best)
+    lines = [
+        f"    {text:<{wide}}  {scale.text(it.worst or 0):>{far}}  {less_text(it, scale)}"
+        for text, it in zip(texts, best)
+    ]
     more = f"{count['shorter'] - len(best)} more make it shorter, {count['longer']} longer, {count['same']} neither"
     return [head, *lines, f"    {more}", f"  {WARNING}"]

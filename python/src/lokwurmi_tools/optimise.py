@@ -19,6 +19,8 @@ import re
 import sys
 import tempfile
 import time
+from collections.abc import Callable, Iterator
+from typing import Any
 
 from lokwurmi_tools.accepted import read_system
 from lokwurmi_tools.explained import Explained
@@ -137,7 +139,7 @@ class Search(Sharing):
         self.progress.show(f"{orders_text(self.looked)}, {how}; the best so far: {self.best_verdict.told()}")
         return verdict
 
-    def sorted_by(self, key) -> Order:
+    def sorted_by(self, key: Callable[[str], Any]) -> Order:
         return {on: sorted(names, key=key) for on, names in self.given.items()}
 
     def period(self, name: str) -> int:
@@ -148,7 +150,7 @@ class Search(Sharing):
         several = [it["deadline"] for it in self.paths.values() if name in it["tasks"] and "deadline" in it]
         return (0, min(several)) if several else (1, self.period(name))
 
-    def starts(self):
+    def starts(self) -> Iterator[tuple[str, Order]]:
         yield "the order of the file", self.given
         yield "rising deadlines", self.sorted_by(self.deadline)
         yield "rising periods", self.sorted_by(lambda it: (self.period(it), self.deadline(it)))

@@ -1,10 +1,11 @@
 """Draws what bounds are made of, for lokwurmi explain: bars by matplotlib, a part after the other."""
 import os
-from typing import NamedTuple
+from typing import Any, NamedTuple
 
 from lokwurmi_tools.colours import letters_on, shades
 from lokwurmi_tools.explained import Explained
 from lokwurmi_tools.part_texts import note_of, percent, turn_of
+from lokwurmi_tools.plotting import Patch, bare, begun, save
 
 # what isn't jobs of a task is grey or hatched
 GREY, PALE, INK, MARK = "#c9d0d6", "#dce2e9", "#1c2733", "#c0392b"
@@ -43,39 +44,31 @@ class Bars:
     """The bars of some tasks, each with its parts one after the other, which go to a picture."""
 
     def __init__(self, explained: Explained, picture: str):
-        import matplotlib
+        self.shades, self.picture = shades(explained.system), picture
 
-        matplotlib.use("Agg")
-        import matplotlib.pyplot as plt
-
-        look = {"svg.fonttype": "none", "svg.hashsalt": "lokwurmi", "font.family": "DejaVu Sans"}
-        plt.rcParams.update(look | {"hatch.linewidth": 0.6})
-        self.plt, self.shades, self.picture = plt, shades(explained.system), picture
-
-    def axes(self, names: list[str], width: float = 9.0, size: float = 8):
+    def axes(self, names: list[str], width: float = 9.0, size: float = 8) -> tuple[Any, Any]:
         """A drawing with a row for each name."""
-        figure, axes = self.plt.subplots(figsize=(width, 1.15 + 0.34 * len(names)), layout="constrained")
-        for side in ("top", "right"):
-            axes.spines[side].set_visible(False)
+        figure, axes = begun(figsize=(width, 1.15 + 0.34 * len(names)))
+        bare(axes)
         axes.tick_params(labelsize=8)
         axes.set_yticks(range(len(names)), names, fontsize=size)
         axes.set_ylim(len(names) - 0.4, -0.6)
         return figure, axes
 
-    def save(self, figure) -> None:
-        figure.savefig(self.picture, metadata={"Date": None} if self.picture.endswith(".svg") else None)
+    def save(self, figure: Any) -> None:
+        save(figure, self.picture)
 
     def hue(self, part: dict) -> str:
         return GREY if part["kind"] == "gap" else self.shades[part["of"]]
 
-    def block(self, axes, place: int, start: int, part: dict) -> None:
+    def block(self, axes: Any, place: int, start: int, part: dict) -> None:
         """A part of a bar."""
         edge, hatch = {"edgecolor": "white", "linewidth": 0.8, "zorder": 2}, HATCHES.get(part["kind"])
         if part["kind"] == "own":
             edge = {"edgecolor": INK, "linewidth": 1.0, "zorder": 3}
         axes.barh(place, part["ticks"], left=start, height=0.66, color=self.hue(part), hatch=hatch, **edge)
 
-    def name(self, axes, place: int, start: int, part: dict, came: int, scale: Scale) -> None:
+    def name(self, axes: Any, place: int, start: int, part: dict, came: int, scale: Scale) -> None:
         """As much of a part's name as there is room for in it, beside the line where the job came."""
         left, right = start, start + part["ticks"]
         if left < came < right:
@@ -106,7 +99,7 @@ class Bars:
         self.finish(axes, it)
         self.save(figure)
 
-    def beside(self, axes, place: int, start: int, part: dict, scale: Scale) -> None:
+    def beside(self, axes: Any, place: int, start: int, part: dict, scale: Scale) -> None:
         """What a part is, behind its bar, before it, or on it: where there is room."""
         end, note = start + part["ticks"], note_of(part)
         text = f"{part['count']} · {part['each']} = {part['ticks']}" + (f", {note}" if note else "")
@@ -119,7 +112,7 @@ class Bars:
         else:
             axes.text((start + end) / 2, place, text, ha="center", va="center", fontsize=7, zorder=5, bbox=BOX)
 
-    def finish(self, axes, it: dict) -> None:
+    def finish(self, axes: Any, it: dict) -> None:
         """The lines of a task's bound, of its deadline and of when it came, and what they are."""
         deadline, came = it["deadline"], it["job"]["came"]
         is_near = deadline is not None and deadline["ticks"] <= FAR * it["bound"]
@@ -160,7 +153,7 @@ class Bars:
         self.legend(axes, [it for it, _ in drawn])
         self.save(figure)
 
-    def row(self, axes, place: int, it: dict, start: int, scale: Scale) -> None:
+    def row(self, axes: Any, place: int, it: dict, start: int, scale: Scale) -> None:
         """The bar of a task, and its bound behind it; an empty one where there is none."""
         if it["bound"] is None or not it["job"]:
             whole = scale.most - scale.least
@@ -175,9 +168,7 @@ class Bars:
         axes.plot([start, start], [place - 0.45, place + 0.45], color=INK, linewidth=1.6, zorder=5)
         axes.text(start + it["bound"], place, f" {it['bound']}", va="center", fontsize=7)
 
-    def legend(self, axes, tasks: list[dict]) -> None:
-        from matplotlib.patches import Patch
-
+    def legend(self, axes: Any, tasks: list[dict]) -> None:
         kinds = {part["kind"] for it in tasks for part in it["parts"]}
         several = [(Patch(**look), text) for kind, (text, look) in LEGEND.items() if kind in kinds]
         patches, texts = zip(*several)

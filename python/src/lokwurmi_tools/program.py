@@ -6,13 +6,17 @@ import shutil
 import subprocess
 import sys
 from pathlib import Path
+from typing import NoReturn
 
 from lokwurmi_tools.faults import Fault, Told
 
 # the folder of the repository, where this package lies in one
 TOP = Path(__file__).resolve().parents[3]
 # what is called: the script of the repository, which builds the programs, or an installed one
-LAUNCHER = str(TOP / "lokwurmi") if (TOP / "crates.txt").is_file() else shutil.which("lokwurmi") or "lokwurmi"
+IS_REPOSITORY = (TOP / "lokwurmi").is_file()
+LAUNCHER = str(TOP / "lokwurmi") if IS_REPOSITORY else shutil.which("lokwurmi") or "lokwurmi"
+# the program itself, which other machines can run
+BINARY = str(TOP / "crates" / "cpa_cli" / "out" / "cpa_cli") if IS_REPOSITORY else LAUNCHER
 
 
 def built(crate: str) -> str | None:
@@ -23,7 +27,7 @@ def built(crate: str) -> str | None:
 
 def is_built() -> bool:
     """Whether what is called by default answers without a build."""
-    return bool(built("cpa_cli") if LAUNCHER == str(TOP / "lokwurmi") else shutil.which(LAUNCHER))
+    return bool(built("cpa_cli") if IS_REPOSITORY else shutil.which(LAUNCHER))
 
 
 def often(program: str, crate: str = "cpa_cli") -> str:
@@ -38,7 +42,7 @@ def add_program(reader: argparse.ArgumentParser) -> None:
     reader.add_argument("--program", metavar="PROGRAM", default=LAUNCHER, help=where)
 
 
-def call(program, *words):
+def call(program: str, *words: str) -> tuple[int, str]:
     """The status of a call, and what it writes. What it tells a terminal, as how far a build is, goes there; what it
     would say beside its output is said by whoever calls."""
     try:
@@ -55,7 +59,7 @@ def call(program, *words):
     return done.returncode, done.stdout
 
 
-def end_refused(status, text, *words):
+def end_refused(status: int, text: str, *words: str) -> NoReturn:
     """Ends the tool by the status of a refusal or a fault, with what `lokwurmi` says of it."""
     from lokwurmi_tools.accepted import told_of
 
@@ -65,7 +69,7 @@ def end_refused(status, text, *words):
     raise Told(status)
 
 
-def written_by(program, *words):
+def written_by(program: str, *words: str) -> str:
     """What a call writes, whose status is a verdict; a refusal or a fault ends the tool."""
     status, text = call(program, *words)
     if status < 0 or status >= 10:
@@ -73,7 +77,7 @@ def written_by(program, *words):
     return text
 
 
-def schedule_by(program, *words):
+def schedule_by(program: str, *words: str) -> str | None:
     """What `schedule FILE TRACE` writes, or None where the program hasn't that command."""
     status, text = call(program, "schedule", *words)
     if status == 10:

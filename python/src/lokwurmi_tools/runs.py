@@ -1,68 +1,26 @@
-"""Reads traces and schedules, and tells the jobs in them, for the tools beside it."""
-import csv
-import io
+"""The jobs and passages of a run, by its schedule and its trace."""
+from collections.abc import Iterable
 from typing import NamedTuple
 
-from lokwurmi_tools.faults import Fault
+from lokwurmi import traces
+from lokwurmi_tools.kinds import Jobs, Schedule, Segment, Trace, Values
 from lokwurmi_tools.system import activators, execution
 
 
-def is_number(word):
-    return word.isascii() and word.isdecimal() and len(word) <= 10
+def schedule_in(text: str, file: str, system: Values) -> Schedule:
+    """The rows of a schedule of a system."""
+    return traces.schedule_in(text, file, {it["name"] for it in system.get("task", [])})
 
 
-def read(file):
-    """The text of a file; `-` is the standard input."""
-    try:
-        with open(0 if file == "-" else file, encoding="utf-8", newline="") as it:
-            return it.read()
-    except (OSError, UnicodeDecodeError) as fault:
-        raise Fault(f"{file}: can't be read: {fault}")
+def read_schedule(file: str, system: Values) -> Schedule:
+    return schedule_in(traces.text_of(file), file, system)
 
 
-def rows_in(text, file):
-    """The rows of comma-separated values, each with its number, without empty lines."""
-    try:
-        return list(enumerate((row for row in csv.reader(io.StringIO(text, newline="")) if row), 1))
-    except csv.Error as fault:
-        raise Fault(f"{file}: can't be read: {fault}")
+def read_trace(file: str) -> Trace:
+    return traces.trace_in(traces.text_of(file), file)
 
 
-def schedule_in(text, file, system):
-    """The rows of a schedule: the task, and from when to before when it ran."""
-    names, rows = {it["name"] for it in system.get("task", [])}, []
-    for place, row in rows_in(text, file):
-        if len(row) != 3 or not (is_number(row[1]) and is_number(row[2])):
-            raise Fault(f"{file}: row {place} isn't TASK,START,END: {','.join(row)}")
-        if row[0] not in names:
-            raise Fault(f"{file}: row {place}: the system has no task {row[0]}")
-        if int(row[1]) >= int(row[2]):
-            raise Fault(f"{file}: row {place}: its end isn't after its start: {','.join(row)}")
-        rows.append((row[0], int(row[1]), int(row[2])))
-    return rows
-
-
-def read_schedule(file, system):
-    return schedule_in(read(file), file, system)
-
-
-def read_trace(file):
-    """The times of the events of each source, the executions of each task, and the phase of each TDMA resource that has
-    a row."""
-    events, executions, phases = {}, {}, {}
-    for place, row in rows_in(read(file), file):
-        if len(row) != 3 or row[0] not in ("event", "exec", "phase") or not is_number(row[2]):
-            raise Fault(
-                f"{file}: row {place} is none of event, exec and phase with a name and a number: {','.join(row)}"
-            )
-        if row[0] == "phase":
-            phases[row[1]] = int(row[2])
-        else:
-            (events if row[0] == "event" else executions).setdefault(row[1], []).append(int(row[2]))
-    return events, executions, phases
-
-
-def parts_in(segments, executions, greatest):
+def parts_in(segments: list[Segment], executions: list[int], greatest: int) -> list[tuple[list[Segment], bool]]:
     """What each job of a task ran, by its segments, each from when to before when, and whether it is done by them: each
     job takes its execution, and the one before goes first."""
     jobs, left = [], 0
@@ -77,12 +35,12 @@ def parts_in(segments, executions, greatest):
     return [(parts, left == 0 or place + 1 < len(jobs)) for place, parts in enumerate(jobs)]
 
 
-def ends_in(segments, executions, greatest):
+def ends_in(segments: list[Segment], executions: list[int], greatest: int) -> list[int]:
     """When the jobs of a task were done, by its segments."""
     return [parts[-1][1] for parts, is_done in parts_in(segments, executions, greatest) if is_done]
 
 
-def segments_of(schedule, tasks):
+def segments_of(schedule: Schedule, tasks: Iterable[str]) -> dict[str, list[Segment]]:
     """The segments of each task, in order."""
     segments = {name: [] for name in tasks}
     for name, start, end in schedule:
@@ -90,7 +48,7 @@ def segments_of(schedule, tasks):
     return {name: sorted(several) for name, several in segments.items()}
 
 
-def jobs_in(system, schedule, trace):
+def jobs_in(system: Values, schedule: Schedule, trace: Trace) -> Jobs:
     """The jobs of each task in the order in which they came, by a schedule and the trace that it is of: when each came,
     and when it was done, None where it wasn't."""
     events, executions, _ = trace

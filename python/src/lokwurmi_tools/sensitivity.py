@@ -11,6 +11,7 @@ that of the file, or against one where the file has none. With --deadlines paths
 Both ends of each answer are reports of the proved program: with the number at the value that is told all holds, and one
 step beyond it doesn't. In between the tool halves the range. That nothing holds further on is proved of each single
 step for executions, periods, jitters and speeds, since no bound falls where more is asked for; that the halving follows
+from collections.abc import Callable
 from it is argued in docs/SENSITIVITY.md, and not proved. Of executions under --deadlines `lokwurmi slack` is proved to
 give the very number.
 
@@ -25,16 +26,19 @@ import re
 import sys
 import threading
 import time
-from typing import NamedTuple
+from collections.abc import Callable
+from typing import Any, NamedTuple
 
 from lokwurmi_tools.accepted import read_system
 from lokwurmi_tools.faults import Fault
 from lokwurmi_tools.packages import need
 from lokwurmi_tools.part_texts import shown
+from lokwurmi_tools.plotting import Patch, bare, begun, check_name, save
 from lokwurmi_tools.program import add_program, often, written_by
 from lokwurmi_tools.progress import Progress
 from lokwurmi_tools.report import reports_in
 from lokwurmi_tools.system import execution
+from lokwurmi_tools.times import TICKS, Scale
 from lokwurmi_tools.trials import Trial, reports_after
 from lokwurmi_tools.words import reader_of
 
@@ -94,17 +98,17 @@ class Answer(NamedTuple):
 class Found:
     """What a report says: which paths miss, and which tasks have no bound."""
 
-    def __init__(self, text, goals, deadlines):
+    def __init__(self, text: str, goals: dict[str, int], deadlines: bool):
         self.text, self.goals, self.deadlines = text, goals, deadlines
 
-    def holds(self):
+    def holds(self) -> bool:
         if self.goals:
             return not self.first()
         if self.deadlines:
             return not re.search(r" (?:missed|unknown)$", self.text, re.M)
         return " overload 0 missed 0" in self.text[self.text.rindex("summary ") :]
 
-    def first(self):
+    def first(self) -> list[str]:
         """What doesn't hold."""
         tasks, paths, _ = reports_in(self.text.splitlines(), "lokwurmi session")[-1]
         missed = []
@@ -119,7 +123,7 @@ class Found:
 class Question:
     """A system file, and what has to hold of it."""
 
-    def __init__(self, words):
+    def __init__(self, words: argparse.Namespace):
         self.file, self.program, self.deadlines, self.goals = words.file, words.program, words.deadlines, words.goals
         self.system = read_system(words.file)
         self.resources = {it["name"]: it for it in self.system.get("resource", [])}
@@ -130,12 +134,12 @@ class Question:
         self.found_tasks, self.found_paths, _ = reports_in(self.text.splitlines(), self.file)[-1]
         self.calls = self.probes = 0
 
-    def limits(self):
+    def limits(self) -> dict[str, int]:
         """The deadline of each path that has one, in the file or as a goal."""
         found = {name: self.goals.get(name, it["deadline"]) for name, it in self.found_paths.items()}
         return {name: ticks for name, ticks in found.items() if ticks is not None}
 
-    def room(self, name):
+    def room(self, name: str) -> int | None:
         """What the tightest path through a task has left; it grows by at least a tick with each tick of the
         execution."""
         paths = {it["name"]: it["tasks"] for it in self.system.get("path", [])}
@@ -197,10 +201,12 @@ class Search:
     """The last value of a number that holds: up to `good` steps all holds, and with `bad`, None where that isn't known
     yet, it doesn't, by the report `first`."""
 
-    def __init__(self, number):
-        self.number, self.good, self.bad, self.first = number, 0, None, None
+    def __init__(self, number: Number):
+        self.number, self.good = number, 0
+        self.bad: int | None = None
+        self.first: Found | None = None
 
-    def next(self):
+    def next(self) -> int | None:
         """The steps to try, or None where the answer is known but for what comes first."""
         number = self.number
         if self.bad is None:
@@ -210,14 +216,14 @@ class Search:
             return min(number.most, number.guess + 1 if self.good == 0 else 4 * self.good)
         return (self.good + self.bad) // 2 if self.bad - self.good > 1 else None
 
-    def tell(self, steps, found):
+    def tell(self, steps: int, found: Found) -> None:
         if found.holds():
             self.good = max(self.good, steps)
         else:
             self.bad, self.first = steps, found
 
 
-def searched(question, numbers, tell):
+def searched(question: Question, numbers: list[Number], tell: Callable[[int], None]) -> list[Answer]:
     """The answers of some numbers, by a round of probes for all of them at a time."""
     searches = [Search(it) for it in numbers]
     while True:
@@ -230,10 +236,11 @@ def searched(question, numbers, tell):
     return [Answer(it.good, it.bad is not None, it.first.first() if it.first else []) for it in searches]
 
 
-def parts_of(question, numbers, jobs):
+def parts_of(question: Question, numbers: list[Number], jobs: int) -> list[list[Number]]:
     """The numbers in parts for one call each: as many as there are jobs, if scripts are short and reports few
     enough."""
-    wanted, parts, lines = max(1, -(-len(numbers) // (2 * jobs))), [[]], 0
+    wanted, lines = max(1, -(-len(numbers) // (2 * jobs))), 0
+    parts: list[list[Number]] = [[]]
     for number in numbers:
         if parts[-1] and (len(parts[-1]) >= min(wanted, MOST_PROBES) or lines + question.lines_of(number) > MOST_LINES):
             parts.append([])
@@ -316,8 +323,8 @@ def rows_of(question: Question, kinds: tuple[str, ...], jobs: int) -> list[dict]
     return sorted(rows, key=lambda it: it["share"])
 
 
-def value_of(row: dict, key: str) -> str:
-    return f"× {row[key] / PARTS:.3f}" if row["kind"] == "speed" else str(row[key])
+def value_of(row: dict, key: str, scale: Scale = TICKS) -> str:
+    return f"× {row[key] / PARTS:.3f}" if row["kind"] == "speed" else scale.text(row[key])
 
 
 def name_of(row: dict) -> str:
@@ -351,14 +358,8 @@ def lines_of(rows: list[dict]) -> list[str]:
 
 def draw(rows: list[dict], picture: str, title: str) -> None:
     """The tightest numbers, a bar each: by what share they may move, up to twice what they are."""
-    import matplotlib
-
-    matplotlib.use("Agg")
-    import matplotlib.pyplot as plt
-
-    plt.rcParams.update({"svg.fonttype": "none", "svg.hashsalt": "lokwurmi", "font.family": "DejaVu Sans"})
     drawn = rows[:MOST_DRAWN]
-    figure, axes = plt.subplots(figsize=(9, 1.3 + 0.19 * len(drawn)), layout="constrained")
+    figure, axes = begun(figsize=(9, 1.3 + 0.19 * len(drawn)))
     widest = min(100.0, max([1.0, *(100 * it["share"] for it in drawn)])) * 1.02
     for place, it in enumerate(drawn):
         share = 100 * it["share"]
@@ -371,17 +372,14 @@ def draw(rows: list[dict], picture: str, title: str) -> None:
     axes.set_xticks([it for it in axes.get_xticks() if it <= widest])
     some = f": the {MOST_DRAWN} tightest of {len(rows)} numbers" if len(rows) > MOST_DRAWN else ""
     label(axes, drawn, title + some)
-    figure.savefig(picture, metadata={"Date": None} if picture.endswith(".svg") else None)
+    save(figure, picture)
 
 
-def label(axes, drawn: list[dict], title: str) -> None:
+def label(axes: Any, drawn: list[dict], title: str) -> None:
     """What the bars are."""
-    from matplotlib.patches import Patch
-
     axes.tick_params(axis="x", labelsize=8)
     axes.set_xlabel("by how many % it may move alone; a jitter in % of the period of its source", fontsize=8)
-    for side in ("top", "right"):
-        axes.spines[side].set_visible(False)
+    bare(axes)
     axes.set_title(title, fontsize=9, loc="left")
     kinds = [it for it in KINDS if any(row["kind"] == it for row in drawn)]
     where = {"loc": "lower right", "bbox_to_anchor": (1.01, 0.995), "borderaxespad": 0.2}
@@ -419,8 +417,8 @@ def asked_for(arguments: list[str] | None) -> argparse.Namespace:
     reader.add_argument("--to", metavar="PICTURE", help="draw the tightest, by matplotlib: a .svg, .png or .pdf")
     add_program(reader)
     words = reader.parse_args(arguments)
-    if words.to and os.path.splitext(words.to)[1] not in (".svg", ".png", ".pdf"):
-        raise Fault(f"{words.to}: a picture's name ends with .svg, .png or .pdf")
+    if words.to:
+        check_name(words.to)
     if words.jobs < 1:
         raise Fault("there is at least 1 job")
     words.goals = goals_in(words.goal)

@@ -3,9 +3,9 @@ import argparse
 from fractions import Fraction
 from typing import Any, Callable
 
-from lokwurmi.units import UNITS, amount_of, common, text_of, time_of, unit_of
+from lokwurmi.units import UNITS, amount_of, common, decimal_text, text_of, time_of, unit_of
 
-__all__ = ["UNITS", "Scale", "amount_of", "common", "rate_of", "text_of", "time_of", "unit_of", "word_of"]
+__all__ = ["TICKS", "UNITS", "Scale", "amount_of", "common", "rate_of", "text_of", "time_of", "unit_of", "word_of"]
 
 
 class Scale:
@@ -15,10 +15,20 @@ class Scale:
         self.tick = tick
 
     def text(self, ticks: int) -> str:
-        """A number of ticks, or a time in the unit that fits it, with 12 digits at most."""
+        """A number of ticks, or the time that they are, in the unit that fits it, with all its digits."""
         if self.tick is None:
             return str(ticks)
-        return text_of(ticks * self.tick) if ticks else "0"
+        if not ticks:
+            return "0"
+        time = abs(ticks) * self.tick
+        unit = unit_of(time)
+        # a time of a tick is a decimal number, and so is each multiple of it
+        digits = decimal_text(time / UNITS[unit]) or f"{float(time / UNITS[unit]):.12g}"
+        return f"{'-' if ticks < 0 else ''}{digits}{unit}"
+
+    def length(self, ticks: int) -> str:
+        """The same with the word ticks."""
+        return f"{ticks} tick{'' if ticks in (1, -1) else 's'}" if self.tick is None else self.text(ticks)
 
     def axis(self, axes: Any, last: int) -> None:
         """An axis of time up to a tick: its numbers and what they are, in one unit."""
@@ -28,6 +38,10 @@ class Scale:
         unit = unit_of(last * self.tick)
         axes.xaxis.set_major_formatter(lambda at, _: f"{at * float(self.tick / UNITS[unit]):.12g}")
         axes.set_xlabel(f"{unit}, where a tick is {text_of(self.tick)}")
+
+
+# numbers of ticks as they are
+TICKS = Scale()
 
 
 def word_of(reader: Callable[[str], Any]) -> Callable[[str], Any]:

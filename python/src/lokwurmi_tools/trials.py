@@ -2,6 +2,7 @@
 import tempfile
 from typing import NamedTuple
 
+from lokwurmi.lines import texts_in
 from lokwurmi_tools.faults import OwnFault
 from lokwurmi_tools.program import call
 
@@ -26,7 +27,7 @@ def reports_after(program: str, file: str, trials: list[Trial], before: str) -> 
     is_refused = text.startswith("line ") or "\nline " in text
     if status < 0 or status >= 10 or is_refused:
         fail(f"lokwurmi session ends with {status}: {text[:200]!r}")
-    reports = split(text)
+    reports = texts_in(text)
     if len(reports) != len(trials) + 1 or reports[-1] != before:
         fail("the system isn't as before after the edits")
     return reports[:-1]
@@ -34,15 +35,3 @@ def reports_after(program: str, file: str, trials: list[Trial], before: str) -> 
 
 def fail(text: str) -> None:
     raise OwnFault(f"{text}")
-
-
-def split(text: str) -> list[str]:
-    """The reports in what a session writes: each ends with the line of its summary."""
-    found, start = [], 0
-    while start < len(text):
-        # no line before that of the summary begins with its word
-        last = start if text.startswith("summary ", start) else text.index("\nsummary ", start) + 1
-        end = text.index("\n", last) + 1
-        found.append(text[start:end])
-        start = end
-    return found

@@ -5,6 +5,7 @@ of a source comes k periods after its start, and up to its jitter later. The sea
 misses what is written, that events of other tasks come with a job of the chain, and that events come late from one on,
 and keeps what is later.
 """
+import argparse
 import os
 import random
 import sys
@@ -12,8 +13,9 @@ import time
 from dataclasses import dataclass, field
 from typing import NamedTuple
 
+from lokwurmi.traces import write
 from lokwurmi_tools.accepted import read_system
-from lokwurmi_tools.chains import bounds_by
+from lokwurmi_tools.chains import bounds_by, totals_of
 from lokwurmi_tools.faults import Fault
 from lokwurmi_tools.program import LAUNCHER, built, call
 from lokwurmi_tools.progress import Progress
@@ -182,11 +184,11 @@ class Mover:
 class ChainSearch:
     """The search for one chain: for its reaction, its age, or how long its data is held."""
 
-    def __init__(self, options, tasks: list[str], folder: str):
+    def __init__(self, options: argparse.Namespace, tasks: list[str], folder: str):
         self.options, self.tasks, self.what, self.status = options, tasks, options.what, 0
         self.system = read_system(options.file)
         bounds = bounds_by(options.program, options.file, tasks)
-        self.bound = bounds.totals.get(self.what) if bounds else None
+        self.bound = totals_of(bounds).get(self.what)
         self.trace = os.path.join(folder, "chain.csv")
         self.maker = Maker(self.system, tasks, self.bound or UNBOUNDED)
         self.draw = random.Random(f"{options.seed} {self.what} {' '.join(tasks)}")
@@ -265,7 +267,7 @@ def told(search: ChainSearch, found: Found, to: str | None) -> str:
     return text + (f" trace {to}" if to else "")
 
 
-def perform_chain(options, folder: str) -> int:
+def perform_chain(options: argparse.Namespace, folder: str) -> int:
     """The whole of a call for a chain; its status."""
     tasks, names = options.chain.split(","), [it["name"] for it in read_system(options.file).get("task", [])]
     if unknown := [it for it in tasks if it not in names]:
@@ -279,8 +281,3 @@ def perform_chain(options, folder: str) -> int:
         write(options.to, search.maker.rows(found.plan))
     print(told(search, found, options.to), flush=True)
     return search.status
-
-
-def write(file: str, rows: list[str]) -> None:
-    with open(file, "w", encoding="ascii") as it:
-        it.write("".join(row + "\n" for row in rows))

@@ -2,9 +2,8 @@
 found by the same rules in the same order (docs/FILES.md, "Chains with deadlines")."""
 from __future__ import annotations
 
-from collections.abc import Callable, Iterator, Sequence
-
 import tomllib
+from collections.abc import Callable, Iterator, Sequence
 
 from lokwurmi_tools.refusals.document import Document
 from lokwurmi_tools.refusals.keys import MOST_IN_CHAIN, MOST_IN_NAME, is_integer, is_name, is_texts

@@ -1,9 +1,8 @@
 """A system file that is TOML: its entries, where each key and value stands, and what its names name."""
 from __future__ import annotations
 
-from collections.abc import Iterator
-
 import tomllib
+from collections.abc import Iterator
 
 from lokwurmi_tools.refusals.keys import PARTS
 from lokwurmi_tools.refusals.newer import older

@@ -5,7 +5,7 @@ import re
 
 from lokwurmi_tools.refusals.document import Document, Entry
 from lokwurmi_tools.refusals.keys import KEYS, KINDS, OTHER_KEYS, OTHER_KINDS, PARTS, TOP_KEYS, bare, holds, is_integer
-from lokwurmi_tools.refusals.remark import Note, Remark, listed, mean, nearest
+from lokwurmi_tools.refusals.remark import Note, Remark, listed, nearest
 
 FORM = "1: the form"
 AN = {"resource": "a resource", "source": "a source", "task": "a task", "path": "a path"}
@@ -242,7 +242,7 @@ def unknown_kind(document: Document, at: int) -> Remark:
 def missing_key(document: Document, part: str, at: int, key: str) -> Remark:
     helps = {
         "name": 'give it a name of letters, digits, _, - and .: name = ".."',
-        "kind": f'write kind = "preemptive", "round-robin", "tdma" or "can"',
+        "kind": 'write kind = "preemptive", "round-robin", "tdma" or "can"',
         "period": "write period = N: how many ticks lie between two events, 1 to 1000000000",
         "on": 'write on = "..": the resource that it runs on',
         "after": 'write after = "..": the source or the task that starts it',

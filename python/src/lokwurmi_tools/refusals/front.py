@@ -6,10 +6,9 @@ import os
 import re
 import stat
 import sys
+import tomllib
 from collections.abc import Sequence
 from typing import TextIO
-
-import tomllib
 
 from lokwurmi_tools.refusals import chains, edits, lines, notices, schedule, script
 from lokwurmi_tools.refusals.document import Document

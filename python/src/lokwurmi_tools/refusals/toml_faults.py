@@ -2,7 +2,6 @@
 from __future__ import annotations
 
 import re
-
 import tomllib
 
 from lokwurmi_tools.refusals.newer import older, open_mark

@@ -48,6 +48,8 @@ for (const tools of document.querySelectorAll(".tools[data-of]")) {
 }
 // what a bound is made of: the parts as a bar, and one by one
 const made = JSON.parse(document.getElementById("made").textContent);
+// a number of ticks as the page tells it: those that become times are listed
+const time = (ticks) => made.times[ticks] ?? `${ticks}`;
 function element(name, look, text) {
   const it = document.createElement(name);
   if (look) it.className = look;
@@ -81,28 +83,28 @@ function partsOfTask(told) {
   room.append(element("p", "", told.job));
   const whole = told.bound + told.came, bar = room.appendChild(element("div", "stack")), list = room.appendChild(element("dl"));
   bar.setAttribute("role", "img");
-  bar.setAttribute("aria-label", told.parts.map(([of, count, each]) => `${of} ${count * each}`).join(", "));
+  bar.setAttribute("aria-label", told.parts.map(([of, count, each]) => `${of} ${time(count * each)}`).join(", "));
   for (const [of, count, each, kind, note] of told.parts) {
     const block = bar.appendChild(blockOf(of, kind)), share = count * each / whole;
     block.style.width = `${100 * share}%`;
-    block.title = `${of}: ${count} · ${each} = ${count * each}${note ? `, ${note}` : ""}`;
+    block.title = `${of}: ${count} · ${time(each)} = ${time(count * each)}${note ? `, ${note}` : ""}`;
     if (kind === "own" || kind === "rival") block.textContent = of.length < 110 * share ? of : "";
-    lineOf(list, "", dotOf(of, kind), `${count} · ${each}`, `${count * each}`, note);
+    lineOf(list, "", dotOf(of, kind), `${count} · ${time(each)}`, time(count * each), note);
   }
   if (told.came) {
     const mark = bar.appendChild(element("u"));
     mark.style.left = `${100 * told.came / whole}%`;
-    mark.title = `the job comes ${told.came} after the window began`;
-    lineOf(list, "", "before the job came, the line in the bar", "", `−${told.came}`, "");
+    mark.title = `the job comes ${time(told.came)} after the window began`;
+    lineOf(list, "", "before the job came, the line in the bar", "", `−${time(told.came)}`, "");
   }
-  lineOf(list, "sum", "bound", "", `${told.bound}`, "");
+  lineOf(list, "sum", "bound", "", time(told.bound), "");
   return room;
 }
 // the bounds along a path, and whom it waits for
 function partsOfPath(told) {
   const room = element("div"), list = room.appendChild(element("dl"));
-  for (const [name, bound, waits] of told.tasks) lineOf(list, "", dotOf(name, "rival"), "", bound === null ? "overload" : `${bound}`, waits);
-  if (told.worst !== null) lineOf(list, "sum", "worst", "", `${told.worst}`, "");
+  for (const [name, bound, waits] of told.tasks) lineOf(list, "", dotOf(name, "rival"), "", bound === null ? "overload" : time(bound), waits);
+  if (told.worst !== null) lineOf(list, "sum", "worst", "", time(told.worst), "");
   for (const it of told.waits) room.append(element("p", "", it));
   return room;
 }

@@ -3,26 +3,16 @@ campaign.py."""
 import contextlib
 import itertools
 import math
-import re
-
 import tomllib
+from collections.abc import Iterable, Sequence
+from typing import Any
 
-from lokwurmi_tools.report import PATH, SUMMARY, TASK
+from lokwurmi.errors import Unreadable
+from lokwurmi.lines import reports_in
+from lokwurmi_tools.campaigns.faults import Wrong
+from lokwurmi_tools.system import execution
 
 MOST_PRIORITY = 536_870_911
-
-
-class Wrong(Exception):
-    """The words, or what they name, can't be taken: what to change."""
-
-
-def execution(task, resources):
-    """The least and the greatest execution of a task of a system file, that of a frame by its payload."""
-    if "payload" not in task:
-        return task["best"], task["worst"]
-    least, greatest = (67, 80) if task.get("extended") else (47, 55)
-    bit = resources[task["on"]].get("bit", 1)
-    return (least + 8 * task["payload"]) * bit, (greatest + 10 * task["payload"]) * bit
 
 
 KEYS = {"task": ("best", "worst", "execution", "priority", "slot"), "source": ("period", "jitter", "distance")}
@@ -30,19 +20,19 @@ KEYS = {"task": ("best", "worst", "execution", "priority", "slot"), "source": ("
 OWN = ("variant", "verdict", "refused", "cost", "front")
 
 
-def is_number(it):
+def is_number(it: Any) -> bool:
     return isinstance(it, int) and not isinstance(it, bool) and 0 <= it < 10**10
 
 
-def is_cost(it):
+def is_cost(it: Any) -> bool:
     return isinstance(it, (int, float)) and not isinstance(it, bool) and abs(it) <= 10**15
 
 
-def is_pair(it):
+def is_pair(it: Any) -> bool:
     return isinstance(it, list) and len(it) == 2 and all(map(is_number, it))
 
 
-def is_script(it):
+def is_script(it: Any) -> bool:
     return isinstance(it, str) and it.isascii()
 
 
@@ -50,34 +40,15 @@ class Entry:
     """What an entry of a grid varies: the label of its column, whose value it is (None of scripts), which key, the
     values, and what each of them costs."""
 
-    def __init__(self, place, entry, names):
+    def __init__(self, place: int, given: dict[str, Any], names: dict[str, list[str]]):
         self.place = place
-        entry = dict(entry)
+        entry = dict(given)
         costs, label = entry.pop("costs", None), entry.pop("label", None)
+        self.who: tuple[str, str] | None = None
         if set(entry) == {"scripts"}:
-            self.who, self.key, self.values = None, "script", entry["scripts"]
-            self.hold(
-                isinstance(self.values, list) and all(map(is_script, self.values)),
-                "scripts is a list of texts, each the lines of a script in ASCII",
-            )
-            self.hold(
-                not any(it.split()[:1] == ["report"] for text in self.values for it in text.splitlines()),
-                "a script of a grid has no report: there is one at its end",
-            )
+            self.take_scripts(entry["scripts"])
         else:
-            kind = next((it for it in KEYS if it in entry), None)
-            keys = [it for it in entry if it != kind]
-            self.hold(
-                kind and len(keys) == 1 and keys[0] in KEYS[kind],
-                "is scripts, or a task with one of best, worst, execution, priority, slot,"
-                " or a source with one of period, jitter, distance; besides, costs and label",
-            )
-            self.who, self.key, self.values = (kind, entry[kind]), keys[0], entry[keys[0]]
-            self.hold(entry[kind] in names[kind], f"no {kind} of the system has the name {entry[kind]}")
-            fits, what = (
-                (is_pair, "pairs [least, greatest] of numbers") if self.key == "execution" else (is_number, "numbers")
-            )
-            self.hold(isinstance(self.values, list) and all(map(fits, self.values)), f"{self.key} is a list of {what}")
+            self.take_numbers(entry, names)
         self.hold(self.values, "has no value")
         self.costs = [0] * len(self.values) if costs is None else costs
         self.hold(
@@ -91,11 +62,38 @@ class Entry:
             f"{self.label} is the name of another column: give the entry a label",
         )
 
-    def hold(self, is_so, why):
+    def take_scripts(self, texts: Any) -> None:
+        """The texts of scripts."""
+        self.key, self.values = "script", texts
+        self.hold(
+            isinstance(texts, list) and all(map(is_script, texts)),
+            "scripts is a list of texts, each the lines of a script in ASCII",
+        )
+        self.hold(
+            not any(it.split()[:1] == ["report"] for text in texts for it in text.splitlines()),
+            "a script of a grid has no report: there is one at its end",
+        )
+
+    def take_numbers(self, entry: dict[str, Any], names: dict[str, list[str]]) -> None:
+        """The values of a key of a task or of a source."""
+        kind = next((it for it in KEYS if it in entry), "")
+        keys = [it for it in entry if it != kind]
+        self.hold(
+            kind and len(keys) == 1 and keys[0] in KEYS[kind],
+            "is scripts, or a task with one of best, worst, execution, priority, slot,"
+            " or a source with one of period, jitter, distance; besides, costs and label",
+        )
+        self.who, self.key, self.values = (kind, entry[kind]), keys[0], entry[keys[0]]
+        self.hold(entry[kind] in names[kind], f"no {kind} of the system has the name {entry[kind]}")
+        pairs = self.key == "execution"
+        fits, what = (is_pair, "pairs [least, greatest] of numbers") if pairs else (is_number, "numbers")
+        self.hold(isinstance(self.values, list) and all(map(fits, self.values)), f"{self.key} is a list of {what}")
+
+    def hold(self, is_so: Any, why: str) -> None:
         if not is_so:
             raise ValueError(f"vary {self.place}: {why}")
 
-    def varies(self):
+    def varies(self) -> set:
         """What of the system it varies: of an execution both numbers."""
         return (
             {(self.who, it) for it in (("best", "worst") if self.key == "execution" else (self.key,))}
@@ -103,12 +101,12 @@ class Entry:
             else set()
         )
 
-    def shown(self, place):
+    def shown(self, place: int) -> Any:
         value = self.values[place]
         return place + 1 if self.key == "script" else "-".join(map(str, value)) if self.key == "execution" else value
 
 
-def read_grid(file, system):
+def read_grid(file: str, system: dict) -> list[Entry]:
     """The entries of a grid."""
     try:
         with open(file, "rb") as it:
@@ -124,7 +122,7 @@ def read_grid(file, system):
         raise Wrong(f"{file}: a grid has entries [[vary]], and nothing else")
     names = {kind: [it["name"] for it in system.get(kind, [])] for kind in KEYS}
     try:
-        found = []
+        found: list[Entry] = []
         for place, it in enumerate(grid["vary"], 1):
             entry = Entry(place, it, names)
             for other in found:
@@ -136,7 +134,7 @@ def read_grid(file, system):
         raise Wrong(f"{file}: {fault}") from None
 
 
-def script_of(grid, chosen, system, spare):
+def script_of(grid: list[Entry], chosen: Sequence[int], system: dict, spare: list[int]) -> str:
     """The script of a variant: an edit for each task and each source that it varies, then its scripts.
 
     Priorities go out of the way of each other first, to the spare ones.
@@ -144,20 +142,24 @@ def script_of(grid, chosen, system, spare):
     resources = {it["name"]: it for it in system.get("resource", [])}
     tasks = {it["name"]: it for it in system.get("task", [])}
     sources = {it["name"]: it for it in system.get("source", [])}
-    executions, turns, events, scripts = {}, [], {}, []
+    executions: dict[str, list[int]] = {}
+    turns: list[tuple[str, str, int]] = []
+    events: dict[str, dict[str, int]] = {}
+    scripts = []
     for entry, place in zip(grid, chosen):
         value = entry.values[place]
         if entry.who is None:
             scripts.append(value if value.endswith("\n") or not value else value + "\n")
-        elif entry.who[0] == "source":
-            it = sources[entry.who[1]]
-            events.setdefault(
-                entry.who[1], {"period": it["period"], "jitter": it.get("jitter", 0), "distance": it.get("distance", 0)}
-            )[entry.key] = value
+            continue
+        kind, name = entry.who
+        if kind == "source":
+            it = sources[name]
+            given = {"period": it["period"], "jitter": it.get("jitter", 0), "distance": it.get("distance", 0)}
+            events.setdefault(name, given)[entry.key] = value
         elif entry.key in ("priority", "slot"):
-            turns.append((entry.key, entry.who[1], value))
+            turns.append((entry.key, name, value))
         else:
-            now = executions.setdefault(entry.who[1], list(execution(tasks[entry.who[1]], resources)))
+            now = executions.setdefault(name, list(execution(tasks[name], resources[tasks[name]["on"]])))
             if entry.key == "execution":
                 now[:] = value
             else:
@@ -174,24 +176,22 @@ def script_of(grid, chosen, system, spare):
 VERDICTS = {0: "met", 1: "missed", 2: "overload"}
 
 
-def row_of(status, text, script):
+def row_of(status: int, text: str, script: str) -> tuple[str, str, dict[str, int | None]]:
     """The verdict of a variant, which of its edits was refused first, and its bounds and latencies by the names of
     their columns."""
-    found, refused = {}, ""
-    for line in text.splitlines():
-        if it := TASK.fullmatch(line):
-            found["task." + it["name"]] = it["worst"]
-        elif it := PATH.fullmatch(line):
-            found["path." + it["name"]] = it["worst"]
-        elif it := re.fullmatch(r"line (\d+) refused (\d)", line):
-            edit = " ".join(script.split("\n")[int(it[1]) - 1].split())
-            refused = refused or f"{edit}: {it[2]}"
-        elif not SUMMARY.fullmatch(line):
-            raise Wrong(f"session wrote no report: {text[:200]}")
+    try:
+        tasks, paths, edits = reports_in(text.splitlines())[-1]
+    except Unreadable as fault:
+        raise Wrong(f"session wrote no report: {text[:200]}") from fault
+    refused = ""
+    for line, rule in sorted(edits.items())[:1]:
+        refused = f"{' '.join(script.split(chr(10))[line - 1].split())}: {rule}"
+    found = {f"task.{name}": it["worst"] for name, it in tasks.items()}
+    found |= {f"path.{name}": it["worst"] for name, it in paths.items()}
     return ("refused" if refused else VERDICTS[status]), refused, found
 
 
-def fronted(rows, latency, cost):
+def fronted(rows: Iterable[dict[str, Any]], latency: str, cost: str) -> set[int]:
     """The places of those rows that meet all deadlines than which no other is lower in one of two columns and at most
     as high in the other."""
     points = []
@@ -207,7 +207,7 @@ def fronted(rows, latency, cost):
     return marked
 
 
-def columns_of(front, grid, system):
+def columns_of(front: str, grid: list[Entry], system: dict) -> list[str]:
     """The two columns that --front names."""
     names = front.split(",")
     added = [

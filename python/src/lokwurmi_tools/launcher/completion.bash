@@ -1,8 +1,9 @@
-# Completion for bash of the words of `lokwurmi`: commands, --workers, files, and the names of resources and tasks in the
-# system file that stands there already. Write into ~/.bashrc, with the path to this file:
+# Completion for bash of the words of `lokwurmi`: commands, options, files, and the names of resources and tasks in the system
+# file that stands there already. `lokwurmi --completion` writes this file with the words of the table of commands before it,
+# so write into ~/.bashrc:
 #
-#     source .../tools/completion.bash
-# shellcheck shell=bash
+#     source <(lokwurmi --completion)
+# shellcheck shell=bash disable=SC2154 # the words stand before it: _lokwurmi_own, _lokwurmi_tools and the four below
 
 # The names of the resources or the tasks of a system file, a line each, but for those that no command can be asked about since
 # they begin with a dash; nothing where it can't be read.
@@ -34,6 +35,7 @@ _lokwurmi_files() {
 }
 
 # Sets given, the words before the one to complete without --workers and its number, and has_workers. Bash takes = as a word.
+# What stands before a command as --quiet isn't counted.
 _lokwurmi_read() {
   local at
   for ((at = 1; at < COMP_CWORD; at++)); do
@@ -45,6 +47,7 @@ _lokwurmi_read() {
       ;;
     --workers=*) has_workers=yes ;;
     --while-running) ((${#given[@]} > 1)) && given+=("${COMP_WORDS[at]}") ;;
+    --quiet | --unproved) ((${#given[@]} > 0)) && given+=("${COMP_WORDS[at]}") || before=${COMP_WORDS[at]} ;;
     *) given+=("${COMP_WORDS[at]}") ;;
     esac
   done
@@ -60,22 +63,34 @@ _lokwurmi_is_number() {
 
 # A file, or the name of a resource or a task, by the command and how many words are given with it.
 _lokwurmi_operand() {
-  local word=$1 file=${given[1]-}
+  local word=$1 file=${given[1]-} sort
+  local -a sorts
   # as the line has it: with quotes, backslashes or a tilde
   file=${file//[\\\"\']/}
   [[ ${file:0:2} != \~/ ]] || file=$HOME/${file:2}
-  case ${given[0]}.${#given[@]} in
-  generate.* | load.* | hammer.[23]) ;;
-  analyse.1 | session.1 | simulate.1 | hammer.1 | assign.1 | slack.1 | buffers.1 | audit.1 | schedule.1 | chain.1 | chains.1 | chains.2) _lokwurmi_files "$word" .toml ;;
-  session.2) _lokwurmi_files "$word" .txt ;;
-  simulate.2 | buffers.2 | audit.2 | audit.3 | schedule.2) _lokwurmi_files "$word" .csv ;;
-  assign.2) mapfile -t COMPREPLY < <(compgen -W "$(_lokwurmi_names resource "$file")" -- "$word") ;;
-  slack.2 | chain.[2-9] | chain.[12][0-9] | chain.3[0-3]) mapfile -t COMPREPLY < <(compgen -W "$(_lokwurmi_names task "$file")" -- "$word") ;;
-  esac
+  read -ra sorts <<<"${_lokwurmi_words[${given[0]}]-}"
+  sort=${sorts[${#given[@]} - 1]-}
+  # the last word of a chain stands for up to 31 tasks
+  if [[ ${sorts[-1]-} == "[TASK..]" ]] && ((${#given[@]} >= ${#sorts[@]} && ${#given[@]} <= 33)); then
+    sort=TASK
+  fi
+  [ -n "$sort" ] || return
+  if [ -n "${_lokwurmi_endings[$sort]-}" ]; then
+    _lokwurmi_files "$word" "${_lokwurmi_endings[$sort]}"
+  elif [ -n "${_lokwurmi_parts[$sort]-}" ]; then
+    mapfile -t COMPREPLY < <(compgen -W "$(_lokwurmi_names "${_lokwurmi_parts[$sort]}" "$file")" -- "$word")
+  fi
+}
+
+# What completes the first word: with --quiet or --unproved before it, a command alone.
+_lokwurmi_first() {
+  found=("${!_lokwurmi_words[@]}")
+  [ "$before" = --unproved ] || found+=("${!_lokwurmi_tools[@]}")
+  [ -n "$before" ] || found+=("${_lokwurmi_own[@]}" help)
 }
 
 _lokwurmi() {
-  local word=${COMP_WORDS[COMP_CWORD]} number has_workers='' commands="analyse session simulate generate load hammer assign slack buffers audit schedule chain chains"
+  local word=${COMP_WORDS[COMP_CWORD]} number has_workers='' before=''
   local -a given=() found=()
   COMPREPLY=()
   _lokwurmi_read
@@ -89,21 +104,40 @@ _lokwurmi() {
     return
   fi
   case ${given[0]-} in
-  '') found=("$commands" help --help --version) ;;
-  help | --help | -h) ((${#given[@]} > 1)) || found=("$commands") ;;
-  *)
-    if [[ $word != -* ]]; then
-      _lokwurmi_operand "$word"
-      return
-    fi
-    case ${given[0]} in
-    analyse | session | load | slack | buffers) [ -n "$has_workers" ] || found=(--workers) ;;
-    chain) [[ " ${given[*]} " == *" --while-running "* ]] || found=(--while-running) ;;
-    esac
-    ((${#given[@]} > 1)) || found+=(--help)
+  '') _lokwurmi_first ;;
+  help | --help | -h) ((${#given[@]} > 1)) || found=("${!_lokwurmi_words[@]}" "${!_lokwurmi_tools[@]}" install uninstall build-library) ;;
+  install | uninstall)
+    ((${#given[@]} > 1)) || mapfile -t COMPREPLY < <(compgen -d -- "$word")
+    compopt -o filenames 2>/dev/null
+    return
     ;;
+  *) _lokwurmi_after "$word" || return ;;
   esac
   mapfile -t COMPREPLY < <(compgen -W "${found[*]}" -- "$word")
+}
+
+# What completes a word after a command; fails where that is done already.
+_lokwurmi_after() {
+  local option=${_lokwurmi_options[${given[0]}]-}
+  if [[ -v _lokwurmi_tools[${given[0]}] ]]; then
+    if ((${#given[@]} == 1)) && [[ -n ${_lokwurmi_tools[${given[0]}]} ]]; then
+      read -ra found <<<"${_lokwurmi_tools[${given[0]}]}"
+    elif [[ $1 != -* ]]; then
+      _lokwurmi_files "$1" ""
+      return 1
+    fi
+    found+=(--help)
+    return
+  fi
+  if [[ $1 != -* ]]; then
+    _lokwurmi_operand "$1"
+    return 1
+  fi
+  case $option in
+  --workers) [ -n "$has_workers" ] || found=(--workers) ;;
+  --while-running) [[ " ${COMP_WORDS[*]} " == *" --while-running "* ]] || found=(--while-running) ;;
+  esac
+  ((${#given[@]} > 1)) || found+=(--help)
 }
 
 complete -F _lokwurmi lokwurmi ./lokwurmi
