@@ -7,7 +7,11 @@ import sys
 import tempfile
 import time
 
-TOP = os.path.join(os.path.dirname(os.path.abspath(__file__)), "..")
+TOP = os.path.dirname(os.path.dirname(os.path.abspath(__file__)))
+# the packages of this repository, for these scripts and for what they start
+PACKAGES = os.path.join(TOP, "python", "src")
+sys.path.append(PACKAGES)
+os.environ["PYTHONPATH"] = os.pathsep.join([PACKAGES, *filter(None, [os.environ.get("PYTHONPATH")])])
 # what scripts that count what they try by kinds have found
 faults, tried = [], {}
 
@@ -38,6 +42,11 @@ def python_with(*modules):
         if os.path.exists(python) and not subprocess.run([python, "-c", "import " + ", ".join(modules)], capture_output=True, check=False).returncode:
             return python
     return None
+
+
+def tool(name, python=sys.executable):
+    """The words that call a command of the package lokwurmi_tools, one of two words too."""
+    return [python, "-m", "lokwurmi_tools", *name.split()]
 
 
 def call(command):

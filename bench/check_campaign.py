@@ -1,5 +1,5 @@
 #!/usr/bin/env python3
-"""Tries tools/campaign.py on clusters of this machine. Outside the gate.
+"""Tries `lokwurmi campaign` on clusters of this machine. Outside the gate.
 
 The joined text of a campaign is that of the calls over the same numbers, added up here, and that of a single call is the
 program's own. A worker that is killed loses nothing, a campaign that goes on repeats nothing, calls that fail are tried again
@@ -22,10 +22,10 @@ import sys
 import tempfile
 import time
 
-TOP = os.path.join(os.path.dirname(os.path.abspath(__file__)), "..")
+from calls import TOP, tool
 CROSSING, CAR = (os.path.join(TOP, "examples", it) for it in ("crossing_chains.toml", "car_network.toml"))
 QUIET = {"stdout": subprocess.DEVNULL, "stderr": subprocess.DEVNULL}
-reader = argparse.ArgumentParser(description="Tries tools/campaign.py on clusters of this machine.")
+reader = argparse.ArgumentParser(description="Tries `lokwurmi campaign` on clusters of this machine.")
 reader.add_argument("program", nargs="?", default=os.path.join(TOP, "crates", "cpa_cli", "out", "cpa_cli"))
 reader.add_argument("--only", help="one group of cases: hammers, failures, ends, schedulers, hosts, tables")
 WORDS = reader.parse_args()
@@ -43,7 +43,7 @@ def hold(is_so, what):
 
 
 def words_of(program, *words):
-    return [sys.executable, os.path.join(TOP, "tools", "campaign.py"), *map(str, words), "--program", program]
+    return [*tool("campaign"), *map(str, words), "--program", program]
 
 
 def campaign(program, *words):

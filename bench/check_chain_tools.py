@@ -1,10 +1,10 @@
 #!/usr/bin/env python3
-"""Tries what tools/ tell and draw of chains that read registers. Outside the gate; needs matplotlib, and no network.
+"""Tries what the Python tools tell and draw of chains that read registers. Outside the gate; needs matplotlib, and no network.
 
 `lokwurmi` is a stand-in by the plain rules of effect_rules.py and check_runs.py, so that nothing is built. What
-tools/effects.py tells of runs of a small system must be what the rules see of them, by each rule of reading; where a
-source stays away it must say so, and what is beyond a bound must be told. tools/graph.py has a dotted line for each
-register, tools/gantt.py the latest reaction and the oldest data, and what tools/worst.py finds must be seen in the
+`lokwurmi effects` tells of runs of a small system must be what the rules see of them, by each rule of reading; where a
+source stays away it must say so, and what is beyond a bound must be told. `lokwurmi graph` has a dotted line for each
+register, `lokwurmi gantt` the latest reaction and the oldest data, and what `lokwurmi worst` finds must be seen in the
 trace that it writes, whose sources stay near. What isn't taken is told in a line.
 
     python3 bench/check_chain_tools.py
@@ -17,15 +17,15 @@ import sys
 import tempfile
 import tomllib
 
-from calls import TOP, python_with
+from calls import TOP, python_with, tool
 
 os.chdir(TOP)
-sys.path.append("tools")
 import effect_rules
 from check_runs import replayed
-from runs import read_trace
-from seen import READINGS, gaps_in
-from system import activators, read_system
+from lokwurmi_tools.runs import read_trace
+from lokwurmi_tools.seen import READINGS, gaps_in
+from lokwurmi_tools.accepted import read_system
+from lokwurmi_tools.system import activators
 
 ENDS = (".toml", ".chains.toml", ".schedule.csv", ".trace.csv")
 FILE, CHAINS, SCHEDULE, TRACE = (f"examples/camera_brake{end}" for end in ENDS)
@@ -56,8 +56,8 @@ def stand_in(command, *words):
     return (re.sub(r"reaction \d+", "reaction 10", text), status) if "LESS" in os.environ else (text, status)
 
 
-def run(tool, *words, **more):
-    return subprocess.run([PYTHON, f"tools/{tool}", *words], capture_output=True, text=True, check=False, **more)
+def run(name, *words, **more):
+    return subprocess.run([*tool(name, PYTHON), *words], capture_output=True, text=True, check=False, **more)
 
 
 def trace_in(room, left_out=None):
@@ -71,9 +71,9 @@ def trace_in(room, left_out=None):
 
 
 def check_told(program, trace, tasks):
-    """The table of effects.py: the numbers by each rule of reading, and the bounds."""
-    done = run("effects.py", SMALL, trace, *tasks, "--program", program)
-    hold(done.returncode == 0 and "all sources stay near" in done.stdout, f"effects.py {tasks}: {done.stderr}")
+    """The table of effects: the numbers by each rule of reading, and the bounds."""
+    done = run("effects", SMALL, trace, *tasks, "--program", program)
+    hold(done.returncode == 0 and "all sources stay near" in done.stdout, f"effects {tasks}: {done.stderr}")
     seen = replayed(read_system(SMALL), read_trace(trace))
     for reading, words in READINGS.items():
         most = effect_rules.Observed(seen.system, seen, reading).greatest(tasks)[0]
@@ -94,12 +94,12 @@ def check_effects(room, program):
     with open(CHAINS, "rb") as it:
         names = [it["name"] for it in tomllib.load(it)["chain"]]
     words = ["--chains", CHAINS, "--schedule", SCHEDULE, "--program", program, "--late", "none"]
-    done = run("effects.py", FILE, TRACE, *words)
-    hold(re.findall(r"^chain (\w+):", done.stdout, re.M) == names, f"effects.py --chains: {done.stderr}")
-    done = run("effects.py", SMALL, trace_in(room, 64), *SMALL_CHAINS[0], "--program", program)
+    done = run("effects", FILE, TRACE, *words)
+    hold(re.findall(r"^chain (\w+):", done.stdout, re.M) == names, f"effects --chains: {done.stderr}")
+    done = run("effects", SMALL, trace_in(room, 64), *SMALL_CHAINS[0], "--program", program)
     hold("source slow doesn't stay near: events at 44 and 84, 20 apart at most" in done.stdout, done.stdout)
-    hold("MAY BE BEYOND" in done.stdout and done.returncode == 0, "effects.py, where a source stays away")
-    done = run("effects.py", SMALL, trace, *SMALL_CHAINS[0], "--program", program, env=os.environ | {"LESS": "1"})
+    hold("MAY BE BEYOND" in done.stdout and done.returncode == 0, "effects, where a source stays away")
+    done = run("effects", SMALL, trace, *SMALL_CHAINS[0], "--program", program, env=os.environ | {"LESS": "1"})
     hold("BEYOND THE BOUND: reaction" in done.stdout and done.returncode == 1, f"beyond: {done.stdout}")
 
 
@@ -108,22 +108,22 @@ def check_pictures(room, program):
         chains = tomllib.load(it)["chain"]
     after = {it["name"]: activators(it) for it in read_system(FILE)["task"]}
     steps = {step for it in chains for step in zip(it["tasks"], it["tasks"][1:]) if step[0] not in after[step[1]]}
-    text = run("graph.py", "--registers", CHAINS, FILE).stdout
-    hold(set(re.findall(r'"task (\S+)" -> "task (\S+)" \[style = "dotted"', text)) == steps, "graph.py --registers")
+    text = run("graph", "--registers", CHAINS, FILE).stdout
+    hold(set(re.findall(r'"task (\S+)" -> "task (\S+)" \[style = "dotted"', text)) == steps, "graph --registers")
     picture, trace = os.path.join(room, "chain.svg"), trace_in(room)
     seen = replayed(read_system(SMALL), read_trace(trace))
     for reading, words in READINGS.items():
         asked = ["--chain", ",".join(SMALL_CHAINS[0]), "--reading", reading, "--program", program, "--to", picture]
-        done = run("gantt.py", SMALL, "--trace", trace, *asked)
+        done = run("gantt", SMALL, "--trace", trace, *asked)
         most = effect_rules.Observed(seen.system, seen, reading).greatest(SMALL_CHAINS[0])[0]
         with open(picture, encoding="utf-8") as it:
             text = it.read()
         for what in ("reaction", "age"):
             told = f"{what} {most[what]} of " in text and f"where jobs read {words}" in text
-            hold(told, f"gantt.py, {what}, {reading}: {done.stderr}")
+            hold(told, f"gantt, {what}, {reading}: {done.stderr}")
     named = ["--chains", CHAINS, "--chain", "slip", "--program", program, "--to", picture]
-    done = run("gantt.py", FILE, SCHEDULE, "--trace", TRACE, *named)
-    hold(done.returncode == 0, f"gantt.py --chains: {done.stderr}")
+    done = run("gantt", FILE, SCHEDULE, "--trace", TRACE, *named)
+    hold(done.returncode == 0, f"gantt --chains: {done.stderr}")
 
 
 def check_worst(room, program):
@@ -131,12 +131,12 @@ def check_worst(room, program):
     words = [SMALL, "--chain", ",".join(tasks), "--tries", "30", "--to", trace, "--program", program]
     system = read_system(words[0])
     for what in effect_rules.ASKED:
-        done = run("worst.py", *words, "--what", what)
+        done = run("worst", *words, "--what", what)
         seen = replayed(system, read_trace(trace))
         most = effect_rules.Observed(seen.system, seen, "whenever").greatest(tasks)[0][what]
         told = f" {what} seen {most} bound " in done.stdout
-        hold(told, f"worst.py --what {what}: {done.stdout}{done.stderr}, in the trace {most}")
-        hold(gaps_in(system, read_trace(trace)[0]) == [], f"worst.py --what {what}: a source doesn't stay near")
+        hold(told, f"worst --what {what}: {done.stdout}{done.stderr}, in the trace {most}")
+        hold(gaps_in(system, read_trace(trace)[0]) == [], f"worst --what {what}: a source doesn't stay near")
 
 
 def check_refused(room, program):
@@ -144,19 +144,19 @@ def check_refused(room, program):
     bad, drawn = os.path.join(room, "bad.toml"), [FILE, SCHEDULE, "--trace", TRACE, "--to", "x.svg"]
     with open(bad, "w", encoding="utf-8") as it:
         it.write('format = 1\nchain = [{ name = "a", tasks = ["act"], reaction = 0 }]\n')
-    for tool, words, said in (
-        ("effects.py", [FILE, TRACE], "name the tasks of a chain"),
-        ("effects.py", [FILE, TRACE, "nobody"], "has no task nobody"),
-        ("effects.py", [FILE, TRACE, "--chains", bad], "bad.toml: chain 1 wants 1 to 1000000000 ticks for reaction"),
-        ("effects.py", [FILE, TRACE, "--chains", "nothing.toml"], "nothing.toml: can't be read"),
-        ("gantt.py", [*drawn, "--chain", "act,no"], "has no task no"),
-        ("gantt.py", [*drawn, "--chains", CHAINS, "--chain", "no"], "is no chain no"),
-        ("gantt.py", [FILE, "x.csv", "--chain", "act", "--to", "x.svg"], "--chain wants --trace"),
-        ("worst.py", [FILE, "--chain", "act,no"], "has no task no"),
+    for name, words, said in (
+        ("effects", [FILE, TRACE], "name the tasks of a chain"),
+        ("effects", [FILE, TRACE, "nobody"], "has no task nobody"),
+        ("effects", [FILE, TRACE, "--chains", bad], "bad.toml: chain 1 wants 1 to 1000000000 ticks for reaction"),
+        ("effects", [FILE, TRACE, "--chains", "nothing.toml"], "nothing.toml: can't be read"),
+        ("gantt", [*drawn, "--chain", "act,no"], "has no task no"),
+        ("gantt", [*drawn, "--chains", CHAINS, "--chain", "no"], "is no chain no"),
+        ("gantt", [FILE, "x.csv", "--chain", "act", "--to", "x.svg"], "--chain wants --trace"),
+        ("worst", [FILE, "--chain", "act,no"], "has no task no"),
     ):
-        done = run(tool, *words, "--program", program)
+        done = run(name, *words, "--program", program)
         is_told = done.returncode and said in done.stderr and "Traceback" not in done.stderr
-        hold(is_told, f"{tool} {words}: {done.stderr}")
+        hold(is_told, f"{name} {words}: {done.stderr}")
 
 
 def main():

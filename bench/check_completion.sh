@@ -1,11 +1,11 @@
 #!/usr/bin/env bash
-# Sources tools/completion.bash and asks it, as bash does where a user presses the tabulator. Prints a line a case, and ends
+# Sources what `lokwurmi --completion` writes and asks it, as bash does where a user presses the tabulator. Prints a line a case, and ends
 # with 1 where one is completed otherwise than it should. Outside the gate: bash bench/check_completion.sh
 top=$(cd "$(dirname "${BASH_SOURCE[0]}")/.." && pwd) || exit 1
 room=$(mktemp -d) || exit 1
 trap 'rm -rf "$room"' EXIT
-# shellcheck source=tools/completion.bash
-source "$top/tools/completion.bash" || exit 1
+# shellcheck source=python/src/lokwurmi_tools/launcher/completion.bash
+source <("$top/lokwurmi" --completion) || exit 1
 wrong=0
 
 # ask WANTED WORD..: the last word, which may be empty, is completed by these, in any order
@@ -56,9 +56,20 @@ END
 touch trace.csv script.txt picture.svg
 
 # the commands that help lists
-mapfile -t commands < <("$top/lokwurmi" --help | sed -nE 's/^  ([a-z]+) [A-Z].*/\1/p' | sort -u)
-ask "--help --version $(printf '%s\n' help "${commands[@]}" | sort | tr '\n' ' ' | sed 's/ $//')" ""
-ask "${commands[*]}" --help ""
+mapfile -t commands < <("$top/lokwurmi" --help | sed '/^Tools/,$d' | sed -nE 's/^  ([a-z]+) [A-Z].*/\1/p' | sort -u)
+mapfile -t tools < <("$top/lokwurmi" --help | sed -n '/^Tools/,/^$/s/^  \([a-z]*\) .*/\1/p' | sort -u)
+own=(--completion --help --quiet --unproved --version build-library help install uninstall)
+# sorted WORD..: in one line
+sorted() { printf '%s\n' "$@" | sort -u | tr '\n' ' ' | sed 's/ $//'; }
+ask "$(sorted "${own[@]}" "${commands[@]}" "${tools[@]}")" ""
+ask "$(sorted "${commands[@]}" "${tools[@]}" build-library install uninstall)" --help ""
+ask "$(sorted "${commands[@]}")" --unproved ""
+ask "$(sorted "${commands[@]}" "${tools[@]}")" --quiet ""
+ask "two.toml" --unproved analyse tw
+ask "--help log network" import ""
+ask "a b.toml picture.svg script.txt sub trace.csv two.toml" graph ""
+ask "--help" graph -
+ask "sub" install ""
 for command in "${commands[@]}"; do
   takes=$("$top/lokwurmi" --help "$command" | grep -o -- '^lokwurmi.* \[--workers N\]$')
   flag=''
@@ -66,10 +77,11 @@ for command in "${commands[@]}"; do
   ask "--help${takes:+ --workers}$flag" "$command" -
 done
 ask "analyse assign audit" a
-ask "schedule session simulate slack" s
+ask "schedule sensitivity session simulate slack" s
 ask "schedule" sch
-ask "--help --version" --
+ask "--completion --help --quiet --unproved --version" --
 ask "slack" --help sl
+ask "graph" --help gr
 ask "" help slack ""
 ask "a b.toml sub two.toml" analyse ""
 ask "two.toml" analyse tw

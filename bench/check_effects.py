@@ -5,7 +5,7 @@ Random small systems of all four kinds and both formats get random traces that o
 stay near: any two are at most as far apart as its period and jitter say. A chain is a list of tasks, mostly none of
 which starts the next. Of each run the greatest reaction, latency, age and time for which data is held are found over
 ALL reading times of its jobs, and none may be beyond the bound; for jobs that read in ticks in which they run, none
-beyond those of --while-running. So are those of jobs that read at their arrival, start or end, where tools/seen.py must
+beyond those of --while-running. So are those of jobs that read at their arrival, start or end, where lokwurmi_tools/seen.py must
 find the same as the plain rules here do. How many are the bound to the tick is counted.
 
 Text and status of the program must be those of the rules, for chains and for files of chains with deadlines and
@@ -27,11 +27,10 @@ from collections import Counter
 
 import chain_files
 import check_runs as rules
-from calls import TOP, built
+from calls import built
 from effect_rules import OVERLOAD, READINGS, Bounds, Observed, chains_in, near_trace, small, told_chains
 
-sys.path.append(os.path.join(TOP, "tools"))
-from seen import Run, gaps_in, seen_of
+from lokwurmi_tools.seen import Run, gaps_in, seen_of
 
 LIMITED = ("latency", "reaction", "age", "held")
 # words that aren't taken: FILE and CHAINS stand for files that are; and what is written, with the status
@@ -150,12 +149,12 @@ class Tally:
 
 
 def check_tool(system, run, chain, reading, most):
-    """What tools/seen.py finds in the schedule of a run is what the rules do."""
+    """What lokwurmi_tools/seen.py finds in the schedule of a run is what the rules do."""
     found = seen_of(run, chain, reading).latest
     told = {what: late.ticks() for what, late in found.items() if late}
     wanted = {what: ticks for what, ticks in most.items() if what != "latency"}
     if told != wanted:
-        stop(f"tools/seen.py, {' '.join(chain)}, read {reading}", system, wanted, told)
+        stop(f"lokwurmi_tools/seen.py, {' '.join(chain)}, read {reading}", system, wanted, told)
 
 
 def check_run(system, bounds, chains, trace, tally):
@@ -169,7 +168,7 @@ def check_run(system, bounds, chains, trace, tally):
         for chain in chains:
             most, counts = seen.greatest(chain)
             check_tool(system, by_tool, chain, reading, most)
-            tally.counts[f"tools/seen.py, {reading}"] += 1
+            tally.counts[f"lokwurmi_tools/seen.py, {reading}"] += 1
             if reading not in ("whenever", "running"):
                 continue
             limits = bounds.limits(chain, "same-source" if running else "")
@@ -208,7 +207,7 @@ def check_system(draw, traces, programs, tally):
 
 def asked_for():
     reader = argparse.ArgumentParser(description=__doc__, formatter_class=argparse.RawDescriptionHelpFormatter)
-    reader.add_argument("--no-program", action="store_true", help="only the rules against runs, and tools/seen.py")
+    reader.add_argument("--no-program", action="store_true", help="only the rules against runs, and lokwurmi_tools/seen.py")
     reader.add_argument("--systems", type=int, default=500, help="how many systems (500)")
     reader.add_argument("--traces", type=int, default=3, help="how many traces of each (3)")
     reader.add_argument("--seed", type=int, default=1, help="another number makes other systems (1)")

@@ -1,5 +1,5 @@
 #!/usr/bin/env python3
-"""Tries tools/explain.py over random systems. Outside the gate; takes about a minute for 5,000 of them, and no network.
+"""Tries `lokwurmi explain` over random systems. Outside the gate; takes about a minute for 5,000 of them, and no network.
 
 The systems are those of compare.py: all four kinds, chains that come back, jitter, paths, and in every other one tasks
 with up to three activators. Of each task with a bound the parts, less when the job came, must be the bound that the
@@ -22,16 +22,15 @@ import sys
 import tempfile
 
 import compare as plain
-from calls import TOP, answer, built, example_systems, faults, hold, python_with, tried
+from calls import TOP, answer, built, example_systems, faults, hold, python_with, tool, tried
 
-sys.path.append(os.path.join(TOP, "tools"))
 
-from explained import explained_by
-from part_texts import lines_of_path, lines_of_task
-from toml_text import toml_of
+from lokwurmi_tools.explained import explained_by
+from lokwurmi_tools.part_texts import lines_of_path, lines_of_task
+from lokwurmi_tools.toml_text import toml_of
 
 PROGRAM = built("cpa_cli")
-TOOL = os.path.join(TOP, "tools", "explain.py")
+TOOL = "explain"
 
 
 def written(path, text):
@@ -205,7 +204,7 @@ def check_random(count, begin, room):
 
 def run(python, *words):
     return subprocess.run(
-        [python, TOOL, "--program", PROGRAM, *words],
+        [*tool(TOOL, python), "--program", PROGRAM, *words],
         capture_output=True,
         text=True,
         check=False,
@@ -291,7 +290,7 @@ def check_told(python, room):
         other = written(os.path.join(room, "other"), f"#!/bin/sh\n'{PROGRAM}' \"$@\" | sed 's/{old}/{new}/'\n")
         os.chmod(other, 0o755)
         done = subprocess.run(
-            [python, TOOL, two, "--all", "--program", other], capture_output=True, text=True, check=False
+            [*tool(TOOL, python), two, "--all", "--program", other], capture_output=True, text=True, check=False
         )
         hold(
             "told",
@@ -313,7 +312,7 @@ def check_told(python, room):
         is_told = done.returncode > 0 and said in done.stderr and "Traceback" not in done.stderr
         hold("told", is_told, f"{words}: {done.returncode} {done.stderr}")
     done = subprocess.run(
-        [python, TOOL, two, "b", "--program", PROGRAM],
+        [*tool(TOOL, python), two, "b", "--program", PROGRAM],
         capture_output=True,
         text=True,
         check=False,

@@ -1,5 +1,5 @@
 #!/usr/bin/env python3
-"""Tries what tools/explain.py tells to help a path, over random systems. Outside the gate; takes some minutes, and no
+"""Tries what `lokwurmi explain` tells to help a path, over random systems. Outside the gate; takes some minutes, and no
 network.
 
 The systems are those of compare.py: all four kinds, and in every other one tasks with up to three activators. Which
@@ -19,16 +19,15 @@ import tempfile
 import tomllib
 
 import compare as plain
-from calls import TOP, answer, built, faults, hold, tried
+from calls import TOP, answer, built, faults, hold, tool, tried
 
-sys.path.append(os.path.join(TOP, "tools"))
 
-from explained import explained_by
-from helps import helps_for, lines_of_helps
-from toml_text import toml_of
+from lokwurmi_tools.explained import explained_by
+from lokwurmi_tools.helps import helps_for, lines_of_helps
+from lokwurmi_tools.toml_text import toml_of
 
 PROGRAM = built("cpa_cli")
-TOOL = os.path.join(TOP, "tools", "explain.py")
+TOOL = "explain"
 
 
 def made(number):
@@ -142,7 +141,7 @@ def check_path(what, system, explained, path, file):
 def check_call():
     """What a call prints."""
     file = os.path.join(TOP, "examples", "crossing_chains.toml")
-    words = [sys.executable, TOOL, "--program", PROGRAM, file, "--path", "pb"]
+    words = [*tool(TOOL), "--program", PROGRAM, file, "--path", "pb"]
     text = subprocess.run(words, capture_output=True, text=True, check=False).stdout
     hold("calls", "of 5 changes by a tenth or one place, each tried alone:" in text, text)
     hold("calls", re.search(r"b1 before a2 +40 +-10, but then path pa misses its deadline\n", text), text)

@@ -1,5 +1,5 @@
 #!/usr/bin/env python3
-"""Tries tools/from_network.py. Outside the gate; takes about a minute, and no network.
+"""Tries `lokwurmi import network`. Outside the gate; takes about a minute, and no network.
 
 The SAE benchmark, written as a database, comes back as the system that it was, with the bounds of its report; so do
 random buses, whose priorities must be the order in which the bits of two identifiers are compared on a bus. What is
@@ -32,10 +32,10 @@ from imports_made import (
 )
 import lxml.etree
 import tomllib
-from lengths import classical
-from networks import named, plain
-from system import execution
-from times import common, text_of, time_of
+from lokwurmi_tools.lengths import classical
+from lokwurmi_tools.networks import named, plain
+from lokwurmi_tools.system import execution
+from lokwurmi_tools.times import common, text_of, time_of
 
 
 def sae_frames():
@@ -63,7 +63,7 @@ def check_sae(room):
     for file in files:
         system = os.path.join(room, "sae.toml")
         done = run(
-            "from_network.py", f"can={file}", "--bitrate", 125000, "--jitter-attribute", "JitterMs", "--to", system
+            "import network", f"can={file}", "--bitrate", 125000, "--jitter-attribute", "JitterMs", "--to", system
         )
         hold(
             done.returncode == 0 and analysed(system) == (0, report),
@@ -71,7 +71,7 @@ def check_sae(room):
         )
     # a bit is 10 ticks, all else is 1.25 times as many
     done = run(
-        "from_network.py",
+        "import network",
         f"can={files[0]}",
         "--bitrate",
         125000,
@@ -94,7 +94,7 @@ def check_sae(room):
     for name, matrices in (("sae.sym", matrix_of(sae_frames())), ("sae.kcd", {"can": matrix_of(sae_frames())})):
         bounds = [line.split()[-1] for line in report.splitlines() if line.startswith("task ")]
         done = run(
-            "from_network.py",
+            "import network",
             f"can={dumped(room, name, matrices)}" if name.endswith("sym") else dumped(room, name, matrices),
             "--bitrate",
             125000,
@@ -365,7 +365,7 @@ def check_flexible(room):
     system, told, _ = imported(written(room, "slow.dbc", text), "--bitrate", 500000)
     tasks = {it["name"]: it for it in system["task"]}
     hold((tasks["Flexible"]["best"], tasks["Flexible"]["worst"]) == (252, 296), f"one bit rate: {tasks['Flexible']}")
-    told = said_by("from_network.py", written(room, "car.dbc", DBC % "0"), "--bitrate", 500000)
+    told = said_by("import network", written(room, "car.dbc", DBC % "0"), "--bitrate", 500000)
     hold("Flexible: it is a frame of CAN FD, and the bit rate of the data phase isn't told" in told, told)
 
 
@@ -551,7 +551,7 @@ def check_shipped(room):
     )
     hold(bool(files), "canmatrix brings databases with it")
     for file in files:
-        done = run("from_network.py", file, "--bitrate", 250000, "--others", "1s")
+        done = run("import network", file, "--bitrate", 250000, "--others", "1s")
         hold("Traceback" not in done.stderr and done.returncode in (0, 1), f"{file}: {done.stderr}")
         if done.returncode == 0:
             hold(
@@ -609,8 +609,8 @@ def check_refused(room):
         ("no frame is taken", [one, "--bitrate", 500000, "--without", "*"]),
         ("can't be written", [one, "--bitrate", 500000, "--to", os.path.join(room, "nowhere", "x.toml")]),
     ):
-        told = said_by("from_network.py", *words)
-        hold(said in told, f"from_network.py {words}: {told}")
+        told = said_by("import network", *words)
+        hold(said in told, f"import network {words}: {told}")
 
 
 def check_words():
@@ -638,7 +638,7 @@ def check_words():
         )
         for extended in (False, True):
             found = tuple(it.nominal for it in classical(size, extended))
-            hold(found == least_and_greatest(size, extended), f"the lengths of a frame of {size} bytes in tools/")
+            hold(found == least_and_greatest(size, extended), f"the lengths of a frame of {size} bytes in lokwurmi_tools")
     # k frames in each cycle, at any times within the jitter, are what --multiplexed each makes of them
     draw = random.Random(6)
     for _ in range(200):

@@ -1,5 +1,5 @@
 #!/usr/bin/env python3
-"""Tries tools/from_log.py. Outside the gate; takes about a minute, and no network.
+"""Tries `lokwurmi import log`. Outside the gate; takes about a minute, and no network.
 
 The source of a frame of a log holds the log and would not with less jitter or more distance, by each pair of its
 frames, and by what `simulate` says of a trace with its times. The log of a run of a bus obeys the system, whatever
@@ -93,8 +93,8 @@ def check_fits(room, count):
     streams = {identifier: [it - begin for it in times] for identifier, times in streams.items()}
     frames = sorted((time, identifier) for identifier, times in streams.items() for time in times)
     file = log_of(room, "random.log", [(time, identifier, False, 1, "can0") for time, identifier in frames])
-    done = run("from_log.py", file)
-    hold(done.returncode == 0 and done.stderr == "", f"from_log.py: {done.stderr}")
+    done = run("import log", file)
+    hold(done.returncode == 0 and done.stderr == "", f"import log: {done.stderr}")
     sources = {int(it["name"].removesuffix(".seen")[1:], 16): it for it in system_of(done.stdout)["source"]}
     hold(set(sources) == set(streams), "each frame has its source")
     for identifier, times in streams.items():
@@ -182,7 +182,7 @@ def check_runs(room, count):
         )
         database = ["--database", f"b={os.path.join(room, 'bus.dbc')}"]
         words = database if "in the order in which" in text else draw.choice(([], database))
-        done = run("from_log.py", log, "--system", file, "--program", PROGRAM, *words)
+        done = run("import log", log, "--system", file, "--program", PROGRAM, *words)
         lines = done.stdout.splitlines()
         hold(
             done.returncode == 0 and lines and lines[-1] == "summary beyond 0 strange 0" and not done.stderr,
@@ -202,7 +202,7 @@ def check_runs(room, count):
             (last + 200 * place, *frames[name], 0) for place in range(1, more + 1)
         ]
         log = log_of(room, "dense.log", dense)
-        done = run("from_log.py", log, "--system", file, "--program", PROGRAM, *words)
+        done = run("import log", log, "--system", file, "--program", PROGRAM, *words)
         begin = found[0][0]
         least = least_and_greatest(frames[name][2], frames[name][1])[0] * 2
         times = [at - begin for at, one, _ in found if one == name] + [
@@ -223,7 +223,7 @@ def two_channels(room):
         room, "names.dbc", matrix_of([("Speed", 0x10, False, 2, 10, {}), ("Lamps", 0x20, False, 1, 20, {})])
     )
     system = os.path.join(room, "names.toml")
-    run("from_network.py", f"b={database}", "--bitrate", 500000, "--to", system)
+    run("import network", f"b={database}", "--bitrate", 500000, "--to", system)
     base = [(at, 0x10, False, 2, "can0") for at in range(0, 100_000, 10_000)] + [
         (at, 0x20, False, 1, "can1") for at in range(300, 100_000, 20_000)
     ]
@@ -235,19 +235,19 @@ def two_channels(room):
 def check_channels(room):
     """Names of frames, and which channel is which bus."""
     database, system, _, log = two_channels(room)
-    done = run("from_log.py", log)
+    done = run("import log", log)
     hold(
         [it["name"] for it in system_of(done.stdout)["source"]] == ["can0.x010.seen", "can1.x020.seen"],
         f"two channels: {done.stdout}",
     )
-    done = run("from_log.py", log, "--database", f"b={database}", "--bus", "b=can0", "--period", "database")
+    done = run("import log", log, "--database", f"b={database}", "--bus", "b=can0", "--period", "database")
     hold(
         [(it["name"], it["period"], it["distance"]) for it in system_of(done.stdout)["source"]][0]
         == ("Speed.seen", 10_000, 10_000)
         and "cycle time 10000" in done.stdout,
         f"names: {done.stdout}",
     )
-    done = run("from_log.py", log, "--system", system, "--bus", "b=can0", "--program", PROGRAM)
+    done = run("import log", log, "--system", system, "--bus", "b=can0", "--program", PROGRAM)
     hold(
         done.returncode == 0
         and "frame Lamps absent" in done.stdout
@@ -256,7 +256,7 @@ def check_channels(room):
         f"one channel of two: {done.stdout}",
     )
     done = run(
-        "from_log.py", log, "--system", system, "--bus", "b=can1", "--program", PROGRAM, "--database", f"b={database}"
+        "import log", log, "--system", system, "--bus", "b=can1", "--program", PROGRAM, "--database", f"b={database}"
     )
     hold(done.returncode == 0 and "frame Speed absent" in done.stdout, f"by a database: {done.stdout}")
 
@@ -266,12 +266,12 @@ def check_errors(room):
     database, _, _, log = two_channels(room)
     system = os.path.join(room, "errors.toml")
     words = (f"b={database}", "--bitrate", 500000, "--errors", "1/100ms", "--to", system)
-    run("from_network.py", *words)
-    done = run("from_log.py", log, "--system", system, "--bus", "b=can0", "--program", PROGRAM)
+    run("import network", *words)
+    done = run("import log", log, "--system", system, "--bus", "b=can0", "--program", PROGRAM)
     hold(done.returncode == 0 and "errors" not in done.stdout and "frame Speed" in done.stdout, f"{done.stdout}")
     zero = dumped(room, "zero.dbc", matrix_of([("Speed", 0, False, 2, 10, {}), ("Lamps", 1, False, 1, 20, {})]))
-    run("from_network.py", f"b={zero}", *words[1:])
-    told = said_by("from_log.py", log, "--system", system, "--bus", "b=can0", "--program", PROGRAM)
+    run("import network", f"b={zero}", *words[1:])
+    told = said_by("import log", log, "--system", system, "--bus", "b=can0", "--program", PROGRAM)
     hold("its priorities don't tell which identifiers it has: name the --database" in told, told)
 
 
@@ -284,7 +284,7 @@ def check_strange(room):
         [(at, *it[1:4], "can0") for at, *it in [(it[0], *it) for it in base]]
         + [(200_000, 0x30, False, 8, "can0"), (200_400, 0x10, False, 8, "can0"), (200_410, 0x20, False, 1, "can0")],
     )
-    done = run("from_log.py", strange, "--system", system, "--program", PROGRAM)
+    done = run("import log", strange, "--system", system, "--program", PROGRAM)
     hold(
         done.returncode == 4
         and "unknown 0x030 frames 1 payload 8" in done.stdout
@@ -294,7 +294,7 @@ def check_strange(room):
         f"a strange log: {done.stdout} {done.stderr}",
     )
     report = written(room, "names.report.txt", analysed(system)[1])
-    hold(run("from_log.py", strange, "--system", system, "--report", report).stdout == done.stdout, "--report")
+    hold(run("import log", strange, "--system", system, "--report", report).stdout == done.stdout, "--report")
 
 
 def check_clocks(room):
@@ -304,22 +304,22 @@ def check_clocks(room):
     slow = log_of(
         room, "slow.log", [(at * 999 // 1000, 0x10, False, 2, "can0") for at in range(0, 100_000_000, 10_000)]
     )
-    done = run("from_log.py", slow, "--system", system, "--program", PROGRAM)
+    done = run("import log", slow, "--system", system, "--program", PROGRAM)
     hold(
         done.returncode == 4
         and "frame Speed frames 10000 period 10000 jitter 99990 distance 9990 input 0 0 output" in done.stdout,
         f"a slow clock: {done.stdout}",
     )
-    hold(run("from_log.py", slow, "--system", system, "--program", PROGRAM, "--drift", 1010).returncode == 0, "--drift")
+    hold(run("import log", slow, "--system", system, "--program", PROGRAM, "--drift", 1010).returncode == 0, "--drift")
     early = log_of(
         room,
         "early.log",
         [(at - (at // 10_000 % 2) * 700, 0x10, False, 2, "can0") for at in range(0, 1_000_000, 10_000)],
     )
-    done = run("from_log.py", early, "--system", system, "--program", PROGRAM)
+    done = run("import log", early, "--system", system, "--program", PROGRAM)
     hold(done.returncode == 4 and "jitter 700 distance 9300 input" in done.stdout, f"early frames: {done.stdout}")
     hold(
-        "within input" in run("from_log.py", early, "--system", system, "--program", PROGRAM, "--rough", 700).stdout,
+        "within input" in run("import log", early, "--system", system, "--program", PROGRAM, "--rough", 700).stdout,
         "--rough",
     )
 
@@ -328,7 +328,7 @@ def check_tight(room):
     """To the tick: a log that needs the jitter of a model, and one that needs a tick more."""
     database = two_channels(room)[0]
     tight = os.path.join(room, "tight.toml")
-    run("from_network.py", f"b={database}", "--bitrate", 500000, "--jitter", "700.1us", "--to", tight)
+    run("import network", f"b={database}", "--bitrate", 500000, "--jitter", "700.1us", "--to", tight)
     for early, verdict in (
         (701, "within input"),
         (702, "within output"),
@@ -340,13 +340,13 @@ def check_tight(room):
             "tight.log",
             [(at - (at // 10_000 % 2) * early, 0x10, False, 2, "can0") for at in range(0, 200_000, 10_000)],
         )
-        done = run("from_log.py", exact, "--system", tight, "--program", PROGRAM)
+        done = run("import log", exact, "--system", tight, "--program", PROGRAM)
         hold(
             f"jitter {early} distance {10_000 - early} input 701 0 output 855 126 {verdict}" in done.stdout,
             f"a jitter of {early}: {done.stdout}",
         )
     wide = log_of(room, "wide.log", [(at, 0x10, False, 2, "can0") for at in range(0, 200_000, 20_000)])
-    done = run("from_log.py", wide, "--database", f"b={database}", "--period", "database")
+    done = run("import log", wide, "--database", f"b={database}", "--period", "database")
     hold(
         [(it["period"], it.get("jitter", 0), it["distance"]) for it in system_of(done.stdout)["source"]]
         == [(10_000, 0, 10_000)],
@@ -373,7 +373,7 @@ def check_kinds(room):
                     is_rx=place != 4,
                 )
             )
-    done = run("from_log.py", other)
+    done = run("import log", other)
     hold(
         all(
             it in done.stderr
@@ -440,8 +440,8 @@ def check_log_words(room):
             [log, "--system", "examples/two_tasks.toml", "--report", "examples/two_tasks.report.txt"],
         ),
     ):
-        told = said_by("from_log.py", *words)
-        hold(said in told, f"from_log.py {words}: {told}")
+        told = said_by("import log", *words)
+        hold(said in told, f"import log {words}: {told}")
 
 
 def check_chains(room):
@@ -486,7 +486,7 @@ def check_chains(room):
             "made.blf",
             [(at, it["priority"], False, 8, int(it["on"][1:])) for at, it in sorted(ends, key=lambda it: it[0])],
         )
-        done = run("from_log.py", log, "--system", file, "--program", PROGRAM, "--bus", "b0=0", "--bus", "b1=1")
+        done = run("import log", log, "--system", file, "--program", PROGRAM, "--bus", "b0=0", "--bus", "b1=1")
         lines = [line for line in done.stdout.splitlines() if line.startswith("frame ")]
         hold(
             done.returncode == 0 and len(lines) == 12 and all(" within " in line for line in lines),
@@ -500,18 +500,18 @@ def check_can_utils(room):
     if not shutil.which("log2asc"):
         return
     words = ["--system", "examples/sae_can.toml", "--report", "examples/sae_can.report.txt"]
-    wanted = run("from_log.py", "examples/sae_can.log", *words).stdout.replace("channel can0", "channel 0")
+    wanted = run("import log", "examples/sae_can.log", *words).stdout.replace("channel can0", "channel 0")
     for options, more in (([], []), (["-n"], []), (["-f"], ["--classical"])):
         file = os.path.join(room, "other.asc")
         subprocess.run(
             ["log2asc", *options, "-I", "examples/sae_can.log", "-O", file, "can0"], check=True, capture_output=True
         )
-        done = run("from_log.py", file, *words, *more)
+        done = run("import log", file, *words, *more)
         hold(
             done.stdout == wanted and done.returncode == 0 and not done.stderr,
             f"log2asc {options}: {done.stdout} {done.stderr}",
         )
-    done = run("from_log.py", file, *words)
+    done = run("import log", file, *words)
     hold(
         "436 CAN FD frames are taken as such" in done.stderr
         and done.stdout.count("a frame of CAN FD, where the system has a classical one") == 17
@@ -520,7 +520,7 @@ def check_can_utils(room):
     )
     # times of four digits are rough by less than a hundred ticks
     subprocess.run(["log2asc", "-4", "-I", "examples/sae_can.log", "-O", file, "can0"], check=True, capture_output=True)
-    done = run("from_log.py", file, *words, "--rough", "100")
+    done = run("import log", file, *words, "--rough", "100")
     hold(
         done.returncode == 0 and "frames 436 rough 60" in done.stdout and not done.stderr,
         f"log2asc -4: {done.stdout} {done.stderr}",
@@ -531,11 +531,11 @@ def check_page(room):
     """What docs/NETWORKS.md shows, and periods of logs with pauses and bursts."""
     with open("docs/NETWORKS.md", encoding="utf-8") as it:
         page = it.read()
-    done = run("from_log.py", "examples/sae_can.log", "--database", "can=examples/sae_can.dbc")
+    done = run("import log", "examples/sae_can.log", "--database", "can=examples/sae_can.dbc")
     shown = [line for line in page.splitlines() if line.startswith("  { name")]
     hold(shown and all(f"{line}\n" in done.stdout for line in shown), f"docs/NETWORKS.md: {shown} of {done.stdout}")
     done = run(
-        "from_log.py",
+        "import log",
         "examples/sae_can.log",
         "--system",
         "examples/sae_can.toml",
@@ -555,7 +555,7 @@ def check_page(room):
     every = {1: clean, 2: missing, 3: off, 4: bursts, 5: [place * 4 + place // 2 for place in range(100)], 6: [0, 0, 0]}
     frames = sorted((at, identifier) for identifier, times in every.items() for at in times)
     done = run(
-        "from_log.py", log_of(room, "periods.log", [(at, identifier, False, 0, "can0") for at, identifier in frames])
+        "import log", log_of(room, "periods.log", [(at, identifier, False, 0, "can0") for at, identifier in frames])
     )
     found = {
         it["name"]: (it["period"], it.get("jitter", 0), it.get("distance", 0))

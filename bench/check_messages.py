@@ -4,7 +4,7 @@
 Each case of bench/messages/*.txt is a call, of files that differ from those of bench/messages/base in some lines; what the
 program writes, its status, and the whole text beside it are compared with those that are kept there. With --keep they are
 written anew, to be read. With --random so many system files, scripts, traces, schedules and sessions are damaged at random,
-from examples/ and from made systems: what tools/refusals finds in each has to be the program's own line, and nothing in a file
+from examples/ and from made systems: what lokwurmi_tools/refusals finds in each has to be the program's own line, and nothing in a file
 that is accepted. Outside the gate; the program has to be built.
 
 A case has a title, what is changed, the call, what the program writes after its status, and what is said:
@@ -35,15 +35,13 @@ from collections.abc import Iterator
 from concurrent.futures import ThreadPoolExecutor
 from dataclasses import dataclass, field
 
-from calls import example_systems
+from calls import TOP, example_systems
 from damage import damaged, damaged_rows, damaged_script
 
-TOP = os.path.dirname(os.path.dirname(os.path.abspath(__file__)))
-sys.path.insert(0, os.path.join(TOP, "tools"))
-from refusals import edits, front, notices, schedule, script  # noqa: E402
-from refusals.document import Document  # noqa: E402
-from refusals.toml_faults import fault_in  # noqa: E402
-from refusals.trace import Trace  # noqa: E402
+from lokwurmi_tools.refusals import edits, front, notices, schedule, script
+from lokwurmi_tools.refusals.document import Document
+from lokwurmi_tools.refusals.toml_faults import fault_in
+from lokwurmi_tools.refusals.trace import Trace
 
 CASES = os.path.join(TOP, "bench", "messages")
 PROGRAMS = {it: os.path.join(TOP, "crates", it, "out", it) for it in ("cpa_cli", "cpa_schedule", "cpa_chain")}

@@ -3,7 +3,7 @@
 network.
 
 Frames of CAN FD are built bit by bit, with the worst and the best stuffing found by trying all that a bit may be, and
-no frame takes less or more than tools/lengths.py says. Frames of Ethernet come as often as is published. Buses are
+no frame takes less or more than `lokwurmi lengths` says. Frames of Ethernet come as often as is published. Buses are
 followed frame by frame, with frames that are queued at any offset and with errors that hit where they cost most: none
 is late by more than its bound, whether frames share a source or not. What --only leaves out changes no bound.
 
@@ -42,10 +42,10 @@ FREE = "x"
 
 
 def told_length(*words):
-    """The least and the greatest length that tools/lengths.py tells in ticks."""
-    done = run("lengths.py", *words)
+    """The least and the greatest length that `lokwurmi lengths` tells in ticks."""
+    done = run("lengths", *words)
     found = re.match(r"best = (\d+), worst = (\d+)", done.stdout)
-    hold(found is not None and done.returncode == 0, f"lengths.py {words}: {done.stdout} {done.stderr}")
+    hold(found is not None and done.returncode == 0, f"lengths {words}: {done.stdout} {done.stderr}")
     return (int(found[1]), int(found[2])) if found else (0, 0)
 
 
@@ -179,8 +179,8 @@ def check_ethernet():
     hold(told_length("ethernet", 0, "--bitrate", 10**8, "--tick", "10ns") == (672, 672), "the shortest frame")
     hold(told_length("ethernet", 42, "--bitrate", 10**8, "--tick", "10ns", "--tagged") == (672, 704), "with a tag")
     for words in (["can", 9], ["fd", 65], ["ethernet", 1501], ["can", -1]):
-        hold("a frame of this kind has" in said_by("lengths.py", *words, "--bitrate", 500000), f"lengths.py {words}")
-    hold("take another --tick" in said_by("lengths.py", "can", 8, "--bitrate", 500000, "--tick", "1ms"), "no tick")
+        hold("a frame of this kind has" in said_by("lengths", *words, "--bitrate", 500000), f"lengths {words}")
+    hold("take another --tick" in said_by("lengths", "can", 8, "--bitrate", 500000, "--tick", "1ms"), "no tick")
 
 
 # buses
@@ -365,7 +365,7 @@ def check_large(room):
     """A bus of 400 frames, and that of J1939 that canmatrix brings with it, made to fit by what is proposed."""
     frames = [(f"m{k}", k, False, 8, 1000, {}) for k in range(400)]
     file = dumped(room, "large.dbc", matrix_of(frames))
-    told = said_by("from_network.py", file, "--bitrate", 500000)
+    told = said_by("import network", file, "--bitrate", 500000)
     hold("--share all: 1 sources, fits" in told and "--paths 'PATTERN'" in told, told)
     system, told, text = imported(file, "--bitrate", 500000, "--share", "all", "--paths", "m3?")
     hold(len(system["task"]) == 400 and len(system["path"]) == 10, f"400 frames: {len(system['path'])}")
@@ -379,7 +379,7 @@ def check_large(room):
     for folder, _, names in os.walk(shipped):
         if "j1939.dbc" in names:
             words = (os.path.join(folder, "j1939.dbc"), "--bitrate", 250000, "--others", "1s")
-            hold("fits" in said_by("from_network.py", *words), "j1939.dbc: what is proposed")
+            hold("fits" in said_by("import network", *words), "j1939.dbc: what is proposed")
             system, _, text = imported(*words, "--share", "all", "--deadline", "none")
             hold(len(system["task"]) > 300 and bounds_in(room, text)[2] in (0, 1, 2), "j1939.dbc is accepted")
 
@@ -391,7 +391,7 @@ def here(room):
     """A folder in which the calls of a page write, with what they read."""
     folder = os.path.join(room, "page")
     os.mkdir(folder)
-    for name in ("tools", "examples", "docs"):
+    for name in ("python", "examples", "docs"):
         os.symlink(os.path.abspath(name), os.path.join(folder, name))
     os.symlink(PROGRAM, os.path.join(folder, "lokwurmi"))
     return folder
@@ -402,7 +402,7 @@ def called(folder, line):
     words = shlex.split(line.split(" #")[0])
     if words[0] == "python3":
         words[0] = PYTHON
-    if any(it.endswith("from_log.py") for it in words):
+    if any(it.endswith("import log") for it in words):
         words += ["--program", PROGRAM]
     return subprocess.run(words, cwd=folder, capture_output=True, text=True, check=False)
 
@@ -432,12 +432,12 @@ def check_page(room):
 def check_help(room):
     """--help works, and the first example of each of its tools runs."""
     folder = os.path.join(room, "page")
-    for tool in ("from_network.py", "from_log.py", "ticks.py", "units.py", "lengths.py"):
-        done = run(tool, "--help")
-        hold(done.returncode == 0 and not done.stderr, f"{tool} --help: {done.stderr}")
-        line = next(it.strip() for it in done.stdout.splitlines() if it.startswith("    ") and "tools/" in it)
+    for name in ("import network", "import log", "ticks", "units", "lengths"):
+        done = run(name, "--help")
+        hold(done.returncode == 0 and not done.stderr, f"{name} --help: {done.stderr}")
+        line = next(it.strip() for it in done.stdout.splitlines() if it.startswith("    ") and "./lokwurmi " in it)
         if " | " in line:
-            line = "python3 tools/units.py examples/sae_can.report.txt --tick 1us"
+            line = "./lokwurmi units examples/sae_can.report.txt --tick 1us"
         done = called(folder, line)
         hold(done.returncode == 0 and "Traceback" not in done.stderr, f"{line}: {done.stderr}")
 

@@ -1,5 +1,5 @@
 #!/usr/bin/env python3
-"""Tries tools/optimise.py over random systems, and counts how often it finds an order where others fail. Outside the
+"""Tries `lokwurmi optimise` over random systems, and counts how often it finds an order where others fail. Outside the
 gate.
 
 Small systems have three or four chains over two processors and a CAN bus, with jitter and deadlines; where there are up
@@ -23,13 +23,11 @@ import sys
 import tempfile
 from typing import NamedTuple
 
-from calls import TOP, answer, built
+from calls import TOP, answer, built, tool
 
-sys.path.append(os.path.join(TOP, "tools"))
 
-import optimise
-import progress
-from toml_text import toml_of
+from lokwurmi_tools import optimise, progress
+from lokwurmi_tools.toml_text import toml_of
 
 PROGRAM = built("cpa_cli")
 # searches that are made here tell nothing
@@ -222,8 +220,8 @@ def show(what, rows):
 
 def check_calls():
     """What a call prints where nothing is found, and what it doesn't take."""
-    tool, file = os.path.join(TOP, "tools", "optimise.py"), os.path.join(TOP, "examples", "crossing_chains.toml")
-    words = [sys.executable, tool, "--program", PROGRAM, file, "--rounds", "1", "--restarts", "0"]
+    file = os.path.join(TOP, "examples", "crossing_chains.toml")
+    words = [*tool("optimise"), "--program", PROGRAM, file, "--rounds", "1", "--restarts", "0"]
     done = subprocess.run(words, capture_output=True, text=True, check=False)
     said = "pb misses its deadline by 5", "the search proves nothing about what it didn't try"
     if done.returncode != 3 or not all(it in done.stdout for it in said):

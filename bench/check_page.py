@@ -1,5 +1,5 @@
 #!/usr/bin/env python3
-"""Tries the pages of tools/page.py in headless Chromium. Outside the gate; takes a minute or some, and no network.
+"""Tries the pages of `lokwurmi page` in headless Chromium. Outside the gate; takes a minute or some, and no network.
 
 For some of the examples a page is made, with a trace, a schedule and a script where there are some. It must load without an
 error and without asking for anything else, show the numbers of the report, of `simulate` and of `session`, and the load of
@@ -9,7 +9,7 @@ dark, and print. In windows of five widths the first column of Paths leaves room
 names aren't cut from 1366 on, and the lines between their rows go on under the fixed column. Pages of overloaded systems must
 tell what lies behind; what is told of random systems that are overloaded must be so: with a limit a hundred times as high a
 task that has too much work has no bound still, and each task without one has a cause. A page with a file of chains shows their
-bounds and verdicts, what they are the sum of, and where a source of the run stays away. What page.py doesn't take is refused in
+bounds and verdicts, what they are the sum of, and where a source of the run stays away. What page doesn't take is refused in
 a line.
 
 A schedule that isn't among the examples is made by the step rules of check_runs.py. With --keep pictures of the pages, in
@@ -35,16 +35,15 @@ except ImportError:
 
 import effect_rules
 from browser import Browser
+from calls import TOP, tool
 from check_runs import file_of, made, plain, replayed
 
-TOP = os.path.join(os.path.dirname(os.path.abspath(__file__)), "..")
-sys.path.append(os.path.join(TOP, "tools"))
 
-from behind import Behind
-from report import reports_in
-from runs import jobs_in, read_schedule, read_trace
-from seen import Run, seen_of
-from system import read_system
+from lokwurmi_tools.behind import Behind
+from lokwurmi_tools.report import reports_in
+from lokwurmi_tools.runs import jobs_in, read_schedule, read_trace
+from lokwurmi_tools.seen import Run, seen_of
+from lokwurmi_tools.accepted import read_system
 
 EXAMPLES = os.path.join(TOP, "examples")
 # the examples, and whether they have a trace and a script
@@ -332,9 +331,9 @@ def check_made_paths(page):
 
 
 def check_searches(program, page_of):
-    """How far numbers may move is what tools/sensitivity.py tells, and the priorities are those of tools/optimise.py."""
+    """How far numbers may move is what `lokwurmi sensitivity` tells, and the priorities are those of `lokwurmi optimise`."""
     page = page_of("two_tasks", example("two_tasks", ".toml"), "--sensitivity", "--optimise")
-    words = [sys.executable, os.path.join(TOP, "tools", "sensitivity.py"), "--program", program, example("two_tasks", ".toml")]
+    words = [*tool("sensitivity"), "--program", program, example("two_tasks", ".toml")]
     lines = subprocess.run(words, capture_output=True, text=True, check=False).stdout.split("\n\n")[0].splitlines()[1:]
     rows = [" ".join(it).replace("−", "-") for it in page.rows("margin-table")]
     page.hold(rows == [" ".join(it.split()) for it in lines], f"how far numbers may move: {rows}")
@@ -565,8 +564,8 @@ def check_refusals(room, program):
         (1, "the system has no task a", [chains, "--to", page, "--trace", trace, "--schedule", schedule]),
     ):
         words += [] if "--program" in words else ["--program", program]
-        done = subprocess.run([sys.executable, os.path.join(TOP, "tools", "page.py"), *words], capture_output=True, text=True, check=False)
-        hold(done.returncode == status and said in done.stderr, f"page.py {words}: {done.returncode} {done.stderr}")
+        done = subprocess.run([*tool("page"), *words], capture_output=True, text=True, check=False)
+        hold(done.returncode == status and said in done.stderr, f"page {words}: {done.returncode} {done.stderr}")
     hold(not os.path.exists(page), "a page is written though something is refused")
 
 
@@ -661,7 +660,7 @@ def main():
         def page_of(name, file, *more):
             """The page of a file, in the browser."""
             made_page = os.path.join(to, name + ".html")
-            done = subprocess.run([sys.executable, os.path.join(TOP, "tools", "page.py"), "--program", words.program, "--to", made_page, *more, file], capture_output=True, text=True, check=False)
+            done = subprocess.run([*tool("page"), "--program", words.program, "--to", made_page, *more, file], capture_output=True, text=True, check=False)
             # how far a search is may be told
             complaints = [line for line in done.stderr.splitlines() if not re.match(r"(sensitivity|optimise)\.py: \d+ (of|orders?)\b", line)]
             if done.returncode or complaints:

@@ -1,8 +1,8 @@
 #!/usr/bin/env python3
-"""Tries what the pages show: each call of ./lokwurmi or of a tool of tools/ with its output, each system that docs/FILES.md
+"""Tries what the pages show: each call of ./lokwurmi with its output, each system that docs/FILES.md
 shows as refused, and each edit that it shows as refused. docs/TUTORIAL.md is followed from its first line to its last: the files that it has a
 reader write are written, added to and changed, and each call is made with the files as they are by then; at its end they are
-those of examples/. Each call of a tool of tools/ in a block of a page, that writes a picture or a page of docs/, is made once
+those of examples/. Each call of a Python command in a block of a page, that writes a picture or a page of docs/, is made once
 more, and must write what stands there: the same tables, and pictures that say the same. The tables of docs/TIGHTNESS.md are
 worked out from the traces of examples/worst/, which are replayed; those of chains must have sources that stay near. Outside
 the gate.
@@ -24,14 +24,11 @@ import sys
 import tempfile
 import tomllib
 
-from calls import example_systems, python_with
-
-TOP = os.path.join(os.path.dirname(os.path.abspath(__file__)), "..")
-sys.path.append(os.path.join(TOP, "tools"))
-
-from runs import read_trace, schedule_in
-from seen import Run, gaps_in, seen_of
-from system import read_system
+from calls import TOP, example_systems, python_with, tool
+from lokwurmi_tools.commands import command_of
+from lokwurmi_tools.runs import read_trace, schedule_in
+from lokwurmi_tools.seen import Run, gaps_in, seen_of
+from lokwurmi_tools.accepted import read_system
 
 os.chdir(TOP)
 # what is said beside the output of a call is tried by check_messages.py
@@ -97,7 +94,7 @@ def check_figures(page, text, known, wide):
 
 def follow(page, text, room):
     """Follows a page: each file that it writes, adds to or changes, and each call."""
-    # the tools read reports by the package in python/
+    # the launcher has folders beside it
     for it in ("lokwurmi", "tools", "python"):
         os.symlink(os.path.abspath(it), os.path.join(room, it))
     files = {}
@@ -180,14 +177,14 @@ def said(text):
 
 
 def check_drawn(page, text, room, python):
-    """The calls of tools in the blocks of a page that write into docs/."""
+    """The calls of Python commands in the blocks of a page that write into docs/."""
     for block in re.findall(r"^```\w*\n(.*?)^```$", text, re.M | re.S):
         for line in block.replace("\\\n", " ").splitlines():
             words = line.split()
-            if words[:1] != ["python3"] or not words[-1].startswith("docs/"):
+            if words[:1] != ["./lokwurmi"] or not words[-1].startswith("docs/") or not command_of(words[1:]):
                 continue
             drawn = os.path.join(room, os.path.basename(words[-1]))
-            done = subprocess.run([python, *words[1:-1], drawn], capture_output=True, text=True, check=False)
+            done = subprocess.run([*tool("", python), *words[1:-1], drawn], capture_output=True, text=True, check=False)
             hold(f"{page}: {line}", done.stderr, "")
             if not done.returncode:
                 for wrote, told in zip(said(read(drawn)), said(read(words[-1]))):
@@ -196,14 +193,24 @@ def check_drawn(page, text, room, python):
 
 
 def check_called(page, text, python):
-    """The calls of tools in the blocks of a page, of which several may stand in one, and what they tell: only its beginning where
-    the page goes on with "and so on"."""
-    for block, cut in re.findall(r"^```\n(\$ python3 tools/(?:(?!```).*\n)*)```(\n\nand so on)?", text, re.M):
-        for part in re.split(r"^\$ ", block, flags=re.M)[1:]:
+    """The calls of Python commands in the blocks of a page, of which several may stand in one, and what they tell: only its
+    beginning where the page goes on with "and so on"."""
+    for block, cut in re.findall(r"^```\n(\$ \./lokwurmi (?:(?!```).*\n)*)```(\n\nand so on)?", text, re.M):
+        for part in re.split(r"^\$ \./lokwurmi ", block, flags=re.M)[1:]:
             words, told = part.split("\n", 1)
-            _, *words = shlex.split(words)
-            wrote = subprocess.run([python, *words], stdout=subprocess.PIPE, text=True, check=False).stdout
-            hold(f"{page}: {' '.join(words)}", wrote[: len(told)] if cut else wrote, told)
+            if not command_of(shlex.split(words)):
+                continue
+            done = subprocess.run([*tool("", python), *shlex.split(words)], stdout=subprocess.PIPE, text=True, check=False)
+            hold(f"{page}: {words}", done.stdout[: len(told)] if cut else done.stdout, told)
+
+
+def check_scripts(page, text, python):
+    """The calls of scripts of examples/python and of the Python package in the blocks of a page, and what they write. What
+    the pages' own scripts print is held by the tests of python/tests."""
+    for words, told in re.findall(r"^```\n\$ python3 ((?:examples/python/|-m lokwurmi ).*)\n((?:(?!```).*\n)*)```", text, re.M):
+        environment = os.environ | {"PYTHONPATH": os.path.join(TOP, "python", "src")}
+        done = subprocess.run([python, *shlex.split(words)], stdout=subprocess.PIPE, text=True, check=False, env=environment)
+        hold(f"{page}: {words}", done.stdout, told)
 
 
 def latest(name):
@@ -261,9 +268,11 @@ with tempfile.TemporaryDirectory() as room:
     for page in ["README.md", *sorted(glob.glob("docs/*.md")), *sorted(glob.glob("examples/*.md"))]:
         text = read(page) if page != "docs/TUTORIAL.md" else ""
         for words, told in re.findall(r"^```\n\$ \./lokwurmi (.*)\n((?:(?!```).*\n)*)```", text, re.M):
-            hold(f"{page}: {words}", call(*shlex.split(words)), told)
+            if not command_of(shlex.split(words)):
+                hold(f"{page}: {words}", call(*shlex.split(words)), told)
         if python and page != "docs/TUTORIAL.md":
             check_called(page, text, python)
+            check_scripts(page, text, python)
             check_drawn(page, text, room, python)
     page = read("docs/FILES.md")
     for system, told in re.findall(r"```toml\n((?:(?!```).*\n)*)```\n\n`(system refused .*?)`", page):
@@ -304,5 +313,5 @@ check_tightness("docs/TIGHTNESS.md", read("docs/TIGHTNESS.md"))
 
 for fault in faults:
     print(fault)
-print(f"{tried} tried, {len(faults)} faults{'' if python else ', without what tools draw: matplotlib and jinja2 are not here'}")
+print(f"{tried} tried, {len(faults)} faults{'' if python else ', without what Python commands draw: matplotlib and jinja2 are not here'}")
 sys.exit(1 if faults else 0)

@@ -15,12 +15,11 @@ import random
 import sys
 import tempfile
 
-from calls import TOP, built
+from calls import built
 
 import subprocess
 
-sys.path.append(os.path.join(TOP, "tools"))
-from system import activators, execution
+from lokwurmi_tools.system import activators, execution
 
 # another script may take the step rules from here, and call no program
 PROGRAM = built("cpa_cli") if __name__ == "__main__" else None

@@ -122,7 +122,7 @@ def with_units(whole):
     """The schema with a text as another form of each time."""
     whole = copy.deepcopy(whole)
     whole["title"] += " with units"
-    whole["description"] = "A system of resources, sources, tasks and paths. A time is a number of ticks, or a text with a unit, which tools/ticks.py turns into ticks."
+    whole["description"] = "A system of resources, sources, tasks and paths. A time is a number of ticks, or a text with a unit, which `lokwurmi ticks` turns into ticks."
     for part, keys in TIMES.items():
         for key in keys:
             entry = whole["definitions"][part]["properties"][key]

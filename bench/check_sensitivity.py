@@ -1,5 +1,5 @@
 #!/usr/bin/env python3
-"""Tries tools/sensitivity.py over random systems. Outside the gate; takes a minute or two, and no network.
+"""Tries `lokwurmi sensitivity` over random systems. Outside the gate; takes a minute or two, and no network.
 
 The systems are those of compare.py with longer periods, in every other one with tasks that have up to three activators,
 and with deadlines that are met, with more or less to spare. What is told of each number is tried by files of their own,
@@ -22,18 +22,16 @@ import tempfile
 import tomllib
 
 import compare as plain
-from calls import TOP, answer, built, faults, hold, python_with, tried
+from calls import TOP, answer, built, faults, hold, python_with, tool, tried
 
-sys.path.append(os.path.join(TOP, "tools"))
 
-import progress
-import sensitivity
-from toml_text import toml_of
+from lokwurmi_tools import progress, sensitivity
+from lokwurmi_tools.toml_text import toml_of
 
 PROGRAM = built("cpa_cli")
 # searches that are made here tell nothing
 progress.TERMINAL = progress.ELSEWHERE = float("inf")
-TOOL = os.path.join(TOP, "tools", "sensitivity.py")
+TOOL = "sensitivity"
 
 
 def made(number):
@@ -149,7 +147,7 @@ def check_system(number, system, room, deadlines, goals):
 
 def run(python, *words):
     return subprocess.run(
-        [python, TOOL, "--program", PROGRAM, *words],
+        [*tool(TOOL, python), "--program", PROGRAM, *words],
         capture_output=True,
         text=True,
         check=False,

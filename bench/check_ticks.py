@@ -1,5 +1,5 @@
 #!/usr/bin/env python3
-"""Tries tools/ticks.py and tools/units.py. Outside the gate; takes about a minute, and no network.
+"""Tries `lokwurmi ticks` and `lokwurmi units`. Outside the gate; takes about a minute, and no network.
 
 Made systems whose times have units are turned into ticks: each number is the one that lies next to the time on the safe
 side, and the bounds with coarse ticks, as times, are nowhere below those with ticks in which all is whole. Comments and
@@ -15,6 +15,7 @@ import tempfile
 import tomllib
 from fractions import Fraction
 
+from calls import tool
 from imports_made import PYTHON, analysed, hold, least_and_greatest, run, said_by, tell, written
 
 UNITS = {"ns": 1, "us": 10**3, "ms": 10**6, "s": 10**9}
@@ -83,8 +84,8 @@ def made_system(draw):
 
 def converted(room, text, tick):
     """The system in ticks, its text, and what is told."""
-    done = run("ticks.py", written(room, "units.toml", text), "--tick", tick)
-    hold(done.returncode == 0, f"ticks.py --tick {tick}: {done.stderr}")
+    done = run("ticks", written(room, "units.toml", text), "--tick", tick)
+    hold(done.returncode == 0, f"ticks --tick {tick}: {done.stderr}")
     return (tomllib.loads(done.stdout) if done.returncode == 0 else {}), done.stdout, done.stderr
 
 
@@ -155,15 +156,15 @@ def check_refused(room):
     for said, old, new, tick in (
         ('line 3: source s: period = "1 week" is no time', "1 ms", "1 week", "1us"),
         (
-            "line 3: source s: period of 100ns is 0 ticks, and 1 to 1000000000 are possible: take a shorter --tick",
+            "line 3: source s: period of 100ns is 0 ticks, and 1 to 1000000000 are possible: take a shorter tick",
             "1 ms",
             "100 ns",
             "1us",
         ),
         ("line 5: task t: best of 100ns is 0 ticks", '"1 us", worst', '"100 ns", worst', "1us"),
-        ("and 1 to 1000000 are possible: take a longer --tick", '"2 us"', '"2 s"', "1us"),
+        ("and 1 to 1000000 are possible: take a longer tick", '"2 us"', '"2 s"', "1us"),
         ("task t: slot of 5us is 2.5 ticks, and has no safe side", 'best = "1 us"', 'best = "2 us"', "2us"),
-        ("With --tick 1us it is whole", 'best = "1 us"', 'best = "2 us"', "2us"),
+        ("With a tick of 1us it is whole", 'best = "1 us"', 'best = "2 us"', "2us"),
         ("is told in bits, and its resource has no bit rate", '"2 us"', '"8 bit"', "1us"),
         ("is told in bits, and is on no resource", '"1 ms"', '"8 bit"', "1us"),
         ("it isn't TOML", "format", "format format", "1us"),
@@ -177,32 +178,32 @@ def check_refused(room):
             "1us",
         ),
     ):
-        told = said_by("ticks.py", written(room, "bad.toml", base.replace(old, new, 1)), "--tick", tick)
-        hold(said in told, f"ticks.py: {said}: {told}")
+        told = said_by("ticks", written(room, "bad.toml", base.replace(old, new, 1)), "--tick", tick)
+        hold(said in told, f"ticks: {said}: {told}")
     file = written(room, "good.toml", base)
-    hold("is no time" in said_by("ticks.py", file, "--tick", "5"), "no tick")
-    hold("can't be read" in said_by("ticks.py", os.path.join(room, "none.toml"), "--tick", "1us"), "no file")
+    hold("is no time" in said_by("ticks", file, "--tick", "5"), "no tick")
+    hold("can't be read" in said_by("ticks", os.path.join(room, "none.toml"), "--tick", "1us"), "no file")
     hold(
-        "can't be written" in said_by("ticks.py", file, "--tick", "1us", "--to", os.path.join(room, "no", "x")),
+        "can't be written" in said_by("ticks", file, "--tick", "1us", "--to", os.path.join(room, "no", "x")),
         "no folder",
     )
-    done = run("ticks.py", written(room, "bare.toml", base.replace('"2 us"', "2")), "--tick", "1us")
+    done = run("ticks", written(room, "bare.toml", base.replace('"2 us"', "2")), "--tick", "1us")
     hold(
         done.returncode == 0 and "taken as ticks, since they have no unit: worst of task t" in done.stderr, done.stderr
     )
     done = run(
-        "ticks.py", written(room, "limit.toml", base.replace('"tdma"', '"tdma", limit = "1 min"')), "--tick", "1us"
+        "ticks", written(room, "limit.toml", base.replace('"tdma"', '"tdma", limit = "1 min"')), "--tick", "1us"
     )
     hold("is no time" in done.stderr, done.stderr)
     done = run(
-        "ticks.py", written(room, "limit.toml", base.replace('"tdma"', '"tdma", limit = "11 s"')), "--tick", "1us"
+        "ticks", written(room, "limit.toml", base.replace('"tdma"', '"tdma", limit = "11 s"')), "--tick", "1us"
     )
     hold("limit of 11s is 10000000, the most" in done.stderr and "limit = 10000000" in done.stdout, done.stderr)
 
 
 def check_examples(room):
     """The example is what stands in examples/ in ticks, with the report beside it; reports with times."""
-    done = run("ticks.py", "examples/units/switch_port.toml", "--tick", "1us")
+    done = run("ticks", "examples/units/switch_port.toml", "--tick", "1us")
     with open("examples/switch_port.toml", encoding="utf-8") as it:
         hold(
             it.read() == done.stdout.replace("../../docs", "../docs"),
@@ -210,14 +211,14 @@ def check_examples(room):
         )
     with open("examples/switch_port.report.txt", encoding="ascii") as it:
         hold(analysed("examples/switch_port.toml") == (0, it.read()), "the report of examples/switch_port.toml")
-    done = run("units.py", "examples/switch_port.report.txt", "--tick", "1us")
+    done = run("units", "examples/switch_port.report.txt", "--tick", "1us")
     hold("task control port period 500us jitter 20us distance 0 best 6us worst 132us\n" in done.stdout, done.stdout)
     hold(done.stdout.endswith("summary tasks 3 overload 0 missed 0\n"), done.stdout)
-    done = run("units.py", "examples/sae_can.report.txt", "--tick", "1us", "--unit", "ms")
+    done = run("units", "examples/sae_can.report.txt", "--tick", "1us", "--unit", "ms")
     hold("path d1 best 0.44ms worst 29.52ms deadline 1000ms met\n" in done.stdout, done.stdout)
     report = "task worst best period 5 jitter overload distance overload best 1 worst overload\nline 3 refused 5\n"
     done = subprocess.run(
-        [PYTHON, "tools/units.py", "--tick", "800ns"], input=report, capture_output=True, text=True, check=False
+        [*tool("units", PYTHON), "--tick", "800ns"], input=report, capture_output=True, text=True, check=False
     )
     wanted = (
         "task worst best period 4us jitter overload distance overload best 800ns worst overload\nline 3 refused 5\n"

@@ -1,5 +1,5 @@
 #!/usr/bin/env python3
-"""Tries tools/ over the systems of examples/, of both formats. Outside the gate.
+"""Tries the Python commands over the systems of examples/, of both formats. Outside the gate.
 
 Each system is drawn as a graph, with its report and without it, with --chains and without it. Each activator of each task
 that is drawn must have its line, and no other line may be there; tasks with several activators have a double edge, and tell
@@ -12,8 +12,8 @@ it is later than its bound. The passage of a path that took longest is the one b
 The jobs and passages in schedules of random systems are those of the step rules, followed tick by tick. What isn't a report, a
 schedule or a picture's name is refused.
 
-Each tool tells its words without the packages that it needs beside Python's own. Where they are missing it goes on under
-Debian's Python, once, or ends with a line that says what to install; the README names the packages of all tools.
+Each command tells its words without the packages that it needs beside Python's own. Where they are missing it goes on under
+Debian's Python, once, or ends with a line that says what to install; docs/BUILDING.md names the packages of all commands.
 
     python3 bench/check_tools.py
 """
@@ -34,15 +34,17 @@ try:
 except ImportError:
     sys.exit("check_tools.py: the package matplotlib isn't here: apt-get install python3-matplotlib, for /usr/bin/python3")
 
-TOP = os.path.join(os.path.dirname(os.path.abspath(__file__)), "..")
-os.chdir(TOP)
-sys.path.append("tools")
-from calls import example_systems
+from calls import PACKAGES as SOURCES
+from calls import TOP, example_systems, tool
 from check_runs import Run, made, passages, replayed, traced
-from packages import PACKAGES
-from report import read_report
-from runs import jobs_in, passages_in, read_schedule, read_trace
-from system import first_windows, input_of, most_events, read_system
+from lokwurmi_tools.commands import COMMANDS
+from lokwurmi_tools.packages import PACKAGES
+from lokwurmi_tools.report import read_report
+from lokwurmi_tools.runs import jobs_in, passages_in, read_schedule, read_trace
+from lokwurmi_tools.accepted import read_system
+from lokwurmi_tools.system import first_windows, input_of, most_events
+
+os.chdir(TOP)
 
 tried = 0
 faults = []
@@ -55,8 +57,8 @@ def hold(is_so, what):
         faults.append(what)
 
 
-def run(tool, *words, given=None):
-    return subprocess.run([sys.executable, os.path.join("tools", tool), *words], input=given, capture_output=True, text=True, check=False)
+def run(name, *words, given=None):
+    return subprocess.run([*tool(name), *words], input=given, capture_output=True, text=True, check=False)
 
 
 def lines_of(file):
@@ -72,8 +74,8 @@ def check_graph(file, report, chains):
     """The graph of a system, by its text; the name of a node is that of a task or a source after `task `."""
     with open(file, "rb") as it:
         system = tomllib.load(it)
-    what = f"graph.py {file} {report or ''}{' --chains' if chains else ''}"
-    done = run("graph.py", *(["--chains"] if chains else []), file, *([report] if report else []))
+    what = f"graph {file} {report or ''}{' --chains' if chains else ''}"
+    done = run("graph", *(["--chains"] if chains else []), file, *([report] if report else []))
     hold(done.returncode == 0 and done.stderr == "", f"{what}: {done.stderr}")
     tasks = {it["name"]: it for it in system.get("task", [])}
     linked = {name for it in tasks.values() for name in several(it)} | {name for name, it in tasks.items() if any(before in tasks for before in several(it))}
@@ -107,29 +109,29 @@ def check_charts(report, room):
     paths = {line.split()[1] for line in lines_of(report) if line.startswith("path ")}
     for words in ([], ["--paths"]):
         picture = os.path.join(room, "chart.svg")
-        done = run("chart.py", "--to", picture, *words, report)
+        done = run("chart", "--to", picture, *words, report)
         if words and not paths:
-            hold(done.returncode == 1 and "nothing to draw" in done.stderr, f"chart.py --paths {report}: {done.stderr}")
+            hold(done.returncode == 1 and "nothing to draw" in done.stderr, f"chart --paths {report}: {done.stderr}")
             continue
-        hold(done.returncode == 0, f"chart.py {report}: {done.stderr}")
+        hold(done.returncode == 0, f"chart {report}: {done.stderr}")
         with open(picture, encoding="utf-8") as it:
             text = it.read()
-        hold(all(f">{name}<" in text for name in paths), f"chart.py {report}: a path isn't there")
-        hold(words or all(f"  {name}<" in text for name in tasks), f"chart.py {report}: a task isn't there")
+        hold(all(f">{name}<" in text for name in paths), f"chart {report}: a path isn't there")
+        hold(words or all(f"  {name}<" in text for name in tasks), f"chart {report}: a task isn't there")
 
 
 def check_times(room):
     """Charts of which a tick is a microsecond, with what is told of them worked out by hand."""
     picture = os.path.join(room, "times.svg")
-    done = run("chart.py", "--to", picture, "--tick", "1us", "examples/pedal.report.txt")
-    hold(done.returncode == 0, f"chart.py --tick: {done.stderr}")
+    done = run("chart", "--to", picture, "--tick", "1us", "examples/pedal.report.txt")
+    hold(done.returncode == 0, f"chart --tick: {done.stderr}")
     with open(picture, encoding="utf-8") as it:
         texts = re.findall(r">([^<>]+)</text>", it.read())
-    hold("ms, where a tick is 1us" in texts and "ticks" not in texts and {"3.68ms", "60us", "7.5"} <= set(texts), f"chart.py --tick: {texts}")
+    hold("ms, where a tick is 1us" in texts and "ticks" not in texts and {"3.68ms", "60us", "7.5"} <= set(texts), f"chart --tick: {texts}")
     words = [f"examples/pedal.{it}" for it in ("toml", "schedule.csv", "trace.csv", "report.txt")]
     longest = ["--from", "0", "--until", "6000", "--longest", "torque", "--tick", "1us"]
     texts = gantt(room, *words[:2], "--trace", words[2], "--report", words[3], *longest)[0]
-    hold("torque: 292us, bound 900us" in texts and "ms, where a tick is 1us" in texts and "6" in texts and "6000" not in texts, f"gantt.py --tick: {texts}")
+    hold("torque: 292us, bound 900us" in texts and "ms, where a tick is 1us" in texts and "6" in texts and "6000" not in texts, f"gantt --tick: {texts}")
 
 
 def check_streams(file, report):
@@ -154,20 +156,20 @@ def check_curves(room):
     """Curves of a task with two streams, and what is refused."""
     words = ["examples/gateway.toml", "examples/gateway.report.txt"]
     picture = os.path.join(room, "curve.svg")
-    done = run("curve.py", "--beside", "4000", "16818", "0", "--to", picture, *words, "forward")
-    hold(done.returncode == 0 and not done.stderr, f"curve.py: {done.stderr}")
+    done = run("curve", "--beside", "4000", "16818", "0", "--to", picture, *words, "forward")
+    hold(done.returncode == 0 and not done.stderr, f"curve: {done.stderr}")
     with open(picture, encoding="utf-8") as it:
         text = it.read()
-    hold(all(f">{label}<" in text for label in ("wheel → wheel_frame", "button → button_frame", "period 4000, jitter 16818, distance 0")), "curve.py: its labels")
-    hold(run("curve.py", "--to", picture, *words, "relayed").returncode == 0, "curve.py: a task behind another")
+    hold(all(f">{label}<" in text for label in ("wheel → wheel_frame", "button → button_frame", "period 4000, jitter 16818, distance 0")), "curve: its labels")
+    hold(run("curve", "--to", picture, *words, "relayed").returncode == 0, "curve: a task behind another")
     for refusal, given in (
         ("no task of", [*words, "wheel"]),
         ("a window and a period are at least 1", ["--window", "0", *words, "forward"]),
         ("a picture's name ends with", ["--to", "picture.gif", *words, "forward"]),
         ("what starts it has no bound", ["examples/overload.toml", "examples/overload.report.txt", "a2"]),
     ):
-        done = run("curve.py", *given)
-        hold(done.returncode == 1 and refusal in done.stderr, f"curve.py {given}: {done.stderr}")
+        done = run("curve", *given)
+        hold(done.returncode == 1 and refusal in done.stderr, f"curve {given}: {done.stderr}")
 
 
 SVG = "{http://www.w3.org/2000/svg}"
@@ -182,8 +184,8 @@ def written(room, name, text):
 def gantt(room, *words, given=None):
     """The texts of a Gantt chart, its bars from left to right in points, each with its height, and how many marks it has."""
     picture = os.path.join(room, "gantt.svg")
-    done = run("gantt.py", *words, "--to", picture, given=given)
-    hold(done.returncode == 0 and not done.stderr, f"gantt.py {words}: {done.stderr}")
+    done = run("gantt", *words, "--to", picture, given=given)
+    hold(done.returncode == 0 and not done.stderr, f"gantt {words}: {done.stderr}")
     tree = xml.etree.ElementTree.parse(picture)
     bars, marks = [], 0
     for group in tree.iter(f"{SVG}g"):
@@ -209,10 +211,10 @@ def check_gantt(room, name):
         if line.startswith("task "):
             words = line.split()
             worst = max((done - came for came, done in jobs[words[1]] if done is not None), default="none")
-            hold([str(len(jobs[words[1]])), str(worst)] == [words[3], words[7]], f"gantt.py {name}: the jobs of {words[1]}: {jobs[words[1]]}")
+            hold([str(len(jobs[words[1]])), str(worst)] == [words[3], words[7]], f"gantt {name}: the jobs of {words[1]}: {jobs[words[1]]}")
     texts, bars, marks = gantt(room, file, schedule, "--trace", trace, "--report", report)
-    hold(marks == sum(1 + (done is not None) for several in jobs.values() for _, done in several), f"gantt.py {name}: {marks} marks")
-    hold(set(on.values()) <= set(texts) and "a job comes" in texts and "later than its bound" not in texts, f"gantt.py {name}: it says {texts}")
+    hold(marks == sum(1 + (done is not None) for several in jobs.values() for _, done in several), f"gantt {name}: {marks} marks")
+    hold(set(on.values()) <= set(texts) and "a job comes" in texts and "later than its bound" not in texts, f"gantt {name}: it says {texts}")
     # the first bar and the last tell how long a tick is
     first, last = min(start for _, start, _ in rows), max(end for _, _, end in rows)
     left = min(x for x, _, _ in bars)
@@ -220,7 +222,7 @@ def check_gantt(room, name):
     lanes = sorted({y for _, _, y in bars})
     order = [it["name"] for it in system["resource"] if it["name"] in {on[task] for task, _, _ in rows}]
     wanted = sorted((left + (start - first) * tick, left + (end - first) * tick, lanes[order.index(on[task])]) for task, start, end in rows)
-    hold(len(bars) == len(wanted) and all(abs(a - b) < 0.6 for pair in zip(bars, wanted) for a, b in zip(*pair)), f"gantt.py {name}: its bars are {bars}, and not {wanted}")
+    hold(len(bars) == len(wanted) and all(abs(a - b) < 0.6 for pair in zip(bars, wanted) for a, b in zip(*pair)), f"gantt {name}: its bars are {bars}, and not {wanted}")
 
 
 def check_longest(room, name):
@@ -239,11 +241,11 @@ def check_longest(room, name):
         texts, bars, _ = gantt(room, *words)
         bound = bounds[path["name"]]["worst"]
         told = f"path {path['name']}: {took}" + (f", bound {bound}" if bound is not None else "")
-        hold(told in texts, f"gantt.py {name} --longest {path['name']}: {texts}, and not {told}")
+        hold(told in texts, f"gantt {name} --longest {path['name']}: {texts}, and not {told}")
         more = max(1, round(took * 0.04))
         shown = sum(start < came + took + more and end > max(0, came - more) for start, end in rows)
-        hold(len(bars) == shown, f"gantt.py {name} --longest {path['name']}: {len(bars)} bars, and not {shown}")
-        hold(len(gantt(room, *words, "--from", "0")[1]) == len(rows), f"gantt.py {name} --longest {path['name']} --from 0: the whole run")
+        hold(len(bars) == shown, f"gantt {name} --longest {path['name']}: {len(bars)} bars, and not {shown}")
+        hold(len(gantt(room, *words, "--from", "0")[1]) == len(rows), f"gantt {name} --longest {path['name']} --from 0: the whole run")
 
 
 def check_jobs():
@@ -254,10 +256,10 @@ def check_jobs():
         trace = traced(draw, system)
         run_of_it = Run(system, trace)
         jobs = jobs_in(system, [tuple(it) for it in run_of_it.segments], trace)
-        hold(jobs == {name: [(it["arrival"], it["end"]) for it in several] for name, several in run_of_it.jobs.items()}, f"gantt.py: the jobs of random system {number}")
+        hold(jobs == {name: [(it["arrival"], it["end"]) for it in several] for name, several in run_of_it.jobs.items()}, f"gantt: the jobs of random system {number}")
         for path in system["path"]:
             took = [it.took() for it in passages_in(system, jobs, trace[0], path["tasks"])]
-            hold(took == passages(run_of_it, path["tasks"]), f"gantt.py: the passages of random system {number}: {took}")
+            hold(took == passages(run_of_it, path["tasks"]), f"gantt: the passages of random system {number}: {took}")
 
 
 def check_late(room):
@@ -268,19 +270,19 @@ def check_late(room):
         report = it.read()
     lower = written(room, "lower.txt", report.replace("best 5 worst 30", "best 5 worst 25"))
     texts, _, _ = gantt(room, *chains, *trace, "--report", lower)
-    hold("later than its bound" in texts and [it for it in texts if "bound " in it] == ["a1: 30, bound 25"], f"gantt.py, a late job: {texts}")
+    hold("later than its bound" in texts and [it for it in texts if "bound " in it] == ["a1: 30, bound 25"], f"gantt, a late job: {texts}")
     cut = written(room, "cut.csv", "b1,0,20\nb2,20,40\nb1,100,120\n")
     texts, _, _ = gantt(room, chains[0], cut, *trace, "--report", "examples/crossing_chains.report.txt")
-    hold([it for it in texts if "bound " in it] == ["a1: not done, bound 30"], f"gantt.py, a job that isn't done: {texts}")
+    hold([it for it in texts if "bound " in it] == ["a1: not done, bound 30"], f"gantt, a job that isn't done: {texts}")
     texts, bars, _ = gantt(room, *chains, *trace, "--report", "examples/crossing_chains.report.txt", "--longest", "b1")
-    hold("b1: 20, bound 30" in texts, f"gantt.py --longest b1: {texts}")
+    hold("b1: 20, bound 30" in texts, f"gantt --longest b1: {texts}")
     texts, bars, _ = gantt(room, *chains, "--from", "100", "--until", "130")
-    hold(len(bars) == 2 and "b1" in texts and "a1" not in texts and "it is done" not in texts, f"gantt.py, a part: {texts} {bars}")
+    hold(len(bars) == 2 and "b1" in texts and "a1" not in texts and "it is done" not in texts, f"gantt, a part: {texts} {bars}")
     with open(chains[1], encoding="ascii") as it:
-        hold(gantt(room, chains[0], "-", given=it.read()) == gantt(room, *chains), "gantt.py: what comes in")
+        hold(gantt(room, chains[0], "-", given=it.read()) == gantt(room, *chains), "gantt: what comes in")
     ring = 'format = 1\nresource = [{ name = "ring", kind = "tdma", gap = 8 }]\nsource = [{ name = "s", period = 40 }]\ntask = [{ name = "t", on = "ring", after = "s", best = 3, worst = 3, slot = 2 }]\n'
     texts, _, marks = gantt(room, written(room, "ring.toml", ring), written(room, "ring.csv", "t,6,8\nt,16,17\n"), "--trace", written(room, "ring.trace.csv", "event,s,3\nphase,ring,4\n"))
-    hold("gap" in texts and marks == 2, f"gantt.py, a TDMA resource: {texts}")
+    hold("gap" in texts and marks == 2, f"gantt, a TDMA resource: {texts}")
     for said, words in (
         ("name a SCHEDULE, or a trace", chains[:1]),
         ("--report wants --trace", [*chains, "--report", lower]),
@@ -293,8 +295,8 @@ def check_late(room):
         ("can't be called", [chains[0], *trace, "--program", os.path.join(room, "nothing")]),
         ("it doesn't take `schedule FILE TRACE`", [chains[0], *trace, "--program", written_program(room)]),
     ):
-        done = run("gantt.py", *words, "--to", os.path.join(room, "refused.svg"))
-        hold(done.returncode == 1 and said in done.stderr, f"gantt.py {words}: {done.stderr}")
+        done = run("gantt", *words, "--to", os.path.join(room, "refused.svg"))
+        hold(done.returncode == 1 and said in done.stderr, f"gantt {words}: {done.stderr}")
 
 
 def written_program(room):
@@ -304,16 +306,20 @@ def written_program(room):
     return program
 
 
-def is_tool(file):
-    with open(file, encoding="utf-8") as it:
-        return it.readline().startswith("#!")
-
-
 def check_help():
-    """The words of each tool, under a Python that has no packages."""
-    for file in filter(is_tool, sorted(glob.glob("tools/*.py"))):
-        done = subprocess.run([sys.executable, "-S", file, "--help"], capture_output=True, text=True, check=False)
-        hold(done.returncode == 0 and done.stdout.startswith("usage: ") and not done.stderr, f"{file} --help without packages: {done.stderr}")
+    """The words of each command, under a Python that has no packages; what all of them are; and words that are none."""
+    for it in COMMANDS:
+        done = subprocess.run([sys.executable, "-S", *tool(it.name)[1:], "--help"], capture_output=True, text=True, check=False)
+        is_usage = done.stdout.startswith(f"usage: lokwurmi {it.name} ")
+        hold(done.returncode == 0 and is_usage and not done.stderr, f"{it.name} --help without packages: {done.stderr}")
+        hold(f"./lokwurmi {it.name} " in done.stdout, f"{it.name} --help: it has no example")
+    for words in ("", "help", "--help"):
+        done = run(words)
+        shown = re.findall(r"^  (\S+(?: \S+)?)  +\S", done.stdout, re.M)
+        hold(done.returncode == 0 and shown == [it.name for it in COMMANDS], f"lokwurmi_tools {words}: {done.stdout}")
+    for words, said in (("nothing", "there is no such command; these are:"), ("import", "name one of network, log")):
+        done = run(words)
+        hold(done.returncode == 2 and said in done.stderr and not done.stdout, f"lokwurmi_tools {words}: {done.stderr}")
 
 
 def script(room, name, text):
@@ -326,30 +332,30 @@ def check_packages(room):
     """What a tool does whose package this Python doesn't have, where another stands for Debian's."""
     picture = os.path.join(room, "chart.svg")
     bare = f'exec "{sys.executable}" -S "$@"\n'
-    chart = ["tools/chart.py", "--to", picture, "examples/pedal.report.txt"]
-    page = ["tools/page.py", "--to", os.path.join(room, "page.html"), "examples/pedal.toml"]
-    hammer = ["tools/campaign.py", "hammer", "--traces", "1", "examples/pedal.toml"]
+    chart = ["chart", "--to", picture, "examples/pedal.report.txt"]
+    page = ["page", "--to", os.path.join(room, "page.html"), "examples/pedal.toml"]
+    hammer = ["campaign", "hammer", "--traces", "1", "examples/pedal.toml"]
     with_none, lying = script(room, "none", bare), script(room, "lying", f'[ "$1" = -c ] && exit 0\n{bare}')
     nowhere = os.path.join(room, "nowhere")
     with_all = script(room, "all", f'exec "{sys.executable}" "$@"\n')
     for words, debian, status, said in (
-        (chart, with_none, 1, "chart.py: the package matplotlib isn't here: apt-get install python3-matplotlib; "),
-        (chart, lying, 1, "chart.py: the package matplotlib isn't here: apt-get install python3-matplotlib\n"),
-        (chart, nowhere, 1, "chart.py: the package matplotlib isn't here: "),
-        ([*page, "--trace", "examples/pedal.trace.csv"], with_none, 1, "page.py: the packages jinja2 and matplotlib aren't here: apt-get install python3-jinja2 python3-matplotlib"),
-        (page, with_none, 1, "page.py: the package jinja2 isn't here: apt-get install python3-jinja2"),
-        (hammer, with_none, 2, "campaign.py: the package distributed isn't here: apt-get install python3-distributed"),
+        (chart, with_none, 1, "lokwurmi chart: the package matplotlib isn't here: apt-get install python3-matplotlib; "),
+        (chart, lying, 1, "lokwurmi chart: the package matplotlib isn't here: apt-get install python3-matplotlib\n"),
+        (chart, nowhere, 1, "lokwurmi chart: the package matplotlib isn't here: "),
+        ([*page, "--trace", "examples/pedal.trace.csv"], with_none, 1, "lokwurmi page: the packages jinja2 and matplotlib aren't here: apt-get install python3-jinja2 python3-matplotlib"),
+        (page, with_none, 1, "lokwurmi page: the package jinja2 isn't here: apt-get install python3-jinja2"),
+        (hammer, with_none, 2, "lokwurmi campaign: the package distributed isn't here: apt-get install python3-distributed"),
         (chart, with_all, 0, ""),
     ):
-        text = f"import runpy, sys; sys.path.insert(0, 'tools'); import packages; packages.DEBIAN = {debian!r}; sys.argv = {words!r}; runpy.run_path(sys.argv[0], run_name='__main__')"
+        text = f"import sys; from lokwurmi_tools import __main__, packages; packages.DEBIAN = {debian!r}; sys.exit(__main__.perform({words!r}))"
         done = subprocess.run([sys.executable, "-S", "-c", text], capture_output=True, text=True, check=False)
         hold(done.returncode == status and done.stderr.startswith(said) and done.stderr.count("\n") == bool(said), f"{words[0]} without packages, {debian}: {done.returncode} {done.stderr}")
-    hold(os.path.exists(picture), "chart.py doesn't go on under Debian's Python")
+    hold(os.path.exists(picture), "chart doesn't go on under Debian's Python")
 
 
 def packages_of(files):
-    """The packages of the modules that some tools have from elsewhere: not from tools/, its package, or that of this repository."""
-    own = {os.path.basename(it).removesuffix(".py") for it in glob.glob("tools/*.py") + ["tools/refusals"] + glob.glob("python/src/*")}
+    """The packages of the modules that some files have from elsewhere: not from the packages of this repository."""
+    own = set(os.listdir(SOURCES))
     found = {"graphviz"}
     for file in files:
         with open(file, encoding="utf-8") as it:
@@ -357,16 +363,16 @@ def packages_of(files):
         names = {it.name.split(".")[0] for node in ast.walk(tree) if isinstance(node, ast.Import) for it in node.names}
         names |= {node.module.split(".")[0] for node in ast.walk(tree) if isinstance(node, ast.ImportFrom)}
         # dask comes with distributed
-        found |= {PACKAGES.get(it, f"the package of {it}, which tools/packages.py doesn't have") for it in names - own - set(sys.stdlib_module_names) - {"dask"}}
+        found |= {PACKAGES.get(it, f"the package of {it}, which lokwurmi_tools/packages.py doesn't have") for it in names - own - set(sys.stdlib_module_names) - {"dask"}}
     return found
 
 
 def check_named():
-    """The README names the packages of all tools, and the tutorial those of the tools that it names."""
-    for page in ("README.md", "docs/TUTORIAL.md"):
+    """docs/BUILDING.md names the packages of all commands, and the tutorial too."""
+    for page in ("docs/BUILDING.md", "docs/TUTORIAL.md"):
         with open(page, encoding="utf-8") as it:
             text = it.read()
-        wanted = packages_of(file for file in sorted(glob.glob("tools/*.py")) if page == "README.md" or file in text)
+        wanted = packages_of(sorted(glob.glob(f"{SOURCES}/lokwurmi_tools/*.py")))
         lines = re.findall(r"apt-get install ([a-z0-9 -]+)", text)
         hold(any(wanted <= set(line.split()) for line in lines), f"{page}: it has no line with {sorted(wanted)}")
 
@@ -407,19 +413,19 @@ with tempfile.TemporaryDirectory() as room:
         charts = []
         for text in (session, last):
             picture = os.path.join(room, "chart.svg")
-            hold(run("chart.py", "--to", picture, text).returncode == 0, f"chart.py {text}")
+            hold(run("chart", "--to", picture, text).returncode == 0, f"chart {text}")
             with open(picture, encoding="utf-8") as it:
                 charts.append(it.read())
-        hold(charts[0] == charts[1], f"chart.py {session}: its last report is drawn")
+        hold(charts[0] == charts[1], f"chart {session}: its last report is drawn")
     cut = os.path.join(room, "cut.txt")
     with open(cut, "w", encoding="ascii") as it:
         it.write("task m cpu streams 2 best 1 worst 6\n")
-    hold("there is no whole report" in run("chart.py", cut).stderr, "chart.py: a report without a summary")
+    hold("there is no whole report" in run("chart", cut).stderr, "chart: a report without a summary")
     with open(cut, "w", encoding="ascii") as it:
         it.write("task m cpu streams two best 1 worst 6\nsummary tasks 1 overload 0 missed 0\n")
-    hold("line 1 is no line of a report" in run("chart.py", cut).stderr, "chart.py: a line that isn't one")
-    for tool, words in (("chart.py", ["examples/gateway.report.txt"]), ("graph.py", ["examples/gateway.toml"]), ("gantt.py", ["examples/pedal.toml", "examples/pedal.schedule.csv"])):
-        hold("a picture's name ends with" in run(tool, "--to", os.path.join(room, "picture.gif"), *words).stderr, f"{tool}: the name of a picture")
+    hold("line 1 is no line of a report" in run("chart", cut).stderr, "chart: a line that isn't one")
+    for name, words in (("chart", ["examples/gateway.report.txt"]), ("graph", ["examples/gateway.toml"]), ("gantt", ["examples/pedal.toml", "examples/pedal.schedule.csv"])):
+        hold("a picture's name ends with" in run(name, "--to", os.path.join(room, "picture.gif"), *words).stderr, f"{name}: the name of a picture")
 
 for fault in faults:
     print(fault)

@@ -1,5 +1,5 @@
 #!/usr/bin/env python3
-"""Tries tools/worst.py. Outside the gate; takes some minutes, and no network.
+"""Tries `lokwurmi worst`. Outside the gate; takes some minutes, and no network.
 
 For the examples whose bounds are known to be reached it has to find them. What it prints is what `simulate` sees under the
 trace that it writes, and of all tasks and paths under the traces that it keeps; the job and the ticks that it tells are those
@@ -19,12 +19,12 @@ import subprocess
 import sys
 import tempfile
 
-from calls import TOP
+from calls import TOP, tool
 from check_runs import replayed
-from runs import read_trace
-from system import read_system
+from lokwurmi_tools.runs import read_trace
+from lokwurmi_tools.accepted import read_system
 
-TOOL = os.path.join(TOP, "tools", "worst.py")
+TOOL = "worst"
 # Whose bound has to be reached, or which ratio it has to have at least.
 KNOWN = [
     ("two_tasks.toml", ["--all"], 1),
@@ -67,7 +67,7 @@ def example(name):
 
 def called(words, program):
     """The words of a call."""
-    return [sys.executable, TOOL, example(words[0]), *words[1:], "--program", program]
+    return [*tool(TOOL), example(words[0]), *words[1:], "--program", program]
 
 
 def call(words, program):
@@ -181,7 +181,7 @@ def check_interrupt(number, program):
             rest, said = it.communicate()
         hold(it.returncode == 130, f"{number.name}: status {it.returncode}")
         last = said.splitlines()[-1] if said else ""
-        hold("Traceback" not in said and last.startswith("worst.py: interrupted in search "), f"{number.name}: {said}")
+        hold("Traceback" not in said and last.startswith("worst: interrupted in search "), f"{number.name}: {said}")
         rows, seen = rows_in(told + rest), seen_in("car_network.toml", traces_in(folder), program)
         hold(all(seen.get(what) == worst for what, worst in rows.items()), f"{number.name}: what is kept doesn't show the table: {rows}")
         check_late("car_network.toml", told + rest)

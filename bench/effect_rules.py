@@ -1,7 +1,7 @@
 """The rules of cause-effect chains written down plainly: bounds, what a run shows, and the text of `chain` and
 `chains`.
 
-Nothing here is taken from the program or from tools/: bounds of tasks are the least solution by bench/compare.py, runs
+Nothing here is taken from the program or from the commands in Python: bounds of tasks are the least solution by bench/compare.py, runs
 are followed tick by tick by bench/check_runs.py, and what a run shows is looked for among all jobs.
 """
 from functools import lru_cache

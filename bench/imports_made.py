@@ -4,7 +4,7 @@ import subprocess
 import sys
 import tomllib
 
-from calls import TOP, built, python_with
+from calls import TOP, built, python_with, tool
 
 PYTHON = python_with("canmatrix", "lxml", "can", "tomlkit", "xlrd", "xlwt", "xlsxwriter")
 if PYTHON is None:
@@ -14,8 +14,7 @@ if PYTHON != sys.executable:
     os.execv(PYTHON, [PYTHON, *sys.argv])
 
 os.chdir(TOP)
-sys.path.append("tools")
-from databases import canmatrix
+from lokwurmi_tools.databases import canmatrix
 
 PROGRAM = os.path.abspath(built("cpa_cli"))
 
@@ -47,18 +46,18 @@ def tell():
     sys.exit(1 if Tally.faults else 0)
 
 
-def run(tool, *words):
+def run(name, *words):
     return subprocess.run(
-        [PYTHON, os.path.join("tools", tool), *map(str, words)], capture_output=True, text=True, check=False
+        [*tool(name, PYTHON), *map(str, words)], capture_output=True, text=True, check=False
     )
 
 
-def said_by(tool, *words):
+def said_by(name, *words):
     """What a call says where it is refused, with status 1 or 2 and nothing of the inside of Python."""
-    done = run(tool, *words)
+    done = run(name, *words)
     hold(
         done.returncode in (1, 2) and done.stdout == "" and "Traceback" not in done.stderr,
-        f"{tool} {words}: {done.returncode} {done.stderr}",
+        f"{name} {words}: {done.returncode} {done.stderr}",
     )
     return done.stderr
 
@@ -113,8 +112,8 @@ def dumped(room, name, matrices):
 
 def imported(*words):
     """The system of some databases, and what is told of it."""
-    done = run("from_network.py", *words)
-    hold(done.returncode == 0, f"from_network.py {words}: {done.stderr}")
+    done = run("import network", *words)
+    hold(done.returncode == 0, f"import network {words}: {done.stderr}")
     return (system_of(done.stdout) if done.returncode == 0 else {}), done.stderr, done.stdout
 
 

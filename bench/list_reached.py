@@ -1,12 +1,13 @@
 #!/usr/bin/env python3
-"""Lists the definitions that the statement of a call reaches: the files of specs/ that its `use` lines name, and theirs.
+"""Lists the definitions that a statement reaches: the files of specs/ that its `use` lines name, and so on.
 
     python3 bench/list_reached.py
     python3 bench/list_reached.py --from crates/cpa_segments/src/command.rt
     python3 bench/list_reached.py --check
 
-With --check nothing is listed: each file of specs/ has to be named in docs/DEFINITIONS.md, but for those of laws, and the list at
-the end of that page has to be what the statement of `run` reaches. The status is 1 where one of the two isn't so.
+With --check nothing is listed: each file of specs/ has to be named in docs/DEFINITIONS.md, but for those of laws,
+and the list at the end of that page has to be what the statement of `run` reaches. The status is 1 where one of the
+two isn't so.
 """
 import argparse
 import pathlib

@@ -8,7 +8,7 @@ top=$(cd "$(dirname "${BASH_SOURCE[0]}")/.." && pwd) || exit 1
 program=$top/crates/cpa_cli/out/cpa_cli
 schedule=$top/crates/cpa_schedule/out/cpa_schedule
 chain=$top/crates/cpa_chain/out/cpa_chain
-tests=$top/crates/cpa_bound_cases/out/cpa_bound_cases_tests
+tests=$top/crates/cpa_bound_tests/out/cpa_bound_tests_tests
 work=$(mktemp -d) || exit 1
 trap 'rm -rf "$work"' EXIT
 cat >"$work/refuse.c" <<'C'
@@ -49,7 +49,7 @@ cc -O1 -shared -fPIC -o "$work/refuse.so" "$work/refuse.c" -ldl || exit 1
 # the session is as before; where it wants memory elsewhere it fails with a status of its own; else it is stopped by a signal.
 try_edits() {
   local n got kept=0 elsewhere=0
-  [ -x "$tests" ] || (cd "$top/crates/cpa_bound_cases" && rt test -- edit_without_memory) >"$work/tests" || exit 1
+  [ -x "$tests" ] || (cd "$top/crates/cpa_bound_tests" && rt test -- edit_without_memory) >"$work/tests" || exit 1
   for ((n = 0; ; n++)); do
     rm -f "$work/mark"
     REFUSED=$n MARK=$work/mark LD_PRELOAD=$work/refuse.so "$tests" sessions::edit_without_memory >"$work/part" 2>&1

@@ -10,10 +10,9 @@ line is what a campaign of one trace takes on all of them, which is the start an
 import argparse
 import os
 import subprocess
-import sys
 import time
 
-TOP = os.path.join(os.path.dirname(os.path.abspath(__file__)), "..")
+from calls import TOP, tool
 
 
 def seconds(places, command):
@@ -31,8 +30,8 @@ def main():
     reader.add_argument("--rounds", type=int, default=2)
     reader.add_argument("--program", default=os.path.join(TOP, "crates", "cpa_cli", "out", "cpa_cli"))
     words = reader.parse_args()
-    tool = [sys.executable, os.path.join(TOP, "tools", "campaign.py"), "hammer", words.file, "--program", words.program]
-    campaign = [*tool, "--traces", str(words.traces), "--call", str(words.call)]
+    hammer = [*tool("campaign"), "hammer", words.file, "--program", words.program]
+    campaign = [*hammer, "--traces", str(words.traces), "--call", str(words.call)]
     one = [words.program, "hammer", words.file, "1", str(min(words.traces, 10000))]
     places = sorted(os.sched_getaffinity(0))
     counts = range(1, len(places) + 1)
@@ -46,7 +45,7 @@ def main():
     for count in counts:
         figures = [(min(found[count, name]), min(found[1, name]) / min(found[count, name])) for name in ("campaign", "one")]
         print(f"| {count} | " + " | ".join(f"{took:.1f} | {fast:.2f}" for took, fast in figures) + " |")
-    print(f"a campaign of one trace: {seconds(places, [*tool, '--traces', '1']):.1f} s; load after it: {os.getloadavg()[0]:.1f}")
+    print(f"a campaign of one trace: {seconds(places, [*hammer, '--traces', '1']):.1f} s; load after it: {os.getloadavg()[0]:.1f}")
 
 
 main()

@@ -10,6 +10,7 @@ from __future__ import annotations
 
 import argparse
 import os
+import shutil
 import statistics
 import subprocess
 import sys
@@ -44,6 +45,8 @@ class Way:
         )
         _, status, used = os.wait4(it.pid, 0)
         it.returncode = os.waitstatus_to_exitcode(status)
+        if it.returncode >= 70:
+            sys.exit(f"{self.words[0]} ended with {it.returncode}")
         self.times.append(time.perf_counter() - start)
         self.worked.append(used.ru_utime + used.ru_stime)
 
@@ -59,11 +62,14 @@ class Way:
 
 def earlier(folder: str, revision: str) -> str:
     """The script as it was, above the same crates."""
-    for name in ("crates", "crates.txt", "docs"):
+    for name in ("crates", "docs"):
         os.symlink(os.path.join(TOP, name), os.path.join(folder, name))
-    archive = subprocess.run(
-        ["git", "-C", TOP, "archive", revision, "lokwurmi", "tools"], stdout=subprocess.PIPE, check=True
-    )
+    # with its time, so that it isn't newer than the program
+    shutil.copy2(os.path.join(TOP, "crates.txt"), folder)
+    git = ["git", "-C", TOP]
+    there = subprocess.run([*git, "ls-tree", "--name-only", revision], capture_output=True, text=True, check=True).stdout.split()
+    parts = [it for it in ("lokwurmi", "tools", "python") if it in there]
+    archive = subprocess.run([*git, "archive", revision, *parts], stdout=subprocess.PIPE, check=True)
     subprocess.run(["tar", "-x", "-C", folder], input=archive.stdout, check=True)
     return os.path.join(folder, "lokwurmi")
 
@@ -86,7 +92,10 @@ def ways_in(folder: str, revision: str | None) -> list[Way]:
     ways.append(Way("lokwurmi, with a notice", [launcher, "analyse", written(folder, "unused.toml", UNUSED)]))
     ways.append(Way("lokwurmi, with a refusal", [launcher, "analyse", written(folder, "refused.toml", REFUSED)]))
     if revision:
-        ways.append(Way(f"lokwurmi of {revision}", [earlier(folder, revision), "analyse", file]))
+        # without a toolchain, so that it never builds
+        path = [it for it in os.environ["PATH"].split(os.pathsep) if not os.path.exists(os.path.join(it, "rt"))]
+        words = [earlier(folder, revision), "analyse", file]
+        ways.append(Way(f"lokwurmi of {revision}", words, {"PATH": os.pathsep.join(path)}))
     return ways
 
 

@@ -1,14 +1,16 @@
 #!/usr/bin/env bash
 # Analyses each system of this folder, replays each trace, audits and writes each schedule and takes each script beside one,
 # makes and hammers systems, looks for priority orders, room to grow, jobs that wait and chains, and compares what is printed with what
-# stands beside it. It ends with 1 where something differs.
+# stands beside it. It ends with 1 where something differs. A word names another lokwurmi than the one above this folder.
+program=../lokwurmi
+[ -z "${1-}" ] || program=$(realpath "$(command -v -- "$1")") || exit 1
 cd "$(dirname "$0")" || exit 1
 status=0
 # tell WHAT TEXT WORD..: the command with these words writes the text
 tell() {
   local what=$1 text=$2
   shift 2
-  if ../lokwurmi "$@" | cmp -s - "$text"; then
+  if "$program" "$@" | cmp -s - "$text"; then
     echo "$what: as told"
   else
     echo "$what: another text"

@@ -7,7 +7,10 @@ from lokwurmi import Kind, System
 def random_system(draw: Random, faulty: float = 0.1) -> System:
     """A system of up to 6 resources and 14 tasks; of so many a part is made wrong at one place."""
     system = System()
-    resources = [system.resource(f"r{k}", draw.choice(list(Kind)), limit=draw.choice([None, None, 5000])) for k in range(draw.randint(1, 6))]
+    resources = [
+        system.resource(f"r{k}", draw.choice(list(Kind)), limit=draw.choice([None, None, 5000]))
+        for k in range(draw.randint(1, 6))
+    ]
     for it in resources:
         if it.kind == Kind.TDMA and draw.random() < 0.5:
             it.gap = draw.randint(0, 20)
@@ -15,13 +18,20 @@ def random_system(draw: Random, faulty: float = 0.1) -> System:
             it.bit = draw.randint(1, 2)
     for k in range(draw.randint(1, 5)):
         period = draw.choice([50, 100, 200, 250, 500, 1000])
-        system.source(f"s{k}", period, jitter=draw.choice([None, 0, draw.randint(0, 2 * period)]), distance=draw.choice([None, draw.randint(0, period // 2)]))
+        system.source(
+            f"s{k}",
+            period,
+            jitter=draw.choice([None, 0, draw.randint(0, 2 * period)]),
+            distance=draw.choice([None, draw.randint(0, period // 2)]),
+        )
     priorities = list(range(40))
     draw.shuffle(priorities)
     for k in range(draw.randint(0, 14)):
         on = draw.choice(resources)
         before = [*system.sources, *system.tasks]
-        after = draw.choice(before) if draw.random() < 0.8 else draw.sample(before, min(len(before), draw.randint(1, 3)))
+        after = (
+            draw.choice(before) if draw.random() < 0.8 else draw.sample(before, min(len(before), draw.randint(1, 3)))
+        )
         task = system.task(f"t{k}", on=on, after=after)
         if on.kind == Kind.CAN and draw.random() < 0.7:
             task.payload = draw.randint(0, 8)
@@ -37,16 +47,57 @@ def random_system(draw: Random, faulty: float = 0.1) -> System:
         if system.tasks:
             chain = [draw.choice(list(system.tasks))]
             while True:
-                behind = [it.name for it in system.tasks.values() if chain[-1] in (it.after if isinstance(it.after, list) else [it.after])]
+                behind = [
+                    it.name
+                    for it in system.tasks.values()
+                    if chain[-1] in (it.after if isinstance(it.after, list) else [it.after])
+                ]
                 if not behind or draw.random() < 0.2:
                     break
                 chain.append(draw.choice(behind))
             system.path(f"p{k}", chain, deadline=draw.choice([None, draw.randint(1, 500)]))
     if system.tasks and draw.random() < faulty:
         task = draw.choice(list(system.tasks.values()))
-        name, value = draw.choice([
-            ("best", 0), ("worst", 1_000_001), ("on", "nowhere"), ("after", "nothing"), ("after", []), ("priority", -1), ("slot", 0), ("payload", 9), ("name", "a b"),
-            ("after", task.name), ("best", "1"), ("worst", 1.5), ("name", "s0"), ("extended", True), ("priority", None), ("name", "\u00e4\x7f\t\"\\"),
-        ])
+        name, value = draw.choice(
+            [
+                ("best", 0),
+                ("worst", 1_000_001),
+                ("on", "nowhere"),
+                ("after", "nothing"),
+                ("after", []),
+                ("priority", -1),
+                ("slot", 0),
+                ("payload", 9),
+                ("name", "a b"),
+                ("after", task.name),
+                ("best", "1"),
+                ("worst", 1.5),
+                ("name", "s0"),
+                ("extended", True),
+                ("priority", None),
+                ("name", "\u00e4\x7f\t\"\\"),
+            ]
+        )
         setattr(task, name, value)
     return system
+
+
+def random_edit(draw: Random, system: System) -> str:
+    """A line of a script for a system, which may break a rule."""
+    tasks = list(system.tasks) or ["t0"]
+    one, other = draw.choice(tasks), draw.choice([*tasks, "nobody"])
+    source = draw.choice(list(system.sources))
+    period = draw.choice([100, 200, 500])
+    low = draw.randint(1, 10)
+    return draw.choice(
+        [
+            f"exec {other} {low} {low + draw.randint(-1, 20)}",
+            f"priority {one} {draw.randint(0, 60)}",
+            f"swap {one} {other}",
+            f"slot {one} {draw.randint(0, 20)}",
+            f"source {source} {period} {draw.randint(0, 300)} {draw.randint(0, 100)}",
+            f"add n{draw.randint(0, 3)} {draw.choice(list(system.resources))} {draw.choice([source, one])} {low} 13"
+            f" {draw.randint(1, 60)}",
+            f"remove {one}",
+        ]
+    )

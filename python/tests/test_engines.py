@@ -21,7 +21,7 @@ def engines():
 
 
 class LikeTheProgram(unittest.TestCase):
-    def setUp(self):
+    def setUp(self) -> None:
         self.library, self.program = engines()
 
     def compare(self, command, files, words=()):
@@ -30,7 +30,7 @@ class LikeTheProgram(unittest.TestCase):
         self.assertEqual(here, there, (command, files, words))
         return here
 
-    def test_examples(self):
+    def test_examples(self) -> None:
         for file in sorted(EXAMPLES.glob("*.toml")):
             if file.name.endswith(".chains.toml"):
                 # chains are no system, and neither engine has a call for them
@@ -52,7 +52,7 @@ class LikeTheProgram(unittest.TestCase):
                 for name in list(system.tasks)[:3]:
                     self.compare("slack", [text], (name,))
 
-    def test_random_systems(self):
+    def test_random_systems(self) -> None:
         draw = Random(1)
         seen: dict[int, int] = {}
         for number in range(int(os.environ.get("LOKWURMI_SYSTEMS", "60"))):
@@ -73,30 +73,48 @@ class LikeTheProgram(unittest.TestCase):
                     self.compare("buffers", [text, trace.encode()])
         print(f"random systems by status: {dict(sorted(seen.items()))}")
 
-    def test_refusals(self):
+    def test_refusals(self) -> None:
         good = (EXAMPLES / "two_tasks.toml").read_bytes()
         long = b"#" * 1_048_577
         for command, files, words in (
-            ("analyse", [b""], ()), ("analyse", [b"x = ["], ()), ("analyse", [long], ()), ("analyse", [b"\xff"], ()), ("analyse", [b"\0"], ()),
-            ("session", [good, b"exec b 2"], ()), ("session", [good, long], ()), ("session", [good, b"report\n" * 10_001], ()),
-            ("simulate", [good, b"event,sa,5\nevent,sa,4\n"], ()), ("simulate", [good, b"event,sa,5\nevent,sa,6\n"], ()), ("simulate", [good, b"event,zz,5\n"], ()),
-            ("audit", [good, b"", b"a,5,3\n"], ()), ("audit", [good, b"", b""], ()), ("assign", [good], ("zz",)), ("slack", [good], ("zz",)),
-            ("hammer", [good], (0, 0)), ("hammer", [good], (2**32, 1)), ("hammer", [good], (0, 10_001)), ("generate", [], (2**40, 1)), ("generate", [], (1, 129)),
-            ("generate", [], (-1, 1)), ("generate", [], (2**70, 1)), ("generate", [], (1, 0)), ("generate", [], (4_294_967_295, 128)),
+            ("analyse", [b""], ()),
+            ("analyse", [b"x = ["], ()),
+            ("analyse", [long], ()),
+            ("analyse", [b"\xff"], ()),
+            ("analyse", [b"\0"], ()),
+            ("session", [good, b"exec b 2"], ()),
+            ("session", [good, long], ()),
+            ("session", [good, b"report\n" * 10_001], ()),
+            ("simulate", [good, b"event,sa,5\nevent,sa,4\n"], ()),
+            ("simulate", [good, b"event,sa,5\nevent,sa,6\n"], ()),
+            ("simulate", [good, b"event,zz,5\n"], ()),
+            ("audit", [good, b"", b"a,5,3\n"], ()),
+            ("audit", [good, b"", b""], ()),
+            ("assign", [good], ("zz",)),
+            ("slack", [good], ("zz",)),
+            ("hammer", [good], (0, 0)),
+            ("hammer", [good], (2**32, 1)),
+            ("hammer", [good], (0, 10_001)),
+            ("generate", [], (2**40, 1)),
+            ("generate", [], (1, 129)),
+            ("generate", [], (-1, 1)),
+            ("generate", [], (2**70, 1)),
+            ("generate", [], (1, 0)),
+            ("generate", [], (4_294_967_295, 128)),
         ):
             with self.subTest((command, words)):
                 status, text = self.library.call(command, files, words)
                 expected, line = self.program.call(command, files, words)
                 self.assertEqual((status, text), (expected, line))
 
-    def test_long_texts(self):
+    def test_long_texts(self) -> None:
         """A text longer than the buffer at first is given whole."""
         text = self.library.call("generate", [], (3, 128))[1].encode()
         script = "report\n" * 20
         status, reports = self.compare("session", [text, script.encode()])
         self.assertGreater(len(reports), 500_000)
 
-    def test_threads(self):
+    def test_threads(self) -> None:
         """Many threads at a time get what one gets."""
         texts = [random_system(Random(k), 0).to_toml().encode() for k in range(40)]
         alone = [self.library.call("analyse", [it]) for it in texts]
@@ -105,10 +123,10 @@ class LikeTheProgram(unittest.TestCase):
 
 
 class Choice(unittest.TestCase):
-    def tearDown(self):
+    def tearDown(self) -> None:
         lokwurmi.use(None)
 
-    def test_use(self):
+    def test_use(self) -> None:
         class Fake:
             def call(self, command, files, words=()):
                 return 0, "summary tasks 0 overload 0 missed 0\n"
@@ -116,7 +134,7 @@ class Choice(unittest.TestCase):
         lokwurmi.use(Fake())
         self.assertEqual(dict(System().analyse().tasks), {})
 
-    def test_no_library(self):
+    def test_no_library(self) -> None:
         with self.assertRaises(NoEngine):
             Library("/nowhere/liblokwurmi.so")
         with self.assertRaises(NoEngine):

@@ -4,11 +4,28 @@ import io
 import pickle
 import re
 import unittest
+import warnings
 from pathlib import Path
 from random import Random
 
-from lokwurmi import (Kind, NameRefused, NoEngine, NotToml, ScriptRefused, System, SystemRefused, TraceDisobeys, TraceRefused, Verdict, WordsRefused,
-                      default_engine, errors, made_system)
+from engine_for_tests import need_engine
+from lokwurmi import (
+    Kind,
+    RoundingWarning,
+    NameRefused,
+    NoEngine,
+    NotToml,
+    ScriptRefused,
+    System,
+    SystemRefused,
+    TraceDisobeys,
+    TraceRefused,
+    Verdict,
+    WordsRefused,
+    default_engine,
+    errors,
+    made_system,
+)
 from lokwurmi.errors import LokwurmiError
 from made import random_system
 
@@ -29,47 +46,75 @@ def two_tasks() -> System:
 
 
 class Calls(unittest.TestCase):
-    def setUp(self):
+    def setUp(self) -> None:
         try:
             default_engine()
         except NoEngine as fault:
             raise unittest.SkipTest(str(fault))
 
-    def test_analyse(self):
+    def test_analyse(self) -> None:
         report = two_tasks().analyse()
         self.assertEqual([it.worst for it in report.tasks.values()], [3, 10])
-        self.assertEqual((report.tasks["b"].period, report.tasks["b"].jitter, report.tasks["b"].on, report.tasks["b"].best), (20, 0, "cpu", 2))
+        self.assertEqual(
+            (report.tasks["b"].period, report.tasks["b"].jitter, report.tasks["b"].on, report.tasks["b"].best),
+            (20, 0, "cpu", 2),
+        )
         self.assertEqual([it.verdict for it in report.paths.values()], [Verdict.MET, Verdict.MISSED])
         self.assertEqual((report.paths["pb"].slack, report.paths["pa"].slack), (-1, 0))
         self.assertEqual((report.verdict, report.missed, report.overloads, report.ok), (Verdict.MISSED, 1, 0, False))
 
-    def test_overload(self):
+    def test_overload(self) -> None:
         system = two_tasks()
         system.tasks["b"].worst = 20
         report = system.analyse()
         self.assertIsNone(report.tasks["b"].worst)
         self.assertTrue(report.tasks["b"].overload)
-        self.assertEqual((report.verdict, report.paths["pb"].verdict, report.paths["pb"].slack), (Verdict.OVERLOAD, Verdict.UNKNOWN, None))
+        self.assertEqual(
+            (report.verdict, report.paths["pb"].verdict, report.paths["pb"].slack),
+            (Verdict.OVERLOAD, Verdict.UNKNOWN, None),
+        )
 
-    def test_pages(self):
-        """The scripts of the pages run, and that of a pyCPA model builds the example's file."""
-        for page in ("docs/COMING_FROM.md", "docs/LIBRARY.md"):
-            for script in re.findall(r"```python\n(.*?)```", (TOP / page).read_text(encoding="utf-8"), re.S):
-                if "lokwurmi" in script:
-                    seen: dict = {}
-                    with contextlib.redirect_stdout(io.StringIO()):
-                        exec(script, seen)  # the repository's own page
-                    if "s" in seen:
-                        self.assertEqual(seen["s"], System.from_file(EXAMPLES / "pycpa_first.toml"))
-                        self.assertEqual(list(seen["bounds"].values()), [10, 13, 2, 19])
+    def follow(self, page):
+        """Runs the scripts of a page one after the other; what stands below one is what it prints."""
+        seen: dict = {}
+        text = (TOP / page).read_text(encoding="utf-8")
+        block = r"^```python\n(.*?)^```\n(?:\n(?:</td></tr>\n</table>\n\n)?```\n(.*?)^```)?"
+        for script, told in re.findall(block, text, re.S | re.M):
+            # what calls modules of pyCPA isn't for here
+            if "model." in script:
+                continue
+            printed = io.StringIO()
+            with contextlib.redirect_stdout(printed), contextlib.chdir(TOP):
+                exec(script, seen)  # the repository's own page
+            if told and not told.startswith("$ "):
+                self.assertEqual(printed.getvalue(), told, script)
+        return seen
 
-    def test_processes(self):
+    def test_pages(self) -> None:
+        """The scripts of the pages run and print what they show; that of a pyCPA model builds the example's file."""
+        with warnings.catch_warnings():
+            warnings.simplefilter("ignore", RoundingWarning)
+            for page in ("docs/LIBRARY.md", "docs/PYTHON.md", "python/README.md", "docs/COMING_FROM.md"):
+                with self.subTest(page):
+                    need_engine("chain")
+                    seen = self.follow(page)
+        self.assertEqual(seen["s"], System.from_file(EXAMPLES / "pycpa_first.toml"))
+        self.assertEqual(list(seen["bounds"].values()), [10, 13, 2, 19])
+
+    def test_processes(self) -> None:
         """Systems and what comes of them may be sent to other processes."""
         system = two_tasks()
-        for it in (system, *system.session("exec zz 1 1\n"), system.slack("a"), system.simulate("event,sa,0\n"), system.buffers(""), system.hammer(1, 1)):
+        for it in (
+            system,
+            *system.session("exec zz 1 1\n"),
+            system.slack("a"),
+            system.simulate("event,sa,0\n"),
+            system.buffers(""),
+            system.hammer(1, 1),
+        ):
             self.assertEqual(pickle.loads(pickle.dumps(it)), it)
 
-    def test_loop(self):
+    def test_loop(self) -> None:
         system = two_tasks()
         bounds = []
         for worst in range(2, 8):
@@ -77,18 +122,18 @@ class Calls(unittest.TestCase):
             bounds.append(system.analyse().tasks["b"].worst)
         self.assertEqual(bounds, [5, 6, 7, 8, 9, 10])
 
-    def test_several_activators(self):
+    def test_several_activators(self) -> None:
         system = System.from_file(EXAMPLES / "two_activators.toml")
         self.assertEqual(system.tasks["m"].after, ["sa", "sb"])
         report = system.analyse()
         self.assertEqual((report.tasks["m"].streams, report.tasks["m"].period, report.tasks["m"].worst), (2, None, 6))
 
-    def test_session(self):
+    def test_session(self) -> None:
         reports = two_tasks().session(["exec b 2 6", "report", "exec zz 1 1", "exec b 9 2", "exec b 2 5"])
         self.assertEqual([it.tasks["b"].worst for it in reports], [9, 8])
         self.assertEqual([dict(it.refused) for it in reports], [{}, {3: 1, 4: 5}])
 
-    def test_other_calls(self):
+    def test_other_calls(self) -> None:
         system = two_tasks()
         self.assertEqual(system.slack("b").ticks, None)
         system.paths["pb"].deadline = 10
@@ -105,7 +150,7 @@ class Calls(unittest.TestCase):
         self.assertEqual(system.hammer(1, 2).beyond, 0)
         self.assertEqual(len(made_system(42, 2).tasks), 6)
 
-    def test_refusals(self):
+    def test_refusals(self) -> None:
         system = two_tasks()
         with self.assertRaisesRegex(WordsRefused, "out of its range"):
             system.hammer(1, 0)
@@ -120,9 +165,18 @@ class Calls(unittest.TestCase):
         system.tasks["b"].priority = 1
         with self.assertRaisesRegex(SystemRefused, "task 'b': a priority twice") as caught:
             system.analyse()
-        self.assertEqual((caught.exception.status, caught.exception.reason, caught.exception.part, caught.exception.place, caught.exception.name), (14, 8, "task", 2, "b"))
+        self.assertEqual(
+            (
+                caught.exception.status,
+                caught.exception.reason,
+                caught.exception.part,
+                caught.exception.place,
+                caught.exception.name,
+            ),
+            (14, 8, "task", 2, "b"),
+        )
 
-    def test_each_reason(self):
+    def test_each_reason(self) -> None:
         """Each example of docs/FILES.md is refused by its reason."""
         text = (TOP / "docs/FILES.md").read_text(encoding="utf-8")
         engine = default_engine()
@@ -137,7 +191,7 @@ class Calls(unittest.TestCase):
 
 
 class Files(unittest.TestCase):
-    def test_round_trip(self):
+    def test_round_trip(self) -> None:
         for number in range(200):
             system = random_system(Random(number), 0)
             self.assertEqual(System.from_toml(system.to_toml()), system)
@@ -147,38 +201,57 @@ class Files(unittest.TestCase):
             system = System.from_file(file)
             self.assertEqual(System.from_toml(system.to_toml()), system)
 
-    def test_copy(self):
+    def test_copy(self) -> None:
         system = two_tasks()
         other = system.copy()
         other.tasks["a"].worst = 2
         self.assertEqual(system.tasks["a"].worst, 3)
         self.assertNotEqual(system, other)
 
-    def test_unknown_keys(self):
-        for text in ("format = 1\ntasks = []", "format = 3", "x = [", "format = 1\ntask = [{ name = 'a', colour = 1 }]", "format = 1\nsource = [{ name = 's', period = 1 }, { name = 's', period = 2 }]"):
+    def test_unknown_keys(self) -> None:
+        for text in (
+            "format = 1\ntasks = []",
+            "format = 3",
+            "x = [",
+            "format = 1\ntask = [{ name = 'a', colour = 1 }]",
+            "format = 1\nsource = [{ name = 's', period = 1 }, { name = 's', period = 2 }]",
+        ):
             with self.assertRaises(LokwurmiError):
                 System.from_toml(text)
 
-    def test_names_twice(self):
+    def test_names_twice(self) -> None:
         system = two_tasks()
         with self.assertRaises(ValueError):
             system.source("sa", 5)
 
-    def test_kinds(self):
+    def test_kinds(self) -> None:
         system = System()
-        self.assertEqual([it.kind for it in (system.preemptive("a"), system.round_robin("b"), system.tdma("c", gap=3), system.can("d", bit=2))], [str(it) for it in Kind])
+        self.assertEqual(
+            [
+                it.kind
+                for it in (
+                    system.preemptive("a"),
+                    system.round_robin("b"),
+                    system.tdma("c", gap=3),
+                    system.can("d", bit=2),
+                )
+            ],
+            [str(it) for it in Kind],
+        )
 
 
 class Words(unittest.TestCase):
-    def test_reasons_are_those_of_the_page(self):
+    def test_reasons_are_those_of_the_page(self) -> None:
         text = (TOP / "docs/FILES.md").read_text(encoding="utf-8")
-        self.assertEqual({int(number): words for number, words in re.findall(r"^### (\d+): (.+)$", text, re.M)}, errors.REASONS)
+        self.assertEqual(
+            {int(number): words for number, words in re.findall(r"^### (\d+): (.+)$", text, re.M)}, errors.REASONS
+        )
         self.assertEqual(set(errors.HELP), set(errors.REASONS))
-        section = text[text.index("### Edits that are refused"):].split("\n## ")[0]
+        section = text[text.index("### Edits that are refused") :].split("\n## ")[0]
         rules = re.findall(r"^\| (\d) \| ", section, re.M)
         self.assertEqual([int(it) for it in rules], list(errors.RULES))
 
-    def test_not_toml(self):
+    def test_not_toml(self) -> None:
         self.assertIsInstance(errors.refusal(13, "not TOML system\n"), NotToml)
 
 

@@ -1,35 +1,6 @@
 //! Analyses a system of tasks and prints a bound for each, or replays a trace of it and prints what is observed.
 #![tactic(auto)]
 
-#[cfg(test)]
-mod anew;
-#[cfg(test)]
-mod audits;
-#[cfg(test)]
-mod calls;
-#[cfg(test)]
-mod car;
-#[cfg(test)]
-mod cases;
-#[cfg(test)]
-mod gates;
-#[cfg(test)]
-mod hostile;
-#[cfg(test)]
-mod made;
-#[cfg(test)]
-mod orders;
-#[cfg(test)]
-mod rounds;
-#[cfg(test)]
-mod runs;
-#[cfg(test)]
-mod sessions;
-#[cfg(test)]
-mod tests;
-#[cfg(test)]
-mod waiting;
-
 use cpa_io::{RealFiles, RealSink};
 use std::alloc::Global;
 use std::process::ExitCode;

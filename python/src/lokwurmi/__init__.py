@@ -1,27 +1,38 @@
 """Builds systems of tasks, and has them analysed by Lokwurmi, in this process or by its program.
 
-All times are in ticks; a tick is whatever you take it for. A small example::
+All times are in ticks; a tick is whatever you take it for, and `System(tick="1us")` has times with units. An example:
 
-    from lokwurmi import System
+    >>> from lokwurmi import System
+    >>> system = System()
+    >>> cpu = system.preemptive("cpu")
+    >>> often = system.source("often", period=10)
+    >>> seldom = system.source("seldom", period=20)
+    >>> a = system.task("a", on=cpu, after=often, best=1, worst=3, priority=1)
+    >>> b = system.task("b", on=cpu, after=seldom, best=2, worst=7, priority=2)
+    >>> report = system.analyse()
+    >>> report.tasks["b"].worst
+    10
 
-    system = System()
-    cpu = system.preemptive("cpu")
-    often = system.source("often", period=10)
-    seldom = system.source("seldom", period=20)
-    system.task("a", on=cpu, after=often, best=1, worst=3, priority=1)
-    system.task("b", on=cpu, after=seldom, best=2, worst=7, priority=2)
-    report = system.analyse()
-    assert report.tasks["b"].worst == 10
+The bounds are those of the proved analysis. This package itself is not proved. docs/PYTHON.md has more.
 """
+from .chains import Chain, ChainReport, ChainsReport, JudgedChain, Step
 from .engines import Engine, Library, Program, default_engine, use
-from .errors import (CallFailed, FileTooLong, LokwurmiError, NameRefused, NoEngine, NotToml, ScheduleRefused, ScriptRefused, SystemRefused,
-                     TraceDisobeys, TraceRefused, Unreadable, WordsRefused)
-from .model import Kind, Path, Resource, Source, System, Task, made_system
-from .reports import Buffers, Hammered, PathReport, Report, Run, Segment, SeenPath, SeenTask, Slack, TaskReport, Verdict
+from .entries import Kind, Path, Resource, Source, Task
+from .errors import (CallFailed, ChainsRefused, EditRefused, FileTooLong, LokwurmiError, NameRefused, NoEngine,
+                     NotInstalled, NotToml, NoTick, ScheduleRefused, ScriptRefused, SessionClosed, SystemRefused,
+                     TraceDisobeys, TraceRefused, UnitsRefused, Unreadable, WordsRefused)
+from .live import Session
+from .model import System, generated_system, made_system
+from .reports import (Buffers, Hammered, Order, PathReport, Report, Run, Schedule, SeenPath, SeenTask, Segment, Slack,
+                      TaskReport, Verdict)
+from .units import Rounding, RoundingWarning, Time, ms, ns, s, us
 
 __all__ = [
-    "Buffers", "CallFailed", "Engine", "FileTooLong", "Hammered", "Kind", "Library", "LokwurmiError", "NameRefused", "NoEngine", "NotToml", "Path",
-    "PathReport", "Program", "Report", "Resource", "Run", "ScheduleRefused", "ScriptRefused", "SeenPath", "SeenTask", "Segment", "Slack", "Source",
-    "System", "SystemRefused", "Task", "TaskReport", "TraceDisobeys", "TraceRefused", "Unreadable", "Verdict", "WordsRefused", "default_engine",
-    "made_system", "use",
+    "Buffers", "CallFailed", "Chain", "ChainReport", "ChainsRefused", "ChainsReport", "EditRefused", "Engine",
+    "FileTooLong", "Hammered", "JudgedChain", "Kind", "Library", "LokwurmiError", "NameRefused", "NoEngine", "NoTick",
+    "NotInstalled", "NotToml", "Order", "Path", "PathReport", "Program", "Report", "Resource", "Rounding",
+    "RoundingWarning", "Run", "Schedule", "ScheduleRefused", "ScriptRefused", "SeenPath", "SeenTask", "Segment",
+    "Session", "SessionClosed", "Slack", "Source", "Step", "System", "SystemRefused", "Task", "TaskReport", "Time",
+    "TraceDisobeys", "TraceRefused", "UnitsRefused", "Unreadable", "Verdict", "WordsRefused", "default_engine",
+    "generated_system", "made_system", "ms", "ns", "s", "us", "use",
 ]

@@ -3,9 +3,10 @@ import re
 
 # the reasons for which a file is no system: docs/FILES.md, "Refusals", whose headings these are
 REASONS = {
-    13: "another format", 1: "the form", 2: "a number out of its range", 3: "a name of another form", 4: "a name twice", 5: "a name of nothing",
-    6: "no source at the beginning", 7: "a chain too long", 8: "a priority twice", 9: "what doesn't fit the kind", 10: "best above worst",
-    11: "a path that isn't linked", 12: "too many entries", 14: "no activator, or too many",
+    13: "another format", 1: "the form", 2: "a number out of its range", 3: "a name of another form", 4: "a name twice",
+    5: "a name of nothing", 6: "no source at the beginning", 7: "a chain too long", 8: "a priority twice",
+    9: "what doesn't fit the kind", 10: "best above worst", 11: "a path that isn't linked", 12: "too many entries",
+    14: "no activator, or too many",
 }
 
 # what may be wrong there, in a sentence
@@ -28,10 +29,18 @@ HELP = {
 
 # the rules that an edit may break: docs/FILES.md, "Edits that are refused"
 RULES = {
-    1: "a name names nothing, or no such thing as is wanted", 2: "the kind of the resource has no such number", 3: "a number is out of its range",
-    4: "another task of the resource has the priority", 5: "the least execution is above the greatest",
-    6: "the task is among another's activators, or a path names it", 7: "a source or a task has the name already", 8: "there are 512 tasks",
+    1: "a name names nothing, or no such thing as is wanted", 2: "the kind of the resource has no such number",
+    3: "a number is out of its range", 4: "another task of the resource has the priority",
+    5: "the least execution is above the greatest", 6: "the task is among another's activators, or a path names it",
+    7: "a source or a task has the name already", 8: "there are 512 tasks",
     9: "the chain would have more than 32 tasks",
+}
+
+# why a file of chains is refused: docs/FILES.md, "Why a file of chains is refused"
+CHAIN_REASONS = {
+    13: "another format", 1: "the form: the keys are name, tasks, reaction and age",
+    2: "a deadline is out of its range, which is 1 to 1,000,000,000 ticks", 3: "a name of another form",
+    4: "a name twice", 5: "a name of no task", 11: "there is no task, or more than 32", 12: "more than 128 chains",
 }
 
 
@@ -40,7 +49,32 @@ class LokwurmiError(Exception):
 
 
 class NoEngine(LokwurmiError):
-    """There is neither a library nor a program."""
+    """There is neither a library nor a program, or it hasn't the command."""
+
+
+class NotInstalled(LokwurmiError, ImportError):
+    """A package that draws or makes tables isn't there."""
+
+    def __init__(self, module: str, package: str):
+        super().__init__(
+            f"this needs {module}: on Debian and Ubuntu `apt-get install {package}`, elsewhere"
+            f" `python3 -m pip install {module}`"
+        )
+
+
+class UnitsRefused(LokwurmiError, ValueError):
+    """A time or a unit can't be taken: it has another form, no safe side, or too many ticks."""
+
+
+class NoTick(UnitsRefused):
+    """A time with a unit was given or asked for, and there is no tick."""
+
+    def __init__(self, what: str):
+        super().__init__(f"{what}: there is no tick to count in: give the system one, as System(tick='1us')")
+
+
+class SessionClosed(LokwurmiError):
+    """A session was used after its end."""
 
 
 class Unreadable(LokwurmiError):
@@ -48,13 +82,17 @@ class Unreadable(LokwurmiError):
 
 
 class CallFailed(LokwurmiError):
-    """A call that ended by itself in no answer: want of memory (30), a fault of a file (11, 20), or a signal (below 0)."""
+    """A call that ended in no answer: out of memory (30), a fault of a file (11, 20), or a signal (below 0)."""
 
     def __init__(self, status: int, text: str = ""):
         self.status = status
         self.text = text
-        what = {30: "want of memory", 11: "a file couldn't be read", 20: "the output couldn't be written", 70: "the program couldn't be built"}
-        super().__init__(f"status {status}: {what.get(status, 'the call was ended')}{': ' + text.strip() if text.strip() else ''}")
+        what = {
+            30: "out of memory", 11: "a file couldn't be read", 20: "the output couldn't be written",
+            70: "the program couldn't be built",
+        }
+        told = f": {text.strip()}" if text.strip() else ""
+        super().__init__(f"status {status}: {what.get(status, 'the call was ended')}{told}")
 
 
 class Refused(LokwurmiError):
@@ -81,8 +119,8 @@ class NotToml(Refused):
 class SystemRefused(Refused):
     """The file is TOML and no system.
 
-    `reason` is the number of the reason, `part` is `resource`, `source`, `task`, `path` or `file`, `place` the place of the entry in its list,
-    from 1, and `name` the entry's name, where the system was built here.
+    `reason` is the number of the reason, `part` is `resource`, `source`, `task`, `path` or `file`, `place` the place of
+    the entry in its list, from 1, and `name` the entry's name, where the system was built here.
     """
 
     def __init__(self, status: int, text: str, reason: int, part: str, place: int, name: str | None = None):
@@ -96,11 +134,28 @@ class ScriptRefused(Refused):
 
     def __init__(self, status: int, text: str, line: int | None):
         self.line = line
-        super().__init__(status, text, "the script has more than 10,000 lines" if line is None else f"line {line} of the script has none of the forms of docs/FILES.md")
+        many = "the script has more than 10,000 lines"
+        if text == "script refused no edit\n":
+            many = "the text isn't one edit: write one line, as exec b 2 8"
+        form = f"line {line} of the script has none of the forms of docs/FILES.md"
+        super().__init__(status, text, many if line is None else form)
+
+
+class EditRefused(Refused):
+    """An edit of a session can't be made, and nothing was changed. `rule` is the rule that it breaks (RULES), `edit`
+    its line."""
+
+    def __init__(self, edit: str, rule: int):
+        self.edit, self.rule = edit, rule
+        super().__init__(0, f"line 1 refused {rule}\n", f"{edit}: {RULES[rule]} (rule {rule})")
+
+    def __reduce__(self) -> tuple[type, tuple[str, int]]:
+        return EditRefused, (self.edit, self.rule)
 
 
 class TraceRefused(Refused):
-    """The trace is malformed: `row`, from 1, and `why`, which is `malformed`, `name` or `range`; or there are too many rows or jobs."""
+    """The trace is malformed: `row`, from 1, and `why`, which is `malformed`, `name` or `range`; or there are too many
+    rows or jobs."""
 
     def __init__(self, status: int, text: str, row: int | None, why: str):
         self.row, self.why = row, why
@@ -115,7 +170,8 @@ class TraceDisobeys(Refused):
 
 
 class NameRefused(Refused):
-    """The resource of an order, or the task whose slack is asked for, can't be taken; `reason` is the number in the line."""
+    """The resource of an order, the task whose slack is asked for, or one of a chain can't be taken; `reason` is the
+    number in the line."""
 
     WORDS = {
         ("assign", 1): "no resource has the name", ("assign", 2): "its tasks have slots, and no priorities",
@@ -124,11 +180,23 @@ class NameRefused(Refused):
 
     def __init__(self, status: int, text: str, command: str, reason: int):
         self.reason = reason
-        super().__init__(status, text, self.WORDS[command, reason])
+        chain = f"no task has the name in place {reason} of the chain"
+        super().__init__(status, text, chain if command == "chain" else self.WORDS[command, reason])
+
+
+class ChainsRefused(Refused):
+    """The chains aren't accepted: `reason` is the number in the line, `place` that of the chain, from 1, or 0 for all
+    of them, and `name` its name, where it is known."""
+
+    def __init__(self, status: int, text: str, reason: int, place: int, name: str | None = None):
+        self.reason, self.place, self.name = reason, place, name
+        where = f"chain {name!r}" if name is not None else f"chain {place}" if place else "the file of chains"
+        super().__init__(status, text, f"{where}: {CHAIN_REASONS[reason]} (reason {reason})")
 
 
 class ScheduleRefused(Refused):
-    """The schedule is malformed: `row`, from 1, and `why`, which is `malformed`, `name` or `range`; or there are too many rows."""
+    """The schedule is malformed: `row`, from 1, and `why`, which is `malformed`, `name` or `range`; or there are too
+    many rows."""
 
     def __init__(self, status: int, text: str, row: int | None, why: str):
         self.row, self.why = row, why
@@ -136,27 +204,38 @@ class ScheduleRefused(Refused):
 
 
 _SYSTEM = re.compile(r"system refused reason (\d+) (\w+) (\d+)\n")
-_SCRIPT = re.compile(r"script refused (?:line (\d+)|too many lines)\n")
+_SCRIPT = re.compile(r"script refused (?:line (\d+)|too many lines|no edit)\n")
 _ROW = re.compile(r"(?:trace|schedule) refused (?:row (\d+) (\w+)|(too many))\n")
-_NAME = re.compile(r"(assign|slack) refused (\d)\n")
+_NAME = re.compile(r"(assign|slack|chain) refused (\d+)\n")
+_CHAINS = re.compile(r"chains refused reason (\d+) (?:chain|file) (\d+)\n")
 
 
 def refusal(status: int, text: str) -> LokwurmiError:
     """The error of a call whose status is 10 or above, or a signal."""
     if status == 10:
-        return WordsRefused(status, text, "the words aren't accepted: a number is out of its range, or a name is no word")
+        return WordsRefused(
+            status, text, "the words aren't accepted: a number is out of its range, or a name is no word"
+        )
     if status == 12:
-        return FileTooLong(status, text, "a text is too long: a system or a script has at most 1,048,576 bytes, a trace or a schedule 16,777,216")
+        return FileTooLong(
+            status, text,
+            "a text is too long: a system, a script or a file of chains has at most 1,048,576 bytes, a trace or a"
+            " schedule 16,777,216",
+        )
     if status == 13:
-        return NotToml(status, text, "the system file isn't TOML")
+        which = "file of chains" if text == "not TOML chains\n" else "system file"
+        return NotToml(status, text, f"the {which} isn't TOML")
     if status == 14 and (it := _SYSTEM.fullmatch(text)):
         return SystemRefused(status, text, int(it[1]), it[2], int(it[3]))
     if status == 15 and (it := _SCRIPT.fullmatch(text)):
         return ScriptRefused(status, text, int(it[1]) if it[1] else None)
     if status in (16, 19) and (it := _ROW.fullmatch(text)):
-        return (TraceRefused if status == 16 else ScheduleRefused)(status, text, int(it[1]) if it[1] else None, it[2] or it[3])
+        kind = TraceRefused if status == 16 else ScheduleRefused
+        return kind(status, text, int(it[1]) if it[1] else None, it[2] or it[3])
     if status == 17:
         return TraceDisobeys(status, text)
     if status == 18 and (it := _NAME.fullmatch(text)):
         return NameRefused(status, text, it[1], int(it[2]))
+    if status == 18 and (it := _CHAINS.fullmatch(text)):
+        return ChainsRefused(status, text, int(it[1]), int(it[2]))
     return CallFailed(status, text)

@@ -1,11 +1,21 @@
 """Reads the lines that Lokwurmi writes. docs/FILES.md says what each of them means; times are in ticks."""
 import re
+from collections.abc import Sequence
+from typing import Any
 
 from .errors import Unreadable
 
-TASK = re.compile(r"task (?P<name>\S+) (?P<on>\S+) (?:period (?P<period>\d+) jitter (?P<jitter>\d+|overload) distance (?P<distance>\d+|overload)|streams (?P<streams>\d+)) best (?P<best>\d+) worst (?P<worst>\d+|overload)")
-PATH = re.compile(r"path (?P<name>\S+) best (?P<best>\d+) worst (?P<worst>\d+|overload) deadline (?P<deadline>\d+|-) (?P<verdict>met|missed|unknown|none)")
+_STREAM = r"period (?P<period>\d+) jitter (?P<jitter>\d+|overload) distance (?P<distance>\d+|overload)"
+TASK = re.compile(
+    rf"task (?P<name>\S+) (?P<on>\S+) (?:{_STREAM}|streams (?P<streams>\d+))"
+    r" best (?P<best>\d+) worst (?P<worst>\d+|overload)"
+)
+PATH = re.compile(
+    r"path (?P<name>\S+) best (?P<best>\d+) worst (?P<worst>\d+|overload) deadline (?P<deadline>\d+|-)"
+    r" (?P<verdict>met|missed|unknown|none)"
+)
 SUMMARY = re.compile(r"summary tasks (\d+) overload (\d+) missed (\d+)")
+LINE = re.compile(r"line (\d+)")
 REFUSED = re.compile(r"line (\d+) refused (\d)")
 SEEN_TASK = re.compile(r"task (\S+) jobs (\d+) done (\d+) worst (\d+|none)")
 SEEN_PATH = re.compile(r"path (\S+) passages (\d+) worst (\d+|none)")
@@ -18,29 +28,56 @@ SLACK = re.compile(r"slack (\S+) (?:(\d+) next (missed|limit)|none)")
 BUFFER = re.compile(r"buffer (\S+) bound (\d+|overload) peak (\d+)")
 RESOURCE = re.compile(r"resource (\S+) bound (\d+|overload) peak (\d+)")
 WRONG = re.compile(r"audit wrong segment (\d+) expected (?:none|(\S+) (\d+) (\d+))")
+SEGMENT = re.compile(r"(\S+),(\d+),(\d+)")
+STEP = re.compile(
+    r"step (?P<name>\S+) (?P<kind>\S+) wait (?P<wait>\d+|overload) response (?P<response>\d+|overload)"
+)
+TOTAL = re.compile(
+    r"chain(?P<running> while-running)? tasks \d+ reaction (?P<reaction>\d+|overload) age (?P<age>\d+|overload)"
+    r"(?: held (?P<held>\d+|overload))?"
+)
+_JUDGED = r"(?P<{0}>\d+|overload) deadline (?P<{0}_deadline>\d+|-) (?P<{0}_verdict>met|missed|unknown|none)"
+CHAIN = re.compile(
+    rf"chain (?P<name>\S+) tasks (?P<tasks>\d+) reaction {_JUDGED.format('reaction')} age {_JUDGED.format('age')}"
+)
+CHAINS = re.compile(r"summary chains (\d+) overload (\d+) missed (\d+)")
 
 
-def number(word):
+def number(word: str) -> int | None:
     """A number, or None for `overload`, for `none` and for no deadline."""
     return int(word) if word.isdigit() else None
 
 
-def task_in(it):
+def task_in(it: re.Match[str]) -> dict[str, Any]:
     """What a task's line says. Where it has several streams, it has no period, no jitter and no distance."""
     period, jitter, distance = (word and number(word) for word in it.group("period", "jitter", "distance"))
-    streams = int(it["streams"] or 1)
-    return {"on": it["on"], "period": period, "jitter": jitter, "distance": distance, "streams": streams, "best": int(it["best"]), "worst": number(it["worst"])}
+    return {
+        "on": it["on"], "period": period, "jitter": jitter, "distance": distance, "streams": int(it["streams"] or 1),
+        "best": int(it["best"]), "worst": number(it["worst"]),
+    }
 
 
-def reports_in(lines):
-    """The reports of some lines, in order: the tasks and the paths of each, dictionaries by name, and which edits were refused
-    before it, the reason by the number of the line."""
-    found, tasks, paths, refused = [], {}, {}, {}
+def path_in(it: re.Match[str]) -> dict[str, Any]:
+    """What a path's line says."""
+    worst, deadline = number(it["worst"]), number(it["deadline"])
+    return {"best": int(it["best"]), "worst": worst, "deadline": deadline, "verdict": it["verdict"]}
+
+
+Parts = tuple[dict[str, dict[str, Any]], dict[str, dict[str, Any]], dict[int, int]]
+
+
+def reports_in(lines: Sequence[str]) -> list[Parts]:
+    """The reports of some lines, in order: the tasks and the paths of each, dictionaries by name, and which edits were
+    refused before it, the reason by the number of the line."""
+    found: list[Parts] = []
+    tasks: dict[str, dict[str, Any]] = {}
+    paths: dict[str, dict[str, Any]] = {}
+    refused: dict[int, int] = {}
     for place, line in enumerate(lines, 1):
         if it := TASK.fullmatch(line):
             tasks[it["name"]] = task_in(it)
         elif it := PATH.fullmatch(line):
-            paths[it["name"]] = {"best": int(it["best"]), "worst": number(it["worst"]), "deadline": number(it["deadline"]), "verdict": it["verdict"]}
+            paths[it["name"]] = path_in(it)
         elif SUMMARY.fullmatch(line):
             found.append((tasks, paths, refused))
             tasks, paths, refused = {}, {}, {}
@@ -53,9 +90,11 @@ def reports_in(lines):
     return found
 
 
-def seen_in(lines):
+def seen_in(lines: Sequence[str]) -> tuple[dict[str, dict[str, Any]], dict[str, dict[str, Any]], int]:
     """What `simulate` observed: the tasks and the paths, each a dictionary by name, and the end of the run."""
-    tasks, paths, end = {}, {}, None
+    tasks: dict[str, dict[str, Any]] = {}
+    paths: dict[str, dict[str, Any]] = {}
+    end = None
     for place, line in enumerate(lines, 1):
         if it := SEEN_TASK.fullmatch(line):
             tasks[it[1]] = {"jobs": int(it[2]), "done": int(it[3]), "worst": number(it[4])}

@@ -1,198 +1,166 @@
-"""Systems of resources, sources, tasks and paths. All times are in ticks.
+"""Systems of resources, sources, tasks and paths.
 
-Nothing is checked here that the program checks: a system that it refuses raises `SystemRefused` when it is analysed. docs/FILES.md has
-the range and the meaning of each attribute.
+Nothing is checked here that the program checks: a system that it refuses raises `SystemRefused` when it is analysed.
+docs/FILES.md has the range and the meaning of each attribute.
 """
 import copy
-import json
 import os
-import re
 import tomllib
 from collections.abc import Iterable
-from dataclasses import dataclass, fields
-from enum import StrEnum
 from pathlib import Path as FilePath
-from typing import Any
+from typing import TYPE_CHECKING, Any, TypeVar, overload
 
-from . import reports
-from .engines import Engine, answer
-from .errors import LokwurmiError, SystemRefused
+from . import chains as chain_results
+from . import html, reports
+from .engines import WHILE_RUNNING, Engine, answer, keep
+from .entries import (KINDS, Entry, Kind, Path, Resource, Source, Task, Ticks, check_no_time, keys_of, kind_name,
+                      text_in_ticks)
+from .errors import ChainsRefused, LokwurmiError, SystemRefused, UnitsRefused
+from .toml import entry_text
+from .units import Converter, Rounding, Time, text_of, tick_of, warn, whole_ticks
 
+if TYPE_CHECKING:
+    from .live import Session
 
-class Kind(StrEnum):
-    """Who runs on a resource."""
-
-    PREEMPTIVE = "preemptive"
-    """The smallest priority number runs."""
-    ROUND_ROBIN = "round-robin"
-    """One task after the other, each for up to its slot."""
-    TDMA = "tdma"
-    """Each task in its slot of a fixed cycle."""
-    CAN = "can"
-    """The smallest priority number is next, and what has started goes on to its end."""
-
-
-@dataclass(slots=True)
-class Resource:
-    """A processor or a bus."""
-
-    name: str
-    kind: str
-    limit: int | None = None
-    """The longest busy window that is looked at, in ticks; a task with a longer one has no bound. None: 1,000,000."""
-    gap: int | None = None
-    """The part of a TDMA cycle that belongs to no task, in ticks, only for `tdma`. None: 0."""
-    bit: int | None = None
-    """The time of a bit, in ticks, only for `can`. None: 1."""
+Trace = str | Iterable[tuple[Any, ...]]
+"""A trace or a schedule: its text, or rows as `("event", "sa", 0)`."""
+_Entry = TypeVar("_Entry", Resource, Source, Task, Path)
 
 
-@dataclass(slots=True)
-class Source:
-    """What activates tasks from outside: an event every `period`, each by up to `jitter` late, and no two closer than `distance`."""
-
-    name: str
-    period: int
-    """In ticks."""
-    jitter: int | None = None
-    """In ticks. None: 0."""
-    distance: int | None = None
-    """In ticks, at most the period. None: 0."""
-
-
-@dataclass(slots=True)
-class Task:
-    """A task, or a frame on a bus."""
-
-    name: str
-    on: str
-    """The name of its resource."""
-    after: str | list[str]
-    """What starts its jobs: the name of a source or a task, or several such names, each event or end of which starts a job."""
-    best: int | None = None
-    """Its least execution, in ticks."""
-    worst: int | None = None
-    """Its greatest execution, in ticks."""
-    payload: int | None = None
-    """In place of both on `can`: how many bytes the frame has, 0 to 8."""
-    extended: bool | None = None
-    """Whether the frame's identifier has 29 bits; only beside `payload`."""
-    priority: int | None = None
-    """On `preemptive` and `can`: the smaller number goes first."""
-    slot: int | None = None
-    """On `round-robin` and `tdma`: how long its turn lasts, in ticks."""
-
-
-@dataclass(slots=True)
-class Path:
-    """A chain of tasks, whose time from end to end is asked for."""
-
-    name: str
-    tasks: list[str]
-    """The names of its tasks, each of which is activated by the one before."""
-    deadline: int | None = None
-    """In ticks, if there is one."""
-
-
-def _name(it) -> str:
+def _name(it: "str | Entry") -> str:
     return it if isinstance(it, str) else it.name
-
-
-# a text that needs no escapes, as each name that is accepted
-_is_plain = re.compile(r"[A-Za-z0-9_.-]*").fullmatch
-
-
-def _value(it) -> str:
-    """A value as TOML."""
-    if isinstance(it, str):
-        # what JSON writes is a text of TOML, but for DEL, and for halves of pairs, which are no text of either
-        return f'"{it}"' if _is_plain(it) else json.dumps(it).replace("\x7f", "\\u007F")
-    if isinstance(it, bool):
-        return "true" if it else "false"
-    if isinstance(it, int):
-        return str(int(it))
-    if isinstance(it, list):
-        return "[" + ", ".join(map(_value, it)) + "]"
-    if isinstance(it, float):
-        return repr(it)
-    raise TypeError(f"{it!r} is no value of a system file")
-
-
-_KEYS = {kind: [at.name for at in fields(kind)] for kind in (Resource, Source, Task, Path)}
-
-
-def _entry(it) -> str:
-    return "  { " + ", ".join([f"{key} = {_value(value)}" for key in _KEYS[type(it)] if (value := getattr(it, key)) is not None]) + " },\n"
 
 
 class System:
     """Resources, sources, tasks and paths, each a dictionary by name, in the order in which they were added.
 
-    An entry's attributes may be changed at any time; `copy` gives a system whose changes leave this one alone.
+    An entry's attributes may be changed at any time; `copy` gives a system whose changes leave this one alone. Two
+    systems are equal where their entries are, in ticks.
+
+    With a `tick`, times may have units. Those that are no whole number of ticks are rounded to their safe side, which
+    is told by a RoundingWarning, by `roundings`, and at the head of the file:
+
+        >>> from lokwurmi import System
+        >>> from lokwurmi.units import ms, us
+        >>> system = System(tick="10us")
+        >>> cpu = system.preemptive("cpu")
+        >>> often = system.source("often", period=ms(10), jitter=us(250))
+        >>> a = system.task("a", on=cpu, after=often, best=us(100), worst=us(1500), priority=1)
+        >>> a.worst = us(1505)
+        >>> [str(it) for it in system.roundings]
+        ['task a: worst of 1.505ms is rounded up to 151']
     """
 
-    def __init__(self) -> None:
+    def __init__(self, tick: "Time | str | None" = None) -> None:
         self.resources: dict[str, Resource] = {}
         self.sources: dict[str, Source] = {}
         self.tasks: dict[str, Task] = {}
         self.paths: dict[str, Path] = {}
+        self._told: set[str] = set()
+        self.tick = tick  # type: ignore[assignment]
+
+    @property
+    def tick(self) -> Time | None:
+        """The time of a tick, or None: then all times are plain numbers. It may be set, also by a text such as
+        "1us"."""
+        return self._tick
+
+    @tick.setter
+    def tick(self, tick: "Time | str | None") -> None:
+        self._tick = None if tick is None else tick_of(tick)
 
     def __repr__(self) -> str:
-        return f"System({len(self.resources)} resources, {len(self.sources)} sources, {len(self.tasks)} tasks, {len(self.paths)} paths)"
+        tick = f", tick {self.tick}" if self.tick else ""
+        return (
+            f"System({len(self.resources)} resources, {len(self.sources)} sources, {len(self.tasks)} tasks,"
+            f" {len(self.paths)} paths{tick})"
+        )
+
+    def _repr_html_(self) -> str:
+        return html.system(self)
 
     def __eq__(self, other: object) -> bool:
         if not isinstance(other, System):
             return NotImplemented
-        return all(list(a.values()) == list(b.values()) for a, b in zip(self._parts(), other._parts()))
+        return self._converted()[0] == other._converted()[0]
 
     __hash__ = None  # type: ignore[assignment]
 
-    def _parts(self) -> tuple[dict, dict, dict, dict]:
-        return self.resources, self.sources, self.tasks, self.paths
+    def _parts(self) -> dict[str, dict[str, Any]]:
+        return {"resource": self.resources, "source": self.sources, "task": self.tasks, "path": self.paths}
 
     # ---- building
 
-    @staticmethod
-    def _add(part: dict, it):
+    def _add(self, it: _Entry) -> _Entry:
+        part = self._parts()[kind_name(it)]
         if it.name in part:
-            raise ValueError(f"there is a {type(it).__name__.lower()} {it.name!r} already")
+            raise ValueError(f"there is a {kind_name(it)} {it.name!r} already")
+        self._tell(it)
         part[it.name] = it
         return it
 
-    def resource(self, name: str, kind: str, *, limit: int | None = None, gap: int | None = None, bit: int | None = None) -> Resource:
-        """Adds a resource."""
-        return self._add(self.resources, Resource(name, str(kind), limit, gap, bit))
+    def _tell(self, it: Entry) -> None:
+        """Says at once what is rounded of an entry, or why it can't be."""
+        if self._tick is None:
+            return check_no_time(it)
+        document: dict[str, list[dict[str, Any]]] = {kind_name(it): [keys_of(it)]}
+        if isinstance(it, Task) and it.on in self.resources:
+            document["resource"] = [keys_of(self.resources[it.on])]
+        converter = Converter(self._tick.nanoseconds)
+        converter.convert(document)
+        self._warn(converter.told)
 
-    def preemptive(self, name: str, *, limit: int | None = None) -> Resource:
+    def _warn(self, roundings: Iterable[Rounding]) -> None:
+        """Warns of roundings of which it hasn't warned yet."""
+        new = [it for it in roundings if str(it) not in self._told]
+        self._told |= {str(it) for it in new}
+        warn(new)
+
+    def resource(
+        self, name: str, kind: str, *, limit: Ticks | None = None, gap: Ticks | None = None, bit: Ticks | None = None,
+        bitrate: int | None = None,
+    ) -> Resource:
+        """Adds a resource; times are in ticks, or have a unit."""
+        return self._add(Resource(name, str(kind), limit, gap, bit, bitrate))
+
+    def preemptive(self, name: str, *, limit: Ticks | None = None) -> Resource:
         """Adds a processor on which the smallest priority number runs."""
         return self.resource(name, Kind.PREEMPTIVE, limit=limit)
 
-    def round_robin(self, name: str, *, limit: int | None = None) -> Resource:
+    def round_robin(self, name: str, *, limit: Ticks | None = None) -> Resource:
         """Adds a processor on which one task runs after the other, each for up to its slot."""
         return self.resource(name, Kind.ROUND_ROBIN, limit=limit)
 
-    def tdma(self, name: str, *, gap: int | None = None, limit: int | None = None) -> Resource:
-        """Adds a resource on which each task has its slot of a cycle; `gap` ticks of it belong to no task."""
+    def tdma(self, name: str, *, gap: Ticks | None = None, limit: Ticks | None = None) -> Resource:
+        """Adds a resource on which each task has its slot of a cycle; a `gap` of it, in ticks or as a time, belongs to
+        no task."""
         return self.resource(name, Kind.TDMA, limit=limit, gap=gap)
 
-    def can(self, name: str, *, bit: int | None = None, limit: int | None = None) -> Resource:
-        """Adds a CAN bus, whose bits take `bit` ticks each."""
-        return self.resource(name, Kind.CAN, limit=limit, bit=bit)
+    def can(
+        self, name: str, *, bit: Ticks | None = None, bitrate: int | None = None, limit: Ticks | None = None
+    ) -> Resource:
+        """Adds a CAN bus, whose bits take `bit` ticks or such a time each, or which has so many bits per second."""
+        return self.resource(name, Kind.CAN, limit=limit, bit=bit, bitrate=bitrate)
 
-    def source(self, name: str, period: int, *, jitter: int | None = None, distance: int | None = None) -> Source:
-        """Adds a source of events; all numbers are in ticks."""
-        return self._add(self.sources, Source(name, period, jitter, distance))
+    def source(
+        self, name: str, period: Ticks, *, jitter: Ticks | None = None, distance: Ticks | None = None
+    ) -> Source:
+        """Adds a source of events; times are in ticks, or have a unit."""
+        return self._add(Source(name, period, jitter, distance))
 
     def task(
-        self, name: str, *, on: str | Resource, after: "str | Source | Task | Iterable[str | Source | Task]", best: int | None = None, worst: int | None = None,
-        payload: int | None = None, extended: bool | None = None, priority: int | None = None, slot: int | None = None,
+        self, name: str, *, on: str | Resource, after: "str | Source | Task | Iterable[str | Source | Task]",
+        best: Ticks | None = None, worst: Ticks | None = None, payload: int | None = None, extended: bool | None = None,
+        priority: int | None = None, slot: Ticks | None = None,
     ) -> Task:
-        """Adds a task; `on` and `after` are names, or what was added before. Times are in ticks."""
-        starts: str | list[str] = _name(after) if isinstance(after, (str, Source, Task)) else [_name(it) for it in after]
-        return self._add(self.tasks, Task(name, _name(on), starts, best, worst, payload, extended, priority, slot))
+        """Adds a task; `on` and `after` are names, or what was added before. Times are in ticks, or have a unit."""
+        single = isinstance(after, (str, Source, Task))
+        starts: str | list[str] = _name(after) if single else [_name(it) for it in after]  # type: ignore
+        return self._add(Task(name, _name(on), starts, best, worst, payload, extended, priority, slot))
 
-    def path(self, name: str, tasks: Iterable[str | Task], *, deadline: int | None = None) -> Path:
-        """Adds a path over tasks, with a deadline in ticks if there is one."""
-        return self._add(self.paths, Path(name, [_name(it) for it in tasks], deadline))
+    def path(self, name: str, tasks: Iterable[str | Task], *, deadline: Ticks | None = None) -> Path:
+        """Adds a path over tasks, with a deadline in ticks or as a time, if there is one."""
+        return self._add(Path(name, [_name(it) for it in tasks], deadline))
 
     def copy(self) -> "System":
         """An equal system of its own."""
@@ -200,97 +168,242 @@ class System:
 
     # ---- files
 
-    def to_toml(self) -> str:
-        """The system file. It has format 2 where a task has several activators."""
+    def _converted(self) -> tuple[dict[str, list[dict[str, Any]]], list[Rounding]]:
+        """The keys of all entries, in ticks where there is a tick, and what was rounded."""
+        document = {key: [keys_of(it) for it in part.values()] for key, part in self._parts().items()}
+        if self._tick is None:
+            return document, []
+        converter = Converter(self._tick.nanoseconds)
+        converter.convert(document)
+        return document, converter.told
+
+    @property
+    def roundings(self) -> list[Rounding]:
+        """The times that are no whole number of ticks, each with the side to which it is rounded."""
+        return self._converted()[1]
+
+    def _file(self) -> tuple[str, list[Rounding]]:
+        """The system file, and what was rounded for it."""
         several = any(isinstance(it.after, list) for it in self.tasks.values())
         text = f"format = {2 if several else 1}\n"
-        for key, part in zip(("resource", "source", "task", "path"), self._parts()):
-            if part:
-                text += f"{key} = [\n{''.join(map(_entry, part.values()))}]\n"
+        if self._tick is None:
+            for key, part in self._parts().items():
+                if part:
+                    text += f"{key} = [\n{''.join(map(text_in_ticks, part.values()))}]\n"
+            return text, []
+        document, told = self._converted()
+        for key, entries in document.items():
+            if entries:
+                text += f"{key} = [\n{''.join(map(entry_text, entries))}]\n"
+        return self._head(told) + text, told
+
+    def _head(self, told: list[Rounding]) -> str:
+        """What a file says of its ticks."""
+        assert self._tick is not None
+        head = f"# A tick is {self._tick}.\n"
+        if told:
+            head += f"# {len(told)} times are rounded, each to its safe side:\n"
+            head += "".join(f"#   {it}".encode("ascii", "backslashreplace").decode() + "\n" for it in told)
+        return head
+
+    def to_toml(self) -> str:
+        """The system file. It has format 2 where a task has several activators, and whole ticks; roundings stand in
+        comments at its head."""
+        text, told = self._file()
+        self._warn(told)
         return text
 
-    def to_file(self, file: str | os.PathLike) -> None:
+    def to_file(self, file: str | os.PathLike[str]) -> None:
         """Writes the system file."""
         FilePath(file).write_text(self.to_toml(), encoding="utf-8")
 
     @classmethod
-    def from_toml(cls, text: str) -> "System":
-        """The system of a system file. Keys that no entry has are no part of a system, and raise an error, as a text that isn't TOML."""
+    def from_toml(cls, text: str, tick: "Time | str | None" = None) -> "System":
+        """The system of a system file. Keys that no entry has are no part of a system, and raise an error, as a text
+        that isn't TOML. With a tick, times may have units: texts as "250 us", and `bitrate` of a bus."""
         try:
             read = tomllib.loads(text)
         except tomllib.TOMLDecodeError as fault:
             raise LokwurmiError(f"the text isn't TOML: {fault}") from fault
-        system = cls()
-        kinds: dict[str, tuple[Any, dict]] = {"resource": (Resource, system.resources), "source": (Source, system.sources), "task": (Task, system.tasks), "path": (Path, system.paths)}
-        if read.pop("format", None) not in (1, 2) or set(read) - set(kinds):
+        system = cls(tick)
+        if read.pop("format", None) not in (1, 2) or set(read) - set(KINDS):
             raise LokwurmiError("the text is no system file of format 1 or 2: a key isn't known")
-        for key, (kind, part) in kinds.items():
+        for key, part in system._parts().items():
             for place, entry in enumerate(read.get(key, []), 1):
                 try:
-                    system._add(part, kind(**entry))
-                except (TypeError, ValueError) as fault:
+                    it = KINDS[key](**entry)
+                except TypeError as fault:
                     raise LokwurmiError(f"{key} {place}: {fault}") from fault
+                if it.name in part:
+                    raise LokwurmiError(f"{key} {place}: there is a {key} {it.name!r} already")
+                part[it.name] = it
+        if tick is not None:
+            system._warn(system.roundings)
         return system
 
     @classmethod
-    def from_file(cls, file: str | os.PathLike) -> "System":
-        """The system of a system file."""
-        return cls.from_toml(FilePath(file).read_text(encoding="utf-8"))
+    def from_file(cls, file: str | os.PathLike[str], tick: "Time | str | None" = None) -> "System":
+        """The system of a system file; with a tick, its times may have units."""
+        return cls.from_toml(FilePath(file).read_text(encoding="utf-8"), tick)
 
     # ---- calls
 
-    def _answer(self, command: str, texts: Iterable[str] = (), words: tuple = (), engine: Engine | None = None) -> str:
+    def _named(self, fault: SystemRefused) -> SystemRefused:
+        """A refusal with the name of the entry."""
+        names = list(self._parts().get(fault.part, {}))
+        name = names[fault.place - 1] if 1 <= fault.place <= len(names) else None
+        return SystemRefused(fault.status, fault.text, fault.reason, fault.part, fault.place, name)
+
+    def _told_answer(
+        self, command: str, texts: Iterable[str] = (), words: tuple[str | int, ...] = (), engine: Engine | None = None
+    ) -> tuple[str, list[Rounding]]:
+        """What a command answers, and what was rounded for it."""
+        text, told = self._file()
+        self._warn(told)
         try:
-            files = [it.encode("utf-8", "surrogateescape") for it in (self.to_toml(), *texts)]
-            return answer(command, files, words, engine)[1]
+            files = [it.encode("utf-8", "surrogateescape") for it in (text, *texts)]
+            return answer(command, files, words, engine)[1], told
         except SystemRefused as fault:
-            names = list(dict(zip(("resource", "source", "task", "path"), self._parts())).get(fault.part, {}))
-            if 1 <= fault.place <= len(names):
-                raise SystemRefused(fault.status, fault.text, fault.reason, fault.part, fault.place, names[fault.place - 1]) from None
-            raise
+            raise self._named(fault) from None
+
+    def _answer(
+        self, command: str, texts: Iterable[str] = (), words: tuple[str | int, ...] = (), engine: Engine | None = None
+    ) -> str:
+        return self._told_answer(command, texts, words, engine)[0]
+
+    def _rows(self, it: Trace) -> str:
+        """A trace or a schedule as a text. Its times have no safe side: those with a unit must be whole ticks."""
+        if isinstance(it, str):
+            return it
+        rows = [[whole_ticks(one, self._tick, "a row") if isinstance(one, Time) else one for one in row] for row in it]
+        return "".join(",".join(map(str, row)) + "\n" for row in rows)
 
     def analyse(self, *, engine: Engine | None = None) -> reports.Report:
-        """The bounds of all tasks and paths."""
-        return reports.reports(self._answer("analyse", engine=engine))[-1]
+        """The bounds of all tasks and paths, in ticks; `time` of each gives them as times.
 
-    def session(self, script: str | Iterable[str], *, engine: Engine | None = None) -> list[reports.Report]:
-        """The reports of this system under a script: one wherever it says `report`, and one at its end. This system stays as it is.
-
-        The forms of its lines are those of docs/FILES.md, "The script". An edit that can't be made is left out, and `refused` of the next
-        report tells it. What an edit can't reach isn't analysed again.
+            >>> system = System()
+            >>> cpu = system.preemptive("cpu")
+            >>> a = system.task("a", on=cpu, after=system.source("s", period=10), best=1, worst=3, priority=1)
+            >>> system.analyse().tasks["a"].worst
+            3
         """
+        text, told = self._told_answer("analyse", engine=engine)
+        return reports.reports(text, self._tick, told)[-1]
+
+    @overload
+    def session(self, script: None = None, *, engine: Engine | None = None) -> "Session": ...
+
+    @overload
+    def session(self, script: str | Iterable[str], *, engine: Engine | None = None) -> list[reports.Report]: ...
+
+    def session(
+        self, script: str | Iterable[str] | None = None, *, engine: Engine | None = None
+    ) -> "Session | list[reports.Report]":
+        """Without a script: a session that is kept, of which what an edit can't reach isn't analysed again.
+
+            >>> system = System()
+            >>> cpu = system.preemptive("cpu")
+            >>> a = system.task("a", on=cpu, after=system.source("s", period=10), best=1, worst=3, priority=1)
+            >>> with system.session() as session:
+            ...     session.exec("a", worst=5)
+            ...     session.bounds["a"]
+            5
+
+        With a script: the reports of this system under it, one wherever it says `report`, and one at its end. The forms
+        of its lines are those of docs/FILES.md, "The script"; an edit that can't be made is left out, and `refused` of
+        the next report has it. This system stays as it is in both cases.
+        """
+        if script is None:
+            from .live import Session
+
+            return Session(self, engine)
         text = script if isinstance(script, str) else "".join(f"{line}\n" for line in script)
-        return reports.reports(self._answer("session", [text], engine=engine))
+        found, told = self._told_answer("session", [text], engine=engine)
+        return reports.reports(found, self._tick, told)
 
-    def simulate(self, trace: str | Iterable[tuple], *, engine: Engine | None = None) -> reports.Run:
-        """What is observed when a trace is replayed: a text, or rows as `("event", "sa", 0)`."""
-        return reports.run(self._answer("simulate", [_rows(trace)], engine=engine))
+    def _keep(self, engine: Engine | None) -> Any:
+        """Opens what a session keeps, and gives what was rounded for it."""
+        text, told = self._file()
+        self._warn(told)
+        try:
+            return keep(text.encode("utf-8", "surrogateescape"), engine), told
+        except SystemRefused as fault:
+            raise self._named(fault) from None
 
-    def buffers(self, trace: str | Iterable[tuple], *, engine: Engine | None = None) -> reports.Buffers:
-        """How many jobs can be pending at one time, and how many are under a trace."""
-        return reports.buffers(self._answer("buffers", [_rows(trace)], engine=engine))
+    def simulate(self, trace: Trace, *, engine: Engine | None = None) -> reports.Run:
+        """What is observed when a trace is replayed: a text, or rows as `("event", "sa", 0)`, in ticks or with
+        units."""
+        return reports.run(self._answer("simulate", [self._rows(trace)], engine=engine), self._tick)
 
-    def audit(self, trace: str | Iterable[tuple], schedule: str | Iterable[tuple], *, engine: Engine | None = None) -> reports.Segment | None:
+    def schedule(self, trace: Trace, *, engine: Engine | None = None) -> reports.Schedule:
+        """Who runs from when to when in the run under a trace."""
+        on = {it.name: it.on for it in self.tasks.values()}
+        return reports.schedule(self._answer("schedule", [self._rows(trace)], engine=engine), on, self._tick)
+
+    def buffers(self, trace: Trace = "", *, engine: Engine | None = None) -> reports.Buffers:
+        """How many jobs can be pending at one time, and how many are under a trace; without one each peak is 0."""
+        return reports.buffers(self._answer("buffers", [self._rows(trace)], engine=engine))
+
+    def audit(self, trace: Trace, schedule: Trace, *, engine: Engine | None = None) -> reports.Segment | None:
         """Where a recorded schedule first differs from the run under a trace, or None where it doesn't."""
-        return reports.difference(self._answer("audit", [_rows(trace), _rows(schedule)], engine=engine))
+        return reports.difference(
+            self._answer("audit", [self._rows(trace), self._rows(schedule)], engine=engine)
+        )
 
     def hammer(self, number: int, traces: int, *, engine: Engine | None = None) -> reports.Hammered:
-        """What is seen under so many made traces of a number."""
+        """What is seen under so many traces that are generated from a seed."""
         return reports.hammered(self._answer("hammer", words=(number, traces), engine=engine))
 
-    def assign(self, resource: str | Resource, *, engine: Engine | None = None) -> dict[str, int] | None:
-        """Priorities of the tasks of a resource under which each meets its deadline, from the highest to the lowest; None where there are none."""
+    def assign(self, resource: str | Resource, *, engine: Engine | None = None) -> reports.Order | None:
+        """Priorities of the tasks of a resource under which each meets its deadline, from the highest to the lowest;
+        None where there are none."""
         return reports.order(self._answer("assign", words=(_name(resource),), engine=engine))
 
     def slack(self, task: str | Task, *, engine: Engine | None = None) -> reports.Slack:
-        """By how much the greatest execution of a task may grow while all deadlines are met."""
-        return reports.slack(self._answer("slack", words=(_name(task),), engine=engine))
+        """By how many ticks the greatest execution of a task may grow while all deadlines are met."""
+        return reports.slack(self._answer("slack", words=(_name(task),), engine=engine), self._tick)
+
+    def _check_periods(self) -> None:
+        """Refuses chains where a period was rounded: it is the longest time between events there, too."""
+        for it in self.roundings:
+            if it.key == "period":
+                raise UnitsRefused(
+                    f"{it}: chains take the period as the longest time between events, too, so that it has no safe"
+                    f" side; take a tick of which {text_of(it.time.nanoseconds)} is a multiple"
+                )
+
+    def chain(
+        self, tasks: Iterable[str | Task], *, while_running: bool = False, engine: Engine | None = None
+    ) -> chain_results.ChainReport:
+        """How soon a chain of 1 to 32 tasks reacts at the latest, and how old its data can be, in ticks.
+
+        Each task reads what the one before wrote last. The bounds hold where the sources keep their periods: a source
+        that falls silent voids them. `while_running` presumes that each task reads only while it runs, and so has
+        smaller bounds.
+        """
+        self._check_periods()
+        words = [_name(it) for it in tasks] + [WHILE_RUNNING] * while_running
+        return chain_results.chain_report(self._answer("chain", words=tuple(words), engine=engine), self._tick)
+
+    def chains(
+        self, chains: "str | Iterable[chain_results.Chain]", *, engine: Engine | None = None
+    ) -> chain_results.ChainsReport:
+        """Chains with deadlines, judged: a list of Chain, or the text of a file of chains. The premise is that of
+        `chain`; a deadline with a unit is rounded down."""
+        self._check_periods()
+        several = [] if isinstance(chains, str) else list(chains)
+        text, told = (chains, []) if isinstance(chains, str) else chain_results.written(several, self._tick)
+        self._warn(told)
+        try:
+            return chain_results.chains_report(self._answer("chains", [text], engine=engine), self._tick)
+        except ChainsRefused as fault:
+            name = several[fault.place - 1].name if 1 <= fault.place <= len(several) else None
+            raise ChainsRefused(fault.status, fault.text, fault.reason, fault.place, name) from None
 
 
-def _rows(it: str | Iterable[tuple]) -> str:
-    return it if isinstance(it, str) else "".join(",".join(map(str, row)) + "\n" for row in it)
+def generated_system(seed: int, size: int, *, engine: Engine | None = None) -> System:
+    """The system that `generate SEED SIZE` writes: so many chains, drawn from a seed."""
+    return System.from_toml(answer("generate", [], (seed, size), engine)[1])
 
 
-def made_system(number: int, size: int, *, engine: Engine | None = None) -> System:
-    """The system that `generate NUMBER SIZE` makes: so many chains, drawn from a number."""
-    return System.from_toml(answer("generate", [], (number, size), engine)[1])
+made_system = generated_system

@@ -1,5 +1,0 @@
-use Rattle.std.specs.Prelude.{◌≡◌, length}
-use Rattle.cpa_bound_cases.proofs.systems.vector.Given as goal
-
-abbrev pub invariant-loop-k : goal.invariant-loop-k
-invariant-loop-k l = length l.x ≡ l.len

@@ -1,0 +1,104 @@
+//! Systems, traces and what comes of them, which tests of several crates try.
+#![tactic(auto)]
+
+/// Two periodic tasks on a processor: the window of `b` ends just when the next job of `a` may come, which doesn't count.
+pub const TWO_TASKS: &str = r#"format = 1
+resource = [{ name = "cpu", kind = "preemptive" }]
+source = [{ name = "sa", period = 10 }, { name = "sb", period = 20 }]
+task = [
+  { name = "a", on = "cpu", after = "sa", best = 1, worst = 3, priority = 1 },
+  { name = "b", on = "cpu", after = "sb", best = 2, worst = 7, priority = 2 },
+]
+"#;
+
+/// A busy window of seven jobs of `b`, with responses of 114, 102, 116, 104, 118, 106 and 94: the greatest isn't the first.
+pub const LONG_WINDOW: &str = r#"format = 1
+resource = [{ name = "cpu", kind = "preemptive" }]
+source = [{ name = "sa", period = 70 }, { name = "sb", period = 100 }]
+task = [
+  { name = "a", on = "cpu", after = "sa", best = 26, worst = 26, priority = 1 },
+  { name = "b", on = "cpu", after = "sb", best = 62, worst = 62, priority = 2 },
+]
+"#;
+
+/// A jitter above two periods: three events may come at one instant.
+pub const BURST: &str = r#"format = 1
+resource = [{ name = "cpu", kind = "preemptive" }]
+source = [{ name = "s", period = 10, jitter = 25 }]
+task = [{ name = "t", on = "cpu", after = "s", best = 1, worst = 2, priority = 1 }]
+"#;
+
+/// Two chains whose jitters feed each other without end, and no deadline.
+pub const ENDLESS_WITHOUT_DEADLINE: &str = r#"format = 1
+resource = [
+  { name = "p", kind = "preemptive", limit = 1000 },
+  { name = "q", kind = "preemptive", limit = 1000 },
+  { name = "r", kind = "preemptive" },
+]
+source = [{ name = "sa", period = 100 }, { name = "sb", period = 100 }, { name = "sc", period = 50, jitter = 5 }]
+task = [
+  { name = "a1", on = "p", after = "sa", best = 1, worst = 30, priority = 2 },
+  { name = "a2", on = "q", after = "a1", best = 1, worst = 60, priority = 1 },
+  { name = "b1", on = "q", after = "sb", best = 1, worst = 30, priority = 2 },
+  { name = "b2", on = "p", after = "b1", best = 1, worst = 60, priority = 1 },
+  { name = "c", on = "r", after = "sc", best = 2, worst = 4, priority = 1 },
+]
+"#;
+
+/// The two tasks that take turns, beside a TDMA resource that has no tasks.
+pub const IDLE_TDMA: &str = r#"format = 1
+resource = [{ name = "rr", kind = "round-robin" }, { name = "idle", kind = "tdma" }]
+source = [{ name = "sa", period = 20 }, { name = "sb", period = 20 }]
+task = [
+  { name = "a", on = "rr", after = "sa", best = 3, worst = 3, slot = 2 },
+  { name = "b", on = "rr", after = "sb", best = 1, worst = 1, slot = 4 },
+]
+"#;
+
+/// All four kinds of resource: `high` preempts `low`; `m1` waits for the frame of `m2`, and its second job follows the first;
+/// the phase of the ring lets `t` run in ticks 10, 11 and 20.
+pub const FOUR_KINDS: &str = r#"format = 1
+resource = [
+  { name = "cpu", kind = "preemptive" },
+  { name = "rr", kind = "round-robin" },
+  { name = "ring", kind = "tdma", gap = 8 },
+  { name = "bus", kind = "can", bit = 1 },
+]
+source = [
+  { name = "slow", period = 100 },
+  { name = "fast", period = 10 },
+  { name = "sa", period = 20 },
+  { name = "sb", period = 20 },
+  { name = "s", period = 40 },
+  { name = "s1", period = 4 },
+  { name = "s2", period = 100 },
+]
+task = [
+  { name = "low", on = "cpu", after = "slow", best = 5, worst = 5, priority = 2 },
+  { name = "high", on = "cpu", after = "fast", best = 2, worst = 2, priority = 1 },
+  { name = "a", on = "rr", after = "sa", best = 3, worst = 3, slot = 2 },
+  { name = "b", on = "rr", after = "sb", best = 1, worst = 1, slot = 4 },
+  { name = "t", on = "ring", after = "s", best = 3, worst = 3, slot = 2 },
+  { name = "m1", on = "bus", after = "s1", best = 4, worst = 4, priority = 1 },
+  { name = "m2", on = "bus", after = "s2", best = 6, worst = 6, priority = 2 },
+]
+"#;
+
+pub const FOUR_KINDS_TRACE: &str =
+    "event,slow,0\nevent,fast,2\nevent,sa,0\nevent,sb,0\nevent,s,2\nevent,s1,1\nevent,s1,5\nevent,s2,0\nexec,t,3\nphase,ring,0\n";
+
+pub const FOUR_KINDS_RUN: &str =
+    "low,0,2\na,0,2\nm2,0,6\nhigh,2,4\nb,2,3\na,3,4\nlow,4,7\nm1,6,10\nt,10,12\nm1,10,14\nt,20,21\n";
+
+/// Eleven jobs at once, of which the horizon cuts the last.
+pub const LATE_JOBS: &str = r#"format = 1
+resource = [{ name = "cpu", kind = "preemptive" }]
+source = [{ name = "s", period = 1, jitter = 30 }]
+task = [{ name = "t", on = "cpu", after = "s", best = 1, worst = 999999, priority = 1 }]
+"#;
+
+pub const LATE_TRACE: &str =
+    "event,s,10000000\nevent,s,10000000\nevent,s,10000000\nevent,s,10000000\nevent,s,10000000\nevent,s,10000000\nevent,s,10000000\nevent,s,10000000\nevent,s,10000000\nevent,s,10000000\nevent,s,10000000\n";
+
+pub const LATE_RUN: &str =
+    "t,10000000,10999999\nt,10999999,11999998\nt,11999998,12999997\nt,12999997,13999996\nt,13999996,14999995\nt,14999995,15999994\nt,15999994,16999993\nt,16999993,17999992\nt,17999992,18999991\nt,18999991,19999990\nt,19999990,20000000\n";

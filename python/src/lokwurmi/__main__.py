@@ -1,0 +1,93 @@
+"""Prints the report of a system file: `python3 -m lokwurmi FILE`.
+
+The text and the status are those of `lokwurmi analyse FILE`. What is refused is said in words on standard error.
+"""
+import argparse
+import sys
+import warnings
+from pathlib import Path
+
+from .engines import Engine, Library, Program, default_engine
+from .errors import LokwurmiError, NoEngine, refusal
+from .model import System
+from .units import RoundingWarning, Time
+
+EXAMPLE = """example:
+  python3 -m lokwurmi examples/two_tasks.toml
+
+status:
+  0 all deadlines are met; 1 one is missed; 2 a task has no bound; 10 and above: refused, as docs/FILES.md says;
+  70 there is neither a library nor a program
+"""
+UNREADABLE, NO_ENGINE, REFUSED_WORDS = 11, 70, 10
+
+
+def tick_word(word: str) -> Time:
+    """The time of a tick, for argparse."""
+    try:
+        return Time.of(word)
+    except ValueError as fault:
+        raise argparse.ArgumentTypeError(str(fault)) from fault
+
+
+def asked_for(words: list[str] | None) -> argparse.Namespace:
+    """The words of a call."""
+    form = argparse.RawDescriptionHelpFormatter
+    reader = argparse.ArgumentParser("python3 -m lokwurmi", description=__doc__, epilog=EXAMPLE, formatter_class=form)
+    reader.add_argument("file", metavar="FILE", help="a system file")
+    which = reader.add_mutually_exclusive_group()
+    which.add_argument("--program", metavar="PROGRAM", help="the program that analyses, in place of the library")
+    which.add_argument("--library", metavar="LIBRARY", help="the library that analyses; that of the package if absent")
+    what = "the time of a tick, as 1us: then times in FILE may have units, and each is rounded to its safe side"
+    reader.add_argument("--tick", metavar="TIME", type=tick_word, help=what)
+    return reader.parse_args(words)
+
+
+def engine_of(asked: argparse.Namespace) -> Engine:
+    """What analyses."""
+    if asked.program is not None:
+        return Program(asked.program)
+    return Library(asked.library) if asked.library is not None else default_engine()
+
+
+def text_of_file(asked: argparse.Namespace) -> bytes:
+    """The system file, in ticks; roundings are told on standard error."""
+    if asked.tick is None:
+        return Path(asked.file).read_bytes()
+    with warnings.catch_warnings():
+        warnings.simplefilter("ignore", RoundingWarning)
+        system = System.from_file(asked.file, tick=asked.tick)
+        text = system.to_toml()
+    for it in system.roundings:
+        print(it, file=sys.stderr)
+    return text.encode()
+
+
+def main(words: list[str] | None = None) -> int:
+    """Prints the report, and gives the status."""
+    asked = asked_for(words)
+    try:
+        engine = engine_of(asked)
+        text = text_of_file(asked)
+        status, wrote = engine.call("analyse", [text])
+    except OSError as fault:
+        print(f"cannot read {asked.file}")
+        print(f"{asked.file}: can't be read: {fault.strerror or fault}", file=sys.stderr)
+        return UNREADABLE
+    except NoEngine as fault:
+        print(fault, file=sys.stderr)
+        return NO_ENGINE
+    except (LokwurmiError, UnicodeDecodeError) as fault:
+        print(f"{asked.file}: {fault}", file=sys.stderr)
+        return REFUSED_WORDS
+    if status >= REFUSED_WORDS:
+        told = str(refusal(status, wrote))
+        # the line of the program names the file
+        wrote = f"{wrote.removesuffix('system' + chr(10))}{asked.file}\n" if status in (12, 13) else wrote
+        print(f"{asked.file}: {told}", file=sys.stderr)
+    sys.stdout.write(wrote)
+    return status if status >= 0 else 128 - status
+
+
+if __name__ == "__main__":
+    sys.exit(main())

@@ -1,0 +1,76 @@
+"""Runs a command: `python3 -m lokwurmi_tools COMMAND ..`, which `lokwurmi COMMAND ..` calls."""
+import os
+import signal
+import sys
+from typing import NoReturn
+
+from lokwurmi.errors import LokwurmiError
+from lokwurmi_tools.commands import COMMANDS, command_of
+from lokwurmi_tools.faults import Told
+from lokwurmi_tools.packages import Missing, go_on
+
+
+def commands_text() -> str:
+    """The commands, a line each."""
+    return "\n".join(f"  {it.name:<15}  {it.does}" for it in COMMANDS)
+
+
+def is_asked_for_help(words: list[str]) -> bool:
+    return words[:1] in ([], ["help"], ["-h"], ["--help"])
+
+
+def find(words: list[str]) -> tuple[str, int]:
+    """What is said where words begin with no command, and the status."""
+    several = [it for it in COMMANDS if it.name.split()[:1] == words[:1]]
+    if several and words[1:] in (["-h"], ["--help"]):
+        return "\n".join(f"  ./lokwurmi {it.name} --help  {it.does}" for it in several), 0
+    if several:
+        names = ", ".join(it.name.split()[1] for it in several)
+        return f"lokwurmi {words[0]}: name one of {names}: ./lokwurmi {words[0]} --help", 2
+    return f"lokwurmi {words[0]}: there is no such command; these are:\n{commands_text()}", 2
+
+
+def end_by(number: int) -> NoReturn:
+    """Ends by a signal, as a program does that doesn't know of it."""
+    sys.stdout = None  # what is left to write has no reader
+    signal.signal(number, signal.SIG_DFL)
+    os.kill(os.getpid(), number)
+    raise SystemExit(128 + number)
+
+
+def perform(words: list[str]) -> int:
+    """Runs a command, and gives its status."""
+    if is_asked_for_help(words):
+        print(f"{commands_text()}\n\n./lokwurmi COMMAND --help shows the words of each, and an example.")
+        return 0
+    found = command_of(words)
+    if found is None:
+        text, status = find(words)
+        print(text, file=sys.stderr if status else sys.stdout)
+        return status
+    command, rest = found
+    try:
+        status = command.main()(rest) or 0
+        sys.stdout.flush()
+        return status
+    except LokwurmiError as fault:
+        if not isinstance(fault, Told):
+            print(f"lokwurmi {command.name}: {fault}", file=sys.stderr)
+        status = getattr(fault, "status", 1)
+        return status if status > 0 else 1
+    except Missing as fault:
+        return go_on(command.name, fault, words)
+    except KeyboardInterrupt:
+        print(f"lokwurmi {command.name}: interrupted", file=sys.stderr)
+        return 130
+    except BrokenPipeError:
+        # who reads has enough of it
+        end_by(signal.SIGPIPE)
+
+
+def main() -> NoReturn:
+    sys.exit(perform(sys.argv[1:]))
+
+
+if __name__ == "__main__":
+    main()

@@ -1,0 +1,74 @@
+"""A campaign over what a grid varies, as a table."""
+import argparse
+import csv
+import hashlib
+import itertools
+import math
+import sys
+from collections.abc import Iterator
+from typing import Any
+
+from lokwurmi_tools.accepted import read_system
+from lokwurmi_tools.campaigns.engine import Unit, run
+from lokwurmi_tools.campaigns.faults import Wrong
+from lokwurmi_tools.campaigns.grids import MOST_PRIORITY, Entry, columns_of, fronted, read_grid, row_of, script_of
+from lokwurmi_tools.campaigns.kept import Kept
+
+# how many variants a campaign may have, and how many sessions a worker is handed at once
+MOST_VARIANTS, TOGETHER = 100_000, 25
+
+
+class Variants:
+    """The variants of a grid, with the script of each and what is kept of it."""
+
+    def __init__(self, grid: list[Entry], system: dict, kept: Kept):
+        self.grid, self.kept = grid, kept
+        taken = {it.get("priority") for it in system.get("task", [])} | {
+            it for entry in grid if entry.key == "priority" for it in entry.values
+        }
+        spare = list(itertools.islice((it for it in range(MOST_PRIORITY, 0, -1) if it not in taken), len(grid)))
+        self.chosen = list(itertools.product(*(range(len(it.values)) for it in grid)))
+        self.scripts = [script_of(grid, it, system, spare) for it in self.chosen]
+        self.keys = ["session " + hashlib.sha256(it.encode()).hexdigest()[:32] for it in self.scripts]
+
+    def units(self) -> list[Unit]:
+        """A call for each script, once."""
+        return [(key, 1, ("session", [], script)) for key, script in dict(zip(self.keys, self.scripts)).items()]
+
+    def rows(self) -> Iterator[dict[str, Any]]:
+        for number, (chosen, key, script) in enumerate(zip(self.chosen, self.keys, self.scripts), 1):
+            verdict, refused, found = row_of(*self.kept[key], script)
+            cost = sum(entry.costs[place] for entry, place in zip(self.grid, chosen))
+            cost = f"{cost:.12g}" if isinstance(cost, float) else cost
+            own = {entry.label: entry.shown(place) for entry, place in zip(self.grid, chosen)}
+            # the bounds of what an edit was kept from aren't those of the variant
+            yield {
+                "variant": number,
+                **own,
+                "verdict": verdict,
+                "refused": refused,
+                "cost": cost,
+                **(found if verdict != "refused" else dict.fromkeys(found, "")),
+            }
+
+
+def variants(words: argparse.Namespace, kept: Kept) -> int:
+    system = read_system(words.file)
+    grid = read_grid(words.grid, system)
+    front = columns_of(words.front, grid, system) if words.front else None
+    count = math.prod(len(it.values) for it in grid)
+    if count > MOST_VARIANTS:
+        raise Wrong(
+            f"{words.grid}: there are {count} combinations, and there may be {MOST_VARIANTS}: cut it into several"
+        )
+    all_of = Variants(grid, system, kept)
+    run(words, "variants", all_of.units(), kept, together=TOGETHER)
+    columns = {}
+    for row in all_of.rows():
+        columns |= dict.fromkeys(row)
+    marked = fronted(all_of.rows(), *front) if front else None
+    table = csv.DictWriter(sys.stdout, [*columns, *(["front"] if front else [])], restval="", lineterminator="\n")
+    table.writeheader()
+    for place, row in enumerate(all_of.rows()):
+        table.writerow(row | ({"front": int(place in marked)} if front else {}))
+    return 0

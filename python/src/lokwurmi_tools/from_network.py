@@ -1,0 +1,213 @@
+"""Writes a system file for the CAN buses of a database: DBC, ARXML, KCD, SYM, or whatever else canmatrix reads.
+
+    ./lokwurmi import network examples/sae_can.dbc --bitrate 125000 --jitter-attribute JitterMs --to sae.toml
+    ./lokwurmi import network car.kcd --jitter 10% --others 100ms --to car.toml
+    ./lokwurmi import network car.dbc --bitrate 500000 --data-bitrate 2000000 --share sender --paths 'Brake*'
+    ./lokwurmi import network front.dbc back.dbc --bitrate front=500000 --bitrate back=125000 \\
+        --forward front.Speed=back.Speed --to car.toml
+
+Each frame with a cycle time becomes a source, named as the frame with .queued behind, and a task on the resource of
+its bus, with its length in bytes as payload and its identifier as priority; and each has a path with its deadline. A
+time has a unit: ns, us, ms or s. What is left out, taken otherwise than the database has it, or assumed, is told on
+the standard error, and stands as comments at the head of the file. The bounds of an analysis hold while what is left
+out isn't sent.
+
+It needs canmatrix: apt-get install python3-canmatrix python3-lxml
+"""
+import argparse
+import re
+import sys
+from fractions import Fraction
+
+from lokwurmi_tools.entries import comment, comments, entry, printable, put
+from lokwurmi_tools.faults import Fault
+from lokwurmi_tools.fitting import System, check_size, system_of
+from lokwurmi_tools.networks import Bus, plain
+from lokwurmi_tools.taking import Report, Taker
+from lokwurmi_tools.times import rate_of, text_of, time_of, word_of
+from lokwurmi_tools.words import reader_of
+
+# how many names of a kind a line of the report has on the standard error; in the file it has all
+MOST_NAMES = 12
+
+
+def share_or_time(word: str) -> tuple[str, Fraction]:
+    """What --jitter and --deadline take: a part of the period, or a time."""
+    if word.endswith("%"):
+        if not re.fullmatch(r"\d+(?:\.\d+)?%", word, re.ASCII):
+            raise ValueError(f"{word} is no share: write 10%, or a time with its unit")
+        return "share", Fraction(word[:-1]) / 100
+    return "time", Fraction(0) if word == "0" else time_of(word)
+
+
+def rate_of_bus(word: str) -> tuple[str, int]:
+    """What --bitrate takes: a bit rate for all buses, or BUS= and one for a bus."""
+    name, _, rate = word.rpartition("=")
+    return plain(name)[:24] if name else "", rate_of(rate)
+
+
+def millionths(word: str) -> Fraction:
+    if not word.isascii() or not word.isdecimal() or int(word) > 100_000:
+        raise ValueError(f"{word} is no number of millionths: write 0 to 100000")
+    return Fraction(word)
+
+
+def errors_of(word: str) -> tuple[int, Fraction]:
+    """What --errors takes: so many in any time of a length."""
+    count, is_pair, time = word.partition("/")
+    if not is_pair or not count.isascii() or not count.isdecimal() or not 1 <= int(count) <= 1000:
+        raise ValueError(f"{word} is no number of errors: write 2/100ms, for at most 2 in any 100 ms")
+    return int(count), time_of(time)
+
+
+def forwards_of(words: list[str], buses: list[Bus]) -> dict[str, str]:
+    """What each frame comes after that a gateway passes on."""
+    known = {it.name for bus in buses for it in bus.frames}
+    found: dict[str, str] = {}
+    for word in words:
+        names = word.split("=")
+        if len(names) != 2:
+            raise Fault(f"--forward {word}: write it as FROM=TO, two frames")
+        for it in names:
+            if it not in known:
+                raise Fault(
+                    f"--forward {word}: there is no frame {it}; a frame of several buses is named as in the system,"
+                    " BUS.FRAME"
+                )
+        if names[1] in found:
+            raise Fault(
+                "--forward: two frames are passed on as one; a task of several activators has to be written by hand"
+                " (format 2)"
+            )
+        found[names[1]] = names[0]
+        at, way = names[1], set()
+        while at in found and at not in way:
+            way.add(at)
+            at = found[at]
+        if at in way:
+            raise Fault(f"--forward: {at} is forwarded in a ring")
+    return found
+
+
+def text_in(system: System, report: Report, tick: Fraction) -> str:
+    """The system file."""
+    told = [f"Written by lokwurmi import network. A tick is {text_of(tick)}.", *report.lines(sys.maxsize)]
+    lines = [part for it in told for part in comments(it)] + [comment(it) for it in system.rules] + ["format = 1"]
+    parts = {"resource": system.resources, "source": system.sources, "task": system.tasks, "path": system.paths}
+    for key, entries in parts.items():
+        lines += [f"{key} = [", *(f"  {entry(it)}," for it in entries), "]"]
+    return "\n".join(lines) + "\n"
+
+
+def add_times(reader: argparse.ArgumentParser) -> None:
+    """The words on rates and times."""
+    rate, time, either = word_of(rate_of_bus), word_of(time_of), word_of(share_or_time)
+    for option, metavar, kind, help_text in (
+        ("--tick", "TIME", time, "the time of a tick; 1us if absent"),
+        (
+            "--jitter",
+            "JITTER",
+            either,
+            "by how much a frame is queued late: a time, or 10%% of the period; 0 if absent",
+        ),
+        ("--jitter-attribute", "NAME", str, "an attribute of frames in the database that tells it in milliseconds"),
+        (
+            "--fast",
+            "PPM",
+            word_of(millionths),
+            "by how many millionths the clock of a sender may be fast, which makes its periods shorter; 0 if absent",
+        ),
+        (
+            "--deadline",
+            "DEADLINE",
+            str,
+            "a time, a part of the period, or none; 100%% if absent. It counts from when the frame is queued",
+        ),
+        ("--deadline-attribute", "NAME", str, "an attribute of frames in the database that tells it in milliseconds"),
+        (
+            "--others",
+            "TIME",
+            time,
+            (
+                "takes frames without a cycle time: the least time between two of each; and that of"
+                " frames that are sent on events too"
+            ),
+        ),
+        (
+            "--errors",
+            "COUNT/TIME",
+            word_of(errors_of),
+            "counts errors on the bus: at most so many in any such time, as 2/100ms; none if absent",
+        ),
+    ):
+        reader.add_argument(option, metavar=metavar, type=kind, help=help_text)
+    rates = {"metavar": "[BUS=]BITS", "type": rate, "action": "append", "default": []}
+    reader.add_argument("--bitrate", help="bits per second, of all buses or of one; the database's if absent", **rates)
+    reader.add_argument("--data-bitrate", help="those in the data phase of CAN FD; the database's if absent", **rates)
+    reader.set_defaults(tick=time_of("1us"), jitter=("time", Fraction(0)), fast=Fraction(0), deadline="100%")
+
+
+def add_choices(reader: argparse.ArgumentParser) -> None:
+    """The words on what is taken, and how."""
+    several = {"action": "append", "default": []}
+    for option, metavar, help_text in (
+        ("--without", "FRAME", "leaves a frame out; a pattern with * leaves several"),
+        ("--bus", "BUS", "takes this bus alone"),
+        ("--only", "FRAME", "takes this frame and what delays it: its bound is the one that it has among all"),
+        (
+            "--paths",
+            "FRAME",
+            (
+                "writes paths for these frames alone; a pattern with * names several. All have one if"
+                " absent, with a deadline"
+            ),
+        ),
+        ("--forward", "FROM=TO", "frame TO of another bus is queued when FROM is received by a gateway"),
+    ):
+        reader.add_argument(option, metavar=metavar, help=f"{help_text}. May stand several times", **several)
+    reader.add_argument(
+        "--multiplexed",
+        choices=("once", "each", "out"),
+        default="once",
+        help="how many multiplexed frames come in a cycle: one, one for each value, or leave them out; once if absent",
+    )
+    reader.add_argument(
+        "--share",
+        choices=("none", "sender", "all"),
+        default="none",
+        help=(
+            "which frames with equal period and jitter have one source: none, those of one sender, or all; no bound"
+            " depends on it. None if absent"
+        ),
+    )
+
+
+def asked_for(arguments: list[str] | None) -> argparse.Namespace:
+    reader = reader_of("import network", __doc__)
+    what = "a database; NAME=FILE gives its bus a name, which is that of the file if absent"
+    reader.add_argument("database", metavar="DATABASE", nargs="+", help=what)
+    reader.add_argument("--to", metavar="SYSTEM", help="the system file; the standard output if absent")
+    add_times(reader)
+    add_choices(reader)
+    words = reader.parse_args(arguments)
+    try:
+        words.deadline = None if words.deadline == "none" else share_or_time(words.deadline)
+    except ValueError as fault:
+        reader.error(f"argument --deadline: {fault}")
+    return words
+
+
+def main(arguments: list[str] | None = None) -> int | None:
+    words = asked_for(arguments)
+    # it needs canmatrix, and --help doesn't
+    from lokwurmi_tools.databases import read_buses
+
+    buses = read_buses(words.database)
+    taker = Taker(buses, words, forwards_of(words.forward, buses))
+    taker.all()
+    system = system_of(taker)
+    check_size(system, taker, MOST_NAMES)
+    text = text_in(system, taker.report, words.tick)
+    for line in taker.report.lines(MOST_NAMES):
+        print(printable(line), file=sys.stderr)
+    put(text, words.to)

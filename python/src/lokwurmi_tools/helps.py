@@ -1,0 +1,176 @@
+"""What would help a path most: each number that its tasks wait by is changed by a tenth, alone, and tried by the
+program.
+
+What is told of a change is what the proved program says of the system with it. Which changes are tried is this tool's
+choice: there may be others that help more, and several together may do what none does alone.
+"""
+from typing import Any, NamedTuple
+
+from lokwurmi_tools.explained import Explained
+from lokwurmi_tools.report import reports_in
+from lokwurmi_tools.system import sources_of
+from lokwurmi_tools.times import TICKS, Scale
+from lokwurmi_tools.trials import Trial, reports_after
+
+# how many of the best are told, and what has to be said beside them
+BEST = 5
+WARNING = "These are changes of the model; whether the system can be built so is another matter."
+
+
+class Change(NamedTuple):
+    """A number of the model that becomes another: the kind is `priority`, `worst`, `slot` or `period`, the name that of
+    a task or a source, and `for_task` the task of the path because of which it is tried."""
+
+    kind: str
+    name: str
+    for_task: str
+    now: int | str
+    then: int | str
+    trial: Trial
+
+
+class Help(NamedTuple):
+    """A change, and what the program says of the system with it: the path's greatest time before and with it, None
+    where it has no bound, and what is late or without a bound only with it."""
+
+    change: Change
+    before: int | None
+    worst: int | None
+    harms: list[str]
+
+    @property
+    def effect(self) -> str:
+        if self.worst == self.before:
+            return "same"
+        if self.worst is None or self.before is not None and self.worst > self.before:
+            return "longer"
+        return "shorter"
+
+    def told(self) -> dict:
+        change = {key: value for key, value in self.change._asdict().items() if key != "trial"}
+        edits = {"edits": self.change.trial.edits, "effect": self.effect}
+        return {**change, **edits, "worst": self.worst, "harms": self.harms}
+
+
+def tenth(number: int) -> int:
+    """A tenth of a number in whole ticks, and at least one."""
+    return max(1, number // 10)
+
+
+class Changes:
+    """The changes that are tried for a path: of each number one, for the first task that waits by it."""
+
+    def __init__(self, explained: Explained, path: str):
+        self.parts, self.found = explained.parts, {}
+        for name in explained.paths[path]:
+            self.of_task(name)
+
+    def all(self) -> list[Change]:
+        return list(self.found.values())
+
+    def of_task(self, name: str) -> None:
+        """The changes for one task of the path: its own numbers, and those of the tasks that it waits for."""
+        parts = self.parts
+        before, blocked = [it.name for it in parts.before(name)], parts.blocking(name)
+        takers = [it for kind, it, _ in parts.cycle(name) if kind == "slot"]
+        if parts.kind(name) in ("preemptive", "can") and before:
+            self.swap(name, before[-1])
+        if "slot" in parts.tasks[name]:
+            self.slot(name, name, longer=True)
+        self.worst(name, name)
+        for it in [*before, *([blocked] if blocked else [])]:
+            self.worst(name, it)
+        for it in before:
+            self.periods(name, it)
+        for it in takers if parts.kind(name) == "tdma" else before:
+            if "slot" in parts.tasks[it]:
+                self.slot(name, it, longer=False)
+
+    def put(self, kind: str, of: str, for_task: str, now: Any, then: Any, edits: list[str], back: list[str]) -> None:
+        key = (kind, of, for_task if kind == "priority" else then)
+        self.found.setdefault(key, Change(kind, of, for_task, now, then, Trial(edits, back)))
+
+    def swap(self, name: str, rival: str) -> None:
+        """The task goes before the rival that is next above it."""
+        edit = [f"swap {rival} {name}"]
+        self.put("priority", name, name, f"after {rival}", f"before {rival}", edit, edit)
+
+    def worst(self, for_task: str, name: str) -> None:
+        """A task's greatest execution is less; its least one too where that would be above it."""
+        best, worst = self.parts.executions[name]
+        then = worst - tenth(worst)
+        if then >= 1:
+            edit, back = f"exec {name} {min(best, then)} {then}", f"exec {name} {best} {worst}"
+            self.put("worst", name, for_task, worst, then, [edit], [back])
+
+    def periods(self, for_task: str, rival: str) -> None:
+        """The period of each source of a rival is longer."""
+        for source in dict.fromkeys(sources_of(self.parts.system, rival)):
+            it = self.parts.sources[source]
+            then, others = it["period"] + tenth(it["period"]), f"{it.get('jitter', 0)} {it.get('distance', 0)}"
+            if then <= 1_000_000_000:
+                edit, back = f"source {source} {then} {others}", f"source {source} {it['period']} {others}"
+                self.put("period", source, for_task, it["period"], then, [edit], [back])
+
+    def slot(self, for_task: str, name: str, longer: bool) -> None:
+        """A slot is longer, or shorter."""
+        now = self.parts.tasks[name]["slot"]
+        then = now + tenth(now) if longer else now - tenth(now)
+        if 1 <= then <= 1_000_000:
+            self.put("slot", name, for_task, now, then, [f"slot {name} {then}"], [f"slot {name} {now}"])
+
+
+def faults_in(tasks: dict, paths: dict) -> list[str]:
+    """Which paths of a report are late, and which paths and tasks have no bound."""
+    late = [f"path {name} misses its deadline" for name, it in paths.items() if it["verdict"] == "missed"]
+    endless = [("path", name) for name, it in paths.items() if it["worst"] is None]
+    endless += [("task", name) for name, it in tasks.items() if it["worst"] is None]
+    return late + [f"{what} {name} has no bound" for what, name in endless]
+
+
+def helps_for(explained: Explained, path: str, program: str, file: str) -> list[Help]:
+    """All changes that are tried for a path, those first with which it takes least."""
+    changes = Changes(explained, path).all()
+    known, now = faults_in(explained.found_tasks, explained.found_paths), explained.found_paths[path]["worst"]
+    reports = reports_after(program, file, [it.trial for it in changes], explained.text)
+    found = []
+    for change, report in zip(changes, reports):
+        tasks, paths, _ = reports_in(report.splitlines(), "lokwurmi session")[-1]
+        harms = [it for it in faults_in(tasks, paths) if it not in known]
+        found.append(Help(change, now, paths[path]["worst"], harms))
+    return sorted(found, key=lambda it: float("inf") if it.worst is None else it.worst)
+
+
+def change_text(it: Change, scale: Scale = TICKS) -> str:
+    """A change in words."""
+    if it.kind == "priority":
+        return f"{it.name} {it.then}"
+    what = {"worst": "greatest execution of", "slot": "slot of", "period": "period of"}[it.kind]
+    return f"{what} {it.name} {scale.text(int(it.now))} → {scale.text(int(it.then))}"
+
+
+def less_text(it: Help, scale: Scale = TICKS) -> str:
+    """By how much a path takes less, and what is worse then."""
+    less = "and it had no bound" if it.before is None else scale.text((it.worst or 0) - it.before)
+    more = f" and {len(it.harms) - 2} more" if len(it.harms) > 2 else ""
+    return less + (f", but then {', '.join(it.harms[:2])}{more}" if it.harms else "")
+
+
+def lines_of_helps(several: list[Help], scale: Scale = TICKS) -> list[str]:
+    """The best changes in lines, and how many did what."""
+    count = {effect: sum(it.effect == effect for it in several) for effect in ("shorter", "longer", "same")}
+    if not several:
+        return ["  what would help: there is no number to try"]
+    head = f"  what would help most, of {len(several)} changes by a tenth or one place, each tried alone:"
+    best = [it for it in several if it.effect == "shorter"][:BEST]
+    if not best:
+        return [head, "    none makes it shorter"]
+    texts = [change_text(it.change, scale) for it in best]
+    wide = max(map(len, texts))
+    far = max(len(scale.text(it.worst or 0)) for it in best)
+    lines = [
+        f"    {text:<{wide}}  {scale.text(it.worst or 0):>{far}}  {less_text(it, scale)}"
+        for text, it in zip(texts, best)
+    ]
+    more = f"{count['shorter'] - len(best)} more make it shorter, {count['longer']} longer, {count['same']} neither"
+    return [head, *lines, f"    {more}", f"  {WARNING}"]

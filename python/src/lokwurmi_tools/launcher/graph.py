@@ -1,0 +1,112 @@
+"""The crates that a program depends on, by crates.txt, and whether a source of them is newer than the program."""
+from __future__ import annotations
+
+import os
+from collections.abc import Iterator
+from pathlib import Path
+
+from lokwurmi_tools.launcher.places import TOP, built_from, program
+
+PARTS = ("src", "specs", "proofs")
+
+
+def listed() -> dict[str, list[str]]:
+    """What each crate of crates.txt uses, of the crates that it lists: libraries of the toolchain have no line."""
+    found: dict[str, list[str]] = {}
+    with open(TOP / "crates.txt", encoding="utf-8") as it:
+        for line in it:
+            name, colon, uses = line.partition("#")[0].partition(":")
+            if colon:
+                found[name.split()[0]] = uses.replace(",", " ").split()
+    return {name: [it for it in uses if it in found] for name, uses in found.items()}
+
+
+class Graph:
+    """The crates below one, and itself: order has each after those that it uses."""
+
+    def __init__(self, top: str):
+        self.top = top
+        self.uses: dict[str, list[str]] = {}
+        self._listed = listed()
+        self._put_below(top)
+        self.order = list(self.uses)
+        self.below = {it: self._all_below(it) for it in self.order}
+
+    def _put_below(self, name: str) -> None:
+        uses = self._listed[name]
+        for it in uses:
+            if it not in self.uses:
+                self._put_below(it)
+        self.uses[name] = uses
+
+    def _all_below(self, name: str) -> set[str]:
+        found: set[str] = set()
+        for it in self.uses[name]:
+            found |= {it} | self._all_below(it)
+        return found
+
+    @property
+    def queue(self) -> list[str]:
+        """The crates as `rt all` takes them up: by how many are below."""
+        return sorted(self.order, key=lambda it: len(self.below[it]))
+
+    @property
+    def summit(self) -> list[str]:
+        """The last crates that depend on all before them, up to the top: beside them nothing else is proved."""
+        count = len(self.order)
+        size = 1
+        while size + 2 < count and len(self.below[self.order[-size - 1]]) == count - size - 1:
+            size += 1
+        return self.order[count - size :]
+
+    def folders(self) -> list[str]:
+        """What a build reads, as paths below the repository."""
+        return ["crates.txt", *(f"crates/{it}/{part}" for it in self.order for part in PARTS)]
+
+    def keep_folders(self) -> None:
+        """Writes that list beside the program, for the script; where that can't be, it asks Python each time."""
+        try:
+            built_from(self.top).write_text("\n".join(self.folders()) + "\n", encoding="utf-8")
+        except OSError:
+            pass
+
+    def why_stale(self, product: Path | None = None, called: str = "the program") -> str:
+        """Why the program has to be built, or another product, if it has to be.
+
+        A build gives it the time at which it began, so that what changed meanwhile is newer. Folders count, since a source
+        that was taken away leaves no other trace.
+        """
+        product = product or program(self.top)
+        if not os.access(product, os.R_OK if product.suffix else os.X_OK):
+            return f"{called} isn't built yet"
+        newer = first_newer([TOP / it for it in self.folders()], product.stat().st_mtime_ns)
+        return f"{newer.relative_to(TOP)} is newer than {called}" if newer else ""
+
+
+def paths_below(folder: Path) -> Iterator[Path]:
+    """A file, or a folder and all that is in it; nothing where it isn't there."""
+    if folder.exists():
+        yield folder
+    for root, folders, files in os.walk(folder):
+        yield from (Path(root, it) for it in (*folders, *files))
+
+
+def first_newer(folders: list[Path], than: int) -> Path | None:
+    """The first path that was changed after a time, in nanoseconds."""
+    for folder in folders:
+        for it in paths_below(folder):
+            if it.lstat().st_mtime_ns > than:
+                return it
+    return None
+
+
+def is_kept(crate: str, uses: list[str], done: set[str]) -> bool:
+    """Whether a crate's library was built from what its sources, and those of the crates below it, are now.
+
+    It is looked at for what is shown: rt itself goes by checksums.
+    """
+    folder = TOP / "crates" / crate
+    stamp = folder / "out" / "rlib" / "stamp"
+    if not stamp.exists() or any(it not in done for it in uses):
+        return False
+    return first_newer([folder / it for it in PARTS], stamp.stat().st_mtime_ns) is None

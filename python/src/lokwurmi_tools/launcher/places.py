@@ -1,0 +1,55 @@
+"""Where things are: in the repository, or in an installed copy, which has the same folders without the sources."""
+from __future__ import annotations
+
+import hashlib
+from pathlib import Path
+
+# the folder of the repository, or of an installed copy
+TOP = Path(__file__).resolve().parents[4]
+SCRIPT = TOP / "lokwurmi"
+SOURCES = TOP / "python" / "src"
+# what `install` writes into a copy: its version and where it is from, and the files that it has listed
+INSTALLED = TOP / "INSTALLED"
+PAGE = TOP / "docs" / "FILES.md"
+LIBRARY = TOP / "library" / "out"
+
+
+def is_installed() -> bool:
+    """Whether this is an installed copy, which has no sources and never builds."""
+    return INSTALLED.is_file()
+
+
+def program(crate: str) -> Path:
+    """Where the proved program of a crate is; nothing else is ever written there."""
+    return TOP / "crates" / crate / "out" / crate
+
+
+def built_from(crate: str) -> Path:
+    """The list of what a program was built from, by which the script sees without Python that nothing has changed."""
+    return TOP / "crates" / crate / "out" / "lokwurmi.below"
+
+
+def record_of(crate: str) -> Path:
+    """What a build has noted of a program: what the toolchain calls itself, and the program's checksum."""
+    return TOP / "crates" / crate / "out" / "lokwurmi.built"
+
+
+def digest(file: Path) -> str:
+    """The checksum of a file; none where it can't be read."""
+    try:
+        return hashlib.sha256(file.read_bytes()).hexdigest()
+    except OSError:
+        return ""
+
+
+def note_built(crate: str, kit: str, product: Path) -> None:
+    record_of(crate).write_text(f"{kit}\n{digest(product)}\n", encoding="utf-8")
+
+
+def kit_of(crate: str) -> str:
+    """The toolchain that has proved and built a program; none where the program isn't the one that a build has noted."""
+    try:
+        kit, noted = record_of(crate).read_text(encoding="utf-8").splitlines()
+    except (OSError, ValueError):
+        return ""
+    return kit if noted == digest(program(crate)) else ""

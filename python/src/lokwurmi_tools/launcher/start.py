@@ -1,0 +1,20 @@
+"""Starts a step of the launcher for the script `lokwurmi`: STEP WORD.., where STEP is a name in `front.STEPS`."""
+import os
+import sys
+
+
+def start() -> int:
+    if sys.version_info < (3, 11):
+        # a hint by the script has to do where only words are lacking
+        if sys.argv[1] != "tell":
+            print(f"lokwurmi: {sys.executable} is {sys.version.split()[0]}, and Python 3.11 or later is needed", file=sys.stderr)
+        return 70
+    packages = os.path.dirname(os.path.dirname(os.path.dirname(os.path.abspath(__file__))))
+    sys.path.insert(0, packages)
+    from lokwurmi_tools.launcher.front import main
+
+    return main(sys.argv[1:])
+
+
+if __name__ == "__main__":
+    sys.exit(start())

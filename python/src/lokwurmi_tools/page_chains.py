@@ -1,0 +1,125 @@
+"""The chains of a file on a page, for lokwurmi page: bounds, deadlines and verdicts, and what a run shows of them."""
+import argparse
+import re
+from fractions import Fraction
+
+from lokwurmi_tools.chains import Bounds, Chain, bounds_by, read_chains
+from lokwurmi_tools.colours import letters_on
+from lokwurmi_tools.faults import Fault
+from lokwurmi_tools.kinds import Values
+from lokwurmi_tools.page_system import System, percent
+from lokwurmi_tools.program import call
+from lokwurmi_tools.report import number
+from lokwurmi_tools.seen import Late, Run, gaps_in, seen_of
+
+LINE = re.compile(
+    r"chain (?P<name>\S+) tasks \d+ reaction (?P<reaction>\S+) deadline \S+ (?P<reaction_verdict>\w+) "
+    r"age (?P<age>\S+) deadline \S+ (?P<age_verdict>\w+)"
+)
+NO_WORDS = 10
+ASKED = ("reaction", "age")
+
+
+def verdicts_by(program: str, file: str, chains: str) -> dict[str, dict]:
+    """What `lokwurmi chains` tells of each chain."""
+    status, text = call(program, "chains", file, chains)
+    if status == NO_WORDS:
+        raise Fault(f"{program}: it doesn't take `chains FILE CHAINS`, which --chains wants")
+    if status not in (0, 1, 2):
+        raise Fault(f"lokwurmi chains {file} {chains}: status {status}: {text.strip()}; docs/FILES.md tells what to do")
+    return {it["name"]: it.groupdict() for it in map(LINE.fullmatch, text.splitlines()) if it}
+
+
+def parts_of(bounds: Bounds, what: str) -> list[tuple[str, str, int | None]]:
+    """What a bound is the sum of: the name of a task, `wait` or `response`, and the ticks; those of a wait stand before
+    the response of who waits, and of an age behind that of whose register is read."""
+    parts = []
+    for step, after in zip(bounds.steps, [*bounds.steps[1:], None]):
+        if what == "reaction" and step.kind not in ("activation", "merge"):
+            parts.append((step.name, "wait", step.wait))
+        parts.append((step.name, "response", step.response))
+        if what == "age" and after is not None and after.kind != "activation":
+            parts.append((step.name, "wait", step.wait))
+    return parts
+
+
+class ChainTable:
+    """The chains of a file, over a system and what a run of it shows."""
+
+    def __init__(self, words: argparse.Namespace, system: System):
+        self.system, self.file = system, words.chains
+        self.chains = read_chains(words.chains, system.raw)
+        self.found = verdicts_by(words.program, words.file, words.chains)
+        self.bounds = {it.name: bounds_by(words.program, words.file, it.tasks) for it in self.chains}
+        sums = [it for found in self.found.values() for it in (number(found["reaction"]), number(found["age"])) if it]
+        limits = [it for chain in self.chains for it in (chain.reaction, chain.age) if it]
+        self.scale = max([1, *sums, *limits]) * Fraction(102, 100)
+
+    def share(self, ticks: int) -> str:
+        return percent(Fraction(ticks) / self.scale)
+
+    def bar(self, chain: Chain, what: str, deadline: int | None, late: Late | None) -> dict:
+        found, parts = self.found[chain.name], []
+        for name, kind, ticks in parts_of(self.bounds[chain.name], what):
+            hue = self.system.shades[name]
+            width = self.share(ticks or 0)
+            label = next(
+                (it for it in (f"{name} {self.system.scale.text(ticks or 0)}", name) if float(width) * 0.6 > len(it)),
+                "",
+            )
+            parts.append(
+                {
+                    "name": name,
+                    "kind": kind,
+                    "ticks": ticks,
+                    "width": width,
+                    "hue": hue,
+                    "ink": letters_on(hue),
+                    "label": label if kind == "response" else "",
+                }
+            )
+        bound = number(found[what])
+        return {
+            "what": what,
+            "bound": bound,
+            "deadline": deadline,
+            "verdict": found[f"{what}_verdict"],
+            "parts": parts,
+            "at": None if deadline is None else self.share(deadline),
+            "seen": late and late.ticks(),
+            "seen_at": late and percent(min(Fraction(late.ticks()) / self.scale, Fraction(1))),
+            "room": None if None in (bound, deadline) else deadline - bound,
+        }
+
+    def rows(self, run: Run | None) -> list[dict]:
+        rows = []
+        for chain in self.chains:
+            latest = seen_of(run, chain.tasks, "whenever").latest if run else dict.fromkeys(ASKED)
+            limits = {"reaction": chain.reaction, "age": chain.age}
+            bars = [self.bar(chain, what, limits[what], latest[what]) for what in ASKED]
+            rows.append(
+                {
+                    "name": chain.name,
+                    "tasks": chain.tasks,
+                    "bars": bars,
+                    "steps": self.bounds[chain.name].steps,
+                    "held": self.bounds[chain.name].totals.get("held"),
+                }
+            )
+        return rows
+
+
+def chains_of(words: argparse.Namespace, system: System, run: Values | None) -> dict:
+    """The section of chains: its rows, and where a source of the run stays away."""
+    table = ChainTable(words, system)
+    seen = Run(system.raw, *run["of"]) if run and run["of"] else None
+    rows = table.rows(seen)
+    several = [bar for row in rows for bar in row["bars"]]
+    counts = {it: sum(bar["verdict"] == it for bar in several) for it in ("met", "missed", "unknown")}
+    return {
+        "rows": rows,
+        "read": table.chains,
+        "is_seen": seen is not None,
+        "counts": counts,
+        "gaps": gaps_in(system.raw, run["of"][1][0]) if seen else [],
+    }

@@ -1,0 +1,256 @@
+"""Tells what the bound of a task is made of, for the tools beside it.
+
+A bound is the response of one job of a busy window: the latest one. It comes so long after the window began, and is
+done when the window has room for all that is asked for up to its end: its own executions and those of its task's jobs
+before it, and what goes before them. This is worked out here once more by the rules of docs/DEFINITIONS.md, at the
+bounds of a report, which are those of the least solution; so it must come to the very bound that the report has. It is
+no part of what is proved."""
+from collections.abc import Iterator
+from typing import NamedTuple
+
+from lokwurmi_tools.sharing import Sharing
+from lokwurmi_tools.system import execution, inputs_of, least_time, most_events, ways_to
+
+# a period, a jitter and a distance
+Stream = tuple[int, int, int]
+
+
+class Tired(Exception):
+    """A busy window takes more looks than are allowed."""
+
+
+class Endless(Exception):
+    """A busy window is longer than the limit of its resource."""
+
+
+class Part(NamedTuple):
+    """What fills a part of the window: `count` times `each` ticks. The kind is `own`, `rival` (jobs of a task that goes
+    before), `turns` (the turns of another, which has more to do), `blocking` (a frame that is under way), `slot`
+    (another's slot in a cycle) or `gap`. Of the jobs of a rival `burst` come only because of its jitter."""
+
+    kind: str
+    of: str
+    count: int
+    each: int
+    burst: int = 0
+
+    @property
+    def ticks(self) -> int:
+        return self.count * self.each
+
+
+class Rival(NamedTuple):
+    """Who may go before a task: its greatest execution, its streams, None where they have no bound, by how much its
+    window is longer, and its slot where it takes turns."""
+
+    name: str
+    worst: int
+    streams: list[Stream] | None
+    ahead: int = 0
+    slot: int | None = None
+
+    def events(self, window: int) -> int:
+        """How many jobs it has in a window of the task at most."""
+        return sum(most_events(it, window + self.ahead) for it in self.streams)
+
+    def steady(self, window: int) -> int:
+        """How many these would be if its streams had no jitter."""
+        return sum(most_events((period, 0, distance), window + self.ahead) for period, _, distance in self.streams)
+
+
+class Place(NamedTuple):
+    """A job of a busy window: the how many-th, when it comes, the window that has room for it, and when it is done."""
+
+    number: int
+    came: int
+    window: int
+    done: int
+
+    @property
+    def response(self) -> int:
+        return self.done - self.came
+
+
+class Job(NamedTuple):
+    """The job of a busy window whose response is greatest: the how many-th of how many, when it came and when it is
+    done, and what fills the time up to there."""
+
+    number: int
+    of: int
+    came: int
+    done: int
+    parts: list[Part]
+
+    @property
+    def response(self) -> int:
+        return self.done - self.came
+
+
+class Step(NamedTuple):
+    """The bound of a task with its first rivals alone: the last of these, None without any, and the bound, None if
+    there is none."""
+
+    rival: str | None
+    bound: int | None
+
+
+class Parts(Sharing):
+    """A system file at the bounds of its report, None where one is `overload`."""
+
+    def __init__(self, system: dict, bounds: dict[str, int | None]):
+        super().__init__(system)
+        self.system, self.bounds = system, bounds
+        self.sources = {it["name"]: it for it in system.get("source", [])}
+        self.executions = {name: execution(it, self.resources[it["on"]]) for name, it in self.tasks.items()}
+        self.inputs = inputs_of(system, bounds)
+        # how many looks at the work of a task were taken, and with how many it ends
+        self.looks, self.until = 0, None
+
+    def before(self, name: str) -> list[Rival]:
+        """Who may go before a task, the most urgent first, or in the order of the file."""
+        kind, found = self.kind(name), self.rivals(name)
+        if kind == "round-robin":
+            return [self.in_turn(it) for it in found]
+        # what comes within a bit time after the start of a frame goes first
+        ahead = self.resource(name).get("bit", 1) if kind == "can" else 0
+        found.sort(key=lambda it: self.tasks[it]["priority"])
+        return [Rival(it, self.executions[it][1], self.inputs[it], ahead) for it in found]
+
+    def in_turn(self, name: str) -> Rival:
+        """A rival that takes turns; of one without a bound these alone count."""
+        bound = self.bounds[name]
+        streams = None if bound is None else self.inputs[name]
+        return Rival(name, self.executions[name][1], streams, bound or 0, self.tasks[name]["slot"])
+
+    def blocking(self, name: str) -> str | None:
+        """On a bus the longest frame of lower priority, that may be under way."""
+        if self.kind(name) != "can":
+            return None
+        lower = [it for it in self.beside(name) if self.tasks[it]["priority"] > self.tasks[name]["priority"]]
+        return max(lower, key=lambda it: self.executions[it][1], default=None)
+
+    def cycle(self, name: str) -> list[tuple[str, str, int]]:
+        """On TDMA the slots of the others and the gap: what a cycle takes away."""
+        if self.kind(name) != "tdma":
+            return []
+        gap = self.resource(name).get("gap", 0)
+        slots = [("slot", it, self.tasks[it]["slot"]) for it in self.beside(name)]
+        return slots + ([("gap", self.tasks[name]["on"], gap)] if gap else [])
+
+    def rounds(self, name: str, jobs: int) -> int:
+        """The turns or slots of its own that so many jobs of a task need."""
+        slot = self.tasks[name].get("slot")
+        return -(-jobs * self.executions[name][1] // slot) if slot else 0
+
+    def fixed(self, name: str, jobs: int) -> list[Part]:
+        """What goes before so many jobs of a task in a window of any length, but for these."""
+        blocked, rounds = self.blocking(name), self.rounds(name, jobs)
+        found = [Part("blocking", blocked, 1, self.executions[blocked][1])] if blocked else []
+        return found + [Part(kind, it, rounds, ticks) for kind, it, ticks in self.cycle(name)]
+
+    def shared(self, rival: Rival, rounds: int, window: int) -> Part:
+        """What a rival takes in a window."""
+        turns = None if rival.slot is None else Part("turns", rival.name, rounds, rival.slot)
+        if rival.streams is None:
+            return turns
+        count = rival.events(window)
+        if turns and turns.ticks < count * rival.worst:
+            return turns
+        return Part("rival", rival.name, count, rival.worst, count - rival.steady(window))
+
+    def taken(self, rivals: list[Rival], rounds: int, window: int) -> int:
+        """The ticks that rivals take in a window."""
+        self.looks += 1 + len(rivals)
+        if self.until is not None and self.looks > self.until:
+            raise Tired
+        ticks = 0
+        for it in rivals:
+            work = None if it.streams is None else it.worst * it.events(window)
+            turns = None if it.slot is None else rounds * it.slot
+            ticks += min(amount for amount in (work, turns) if amount is not None)
+        return ticks
+
+    def window(self, name: str, rivals: list[Rival], jobs: int, first: int) -> int:
+        """The least window, from `first` on, that has room for so many jobs and what goes before them."""
+        if any(it.streams is None and it.slot is None for it in rivals):
+            raise Endless
+        rounds, limit, window = self.rounds(name, jobs), self.limit(name), first
+        fixed = jobs * self.executions[name][1] + sum(it.ticks for it in self.fixed(name, jobs))
+        while window <= limit:
+            asked = fixed + self.taken(rivals, rounds, window)
+            if asked <= window:
+                return window
+            window = asked
+        raise Endless
+
+    def frames(self, name: str, rivals: list[Rival]) -> int:
+        """On a bus how many frames of a task come up to the end of the busy period, which begins with one of lower
+        priority."""
+        own = Rival(name, self.executions[name][1], self.inputs[name])
+        busy = self.window(name, [*(it._replace(ahead=0) for it in rivals), own], 0, 1)
+        return own.events(busy)
+
+    def places(self, name: str, rivals: list[Rival]) -> Iterator[Place]:
+        """The jobs of the busy window, one after the other."""
+        own, worst, limit = self.inputs[name], self.executions[name][1], self.limit(name)
+        frames = self.frames(name, rivals) if self.kind(name) == "can" else None
+        # a frame isn't interrupted: its own length comes after its start
+        rest = 0 if frames is None else worst
+        number, window = 0, -worst
+        while True:
+            number += 1
+            window = self.window(name, rivals, number if frames is None else number - 1, window + worst)
+            if window + rest > limit:
+                raise Endless
+            yield Place(number, least_time(own, number), window, window + rest)
+            if number == frames if frames is not None else window <= least_time(own, number + 1):
+                return
+
+    def latest(self, name: str, rivals: list[Rival] | None = None, most: int | None = None) -> Job | None:
+        """The job that answers latest; None where there is no bound. With rivals it is that of the task among these
+        alone. Tired is raised after so many looks at a task's work, if there is a most."""
+        if self.inputs[name] is None:
+            return None
+        self.until = None if most is None else self.looks + most
+        rivals, late, of = self.before(name) if rivals is None else rivals, None, 0
+        try:
+            for it in self.places(name, rivals):
+                late, of = it if late is None or it.response > late.response else late, it.number
+        except Endless:
+            return None
+        # the window of a frame is up to its start, in which there are those before it
+        jobs = late.number - 1 if self.kind(name) == "can" else late.number
+        own = Part("own", name, late.number, self.executions[name][1])
+        waits = [self.shared(it, self.rounds(name, jobs), late.window) for it in rivals]
+        return Job(late.number, of, late.came, late.done, [own, *self.fixed(name, jobs), *waits])
+
+    def streams(self, name: str) -> list[dict] | None:
+        """The streams that start a task: of each its source, its numbers, and from where its jitter comes."""
+        if self.inputs[name] is None:
+            return None
+        found = []
+        for (source, *way), (period, jitter, distance) in zip(ways_to(self.system, name), self.inputs[name]):
+            varies = [(it, self.bounds[it] - self.executions[it][0]) for it in way]
+            found.append(
+                {
+                    "source": source,
+                    "way": way,
+                    "period": period,
+                    "jitter": jitter,
+                    "distance": distance,
+                    "of": [(source, self.sources[source].get("jitter", 0)), *varies],
+                }
+            )
+        return found
+
+    def settles(self, name: str, most: int | None = None) -> list[Step]:
+        """Of a task whose own busy window has no end up to the limit: with how many of its rivals, one after the other,
+        it has still one. The answer is the bound with each of the first ones, beginning with none, up to the first that
+        is None."""
+        rivals, found = self.before(name), []
+        for count in range(len(rivals) + 1):
+            job = self.latest(name, rivals[:count], most)
+            found.append(Step(rivals[count - 1].name if count else None, job and job.response))
+            if job is None:
+                break
+        return found

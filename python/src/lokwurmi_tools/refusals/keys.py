@@ -1,0 +1,190 @@
+"""What the entries of a system file hold: keys, types and ranges, as docs/FILES.md has them."""
+from __future__ import annotations
+
+from collections.abc import Sequence
+from dataclasses import dataclass
+
+PARTS = ("resource", "source", "task", "path")
+TOP_KEYS = ("format", *PARTS)
+KINDS = ("preemptive", "round-robin", "tdma", "can")
+MOST_ENTRIES = {"resource": 64, "source": 128, "task": 512, "path": 128}
+MOST_IN_CHAIN = 32
+MOST_STREAMS = 32
+MOST_IN_NAME = 64
+# what one bus compares first, and the greatest identifier of 11 bits
+MOST_SHORT = 0x7FF
+# how many bits of an identifier of 29 come behind those 11
+LOW_BITS = 18
+
+
+@dataclass(frozen=True)
+class Key:
+    """What a key holds: `text`, `integer`, `truth`, `texts` or `after`; of an integer the range; whether each entry has
+    it."""
+
+    holds: str
+    least: int = 0
+    most: int = 0
+    is_required: bool = False
+
+
+KEYS: dict[str, dict[str, Key]] = {
+    "resource": {
+        "name": Key("text", is_required=True),
+        "kind": Key("text", is_required=True),
+        "limit": Key("integer", 1, 10_000_000),
+        "gap": Key("integer", 0, 1_000_000),
+        "bit": Key("integer", 1, 1_000),
+    },
+    "source": {
+        "name": Key("text", is_required=True),
+        "period": Key("integer", 1, 1_000_000_000, True),
+        "jitter": Key("integer", 0, 1_000_000_000),
+        "distance": Key("integer", 0, 1_000_000_000),
+    },
+    "task": {
+        "name": Key("text", is_required=True),
+        "on": Key("text", is_required=True),
+        "after": Key("after", is_required=True),
+        "best": Key("integer", 1, 1_000_000),
+        "worst": Key("integer", 1, 1_000_000),
+        "payload": Key("integer", 0, 8),
+        "extended": Key("truth"),
+        "priority": Key("integer", 0, 536_870_911),
+        "slot": Key("integer", 1, 1_000_000),
+    },
+    "path": {
+        "name": Key("text", is_required=True),
+        "tasks": Key("texts", is_required=True),
+        "deadline": Key("integer", 1, 1_000_000_000),
+    },
+}
+
+# what others call a key, or a kind, in lower case without marks between words
+OTHER_KEYS = {
+    "wcet": "worst",
+    "maximum": "worst",
+    "max": "worst",
+    "bcet": "best",
+    "minimum": "best",
+    "min": "best",
+    "prio": "priority",
+    "id": "priority",
+    "identifier": "priority",
+    "canid": "priority",
+    "msgid": "priority",
+    "dlc": "payload",
+    "length": "payload",
+    "bytes": "payload",
+    "size": "payload",
+    "isextended": "extended",
+    "ide": "extended",
+    "activator": "after",
+    "activators": "after",
+    "activation": "after",
+    "activatedby": "after",
+    "trigger": "after",
+    "source": "after",
+    "input": "after",
+    "resource": "on",
+    "cpu": "on",
+    "processor": "on",
+    "core": "on",
+    "ecu": "on",
+    "bus": "on",
+    "mappedto": "on",
+    "quantum": "slot",
+    "timeslice": "slot",
+    "slice": "slot",
+    "budget": "slot",
+    "cycle": "period",
+    "cycletime": "period",
+    "interval": "period",
+    "t": "period",
+    "p": "period",
+    "j": "jitter",
+    "d": "distance",
+    "dmin": "distance",
+    "mindistance": "distance",
+    "minimumdistance": "distance",
+    "bittime": "bit",
+    "scheduler": "kind",
+    "scheduling": "kind",
+    "policy": "kind",
+    "type": "kind",
+    "chain": "tasks",
+    "e2e": "deadline",
+    "endtoend": "deadline",
+    "id_": "name",
+    "label": "name",
+    "version": "format",
+    "cpus": "resource",
+    "processors": "resource",
+    "buses": "resource",
+    "events": "source",
+    "streams": "source",
+    "frames": "task",
+    "messages": "task",
+    "chains": "path",
+}
+OTHER_KINDS = {
+    "spp": "preemptive",
+    "fp": "preemptive",
+    "fps": "preemptive",
+    "fpps": "preemptive",
+    "fixedpriority": "preemptive",
+    "priority": "preemptive",
+    "osek": "preemptive",
+    "autosar": "preemptive",
+    "rm": "preemptive",
+    "dm": "preemptive",
+    "cpu": "preemptive",
+    "rr": "round-robin",
+    "roundrobin": "round-robin",
+    "timeslice": "round-robin",
+    "tt": "tdma",
+    "timetriggered": "tdma",
+    "canbus": "can",
+    "can2.0": "can",
+    "spnp": "can",
+    "nonpreemptive": "can",
+    "bus": "can",
+}
+
+
+def bare(word: str) -> str:
+    """A word in lower case without marks between its parts."""
+    return word.lower().translate({ord(it): None for it in " _-"})
+
+
+def is_integer(value: object) -> bool:
+    return isinstance(value, int) and not isinstance(value, bool)
+
+
+def is_texts(value: object) -> bool:
+    return isinstance(value, list) and all(isinstance(it, str) for it in value)
+
+
+def holds(key: Key, value: object, has_lists: bool) -> bool:
+    """Whether a value is of the key's type."""
+    if key.holds == "integer":
+        return is_integer(value)
+    if key.holds == "truth":
+        return isinstance(value, bool)
+    if key.holds == "texts":
+        return is_texts(value)
+    if key.holds == "after" and has_lists and is_texts(value):
+        return True
+    return isinstance(value, str)
+
+
+def is_name(word: str) -> bool:
+    return 0 < len(word) <= MOST_IN_NAME and all(is_name_letter(it) for it in word)
+
+
+def is_name_letter(letter: str) -> bool:
+    return letter.isascii() and (letter.isalnum() or letter in "_-.")
+
+
+def ranges(part: str, keys: Sequence[str]) -> str:
+    return ", ".join(f"{it}: {KEYS[part][it].least} to {KEYS[part][it].most}" for it in keys)

@@ -1,0 +1,156 @@
+"""Reads traces and schedules, and tells the jobs in them, for the tools beside it."""
+import csv
+import io
+from collections.abc import Iterable
+from typing import NamedTuple
+
+from lokwurmi_tools.faults import Fault
+from lokwurmi_tools.kinds import Jobs, Schedule, Segment, Trace, Values
+from lokwurmi_tools.system import activators, execution
+
+
+def is_number(word: str) -> bool:
+    return word.isascii() and word.isdecimal() and len(word) <= 10
+
+
+def read(file: str) -> str:
+    """The text of a file; `-` is the standard input."""
+    try:
+        with open(0 if file == "-" else file, encoding="utf-8", newline="") as it:
+            return it.read()
+    except (OSError, UnicodeDecodeError) as fault:
+        raise Fault(f"{file}: can't be read: {fault}")
+
+
+def rows_in(text: str, file: str) -> list[tuple[int, list[str]]]:
+    """The rows of comma-separated values, each with its number, without empty lines."""
+    try:
+        return list(enumerate((row for row in csv.reader(io.StringIO(text, newline="")) if row), 1))
+    except csv.Error as fault:
+        raise Fault(f"{file}: can't be read: {fault}")
+
+
+def schedule_in(text: str, file: str, system: Values) -> Schedule:
+    """The rows of a schedule: the task, and from when to before when it ran."""
+    names, rows = {it["name"] for it in system.get("task", [])}, []
+    for place, row in rows_in(text, file):
+        if len(row) != 3 or not (is_number(row[1]) and is_number(row[2])):
+            raise Fault(f"{file}: row {place} isn't TASK,START,END: {','.join(row)}")
+        if row[0] not in names:
+            raise Fault(f"{file}: row {place}: the system has no task {row[0]}")
+        if int(row[1]) >= int(row[2]):
+            raise Fault(f"{file}: row {place}: its end isn't after its start: {','.join(row)}")
+        rows.append((row[0], int(row[1]), int(row[2])))
+    return rows
+
+
+def read_schedule(file: str, system: Values) -> Schedule:
+    return schedule_in(read(file), file, system)
+
+
+def read_trace(file: str) -> Trace:
+    """The times of the events of each source, the executions of each task, and the phase of each TDMA resource that has
+    a row."""
+    events, executions, phases = {}, {}, {}
+    for place, row in rows_in(read(file), file):
+        if len(row) != 3 or row[0] not in ("event", "exec", "phase") or not is_number(row[2]):
+            raise Fault(
+                f"{file}: row {place} is none of event, exec and phase with a name and a number: {','.join(row)}"
+            )
+        if row[0] == "phase":
+            phases[row[1]] = int(row[2])
+        else:
+            (events if row[0] == "event" else executions).setdefault(row[1], []).append(int(row[2]))
+    return events, executions, phases
+
+
+def parts_in(segments: list[Segment], executions: list[int], greatest: int) -> list[tuple[list[Segment], bool]]:
+    """What each job of a task ran, by its segments, each from when to before when, and whether it is done by them: each
+    job takes its execution, and the one before goes first."""
+    jobs, left = [], 0
+    for start, end in segments:
+        while start < end:
+            if left == 0:
+                left = executions[len(jobs)] if len(jobs) < len(executions) else greatest
+                jobs.append([])
+            ran = min(left, end - start)
+            jobs[-1].append((start, start + ran))
+            start, left = start + ran, left - ran
+    return [(parts, left == 0 or place + 1 < len(jobs)) for place, parts in enumerate(jobs)]
+
+
+def ends_in(segments: list[Segment], executions: list[int], greatest: int) -> list[int]:
+    """When the jobs of a task were done, by its segments."""
+    return [parts[-1][1] for parts, is_done in parts_in(segments, executions, greatest) if is_done]
+
+
+def segments_of(schedule: Schedule, tasks: Iterable[str]) -> dict[str, list[Segment]]:
+    """The segments of each task, in order."""
+    segments = {name: [] for name in tasks}
+    for name, start, end in schedule:
+        segments[name].append((start, end))
+    return {name: sorted(several) for name, several in segments.items()}
+
+
+def jobs_in(system: Values, schedule: Schedule, trace: Trace) -> Jobs:
+    """The jobs of each task in the order in which they came, by a schedule and the trace that it is of: when each came,
+    and when it was done, None where it wasn't."""
+    events, executions, _ = trace
+    resources = {it["name"]: it for it in system.get("resource", [])}
+    tasks = {it["name"]: it for it in system.get("task", [])}
+    segments, ends = segments_of(schedule, tasks), {}
+    for name, task in tasks.items():
+        ends[name] = ends_in(segments[name], executions.get(name, []), execution(task, resources[task["on"]])[1])
+    jobs = {}
+    for name, task in tasks.items():
+        came = sorted(
+            time
+            for before in activators(task)
+            for time in (ends[before] if before in tasks else events.get(before, []))
+        )
+        jobs[name] = [(time, ends[name][place] if place < len(ends[name]) else None) for place, time in enumerate(came)]
+    return jobs
+
+
+class Passage(NamedTuple):
+    """A job of a path's first task and the jobs that it leads to: when it came, when the last one was done, None where
+    that isn't so, and the place of each among the jobs of its task, as far as there are any."""
+
+    came: int
+    done: int | None
+    places: tuple[int, ...]
+
+    def took(self) -> int:
+        return -1 if self.done is None else self.done - self.came
+
+
+def causes_in(system: dict, jobs: dict, events: dict) -> dict:
+    """What has started each job of each task, in the order in which they came: the name of a source or a task, and the
+    place of the event or the job there. What starts jobs at one time stands in the order of the tasks and then of the
+    sources.
+    """
+    tasks, sources = ([it["name"] for it in system.get(part, [])] for part in ("task", "source"))
+    order = {name: place for place, name in enumerate([*tasks, *sources])}
+    times = {name: events.get(name, []) for name in sources}
+    times |= {name: [done for _, done in jobs[name] if done is not None] for name in tasks}
+    found = {}
+    for task in system.get("task", []):
+        came = [(time, order[it], place, it) for it in activators(task) for place, time in enumerate(times[it])]
+        found[task["name"]] = [(it, place) for _, _, place, it in sorted(came)]
+    return found
+
+
+def passages_in(system: dict, jobs: dict, events: dict, way: list[str]) -> list[Passage]:
+    """The passages of a path, whose tasks are `way`, in the order in which their first jobs came."""
+    causes = causes_in(system, jobs, events)
+    place_of = {task: {cause: place for place, cause in enumerate(causes[task])} for task in way}
+    found = []
+    for first, (came, _) in enumerate(jobs[way[0]]):
+        places = [first]
+        for before, task in zip(way, way[1:]):
+            place = place_of[task].get((before, places[-1]))
+            if place is None:
+                break
+            places.append(place)
+        found.append(Passage(came, jobs[way[-1]][places[-1]][1] if len(places) == len(way) else None, tuple(places)))
+    return found

@@ -1,0 +1,463 @@
+"""Takes the frames of buses into a system: what each one's source, task and path are in ticks, and what there is to say
+of it. For lokwurmi import network."""
+import argparse
+import fnmatch
+import math
+from dataclasses import dataclass, field
+from fractions import Fraction
+from typing import Any, Optional
+
+from lokwurmi_tools.faults import Fault
+from lokwurmi_tools.lengths import SIZES, Bits, bit_of, classical, error, flexible, padded, ticks
+from lokwurmi_tools.networks import ERRORS, QUEUED, Bus, Frame
+from lokwurmi_tools.times import UNITS, common, text_of
+
+MOST_TICKS, MOST_EXECUTION, MOST_BIT, MOST_LIMIT = 1_000_000_000, 1_000_000, 1_000, 10_000_000
+# how many words of canmatrix there are in a report
+MOST_SAID = 3
+
+
+@dataclass
+class Report:
+    """What the reader of a system has to know of where it comes from."""
+
+    heads: list[str] = field(default_factory=list)
+    left: dict[str, list[str]] = field(default_factory=dict)
+    spared: dict[str, list[str]] = field(default_factory=dict)
+    changed: dict[str, list[str]] = field(default_factory=dict)
+    assumed: dict[str, list[str]] = field(default_factory=dict)
+
+    def add(self, part: dict[str, list[str]], what: str, name: str = "") -> None:
+        part.setdefault(what, []).append(name)
+
+    def lines(self, most: int) -> list[str]:
+        """What is to be said, with so many names of a kind at most."""
+        found = list(self.heads)
+        for head, part in (
+            ("left out; the bounds hold while it isn't sent:", self.left),
+            ("not in the file, since no bound of what is asked for depends on it:", self.spared),
+            ("taken otherwise than the database has it:", self.changed),
+            ("assumed:", self.assumed),
+        ):
+            found += [head, *(kind_line(what, names, most) for what, names in part.items())] if part else []
+        return found
+
+
+def kind_line(what: str, names: list[str], most: int) -> str:
+    """What there is to say of some names, of which so many are told at most."""
+    if not any(names):
+        return f"  {what}"
+    more = f" and {len(names) - most} more" if len(names) > most + 1 else ""
+    return f"  {what}: {', '.join(names[:most] if more else names)}{more}"
+
+
+@dataclass
+class Taken:
+    """A frame with what its source, its task and its path are in ticks."""
+
+    frame: Frame
+    period: int
+    jitter: int
+    deadline: Optional[int]
+    after: str  # its source, or the frame that a gateway passes on
+    forwarded: bool
+    least: int
+    greatest: int
+    by_payload: bool
+
+
+@dataclass(frozen=True)
+class Rates:
+    """The time of a bit of a bus in ticks, and of one in the data phase of CAN FD where its rate is told."""
+
+    bit: Fraction
+    data_bit: Optional[Fraction]
+
+
+@dataclass(frozen=True)
+class Errors:
+    """The errors of a bus: how far apart they come in ticks, and what each takes."""
+
+    period: int
+    jitter: int
+    least: int
+    greatest: int
+
+
+def of_period(told: tuple[str, Fraction], period: Fraction) -> Fraction:
+    """A time that is told as itself, or as a part of the period."""
+    return told[1] * period if told[0] == "share" else told[1]
+
+
+def in_milliseconds(attributes: dict[str, Any], key: Optional[str]) -> Optional[Fraction]:
+    """What an attribute tells in milliseconds, or None where there is none."""
+    value = attributes.get(key) if key else None
+    if value is None:
+        return None
+    try:
+        return max(Fraction(str(value).strip().strip('"')), Fraction(0)) * UNITS["ms"]
+    except (ValueError, ZeroDivisionError):
+        return None
+
+
+class Taker:
+    """Takes the frames of some buses by the words of a call."""
+
+    def __init__(self, buses: list[Bus], words: argparse.Namespace, forwards: dict[str, str]):
+        self.buses, self.words, self.forwards = buses, words, forwards
+        self.report = Report()
+        self.taken: dict[str, list[Taken]] = {}
+        self.rates: dict[str, Rates] = {}
+        self.errors: dict[str, Errors] = {}
+
+    def told_rate(self, bus: Bus, option: str, pairs: list[tuple[str, int]], own: int) -> int:
+        """A bit rate of a bus: as told, or else the database's; 0 where neither tells it."""
+        told = dict(pairs)
+        names = [it.name for it in self.buses]
+        unknown = [name for name in told if name and name not in names]
+        if unknown:
+            raise Fault(f"{option} {unknown[0]}: there is no such bus; there are {', '.join(names)}")
+        rate = told.get(bus.name) or told.get("") or own
+        if own and own != rate:
+            self.report.add(
+                self.report.changed, f"bus {bus.name} has {rate} bit/s by {option}, and {own} in the database"
+            )
+        return rate
+
+    def rates_of(self, bus: Bus) -> Rates:
+        """The times of a bus's bits."""
+        rate, tick = self.told_rate(bus, "--bitrate", self.words.bitrate, bus.bitrate), self.words.tick
+        if not rate:
+            raise Fault(f"{bus.file}: the bit rate of bus {bus.name} isn't told: --bitrate {bus.name}=500000")
+        bit = bit_of(rate) / tick
+        if math.ceil(bit) > MOST_BIT:
+            raise Fault(
+                f"a bit of bus {bus.name} takes {float(bit):g} ticks, and {MOST_BIT} is the most: take a longer --tick"
+            )
+        if bit.denominator > 1:
+            whole = common(tick, bit * tick)
+            then = f"; with --tick {text_of(whole)} none is" if bit * tick / whole <= MOST_BIT else ""
+            what = f"a bit of bus {bus.name} takes {float(bit):g} ticks: lengths are rounded, the least down and the"
+            self.report.add(self.report.changed, f"{what} greatest up{then}")
+        data_rate = self.told_rate(bus, "--data-bitrate", self.words.data_bitrate, bus.data_bitrate)
+        if data_rate and data_rate < rate:
+            raise Fault(f"bus {bus.name}: the data phase has {data_rate} bit/s, which is below {rate} of the bus")
+        return Rates(bit, bit_of(data_rate) / tick if data_rate else None)
+
+    def is_left(self, frame: Frame) -> Optional[str]:
+        """Why a frame is left out, or None where it is taken."""
+        if any(fnmatch.fnmatchcase(it, pattern) for it in (frame.name, frame.told) for pattern in self.words.without):
+            return "by --without"
+        if frame.told == "VECTOR__INDEPENDENT_SIG_MSG":
+            return "no frame, but signals that are in none"
+        if frame.size > 8 and not frame.is_fd:
+            return "more than 8 bytes, and not told to be of CAN FD: several frames of a transport protocol"
+        if frame.size > SIZES[-1]:
+            return f"more than {SIZES[-1]} bytes: several frames of a transport protocol"
+        if frame.name not in self.forwards and not self.least_period(frame)[0]:
+            return "no cycle time, and no least distance is told (--others TIME takes these in)"
+        if frame.values and self.words.multiplexed == "out":
+            return "multiplexed (--multiplexed)"
+        return None
+
+    def least_period(self, frame: Frame) -> tuple[Fraction, str]:
+        """The least time from one of these frames to the next, without jitter, in nanoseconds, and what tells it."""
+        others = self.words.others or Fraction(0)
+        if not frame.cycle and frame.delay:
+            return frame.delay, "the least distance of the database (GenMsgDelayTime), as there is no cycle time"
+        if not frame.cycle:
+            return others, "--others, as there is no cycle time"
+        between = (frame.delay or others) if frame.is_spontaneous else Fraction(0)
+        if between and between < frame.cycle:
+            return between, f"sent on events too ({frame.send_type}), so the least distance and not the cycle time"
+        return frame.cycle, frame.cycle_by
+
+    def tell_frame(self, frame: Frame, why: str) -> None:
+        """Reports what is assumed of a frame."""
+        report = self.report
+        if frame.told != frame.name.removeprefix(f"{frame.bus}."):
+            report.add(report.changed, "another name", f"{frame.told!r} is {frame.name}")
+        if len(frame.senders) > 1:
+            report.add(report.assumed, "one sender alone at a time, where the database has several", frame.name)
+        if why:
+            report.add(report.changed, f"period by {why}", frame.name)
+        elif frame.is_spontaneous and not frame.delay and not self.words.others:
+            report.add(
+                report.assumed,
+                (
+                    f"no frame comes on an event, which the send type {frame.send_type} allows, but the database has no"
+                    " least distance (--others)"
+                ),
+                frame.name,
+            )
+
+    def period(self, frame: Frame, exact: Fraction) -> int:
+        """The period of a frame in ticks, rounded down."""
+        fast, tick = self.words.fast, self.words.tick
+        period = int(exact * (1 - fast / 1_000_000) / tick)
+        if period > MOST_TICKS:
+            self.report.add(self.report.changed, f"its period is {MOST_TICKS} ticks, the longest", frame.name)
+            return MOST_TICKS
+        if period and not fast and Fraction(period) != exact / tick:
+            self.report.add(
+                self.report.changed, "its period is rounded down", f"{frame.name} from {text_of(exact)} to {period}"
+            )
+        return period
+
+    def jitter(self, frame: Frame, period: Fraction) -> int:
+        """The jitter of a frame in ticks, rounded up."""
+        told = in_milliseconds(frame.attributes, self.words.jitter_attribute)
+        exact = of_period(self.words.jitter, period) if told is None else told
+        jitter = math.ceil(exact / self.words.tick)
+        if Fraction(jitter) != exact / self.words.tick:
+            self.report.add(
+                self.report.changed, "its jitter is rounded up", f"{frame.name} from {text_of(exact)} to {jitter}"
+            )
+        return jitter
+
+    def deadline(self, frame: Frame, period: Fraction) -> Optional[int]:
+        """The deadline of a frame in ticks, rounded down; none where none is asked for."""
+        if self.words.paths and not any(
+            fnmatch.fnmatchcase(it, pattern) for it in (frame.name, frame.told) for pattern in self.words.paths
+        ):
+            return None
+        told = in_milliseconds(frame.attributes, self.words.deadline_attribute)
+        exact = told or (of_period(self.words.deadline, period) if self.words.deadline else None)
+        if not exact:
+            return None
+        ticks_of_it = min(int(exact / self.words.tick), MOST_TICKS)
+        if not ticks_of_it:
+            raise Fault(f"{frame.name}: its deadline of {text_of(exact)} is less than a tick: take a shorter --tick")
+        if ticks_of_it != exact / self.words.tick:
+            self.report.add(
+                self.report.changed,
+                "its deadline is rounded down",
+                f"{frame.name} from {text_of(exact)} to {ticks_of_it}",
+            )
+        return ticks_of_it
+
+    def multiplexed(self, frame: Frame, period: int, jitter: int) -> tuple[int, int]:
+        """The period and the jitter of a frame of several values, each of which may be sent once a cycle, all at one
+        time."""
+        if self.words.multiplexed == "once" or frame.values < 2:
+            self.report.add(
+                self.report.assumed,
+                (
+                    "one frame a cycle, whatever its multiplexer has; where each value is sent in each cycle:"
+                    " --multiplexed each"
+                ),
+                frame.name,
+            )
+            return period, jitter
+        each = period // frame.values
+        if not each:
+            raise Fault(
+                f"{frame.name}: a part of its period for each of {frame.values} values is less than a tick: take a"
+                " shorter --tick"
+            )
+        self.report.add(
+            self.report.changed,
+            "each value of the multiplexer is sent in each cycle, maybe all at one time",
+            f"{frame.name}: {frame.values} values",
+        )
+        return each, jitter + (frame.values - 1) * each
+
+    def bits(self, frame: Frame) -> tuple[Bits, Bits]:
+        """The bits of a frame, the least and the greatest."""
+        if not frame.is_fd:
+            return classical(frame.size, frame.extended)
+        if padded(frame.size) != frame.size:
+            what = "CAN FD has no frame of this length, so it is filled up"
+            self.report.add(self.report.changed, what, f"{frame.name} from {frame.size} to {padded(frame.size)} bytes")
+        return flexible(frame.size, frame.extended)
+
+    def length(self, frame: Frame, rates: Rates) -> tuple[Fraction, Fraction]:
+        """The least and the greatest time of a frame in ticks."""
+        if frame.is_fd and frame.switches and rates.data_bit is None:
+            raise Fault(
+                f"{frame.name}: it is a frame of CAN FD, and the bit rate of the data phase isn't told: --data-bitrate"
+                f" {frame.bus}=2000000; --data-bitrate of the same rate as --bitrate where it doesn't switch"
+            )
+        data_bit = rates.data_bit if frame.switches and rates.data_bit is not None else rates.bit
+        least, greatest = (it.time(rates.bit, data_bit) for it in self.bits(frame))
+        if not 1 <= least or greatest > MOST_EXECUTION:
+            raise Fault(
+                f"{frame.name}: it takes {float(least):g} to {float(greatest):g} ticks, and 1 to {MOST_EXECUTION} are"
+                " possible: take another --tick"
+            )
+        return least, greatest
+
+    def take(self, frame: Frame, rates: Rates) -> None:
+        """Adds a frame to those of its bus."""
+        if not 0 <= frame.identifier < (1 << 29 if frame.extended else 1 << 11) or frame.size < 0:
+            raise Fault(
+                f"{frame.name}: the database gives it the identifier {frame.identifier} and {frame.size} bytes, which"
+                f" no frame has: mend it, or --without {frame.name}"
+            )
+        exact, why = self.least_period(frame)
+        self.tell_frame(frame, why)
+        period, jitter = self.period(frame, exact), self.jitter(frame, exact)
+        if frame.values:
+            period, jitter = self.multiplexed(frame, period, jitter)
+        forwarded = self.forwards.get(frame.name)
+        if not period and not forwarded:
+            raise Fault(f"{frame.name}: its period of {text_of(exact)} is less than a tick: take a shorter --tick")
+        if jitter > MOST_TICKS:
+            raise Fault(
+                f"{frame.name}: its jitter is {jitter} ticks, and {MOST_TICKS} is the most: take a longer --tick"
+            )
+        least, greatest = self.length(frame, rates)
+        self.taken.setdefault(frame.bus, []).append(
+            Taken(
+                frame,
+                period,
+                jitter,
+                self.deadline(frame, exact),
+                forwarded or frame.name + QUEUED,
+                bool(forwarded),
+                math.floor(least),
+                math.ceil(greatest),
+                rates.bit.denominator == 1 and not frame.is_fd,
+            )
+        )
+
+    def errors_of(self, bus: Bus, rates: Rates) -> Optional[Errors]:
+        """The errors of a bus: so many in any time of a length, each of which takes 31 bits and the longest frame."""
+        taken = self.taken[bus.name]
+        if not self.words.errors or not taken:
+            return None
+        count, time = self.words.errors
+        period = min(int(time / self.words.tick), MOST_TICKS) // count
+        if not period:
+            raise Fault(f"--errors: a part of {text_of(time)} for each of {count} errors is less than a tick")
+        least, greatest = error(Bits(0))
+        longest = max(it.greatest for it in taken)
+        whole = ticks(least.time(rates.bit), greatest.time(rates.bit), Fraction(1))
+        # an error may come until the frame is received, which is so long after its start at most
+        jitter = (count - 1) * period + longest
+        self.report.add(
+            self.report.assumed,
+            (
+                f"on bus {bus.name} at most {count} error{'s' * (count > 1)} in any {text_of(time)}, each of which"
+                f" takes 31 bits and the longest frame again; a task {bus.name}{ERRORS} of highest priority stands for"
+                " them, which is argued and not proved"
+            ),
+        )
+        if jitter > MOST_TICKS or whole[1] + longest > MOST_EXECUTION:
+            raise Fault(
+                f"bus {bus.name}: an error takes {whole[1] + longest} ticks with a jitter of {jitter}, and"
+                f" {MOST_EXECUTION} and {MOST_TICKS} are the most: take a longer --tick"
+            )
+        return Errors(period, jitter, max(1, whole[0]), whole[1] + longest)
+
+    def hold_apart(self, bus: Bus) -> None:
+        """Two frames of one identifier can't be told apart on a bus."""
+        found: dict[tuple[int, bool], str] = {}
+        for it in self.taken[bus.name]:
+            other = found.setdefault((it.frame.identifier, it.frame.extended), it.frame.name)
+            if other != it.frame.name:
+                raise Fault(
+                    f"{bus.file}: {other} and {it.frame.name} have the identifier {it.frame.shown}, so that the bus"
+                    f" can't choose between them: leave one out, as --without {it.frame.name}"
+                )
+
+    def tell_bus(self, bus: Bus) -> None:
+        """Reports what the library says of a bus, and what is assumed of all its frames."""
+        report = self.report
+        if bus.told != bus.name:
+            report.add(report.changed, "another name", f"{bus.told!r} is {bus.name}")
+        for line in bus.said[:MOST_SAID]:
+            report.add(report.changed, f"canmatrix says of {bus.file}: {line}")
+        if len(bus.said) > MOST_SAID:
+            report.add(report.changed, f"canmatrix says {len(bus.said) - MOST_SAID} things more of {bus.file}")
+        if self.words.fast:
+            millionths = f"{float(self.words.fast):g} millionths"
+            report.add(report.changed, f"periods of bus {bus.name} are shorter by {millionths}, as clocks may be fast")
+        taken = self.taken[bus.name]
+        if taken and not any(it.jitter for it in taken) and self.words.jitter == ("time", 0):
+            what = f"each frame of bus {bus.name} is queued exactly once a period; a sender that doesn't: --jitter"
+            report.add(report.assumed, what)
+
+    def take_bus(self, bus: Bus) -> None:
+        """Takes the frames of a bus, and tells which are left out."""
+        rates = self.rates[bus.name] = self.rates_of(bus)
+        self.taken[bus.name] = []
+        for frame in bus.frames:
+            why = self.is_left(frame)
+            if why:
+                self.report.add(self.report.left, why, frame.name if len(self.buses) > 1 else frame.told)
+            else:
+                self.take(frame, rates)
+        self.hold_apart(bus)
+        self.tell_bus(bus)
+        errors = self.errors_of(bus, rates)
+        if errors:
+            self.errors[bus.name] = errors
+
+    def all(self) -> None:
+        """Takes the frames of all buses that are asked for."""
+        known = {it.name for it in self.buses}
+        for name in self.words.bus:
+            if name not in known:
+                raise Fault(f"--bus {name}: there is no such bus; there are {', '.join(sorted(known))}")
+        for bus in self.buses:
+            if self.words.bus and bus.name not in self.words.bus:
+                self.report.add(self.report.left, "a bus that --bus doesn't name", bus.name)
+            else:
+                self.take_bus(bus)
+        self.tell_forwards()
+        for bus in self.buses:
+            if bus.name in self.taken:
+                self.tell_load(bus)
+        self.tell_same_names()
+
+    def load(self, bus: Bus) -> Fraction:
+        """The greatest part of a bus's time that its frames need."""
+        periods = {it.frame.name: it.period for several in self.taken.values() for it in several}
+        load = Fraction(0)
+        for it in self.taken[bus.name]:
+            load += Fraction(it.greatest, periods[first_of(it.frame.name, self.forwards)])
+        return load
+
+    def tell_load(self, bus: Bus) -> None:
+        """How many frames of a bus are taken, and how much of its time they need at most."""
+        load = self.load(bus)
+        self.report.heads.append(
+            f"{bus.file}: of bus {bus.name} {len(self.taken[bus.name])} of {len(bus.frames)} frames are taken, which"
+            f" load it by {float(load) * 100:.1f} % at most"
+        )
+        if load > 1:
+            self.report.heads.append("  that is more than the bus can take: some bounds will be overload")
+
+    def tell_forwards(self) -> None:
+        """Reports what is forwarded, and refuses what isn't there."""
+        names = {it.frame.name for taken in self.taken.values() for it in taken}
+        for name, before in self.forwards.items():
+            for it in (before, name):
+                if it not in names:
+                    raise Fault(f"--forward {before}={name}: {it} is left out")
+            what = "a gateway passes on at once; where it takes time, put a task in between"
+            self.report.add(self.report.assumed, what, f"{name} after {before}")
+
+    def tell_same_names(self) -> None:
+        """Frames of one name on several buses may be forwarded."""
+        found: dict[str, list[str]] = {}
+        for it in (it for taken in self.taken.values() for it in taken):
+            found.setdefault(it.frame.told, []).append(it.frame.name)
+        for names in found.values():
+            if len(names) > 1 and not any(it in self.forwards for it in names):
+                self.report.add(
+                    self.report.assumed,
+                    (
+                        "frames of one name on several buses are sent by themselves; one that a gateway passes on comes"
+                        f" with more jitter: --forward {names[0]}={names[1]}"
+                    ),
+                    " and ".join(names),
+                )
+
+
+def first_of(name: str, forwards: dict[str, str]) -> str:
+    """The frame that begins what is passed on as a frame."""
+    while name in forwards:
+        name = forwards[name]
+    return name

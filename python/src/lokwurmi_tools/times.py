@@ -1,0 +1,68 @@
+"""Times with a unit, for the commands: those of lokwurmi.units, how they are shown on an axis, and how words are read."""
+import argparse
+from fractions import Fraction
+from typing import Any, Callable
+
+from lokwurmi.units import UNITS, amount_of, common, decimal_text, text_of, time_of, unit_of
+
+__all__ = [
+    "TICKS", "UNITS", "Scale", "amount_of", "common", "digits_of", "rate_of", "text_of", "time_of", "unit_of", "word_of",
+]
+
+
+def digits_of(number: Fraction) -> str:
+    """A fraction as a decimal number: with all digits where these have an end, as those of times in ticks do."""
+    return decimal_text(number) or f"{float(number):.12g}"
+
+
+class Scale:
+    """How numbers of ticks are shown: as they are, or as times where the time of a tick is known."""
+
+    def __init__(self, tick: Fraction | None = None):
+        self.tick = tick
+
+    def text(self, ticks: int) -> str:
+        """A number of ticks, or the time that they are, in the unit that fits it, with all its digits."""
+        if self.tick is None:
+            return str(ticks)
+        if not ticks:
+            return "0"
+        time = abs(ticks) * self.tick
+        unit = unit_of(time)
+        return f"{'-' if ticks < 0 else ''}{digits_of(time / UNITS[unit])}{unit}"
+
+    def length(self, ticks: int) -> str:
+        """The same with the word ticks."""
+        return f"{ticks} tick{'' if ticks in (1, -1) else 's'}" if self.tick is None else self.text(ticks)
+
+    def axis(self, axes: Any, last: int) -> None:
+        """An axis of time up to a tick: its numbers and what they are, in one unit."""
+        if self.tick is None:
+            axes.set_xlabel("ticks")
+            return
+        unit = unit_of(last * self.tick)
+        axes.xaxis.set_major_formatter(lambda at, _: f"{at * float(self.tick / UNITS[unit]):.12g}")
+        axes.set_xlabel(f"{unit}, where a tick is {text_of(self.tick)}")
+
+
+# numbers of ticks as they are
+TICKS = Scale()
+
+
+def word_of(reader: Callable[[str], Any]) -> Callable[[str], Any]:
+    """A reader of words for argparse, whose message is that of the fault."""
+
+    def read(word: str) -> Any:
+        try:
+            return reader(word)
+        except ValueError as fault:
+            raise argparse.ArgumentTypeError(str(fault)) from fault
+
+    return read
+
+
+def rate_of(word: str) -> int:
+    """A bit rate, of a word such as 500000."""
+    if not word.isascii() or not word.isdecimal() or not int(word):
+        raise ValueError(f"{word} is no bit rate: write bits per second, as 500000")
+    return int(word)

@@ -1,0 +1,191 @@
+"""Chains and schedules. Expected numbers are the sums of docs/FILES.md, "Chains that read registers"."""
+import os
+import pickle
+import unittest
+import warnings
+from pathlib import Path
+from random import Random
+
+from engine_for_tests import both_engines, need_engine, some_engines
+from lokwurmi import (
+    Chain,
+    ChainsRefused,
+    LokwurmiError,
+    NameRefused,
+    NoTick,
+    RoundingWarning,
+    System,
+    UnitsRefused,
+    Verdict,
+    WordsRefused,
+    ms,
+    us,
+)
+from lokwurmi.chains import chains_in
+from made import random_system
+
+TOP = Path(__file__).resolve().parents[2]
+EXAMPLES = TOP / "examples"
+TASKS = ["sense", "filter", "act"]
+
+
+def effects() -> System:
+    return System.from_file(EXAMPLES / "effects.toml")
+
+
+class Chains(unittest.TestCase):
+    def test_chain(self) -> None:
+        for engine in some_engines("chain"):
+            with self.subTest(engine):
+                found = effects().chain(TASKS, engine=engine)
+                self.assertEqual([it.kind for it in found.steps], ["first", "register", "activation"])
+                self.assertEqual((found.reaction, found.age, found.held), (9 + 3 + 19 + 7 + 9, 9 + 3 + 7 + 9, 28 + 24))
+                self.assertFalse(found.overload or found.while_running)
+                running = effects().chain(TASKS, while_running=True, engine=engine)
+                self.assertEqual((running.reaction, running.age, running.held), (9 + 19 + 7 + 9, 9 + 7 + 9, 25 + 24))
+                self.assertTrue(running.while_running)
+
+    def test_objects_as_tasks(self) -> None:
+        need_engine("chain")
+        system = effects()
+        self.assertEqual(system.chain([system.tasks[it] for it in TASKS]), system.chain(TASKS))
+
+    def test_refused_chain(self) -> None:
+        for engine in some_engines("chain"):
+            with self.subTest(engine):
+                with self.assertRaisesRegex(NameRefused, "no task has the name in place 2") as caught:
+                    effects().chain(["sense", "nobody"], engine=engine)
+                self.assertEqual(caught.exception.reason, 2)
+                for names in ([], ["sense"] * 33, ["-x"], [""], ["sense\nfilter"]):
+                    with self.assertRaises((WordsRefused, NameRefused), msg=names):
+                        effects().chain(names, engine=engine)
+
+    def test_overload(self) -> None:
+        need_engine("chain")
+        system = effects()
+        system.tasks["sense"].worst = 1000
+        found = system.chain(TASKS)
+        self.assertEqual((found.reaction, found.overload), (None, True))
+
+    def test_chains(self) -> None:
+        """The two chains of docs/FILES.md: 47 of 60 is met, 45 of 40 is missed, 21 of 30 is met."""
+        text = (EXAMPLES / "effects.chains.toml").read_text()
+        several = chains_in(text, effects().tasks)
+        for engine in some_engines("chains"):
+            for chains in (text, several):
+                with self.subTest((engine, type(chains))):
+                    found = effects().chains(chains, engine=engine)
+                    brake, show = found.chains.values()
+                    self.assertEqual(
+                        (brake.reaction, brake.reaction_deadline, brake.reaction_verdict, brake.age),
+                        (47, 60, Verdict.MET, 28),
+                    )
+                    self.assertEqual((brake.age_deadline, brake.age_verdict), (None, Verdict.NONE))
+                    self.assertEqual(
+                        (show.reaction, show.reaction_verdict, show.age, show.age_verdict),
+                        (45, Verdict.MISSED, 21, Verdict.MET),
+                    )
+                    self.assertEqual((found.missed, found.overloads, found.verdict), (1, 0, Verdict.MISSED))
+                    self.assertEqual(pickle.loads(pickle.dumps(found)), found)
+
+    def test_refused_chains(self) -> None:
+        need_engine("chains")
+        with self.assertRaisesRegex(ChainsRefused, "chain 'two': a name of no task") as caught:
+            effects().chains([Chain("one", TASKS), Chain("two", ["nobody"])])
+        self.assertEqual((caught.exception.reason, caught.exception.place, caught.exception.name), (5, 2, "two"))
+        with self.assertRaisesRegex(ChainsRefused, "the file of chains: another format"):
+            effects().chains("format = 2\n")
+        with self.assertRaisesRegex(LokwurmiError, "the file of chains isn't TOML"):
+            effects().chains("x = [")
+        self.assertEqual(dict(effects().chains([]).chains), {})
+
+    def test_reader(self) -> None:
+        tasks = {"a", "b"}
+        self.assertEqual(chains_in("format = 1\n", tasks), [])
+        for text, why in (
+            ("x = [", "isn't TOML"),
+            ("format = 2", "format = 1"),
+            ("format = 1\nchain = 1", "format = 1"),
+            ("format = 1\nchain = [1]", "chain 1 is no table"),
+            ("format = 1\nchain = [{ name = 'x' }]", "1 to 32 tasks"),
+            ("format = 1\nchain = [{ name = 'x', tasks = ['c'] }]", "names a task c"),
+            ("format = 1\nchain = [{ name = 'x', tasks = ['a'], reaction = 0 }]", "1 to 1000000000 ticks for reaction"),
+            ("format = 1\nchain = [{ name = 'x', tasks = ['a'] }, { name = 'x', tasks = ['a'] }]", "two chains"),
+            ("format = 1\nchain = [{ name = 'x', tasks = ['a'], colour = 1 }]", "has a key colour"),
+        ):
+            with self.assertRaisesRegex(LokwurmiError, why, msg=text):
+                chains_in(text, tasks)
+
+    def test_units(self) -> None:
+        need_engine("chains")
+        system = effects()
+        with self.assertRaises(NoTick):
+            system.chains([Chain("x", TASKS, reaction=ms(1))])
+        system.tick = "10us"
+        with warnings.catch_warnings(record=True) as told:
+            warnings.simplefilter("always")
+            found = system.chains([Chain("x", TASKS, reaction=us(479), age="280 us")]).chains["x"]
+        self.assertEqual([str(it.message) for it in told], ["chain x: reaction of 479us is rounded down to 47"])
+        self.assertEqual({it.category for it in told}, {RoundingWarning})
+        self.assertEqual(
+            (found.time(), found.time("age_deadline"), found.reaction_verdict), (us(470), us(280), Verdict.MET)
+        )
+        self.assertEqual(system.chain(TASKS).time("held"), us(520))
+
+    def test_rounded_periods_are_refused(self) -> None:
+        """A chain takes a period as the longest time between events too, so that it has no safe side."""
+        need_engine("chain")
+        system = effects()
+        system.tick = "10us"
+        with warnings.catch_warnings():
+            warnings.simplefilter("ignore", RoundingWarning)
+            next(iter(system.sources.values())).period = us(105)
+            for call in (lambda: system.chain(TASKS), lambda: system.chains([])):
+                with self.assertRaisesRegex(UnitsRefused, "chains take the period as the longest time"):
+                    call()
+
+
+class Schedules(unittest.TestCase):
+    def test_schedule(self) -> None:
+        """That of docs/FILES.md, of two turns."""
+        system = System.from_file(EXAMPLES / "round_robin.toml")
+        trace = (EXAMPLES / "round_robin.trace.csv").read_text()
+        for engine in some_engines("schedule"):
+            with self.subTest(engine):
+                found = system.schedule(trace, engine=engine)
+                self.assertEqual(list(found), [("a", 0, 2), ("b", 2, 3), ("a", 3, 4), ("a", 20, 23), ("b", 23, 24)])
+                self.assertEqual(
+                    (len(found), found.end, found.to_csv()),
+                    (5, 24, (EXAMPLES / "round_robin.schedule.csv").read_text()),
+                )
+                self.assertEqual(set(found.on.values()), set(system.resources))
+                self.assertIsNone(system.audit(trace, found.rows, engine=engine))
+        system.tick = "1ms"
+        self.assertEqual(system.schedule(trace).time(), ms(24))
+
+
+class LikeTheProgram(unittest.TestCase):
+    def test_random(self) -> None:
+        library, program = both_engines()
+        if not library.has("chain"):
+            raise unittest.SkipTest("the library is an older one")
+        draw = Random(3)
+        for number in range(int(os.environ.get("LOKWURMI_SYSTEMS", "30"))):
+            text = random_system(draw).to_toml().encode()
+            tasks = [f"t{draw.randint(0, 9)}" for _ in range(draw.randint(1, 4))]
+            trace = "".join(f"event,s0,{at}\n" for at in range(0, 3000, 500)).encode()
+            deadline = f"reaction = {draw.randint(1, 2000)}, age = {draw.randint(1, 2000)}"
+            names = ", ".join(f'"{it}"' for it in tasks)
+            chains = f'format = 1\nchain = [{{ name = "c", tasks = [{names}], {deadline} }}]\n'.encode()
+            for command, files, words in (
+                ("chain", [text], tasks),
+                ("chain", [text], [*tasks, "--while-running"]),
+                ("chains", [text, chains], []),
+                ("schedule", [text, trace], []),
+            ):
+                with self.subTest((number, command)):
+                    self.assertEqual(library.call(command, files, words), program.call(command, files, words))
+
+
+if __name__ == "__main__":
+    unittest.main()
