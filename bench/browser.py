@@ -1,135 +1,124 @@
-"""Headless Chromium by its DevTools protocol, for the scripts of this folder that look at pages."""
+"""Headless Chromium by Selenium, for the scripts of this folder that look at pages: what they ask of it, in few words."""
+from __future__ import annotations
+
 import base64
 import json
 import os
 import shutil
-import subprocess
 import sys
-import time
+from pathlib import Path
+from typing import Any
 
 try:
-    import websocket
+    from selenium import webdriver
+    from selenium.webdriver.chrome.service import Service
+    from selenium.webdriver.common.action_chains import ActionChains
+    from selenium.webdriver.common.by import By
+    from selenium.webdriver.common.keys import Keys
+    from selenium.webdriver.support.ui import WebDriverWait
 except ImportError:
-    sys.exit("the package websocket isn't here: apt-get install python3-websocket")
+    sys.exit("the package selenium isn't here: apt-get install python3-selenium")
 
-CODES = {"Enter": 13, "Tab": 9, "Escape": 27}
+KEYS = {"Enter": Keys.ENTER, "Tab": Keys.TAB, "Escape": Keys.ESCAPE}
+# seconds for a page to be there
+PATIENCE = 300
+SWITCHES = (
+    "--headless=new",
+    "--disable-gpu",
+    "--disable-dev-shm-usage",
+    "--no-first-run",
+    "--disable-extensions",
+    "--hide-scrollbars",
+    "--disable-background-networking",
+    "--disable-component-update",
+    # no page reaches a network
+    "--host-resolver-rules=MAP * ~NOTFOUND",
+)
+
+
+def options(profile: str) -> webdriver.ChromeOptions:
+    """How Chromium is started: with a profile of its own, and a log of what the page asks for and complains of."""
+    found = webdriver.ChromeOptions()
+    found.binary_location = program("chromium", "chromium-browser", "google-chrome")
+    # the sandbox of Chromium doesn't start as root
+    for it in (*SWITCHES, f"--user-data-dir={profile}", *(["--no-sandbox"] if os.geteuid() == 0 else [])):
+        found.add_argument(it)
+    found.set_capability("goog:loggingPrefs", {"performance": "ALL", "browser": "ALL"})
+    return found
+
+
+def program(*names: str) -> str:
+    for it in names:
+        if found := shutil.which(it):
+            return found
+    sys.exit(f"{names[0]} isn't here: apt-get install chromium chromium-driver")
 
 
 class Browser:
     """A browser whose profile is in a folder, with one page that reaches no network."""
 
-    def __init__(self, room):
-        name = shutil.which("chromium") or shutil.which("chromium-browser") or shutil.which("google-chrome")
-        if not name:
-            sys.exit("Chromium isn't here: apt-get install chromium")
-        profile = os.path.join(room, "chromium")
-        words = ["--headless=new", "--disable-gpu", "--disable-dev-shm-usage", "--no-first-run", "--disable-extensions", "--hide-scrollbars", "--disable-background-networking", "--disable-component-update"]
-        words += ["--host-resolver-rules=MAP * ~NOTFOUND", "--remote-debugging-port=0", f"--user-data-dir={profile}"]
-        # the sandbox of Chromium doesn't start as root
-        words += ["--no-sandbox"] if os.geteuid() == 0 else []
-        self.process = subprocess.Popen([name, *words, "about:blank"], stdout=subprocess.DEVNULL, stderr=subprocess.DEVNULL)
-        try:
-            self.number, self.events, self.session = 0, [], None
-            self.socket = websocket.create_connection(self.address(os.path.join(profile, "DevToolsActivePort")), timeout=300, suppress_origin=True)
-            target = self.ask("Target.createTarget", url="about:blank")["targetId"]
-            self.session = self.ask("Target.attachToTarget", targetId=target, flatten=True)["sessionId"]
-            for part in ("Page", "Runtime", "Log", "Network"):
-                self.ask(f"{part}.enable")
-        except BaseException:
-            self.process.kill()
-            self.process.wait()
-            raise
+    def __init__(self, room: str):
+        service = Service(program("chromedriver"), log_path=os.devnull)
+        self.driver = webdriver.Chrome(options=options(os.path.join(room, "chromium")), service=service)
+        self.driver.set_page_load_timeout(PATIENCE)
+        self.driver.set_script_timeout(PATIENCE)
 
-    def address(self, file):
-        for _ in range(600):
-            if os.path.exists(file) and os.path.getsize(file):
-                with open(file, encoding="ascii") as it:
-                    number, path = it.read().split()
-                return f"ws://127.0.0.1:{number}{path}"
-            if self.process.poll() is not None:
-                break
-            time.sleep(0.1)
-        raise RuntimeError("Chromium doesn't start")
+    def ask(self, method: str, **given: Any) -> dict[str, Any]:
+        """What WebDriver has no words for, in those of Chromium itself."""
+        return self.driver.execute_cdp_cmd(method, given)
 
-    def ask(self, method, **given):
-        self.number += 1
-        self.socket.send(json.dumps({"id": self.number, "method": method, "params": given, **({"sessionId": self.session} if self.session else {})}))
-        while True:
-            it = json.loads(self.socket.recv())
-            if it.get("id") == self.number:
-                if "error" in it:
-                    raise RuntimeError(f"{method}: {it['error']['message']}")
-                return it["result"]
-            self.events.append(it)
-
-    def load(self, file):
+    def load(self, file: str) -> None:
         """Opens a file, and waits until it is there."""
-        self.events, wanted = [], "file://" + os.path.abspath(file)
-        self.ask("Page.navigate", url=wanted)
-        for _ in range(400):
-            if self.run(f"document.readyState === 'complete' && location.href.startsWith({json.dumps(wanted)})"):
-                return
-            time.sleep(0.05)
-        raise RuntimeError(f"{file}: it isn't loaded")
+        self.complaints()
+        wanted = Path(file).absolute().as_uri()
+        self.driver.get(wanted)
+        WebDriverWait(self.driver, PATIENCE).until(lambda it: it.execute_script("return document.readyState") == "complete")
 
-    def run(self, text):
+    def run(self, text: str) -> Any:
         """The value of a text of JavaScript."""
-        it = self.ask("Runtime.evaluate", expression=text, returnByValue=True)
-        if "exceptionDetails" in it:
-            raise RuntimeError(f"{text}: {it['exceptionDetails']}")
-        return it["result"].get("value")
+        return self.driver.execute_script(f"return eval({json.dumps(text)})")
 
-    def key(self, key, text=None):
-        given = {"key": key, "code": key, "windowsVirtualKeyCode": CODES.get(key, 0)}
-        self.ask("Input.dispatchKeyEvent", type="keyDown", **given, **({"text": text} if text else {}))
-        self.ask("Input.dispatchKeyEvent", type="keyUp", **given)
+    def key(self, key: str, text: str | None = None) -> None:
+        ActionChains(self.driver, duration=0).send_keys(KEYS.get(key, key)).perform()
 
-    def click(self, selector):
+    def click(self, selector: str) -> None:
         """A click of the mouse into the middle of an element."""
-        x, y = self.run(f"(() => {{ const it = document.querySelector({json.dumps(selector)}); it.scrollIntoView({{block: 'center'}}); const box = it.getBoundingClientRect(); return [box.x + box.width / 2, box.y + box.height / 2]; }})()")
-        for kind in ("mousePressed", "mouseReleased"):
-            self.ask("Input.dispatchMouseEvent", type=kind, x=x, y=y, button="left", clickCount=1)
+        element = self.driver.find_element(By.CSS_SELECTOR, selector)
+        self.driver.execute_script("arguments[0].scrollIntoView({block: 'center'})", element)
+        ActionChains(self.driver, duration=0).move_to_element(element).click().perform()
 
-    def size(self, width, height=900):
-        self.ask("Emulation.setDeviceMetricsOverride", width=width, height=height, deviceScaleFactor=1, mobile=False)
+    def size(self, width: int, height: int = 900) -> None:
+        self.ask(
+            "Emulation.setDeviceMetricsOverride", width=width, height=height, deviceScaleFactor=1, mobile=False
+        )
 
-    def look(self, scheme, media=""):
-        self.ask("Emulation.setEmulatedMedia", media=media, features=[{"name": "prefers-color-scheme", "value": scheme}])
+    def look(self, scheme: str, media: str = "") -> None:
+        features = [{"name": "prefers-color-scheme", "value": scheme}]
+        self.ask("Emulation.setEmulatedMedia", media=media, features=features)
 
-    def picture(self, file, width=1400, height=None):
+    def picture(self, file: str, width: int = 1400, height: int | None = None) -> None:
         """A picture of the page in a window of this width, down to its end or this height."""
         self.size(width)
         # what is as tall as a part of the window grows with it
         for _ in range(1 if height else 3):
             self.size(width, height or self.run("document.documentElement.scrollHeight"))
-        with open(file, "wb") as it:
-            it.write(base64.b64decode(self.ask("Page.captureScreenshot", format="png")["data"]))
+        Path(file).write_bytes(base64.b64decode(self.ask("Page.captureScreenshot", format="png")["data"]))
 
-    def printed(self):
+    def printed(self) -> bytes:
         """The page as a PDF document."""
         return base64.b64decode(self.ask("Page.printToPDF", printBackground=True, preferCSSPageSize=True)["data"])
 
-    def complaints(self):
-        """Errors of the console and of scripts, and whatever is asked for beside the page itself."""
-        self.run("0")
-        found = []
-        for it in self.events:
-            method, given = it.get("method"), it.get("params", {})
-            if method == "Runtime.exceptionThrown":
-                found.append(given["exceptionDetails"].get("exception", {}).get("description", "an exception"))
-            elif method == "Runtime.consoleAPICalled" and given["type"] in ("error", "warning", "assert"):
-                found.append(str(given["args"]))
-            elif method == "Log.entryAdded" and given["entry"]["level"] in ("error", "warning"):
-                found.append(given["entry"]["text"])
-            elif method == "Network.requestWillBeSent" and not (given["request"]["url"].startswith("data:") or given.get("type") == "Document"):
-                found.append("asks for " + given["request"]["url"])
+    def complaints(self) -> list[str]:
+        """Errors of the console and of scripts since the page was opened, and whatever is asked for beside the page itself."""
+        found = [it["message"] for it in self.driver.get_log("browser") if it["level"] in ("WARNING", "SEVERE")]
+        for entry in self.driver.get_log("performance"):
+            it = json.loads(entry["message"])["message"]
+            if it["method"] == "Network.requestWillBeSent":
+                given = it["params"]
+                url = given["request"]["url"]
+                if not (url.startswith("data:") or given.get("type") == "Document"):
+                    found.append(f"asks for {url}")
         return found
 
-    def close(self):
-        try:
-            self.session = None
-            self.ask("Browser.close")
-            self.process.wait(10)
-        except (OSError, RuntimeError, websocket.WebSocketException, subprocess.TimeoutExpired):
-            self.process.kill()
-            self.process.wait()
+    def close(self) -> None:
+        self.driver.quit()

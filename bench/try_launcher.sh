@@ -40,6 +40,37 @@ in_terminal() {
   status=$?
 }
 
+# until_started NUMBER: waits until so many processes have noted that they run, for two minutes at most
+until_started() {
+  local it
+  for ((it = 0; it < 1200; it++)); do
+    [ ! -e "$room/children" ] || [ "$(wc -l <"$room/children")" -lt "$1" ] || break
+    sleep 0.1
+  done
+  sleep 0.5
+}
+# interrupt SIGNAL NUMBER WORD..: sends a signal to a call once so many processes run; succeeds where it ends by that. A shell
+# that runs it in the background would have it ignore interrupts.
+interrupt() {
+  local signal=$1 number=$2
+  shift 2
+  python3 -c 'import signal, subprocess, sys, time
+number = getattr(signal, "SIG" + sys.argv[1])
+def count():
+    try:
+        return sum(1 for _ in open(sys.argv[3]))
+    except OSError:
+        return 0
+it = subprocess.Popen(sys.argv[4:], preexec_fn=lambda: signal.signal(signal.SIGINT, signal.SIG_DFL))
+for _ in range(1200):
+    if count() >= int(sys.argv[2]) or it.poll() is not None:
+        break
+    time.sleep(0.1)
+time.sleep(0.5)
+it.send_signal(number)
+sys.exit(it.wait() != -number)' "$signal" "$number" "$room/children" "$work/lokwurmi" "$@" >"$room/text" 2>"$room/said" </dev/null
+}
+
 # is_built COMMAND: this repository's program for the command is built
 is_built() {
   case $1 in
@@ -63,7 +94,7 @@ afresh() {
   rm -rf "$work"
   mkdir -p "$work"/{docs,examples,python/src,library}
   cp "$top/lokwurmi" "$work/" && cp -r "$top"/python/src/{lokwurmi,lokwurmi_tools} "$work/python/src/" || exit 1
-  cp "$top"/library/lokwurmi.h "$work/library/" && cp "$top"/python/{pyproject.toml,README.md} "$work/python/" || exit 1
+  cp "$top"/library/lokwurmi.h "$work/library/" && cp "$top"/python/*.{toml,py,md} "$work/python/" || exit 1
   cp "$top/examples/two_tasks.toml" "$work/examples/" && cp "$top/docs/FILES.md" "$work/docs/" || exit 1
   cat >"$work/crates.txt" <<'END'
 # the crates, and what they use
@@ -157,7 +188,7 @@ run | lib)
     printf 'int lokwurmi_version(void) { return 1; }\n' >out/one.c && cc -fPIC -c -o out/one.o out/one.c && ar rcs out/libcpa_c.a out/one.o
   fi
   [ "$1" = run ] || exit 0
-  printf '#!/bin/sh\necho "called $*"\ncase $2 in sleep) exec sleep 300 ;; signal.*) kill -${2#signal.} $$ ;; status.*) exit ${2#status.} ;; esac\ncase $1 in anal*) exit 0 ;; esac\nexit 10\n' >"out/$own"
+  printf '#!/bin/sh\necho "called $*"\ncase $2 in sleep) echo 1 >>"$RT_ROOM/children"; exec sleep 300 ;; signal.*) kill -${2#signal.} $$ ;; status.*) exit ${2#status.} ;; esac\ncase $1 in anal*) exit 0 ;; esac\nexit 10\n' >"out/$own"
   chmod +x "out/$own"
   ;;
 doc)
@@ -345,7 +376,7 @@ in_terminal "'$work/lokwurmi' schedule two.toml"
 hold "schedule: its words, where they are refused" said 'schedule is called so: lokwurmi schedule FILE TRACE'
 afresh
 LOKWURMI_JOBS=2 "$work/lokwurmi" analyse one.toml >"$room/text.1" 2>"$room/said.1" </dev/null &
-sleep 1
+until [ -e "$room/calls" ]; do sleep 0.1; done
 call schedule two.toml trace.csv
 wait $!
 hold "schedule: waits while the other program is built" said 'another call builds already'
@@ -360,7 +391,7 @@ rm "$room/fail"
 
 # ---- a source that changes while it is built
 afresh
-(sleep 2 && touch "$work/crates/cpa_units/src/lib.rt") &
+(until [ -e "$room/calls" ]; do sleep 0.1; done && touch "$work/crates/cpa_units/src/lib.rt") &
 call analyse two.toml
 wait $!
 hold "changed meanwhile: it is built" is "$status" 0
@@ -420,14 +451,8 @@ for signal in INT TERM HUP QUIT; do
   for jobs in 1 2; do
     afresh
     touch "$room/slow"
-    # a shell that runs it in the background would have it ignore interrupts
-    LOKWURMI_JOBS=$jobs python3 -c 'import signal, subprocess, sys, time
-it = subprocess.Popen(sys.argv[2:], preexec_fn=lambda: signal.signal(signal.SIGINT, signal.SIG_DFL))
-time.sleep(4)
-it.send_signal(getattr(signal, "SIG" + sys.argv[1]))
-number = getattr(signal, "SIG" + sys.argv[1])
-sys.exit(it.wait() == -number)' "$signal" "$work/lokwurmi" analyse two.toml >"$room/text" 2>"$room/said" </dev/null
-    hold "$signal, $jobs at a time: ends by it" is $? 1
+    LOKWURMI_JOBS=$jobs interrupt "$signal" 2 analyse two.toml
+    hold "$signal, $jobs at a time: ends by it" is $? 0
     hold "$signal, $jobs at a time: says so" said '^lokwurmi: interrupted after [0-9]+:[0-9]{2}, with 2 of 5 proved; all that it started has ended'
     hold "$signal, $jobs at a time: there were children" is "$(wc -l <"$room/children")" 2
     hold "$signal, $jobs at a time: all of them have ended" is "$(left)" 0
@@ -440,7 +465,7 @@ done
 
 afresh
 touch "$room/slow"
-(sleep 4 && printf '\003' && sleep 8) | script -qec "'$work/lokwurmi' analyse two.toml" /dev/null >"$room/said" 2>&1
+(until_started 2 && printf '\003' && sleep 8) | script -qec "'$work/lokwurmi' analyse two.toml" /dev/null >"$room/said" 2>&1
 hold "the terminal's interrupt: says so" said 'lokwurmi: interrupted after '
 hold "the terminal's interrupt: there were children" is "$(wc -l <"$room/children")" 2
 hold "the terminal's interrupt: all of them have ended" is "$(left)" 0
@@ -454,7 +479,7 @@ hold "nobody reads what is said: all of it has ended" is "$(left) $(pgrep -fc "$
 # ---- two calls at a time
 afresh
 "$work/lokwurmi" analyse one.toml >"$room/text.1" 2>"$room/said.1" </dev/null &
-sleep 1
+until [ -e "$room/calls" ]; do sleep 0.1; done
 call analyse two.toml
 wait $!
 hold "a second call meanwhile waits" said 'another call builds already'
@@ -524,20 +549,17 @@ hold "standard input may be anything" is "$status" 0
 
 # ---- signals that come while the program runs
 for signal in INT TERM HUP; do
-  python3 -c 'import signal, subprocess, sys, time
-number = getattr(signal, "SIG" + sys.argv[1])
-it = subprocess.Popen(sys.argv[2:], preexec_fn=lambda: signal.signal(signal.SIGINT, signal.SIG_DFL))
-time.sleep(3)
-it.send_signal(number)
-sys.exit(it.wait() == -number)' "$signal" "$work/lokwurmi" analyse sleep >"$room/text" 2>"$room/said" </dev/null
-  hold "$signal while the program runs: ends by it" is $? 1
+  rm -f "$room/children"
+  interrupt "$signal" 1 analyse sleep
+  hold "$signal while the program runs: ends by it" is $? 0
   hold "$signal while the program runs: says nothing" [ ! -s "$room/said" ]
   hold "$signal while the program runs: the program has ended" is "$(pgrep -fc '^sleep 300$')" 0
 done
 python3 -c 'import subprocess, sys
 sys.exit(subprocess.run(sys.argv[1:]).returncode == -9)' "$work/lokwurmi" analyse signal.KILL >"$room/text" 2>"$room/said" </dev/null
 hold "a program that was killed: ends by the same signal" is $? 1
-(sleep 3 && printf '\003' && sleep 2) | script -qec "'$work/lokwurmi' analyse sleep" /dev/null >"$room/text" 2>&1
+rm -f "$room/children"
+(until_started 1 && printf '\003' && sleep 2) | script -qec "'$work/lokwurmi' analyse sleep" /dev/null >"$room/text" 2>&1
 hold "the terminal's interrupt while the program runs: it has ended" is "$(pgrep -fc '^sleep 300$')" 0
 
 # ---- a call without proofs
@@ -600,13 +622,8 @@ in_terminal "'$work/lokwurmi' --unproved analyse two.toml"
 hold "--unproved in a terminal: how long it takes" said $'\r\033\\[K''lokwurmi: compiling without proofs, and running; 0:0[0-9] so far'
 for signal in INT TERM HUP QUIT; do
   rm -f "$room/children"
-  python3 -c 'import signal, subprocess, sys, time
-number = getattr(signal, "SIG" + sys.argv[1])
-it = subprocess.Popen(sys.argv[2:], preexec_fn=lambda: signal.signal(signal.SIGINT, signal.SIG_DFL))
-time.sleep(5)
-it.send_signal(number)
-sys.exit(it.wait() == -number)' "$signal" "$work/lokwurmi" --unproved analyse sleep >"$room/text" 2>"$room/said" </dev/null
-  hold "--unproved, $signal: ends by it" is $? 1
+  interrupt "$signal" 1 --unproved analyse sleep
+  hold "--unproved, $signal: ends by it" is $? 0
   hold "--unproved, $signal: all that it started has ended" is "$(wc -l <"$room/children") $(left)" "1 0"
 done
 hold "--unproved: no folder is left" is "$(find "${TMPDIR:-/tmp}" -maxdepth 1 -name 'lokwurmi-unproved-*' -newer "$room/bin/rt" | wc -l)" 0
@@ -719,7 +736,7 @@ if command -v cc >/dev/null; then
   hold "build-library: proves what it depends on" said '^lokwurmi: the library isn.t built yet: it is proved and built first, 5 crates, of which [0-9] are proved already'
   hold "build-library: the archive" is "$(ar t "$work/library/out/liblokwurmi.a" | sort | tr '\n' ' ')" "one.o two.o "
   hold "build-library: the shared object shows its functions alone" is "$(nm -D --defined-only "$work/library/out/liblokwurmi.so" | awk '{ print $3 }' | tr '\n' ' ')" "lokwurmi_version "
-  hold "build-library: the wheel's platform" is "$(cd "$work/library/out" && echo ./*.whl)" "./lokwurmi-0.1.0-py3-none-linux_x86_64.whl"
+  hold "build-library: the wheel's platform" is "$(cd "$work/library/out" && echo ./*.whl | sed 's/[0-9.]*-py3/VERSION-py3/')" "./lokwurmi-VERSION-py3-none-linux_$(uname -m).whl"
   hold "build-library: the wheel has the library" is "$(python3 -m zipfile -l "$work/library/out"/*.whl | grep -c 'lokwurmi/liblokwurmi.so')" 1
   : >"$room/calls"
   call build-library
@@ -729,6 +746,11 @@ if command -v cc >/dev/null; then
   hold "install takes the library along: what C needs" [ -e "$to/include/lokwurmi.h" ]
   call uninstall "$to"
   hold "uninstall takes it away" is "$(cd "$to" && find . | sort | tr '\n' ' ')" ". ./bin ./bin/another "
+  touch "$work/crates/cpa_c/src/lib.rt"
+  call install "$to"
+  hold "install leaves a library out that is older than its sources" said "the library isn't among them: crates/cpa_c/src/lib.rt is newer than the library"
+  hold "install leaves it out: no shared object anywhere" is "$(find "$to" -name '*.so' | wc -l)" 0
+  call uninstall "$to"
   CC=none-such call build-library
   hold "build-library without a C compiler: says so" is "$status $(grep -c 'there is no C compiler none-such' "$room/said")" "70 1"
 fi

@@ -12,7 +12,7 @@ import sys
 import time
 from collections.abc import Callable
 from pathlib import Path
-from typing import NoReturn
+from typing import NoReturn, TextIO
 
 from lokwurmi_tools.launcher import helping, shown
 from lokwurmi_tools.launcher.graph import Graph, is_kept
@@ -56,6 +56,7 @@ class Build:
         out = TOP / "crates" / graph.top / "out"
         self.log_path, self.start_path = out / "lokwurmi.log", out / "lokwurmi.start"
         self.work = Work()
+        self.log: TextIO | None = None
         self.current = self.failed = ""
         self.partial = ""
         self.jobs = at_a_time()
@@ -111,6 +112,8 @@ class Build:
     def look(self) -> None:
         """Reads what rt has written since: where several are proved at a time it heads what it says of a crate once
         that is through, and else it names a crate when it begins with it."""
+        if self.log is None:
+            return
         lines = (self.partial + self.log.read()).split("\n")
         self.partial = lines.pop()
         for line in lines:
@@ -202,6 +205,8 @@ class Build:
         self.work.end()
         self.start_path.unlink(missing_ok=True)
         try:
+            # what rt has said since it was looked at last
+            self.look()
             shown.wipe()
             say(
                 f"interrupted after {clock(self.plan.so_far)}, with {self.count()} proved; all that it started has"

@@ -17,6 +17,7 @@ from typing import NamedTuple
 from lokwurmi_tools.launcher import helping
 from lokwurmi_tools.launcher.build import FAILED, build_noted
 from lokwurmi_tools.launcher.completing import completion_text
+from lokwurmi_tools.launcher.library import ARCHIVE, SHARED, why_lacking
 from lokwurmi_tools.launcher.manual import man_text
 from lokwurmi_tools.launcher.places import LIBRARY, TOP, digest, is_installed, kit_of, program
 from lokwurmi_tools.launcher.shown import say
@@ -41,12 +42,12 @@ def default_prefix() -> Path:
     return TOP.parent.parent if is_installed() else Path.home() / ".local"
 
 
-def sources() -> Iterator[Path]:
+def sources(has_library: bool) -> Iterator[Path]:
     """The files that are copied of the repository."""
     yield TOP / "lokwurmi"
     for folder in TAKEN:
         for it in sorted((TOP / folder).rglob("*")):
-            if it.is_file() and not set(LEFT_OUT) & set(it.parts):
+            if it.is_file() and not set(LEFT_OUT) & set(it.parts) and (has_library or it.name != SHARED):
                 yield it
 
 
@@ -111,12 +112,12 @@ class Copy:
         self.place(name, lambda to: to.symlink_to(target))
 
 
-def places(prefix: Path) -> dict[Path, Path]:
+def places(has_library: bool) -> dict[Path, Path]:
     """Where each file of the repository goes, below the prefix."""
-    found = {COPY / it.relative_to(TOP): it for it in sources()}
+    found = {COPY / it.relative_to(TOP): it for it in sources(has_library)}
     found |= {COPY / program(it).relative_to(TOP): program(it) for it in PROGRAMS}
-    if (LIBRARY / "liblokwurmi.so").exists():
-        found |= {Path("lib") / it: LIBRARY / it for it in ("liblokwurmi.a", "liblokwurmi.so")}
+    if has_library:
+        found |= {Path("lib") / it: LIBRARY / it for it in (ARCHIVE, SHARED)}
         found[Path("include") / "lokwurmi.h"] = TOP / "library" / "lokwurmi.h"
         found |= {COPY / "library" / it.name: it for it in LIBRARY.glob("*.whl")}
     return found
@@ -144,8 +145,8 @@ def need_room(prefix: Path) -> None:
         raise Refused(f"{above} can't be written: {fault.strerror}; name another PREFIX, as ~/.local") from fault
 
 
-def copy_all(prefix: Path) -> Copy:
-    found = places(prefix)
+def copy_all(prefix: Path, has_library: bool) -> Copy:
+    found = places(has_library)
     own = [Path("bin") / "lokwurmi", MAN, COMPLETION, RECORD]
     refuse_others(prefix, [*found, *own])
     copy, head = Copy(prefix), head_of()
@@ -165,8 +166,8 @@ def copy_all(prefix: Path) -> Copy:
 
 
 def missing_folders(prefix: Path, names: list[Path]) -> list[Path]:
-    """The folders below the prefix that aren't there yet."""
-    found = {above for it in names for above in it.parents if above != Path(".")}
+    """The folders that aren't there yet: the prefix itself, and those below."""
+    found = {above for it in names for above in it.parents}
     return [it for it in found if not (prefix / it).exists()]
 
 
@@ -182,20 +183,25 @@ def install(prefix: Path) -> int:
             f"note: the repository has changes that aren't committed, and --version of the copy says so: {found[0]}"
             + (f" and {len(found) - 1} more" if len(found) > 1 else "")
         )
-    copy = copy_all(prefix)
+    lacking = why_lacking()
+    copy = copy_all(prefix, not lacking)
+    tell_written(prefix, len(set(copy.written)), lacking)
+    return 0
+
+
+def tell_written(prefix: Path, count: int, lacking: str) -> None:
+    """Says what was written, and what whoever calls it needs."""
     say(
-        f"{len(copy.written)} files are written below {prefix}: bin/lokwurmi, the proved programs and the tools in"
-        f" {COPY}, {MAN}, {COMPLETION}"
+        f"{count} files are written below {prefix}: bin/lokwurmi, the programs and tools in {COPY}, {MAN}, {COMPLETION}"
     )
-    if (LIBRARY / "liblokwurmi.so").exists():
-        say("the library too: lib/liblokwurmi.a, lib/liblokwurmi.so, include/lokwurmi.h")
+    if lacking:
+        say(f"the library isn't among them: {lacking}; ./lokwurmi build-library builds it")
     else:
-        say("the library isn't built, and isn't there: ./lokwurmi build-library builds it")
+        say(f"the library too: lib/{ARCHIVE}, lib/{SHARED}, include/lokwurmi.h")
     say(f"for `import lokwurmi` in Python: export PYTHONPATH={prefix / COPY}/python/src")
     folder = str(prefix / "bin")
     if folder not in os.environ.get("PATH", "").split(os.pathsep):
         say(f"{folder} isn't in the search path: export PATH={folder}:$PATH")
-    return 0
 
 
 def remove(prefix: Path, record: Record) -> int:

@@ -5,7 +5,6 @@ import os
 import shutil
 import subprocess
 import sys
-import sysconfig
 import tempfile
 from pathlib import Path
 
@@ -74,14 +73,11 @@ def link(archive: Path, cc: str) -> None:
 
 
 def build_wheel() -> Path:
-    """The wheel of the Python package with the shared object, whose tag names this platform."""
-    platform = sysconfig.get_platform().replace("-", "_")
+    """The wheel of the Python package with the shared object, whose tag names this platform: by python/setup.py."""
     with tempfile.TemporaryDirectory(prefix="lokwurmi-") as folder:
         room, out = Path(folder, "python"), Path(folder, "out")
-        shutil.copytree(
-            TOP / "python", room, ignore=shutil.ignore_patterns("__pycache__", "*.egg-info", "build", "tests")
-        )
-        (room / "setup.cfg").write_text(f"[bdist_wheel]\nplat_name = {platform}\n", encoding="utf-8")
+        left_out = shutil.ignore_patterns("__pycache__", "*.egg-info", "build", "tests")
+        shutil.copytree(TOP / "python", room, ignore=left_out)
         flags = ["--no-deps", "--no-build-isolation", "--no-index", "--quiet", "--disable-pip-version-check"]
         try:
             call([sys.executable, "-m", "pip", "wheel", *flags, "--wheel-dir", str(out), str(room)], Path(folder))
@@ -94,6 +90,18 @@ def build_wheel() -> Path:
         return Path(shutil.copy(made, LIBRARY / made.name))
 
 
+def archive() -> Path:
+    """What the toolchain builds of the library."""
+    return TOP / "crates" / CRATE / "out" / f"lib{CRATE}.a"
+
+
+def why_lacking() -> str:
+    """Why there is no library to be copied, if there is none: it isn't built, or a source is newer."""
+    if not (LIBRARY / SHARED).exists():
+        return "the library isn't built yet"
+    return Graph(CRATE).why_stale(archive(), "the library")
+
+
 def perform(words: list[str]) -> int:
     if words:
         say(f"build-library takes no words, and here is {words[0]}")
@@ -102,13 +110,12 @@ def perform(words: list[str]) -> int:
         say("build-library needs the sources, which an installed copy hasn't")
         return FAILED
     graph = Graph(CRATE)
-    archive = TOP / "crates" / CRATE / "out" / f"lib{CRATE}.a"
     try:
         cc = compiler()
-        if why := graph.why_stale(archive, "the library"):
-            build_for(graph, why, ["lib"], archive)
+        if why := graph.why_stale(archive(), "the library"):
+            build_for(graph, why, ["lib"], archive())
         say("the archive, the shared object and the wheel are built")
-        link(archive, cc)
+        link(archive(), cc)
         made = build_wheel()
     except Stopped as fault:
         say(f"build-library: {fault}")

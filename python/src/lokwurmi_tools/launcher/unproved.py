@@ -143,7 +143,7 @@ class Unproved:
             text, said = output.read(), errors.read().decode("utf-8", "replace")
         ended = ENDED.findall(said)
         if not ended or int(ended[-1]) != status:
-            return self.tell_failure(said)
+            return self.tell_failure(status, said)
         return self.answer(status, self.handed.restored(text), quiet)
 
     def answer(self, status: int, text: bytes, quiet: bool) -> int:
@@ -160,12 +160,18 @@ class Unproved:
             tell(status, lines[0] if status > 2 else edits, [self.command.name, *self.words])
         return status
 
-    def tell_failure(self, said: str) -> int:
+    def tell_failure(self, status: int, said: str) -> int:
         """Says why there is no answer: a limit in words, else what `rt try` says."""
         why = next((words for form, words in WHY if f"checked: no-answer: the program {form}" in said), "")
-        if not why:
+        if why:
+            what = f"{why}; {PROVED_INSTEAD}"
+        elif status < 0:
+            what = f"rt try was ended by signal {-status}, which isn't of this call: call it again"
+        else:
+            what = f"rt try ended with status {status}" + (
+                "; what it says stands above" if said else ", and said nothing"
+            )
             sys.stderr.write(said)
-        what = f"{why}; {PROVED_INSTEAD}" if why else "what rt try says stands above"
         say(f"no answer, after {self.so_far()}: {what}")
         return FAILED
 
