@@ -18,6 +18,7 @@ light and dark, wide and narrow, the documents that they print, and the pages th
     python3 bench/check_page.py [--program PROGRAM] [--keep FOLDER]
 """
 import argparse
+import decimal
 import json
 import os
 import random
@@ -619,6 +620,69 @@ def check_parts(page, rows):
         page.hold(all(abs(width - it * per) < 2 for it, width in zip(ticks, widths)), f"the bar of {row['Chain']}, {row['Of']}: {widths}")
 
 
+def time_of(ticks, tick):
+    """A number of ticks of so many nanoseconds as the page has to show it, by decimal numbers, which are exact."""
+    if not ticks:
+        return "0"
+    time = decimal.Decimal(abs(ticks)) * decimal.Decimal(tick)
+    unit, size = next(((unit, size) for unit, size in (("s", 10**9), ("ms", 10**6), ("us", 10**3)) if time >= size), ("ns", 1))
+    return ("−" if ticks < 0 else "") + format((time / size).normalize(), "f") + unit
+
+
+def check_times(program, page_of):
+    """Pages of which a tick has a time: each number of ticks is shown as exactly that time, and tables are sorted by it."""
+    for name, tick, shown in (("pedal", "1000", "1us"), ("crossing_chains", "2500", "2.5us"), ("gateway", "333.3", "333.3ns")):
+        file = example(name, ".toml")
+        more = ["--trace", example(name, ".trace.csv")] if name == "pedal" else ["--session", example(name, ".script.txt")] if name == "crossing_chains" else []
+        page = page_of(f"{name}_{shown}", file, "--tick", shown, *more)
+        page.browser.size(1400)
+        head = page.run("document.getElementById('tick').innerText")
+        page.hold(head.startswith(f"A tick is {shown}: ") and "shown exactly" in head, f"its head says {head}")
+        report = call(program, "analyse", file)
+        bounds = {task: int(worst) for task, worst in re.findall(r"^task (\S+) .* worst (\d+)$", report, re.M)}
+        paths = re.findall(r"^path (\S+) best (\d+) worst (\d+) deadline (\S+)", report, re.M)
+        rows = {row["Task"]: row["Bound"].split()[0] for row in page.table("task-table")}
+        page.hold(rows == {task: time_of(worst, tick) for task, worst in bounds.items()}, f"the bounds are {rows}")
+        found = [[row[key].split()[0] for key in ("Path", "Best", "Worst", "Deadline", "Room")] for row in page.table("path-table")]
+        wanted = [
+            [path, time_of(int(best), tick), time_of(int(worst), tick), *(["–", "–"] if limit == "-" else [time_of(int(limit), tick), time_of(int(limit) - int(worst), tick)])]
+            for path, best, worst, limit in paths
+        ]
+        page.hold(found == wanted, f"the paths are {found}, and not {wanted}")
+        first = page.run("document.querySelector('#task-table button[data-made]').dataset.made")
+        page.browser.click(f"#task-table button[data-made='{first}']")
+        lines = page.run("[...document.querySelectorAll('#task-table tr.parts dl > div')].map((line) => [...line.children].map((it) => it.textContent))")
+        page.hold(lines[-1][2] == time_of(bounds[first], tick), f"the parts of {first}: {lines}")
+        page.browser.click("#task-table thead th:nth-child(11) button")
+        order = [bounds[it] for it in page.shown("task-table") if it]
+        page.hold(order == sorted(order), f"sorted by the bound: {order}")
+        texts = page.run("[...document.querySelectorAll('.graph text')].map((it) => it.textContent)")
+        page.hold(all(f"bound {time_of(worst, tick)}" in texts for worst in bounds.values()), f"the graph says {texts}")
+        if name == "pedal":
+            marks = page.run("[...document.querySelectorAll('.chart text')].map((it) => it.textContent)")
+            page.hold("ms, where a tick is 1us" in marks, f"the chart says {marks}")
+    page = page_of("two_tasks", example("two_tasks", ".toml"))
+    page.hold(page.run("document.getElementById('tick').innerText") == "All times are in ticks.", "its head says what a number is")
+
+
+def check_helps(program, page_of):
+    """What would help a path on a page: each change of a number, which the edit of a script makes, and the greatest time with it
+    by the program."""
+    file = example("crossing_chains", ".toml")
+    page = page_of("helps", file, "--helps")
+    rows = page.run("[...document.querySelectorAll('#helps tbody tr')].map((row) => [...row.cells].map((it) => it.innerText.trim()))")
+    page.hold(len(rows) >= 1 and page.run("[...document.querySelectorAll('#helps table')].map((it) => it.dataset.path)") == ["pb"], f"the changes are {rows}")
+    with open(file, encoding="utf-8") as it:
+        executions = {task["name"]: task["best"] for task in tomllib.loads(it.read())["task"]}
+    for what, worst, _ in rows:
+        if change := re.fullmatch(r"greatest execution of (\S+) \d+ → (\d+)", what):
+            with tempfile.NamedTemporaryFile("w", suffix=".txt") as script:
+                script.write(f"exec {change[1]} {min(executions[change[1]], int(change[2]))} {change[2]}\n")
+                script.flush()
+                report = call(program, "session", file, script.name)
+            page.hold(re.search(r"^path pb best \d+ worst (\d+)", report, re.M)[1] == worst, f"{what}: {worst}")
+
+
 def check_examples(room, words, page_of):
     for name, with_trace, with_script in PAGES:
         more, schedule = [], example(name, ".schedule.csv")
@@ -662,7 +726,7 @@ def main():
             made_page = os.path.join(to, name + ".html")
             done = subprocess.run([*tool("page"), "--program", words.program, "--to", made_page, *more, file], capture_output=True, text=True, check=False)
             # how far a search is may be told
-            complaints = [line for line in done.stderr.splitlines() if not re.match(r"(sensitivity|optimise)\.py: \d+ (of|orders?)\b", line)]
+            complaints = [line for line in done.stderr.splitlines() if not re.match(r"lokwurmi (sensitivity|optimise): \d+ (of|orders?)\b", line)]
             if done.returncode or complaints:
                 sys.exit(f"{name}: no page: {done.stderr}")
             with open(made_page, encoding="utf-8") as it:
@@ -675,6 +739,8 @@ def main():
             check_wide(room, page_of)
             check_chains(room, page_of)
             check_cases(room, words.program, page_of)
+            check_times(words.program, page_of)
+            check_helps(words.program, page_of)
             check_searches(words.program, page_of)
         finally:
             browser.close()

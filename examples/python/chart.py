@@ -69,7 +69,7 @@ def main() -> None:
         executions = list(range(best, (asked.up_to or 2 * worst) + 1))
         draw(system, asked.task, executions, curves(system, asked.task, executions), asked.to)
     except (OSError, LokwurmiError) as fault:
-        sys.exit(f"{asked.file}: {fault}")
+        sys.exit(str(fault))
 
 
 if __name__ == "__main__":

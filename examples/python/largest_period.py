@@ -97,7 +97,7 @@ def main() -> None:
         high = max(low, min(asked.reaction + 1, MOST))
         largest = largest_within(parts_of(system, asked.source, asked.chain), asked.reaction, low, high)
     except (OSError, LokwurmiError) as fault:
-        sys.exit(f"{asked.file}: {fault}")
+        sys.exit(str(fault))
     print(f"all deadlines are met from a period of {low} on")
     if largest is None:
         sys.exit(f"no period of {low} to {high} has a reaction time of at most {asked.reaction}")

@@ -3,7 +3,7 @@
 
     python3 examples/python/variants.py examples/crossing_chains.toml --variants 1000 --seed 1
 
-Each greatest execution is drawn from 70 to 130 % of what the file has. The time that a variant takes is told on
+Each greatest execution is drawn from 70 to 130 % of what the file has. The time that a variant takes stands on
 standard error. With --session each variant is a few edits of one session, which keeps the bounds that they can't reach.
 """
 import argparse
@@ -84,7 +84,7 @@ def main() -> None:
                 paths.setdefault(name, []).append(bound)
             progress.show(f"{place} of {asked.variants}{progress.left(place / asked.variants)}")
     except (OSError, LokwurmiError) as fault:
-        sys.exit(f"{asked.file}: {fault}")
+        sys.exit(str(fault))
     took = time.perf_counter() - begun
     progress.clear()
     print(f"{asked.variants} variants: " + ", ".join(f"{verdicts[it]} {it}" for it in ("met", "missed", "overload")))

@@ -3,6 +3,7 @@ import contextlib
 import io
 import pickle
 import re
+import tempfile
 import unittest
 import warnings
 from pathlib import Path
@@ -97,6 +98,7 @@ class Calls(unittest.TestCase):
             for page in ("docs/LIBRARY.md", "docs/PYTHON.md", "python/README.md", "docs/COMING_FROM.md"):
                 with self.subTest(page):
                     need_engine("chain")
+                    need_engine("schedule")
                     seen = self.follow(page)
         self.assertEqual(seen["s"], System.from_file(EXAMPLES / "pycpa_first.toml"))
         self.assertEqual(list(seen["bounds"].values()), [10, 13, 2, 19])
@@ -218,6 +220,28 @@ class Files(unittest.TestCase):
         ):
             with self.assertRaises(LokwurmiError):
                 System.from_toml(text)
+
+    def test_faults(self) -> None:
+        """What can't be a system of objects says where, and what to write."""
+        for text, why in (
+            ("x = [", "isn't TOML: Invalid value"),
+            ("format = 3", "the format is 3: write format = 1"),
+            ("format = 1\ntasks = []", "tasks is no key of a system; the keys are format, resource, source"),
+            ("format = 1\ntask = 5", r"task is no list of entries: write task = \[{ name"),
+            ("format = 1\ntask = [5]", "task 1 is no table"),
+            ("format = 1\nsource = [{ name = 's', period = 1 }, { name = 't' }]", "source 2 lacks period"),
+            ("format = 1\nsource = [{ name = 's', colour = 1 }]", "source 1 has a key colour; the keys are name"),
+        ):
+            with self.assertRaisesRegex(LokwurmiError, why):
+                System.from_toml(text)
+            with tempfile.TemporaryDirectory() as room:
+                file = Path(room, "net.toml")
+                file.write_text(text)
+                with self.assertRaisesRegex(LokwurmiError, f"{file}: .*{why}"):
+                    System.from_file(file)
+                file.write_bytes(b"\xff")
+                with self.assertRaisesRegex(LokwurmiError, f"{file}: it isn't UTF-8"):
+                    System.from_file(file)
 
     def test_names_twice(self) -> None:
         system = two_tasks()

@@ -32,8 +32,9 @@ class Kept(unittest.TestCase):
     def each(self):
         """A session of the system of two tasks by each engine that is there."""
         for engine in some_engines():
-            with self.subTest(engine), two_tasks().session(engine=engine) as session:
-                yield session
+            session = two_tasks().session(engine=engine)
+            self.addCleanup(session.close)
+            yield session
 
     def test_bounds(self) -> None:
         """b takes what it needs and 3 for each a, one each 10 ticks: 7 + 3, then 5 + 3, then 8 + 2 * 3."""
@@ -114,9 +115,12 @@ class Kept(unittest.TestCase):
 
     def test_end(self) -> None:
         for session in self.each():
+            self.assertIn("worst-case response time", session._repr_html_())
             session.close()
             session.close()
             self.assertTrue(session.is_closed)
+            self.assertIn("closed", session._repr_html_())
+            self.assertEqual(repr(session), "Session(closed)")
             for call in (lambda: session.bounds, session.report, lambda: session.edit("exec b 2 5")):
                 self.assertRaises(SessionClosed, call)
 

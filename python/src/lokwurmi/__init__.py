@@ -19,8 +19,8 @@ from .chains import Chain, ChainReport, ChainsReport, JudgedChain, Step
 from .engines import Engine, Library, Program, default_engine, use
 from .entries import Kind, Path, Resource, Source, Task
 from .errors import (CallFailed, ChainsRefused, EditRefused, FileTooLong, LokwurmiError, NameRefused, NoEngine,
-                     NotInstalled, NotToml, NoTick, ScheduleRefused, ScriptRefused, SessionClosed, SystemRefused,
-                     TraceDisobeys, TraceRefused, UnitsRefused, Unreadable, WordsRefused)
+                     NotInstalled, NotToml, NoTick, Refused, ScheduleRefused, ScriptRefused, SessionClosed,
+                     SystemRefused, TraceDisobeys, TraceRefused, UnitsRefused, Unreadable, WordsRefused)
 from .live import Session
 from .model import System, generated_system, made_system
 from .reports import (Buffers, Hammered, Order, PathReport, Report, Run, Schedule, SeenPath, SeenTask, Segment, Slack,
@@ -30,7 +30,7 @@ from .units import Rounding, RoundingWarning, Time, ms, ns, s, us
 __all__ = [
     "Buffers", "CallFailed", "Chain", "ChainReport", "ChainsRefused", "ChainsReport", "EditRefused", "Engine",
     "FileTooLong", "Hammered", "JudgedChain", "Kind", "Library", "LokwurmiError", "NameRefused", "NoEngine", "NoTick",
-    "NotInstalled", "NotToml", "Order", "Path", "PathReport", "Program", "Report", "Resource", "Rounding",
+    "NotInstalled", "NotToml", "Order", "Path", "PathReport", "Program", "Refused", "Report", "Resource", "Rounding",
     "RoundingWarning", "Run", "Schedule", "ScheduleRefused", "ScriptRefused", "SeenPath", "SeenTask", "Segment",
     "Session", "SessionClosed", "Slack", "Source", "Step", "System", "SystemRefused", "Task", "TaskReport", "Time",
     "TraceDisobeys", "TraceRefused", "UnitsRefused", "Unreadable", "Verdict", "WordsRefused", "default_engine",

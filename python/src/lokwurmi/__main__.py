@@ -3,6 +3,7 @@
 The text and the status are those of `lokwurmi analyse FILE`. What is refused is said in words on standard error.
 """
 import argparse
+import signal
 import sys
 import warnings
 from pathlib import Path
@@ -51,7 +52,7 @@ def engine_of(asked: argparse.Namespace) -> Engine:
 
 
 def text_of_file(asked: argparse.Namespace) -> bytes:
-    """The system file, in ticks; roundings are told on standard error."""
+    """The system file, in ticks; roundings stand on standard error."""
     if asked.tick is None:
         return Path(asked.file).read_bytes()
     with warnings.catch_warnings():
@@ -77,8 +78,8 @@ def main(words: list[str] | None = None) -> int:
     except NoEngine as fault:
         print(fault, file=sys.stderr)
         return NO_ENGINE
-    except (LokwurmiError, UnicodeDecodeError) as fault:
-        print(f"{asked.file}: {fault}", file=sys.stderr)
+    except LokwurmiError as fault:
+        print(fault, file=sys.stderr)
         return REFUSED_WORDS
     if status >= REFUSED_WORDS:
         told = str(refusal(status, wrote))
@@ -90,4 +91,7 @@ def main(words: list[str] | None = None) -> int:
 
 
 if __name__ == "__main__":
+    # a reader of the output that ends early is no fault
+    if hasattr(signal, "SIGPIPE"):
+        signal.signal(signal.SIGPIPE, signal.SIG_DFL)
     sys.exit(main())

@@ -5,12 +5,12 @@ and on a resource with a bit rate also "84 byte" or "111 bit". It's rounded to t
 system file is written, and stays as it is here.
 """
 from collections.abc import Mapping
-from dataclasses import dataclass, fields
+from dataclasses import MISSING, dataclass, fields
 from enum import StrEnum
 from typing import Any
 
-from .errors import NoTick
-from .toml import entry_text
+from .errors import LokwurmiError, NoTick
+from .toml import value_text
 from .units import TIMES, Time, amount_of
 
 Ticks = int | Time | str
@@ -102,6 +102,23 @@ Entry = Resource | Source | Task | Path
 KINDS: dict[str, type] = {"resource": Resource, "source": Source, "task": Task, "path": Path}
 _KEYS = {kind: [at.name for at in fields(kind)] for kind in KINDS.values()}
 _NAMES = {kind: name for name, kind in KINDS.items()}
+# of each kind its keys, how each begins in a file, and whether it may be a time
+_PARTS = {
+    kind: [(key, f"{key} = ", key in (*TIMES[name], "bit", "bitrate")) for key in _KEYS[kind]]
+    for name, kind in KINDS.items()
+}
+
+
+def entry_of(key: str, place: int, found: Any) -> Entry:
+    """An entry of a file, which is the one of its list in such a place."""
+    kind = KINDS[key]
+    if not isinstance(found, dict):
+        raise LokwurmiError(f"{key} {place} is no table: write {{ name = .. }}")
+    if unknown := [it for it in found if it not in _KEYS[kind]]:
+        raise LokwurmiError(f"{key} {place} has a key {unknown[0]}; the keys are {', '.join(_KEYS[kind])}")
+    if lacking := [it.name for it in fields(kind) if it.default is MISSING and it.name not in found]:
+        raise LokwurmiError(f"{key} {place} lacks {lacking[0]} (docs/FILES.md, \"The system\")")
+    return kind(**found)  # type: ignore[no-any-return]
 
 
 def kind_name(it: Entry) -> str:
@@ -136,10 +153,12 @@ def check_no_time(kind: str, entry: Mapping[str, Any]) -> None:
 
 def text_in_ticks(it: Entry) -> str:
     """An entry of a system without a tick, as TOML."""
-    found = keys_of(it)
-    for value in found.values():
-        # most values are numbers and names
-        if not isinstance(value, int) and (not isinstance(value, str) or value[:1].isdigit()) or "bitrate" in found:
-            check_no_time(kind_name(it), found)
-            break
-    return entry_text(found)
+    parts = []
+    for key, begin, may_be_time in _PARTS[type(it)]:
+        value = getattr(it, key)
+        if value is None:
+            continue
+        if may_be_time and (key == "bitrate" or not isinstance(value, int)):
+            check_no_time(kind_name(it), {"name": it.name, key: value})
+        parts.append(begin + (str(value) if type(value) is int else value_text(value)))
+    return "  { " + ", ".join(parts) + " },\n"

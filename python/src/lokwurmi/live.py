@@ -71,7 +71,10 @@ class Session:
         return self._kept is None
 
     def __repr__(self) -> str:
-        return f"Session({'closed' if self.is_closed else self._system!r})"
+        return f"Session({'closed' if self.is_closed else repr(self._system)})"
+
+    def _repr_html_(self) -> str:
+        return "<div>A session that is closed</div>" if self.is_closed else self.report()._repr_html_()
 
     def _open(self) -> Kept:
         if self._kept is None:
@@ -90,7 +93,7 @@ class Session:
         if status == EDIT_REFUSED and (found := REFUSED.fullmatch(text.rstrip("\n"))):
             raise EditRefused(line.strip(), int(found[2]))
         if status == SCRIPT_REFUSED:
-            raise refusal(status, text)
+            raise refusal(status, text.rstrip("\n") + "\n")
         if status:
             raise CallFailed(status, text)
         self._found = None
@@ -98,13 +101,14 @@ class Session:
         _apply(self._system, edit.split())
 
     def _ticks(self, kind: str, name: str, **given: Ticks | None) -> dict[str, Any]:
-        """Times of an entry in ticks, rounded and told as those of a system."""
+        """Times of an entry in ticks, rounded and reported as those of a system."""
         entry: dict[str, Any] = {"name": name} | {key: it for key, it in given.items() if it is not None}
         if kind == "task" and "on" not in entry and name in self._system.tasks:
             entry["on"] = self._system.tasks[name].on
         told = self._system._convert(kind, entry)
-        self._roundings += told
-        warn(told)
+        if told:
+            self._roundings += told
+            warn(told)
         return entry
 
     def exec(self, task: str | Task, best: Ticks | None = None, worst: Ticks | None = None) -> None:

@@ -13,8 +13,8 @@ from typing import TYPE_CHECKING, Any, TypeVar, overload
 from . import chains as chain_results
 from . import html, reports
 from .engines import WHILE_RUNNING, Engine, answer, keep
-from .entries import (KINDS, Entry, Kind, Path, Resource, Source, Task, Ticks, check_no_time, keys_of, kind_name,
-                      text_in_ticks)
+from .entries import (KINDS, Entry, Kind, Path, Resource, Source, Task, Ticks, check_no_time, entry_of, keys_of,
+                      kind_name, text_in_ticks)
 from .errors import ChainsRefused, LokwurmiError, SystemRefused, UnitsRefused
 from .toml import entry_text
 from .units import Converter, Rounding, Time, frame_bits, text_of, tick_of, warn, whole_ticks
@@ -38,7 +38,7 @@ class System:
     systems are equal where their entries are, in ticks.
 
     With a `tick`, times may have units. Those that are no whole number of ticks are rounded to their safe side, which
-    is told by a RoundingWarning, by `roundings`, and at the head of the file:
+    is reported by a RoundingWarning, by `roundings`, and at the head of the file:
 
         >>> from lokwurmi import System
         >>> from lokwurmi.units import ms, us
@@ -117,9 +117,9 @@ class System:
 
     def _warn(self, roundings: Iterable[Rounding]) -> None:
         """Warns of roundings of which it hasn't warned yet."""
-        new = [it for it in roundings if str(it) not in self._told]
-        self._told |= {str(it) for it in new}
-        warn(new)
+        if new := [it for it in roundings if str(it) not in self._told]:
+            self._told |= {str(it) for it in new}
+            warn(new)
 
     def resource(
         self, name: str, kind: str, *, limit: Ticks | None = None, gap: Ticks | None = None, bit: Ticks | None = None,
@@ -252,14 +252,17 @@ class System:
         except tomllib.TOMLDecodeError as fault:
             raise LokwurmiError(f"the text isn't TOML: {fault}") from fault
         system = cls(tick)
-        if read.pop("format", None) not in (1, 2) or set(read) - set(KINDS):
-            raise LokwurmiError("the text is no system file of format 1 or 2: a key isn't known")
+        form = read.pop("format", None)
+        if form not in (1, 2):
+            raise LokwurmiError(f"the format is {form}: write format = 1, or 2 for lists of activators")
+        if unknown := sorted(set(read) - set(KINDS)):
+            raise LokwurmiError(f"{unknown[0]} is no key of a system; the keys are format, {', '.join(KINDS)}")
         for key, part in system._parts().items():
-            for place, entry in enumerate(read.get(key, []), 1):
-                try:
-                    it = KINDS[key](**entry)
-                except TypeError as fault:
-                    raise LokwurmiError(f"{key} {place}: {fault}") from fault
+            entries = read.get(key, [])
+            if not isinstance(entries, list):
+                raise LokwurmiError(f"{key} is no list of entries: write {key} = [{{ name = .. }}] or [[{key}]]")
+            for place, entry in enumerate(entries, 1):
+                it = entry_of(key, place, entry)
                 if it.name in part:
                     raise LokwurmiError(f"{key} {place}: there is a {key} {it.name!r} already")
                 part[it.name] = it
@@ -270,7 +273,13 @@ class System:
     @classmethod
     def from_file(cls, file: str | os.PathLike[str], tick: "Time | str | None" = None) -> "System":
         """The system of a system file; with a tick, its times may have units."""
-        return cls.from_toml(FilePath(file).read_text(encoding="utf-8"), tick)
+        try:
+            return cls.from_toml(FilePath(file).read_text(encoding="utf-8"), tick)
+        except UnicodeDecodeError as fault:
+            raise LokwurmiError(f"{file}: it isn't UTF-8: {fault.reason} at byte {fault.start}") from fault
+        except LokwurmiError as fault:
+            fault.args = (f"{os.fspath(file)}: {fault}",)
+            raise
 
     # ---- calls
 

@@ -37,7 +37,7 @@ def worst_of(overloads: int, missed: int) -> Verdict:
 def time_of_ticks(ticks: int | None, tick: Time | None, what: str) -> Time | None:
     """So many ticks as an exact time; None where there is no number."""
     if tick is None:
-        raise NoTick(f"{what} can't be told as a time")
+        raise NoTick(f"{what} can't be given as a time")
     return None if ticks is None else tick * ticks
 
 

@@ -1,7 +1,7 @@
 """Times with units, and how they become whole ticks.
 
 A time is exact: a fraction of nanoseconds. A system counts in whole ticks, so a time that isn't a whole number of them
-is rounded to the side that is safe for its key, and each rounding is told:
+is rounded to the side that is safe for its key, and each rounding is reported:
 
     >>> from lokwurmi.units import ms, us
     >>> ms("16.667") + us(3)
@@ -313,8 +313,8 @@ class Converter:
     """In nanoseconds."""
     text: str = ""
     told: list[Rounding] = field(default_factory=list)
-    bare: list[str] = field(default_factory=list)
-    """The keys with a number that has no unit, and so counts ticks."""
+    bare: list[tuple[str, str, str]] = field(default_factory=list)
+    """The keys with a number that has no unit, and so counts ticks: key, kind and name of the entry."""
     exact: list[tuple[Fraction, int]] = field(default_factory=list)
     """The times, each with the most ticks that it may be."""
     bits: dict[str, Fraction] = field(default_factory=dict)
@@ -349,7 +349,7 @@ class Converter:
         return Fraction(found[1]) * bit * (8 if found[2].startswith("byte") else 1)
 
     def ticks(self, what: str, key: str, time: Fraction, side: str, most: int) -> int:
-        """A time in whole ticks, rounded to a side, which is told."""
+        """A time in whole ticks, rounded to a side, which is kept for the report."""
         self.exact.append((time, most))
         number = time / self.tick
         if number.denominator == 1:
@@ -364,11 +364,11 @@ class Converter:
         return rounded
 
     def set_time(self, kind: str, item: Entry, key: str, bit: Fraction | None) -> None:
-        """Replaces a time of an entry that is told with a unit."""
+        """Replaces a time of an entry that has a unit."""
         word = item[key]
         if not isinstance(word, (str, Time)):
             if isinstance(word, int) and not isinstance(word, bool):
-                self.bare.append(f"{key} of {kind} {item.get('name', '?')}")
+                self.bare.append((key, kind, item.get("name", "?")))
             return
         what, (side, least, most) = f"{kind} {item.get('name', '?')}", TIMES[kind][key]
         time = self.nanoseconds(what, key, word, bit)
@@ -385,8 +385,8 @@ class Converter:
         item[key] = number
 
     def set_bit(self, item: Entry) -> None:
-        """The time of a bit of a bus: told by its bit rate, or with a unit. It's rounded up; where it isn't whole the
-        lengths of frames are told in its place."""
+        """The time of a bit of a bus: by its bit rate, or with a unit. It's rounded up; where it isn't whole, frames
+        get their lengths in its place."""
         name, rate, told = str(item.get("name", "?")), item.get("bitrate"), item.get("bit")
         if rate is not None:
             if not isinstance(rate, int) or isinstance(rate, bool) or rate < 1:
@@ -401,7 +401,7 @@ class Converter:
             bit = self.nanoseconds(f"resource {name}", "bit", told, None)
         else:
             if isinstance(told, int):
-                self.bare.append(f"bit of resource {name}")
+                self.bare.append(("bit", "resource", name))
                 self.bits[name] = told * self.tick
             return
         self.bits[name] = bit
@@ -465,7 +465,8 @@ class Converter:
         if any(it.key == "period" for it in self.told):
             found.append("  a period that is rounded is too short for `chain`, which takes it as the longest, too")
         if self.bare:
-            found.append(f"taken as ticks, since they have no unit: {', '.join(self.bare)}")
+            several = ", ".join(f"{key} of {kind} {name}" for key, kind, name in self.bare)
+            found.append(f"taken as ticks, since they have no unit: {several}")
         return [it for it in found if it]
 
 
