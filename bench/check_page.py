@@ -634,7 +634,7 @@ def check_times(program, page_of):
     for name, tick, shown in (("pedal", "1000", "1us"), ("crossing_chains", "2500", "2.5us"), ("gateway", "333.3", "333.3ns")):
         file = example(name, ".toml")
         more = ["--trace", example(name, ".trace.csv")] if name == "pedal" else ["--session", example(name, ".script.txt")] if name == "crossing_chains" else []
-        page = page_of(f"{name}, a tick of {shown}", file, "--tick", shown, *more)
+        page = page_of(f"{name}_{shown}", file, "--tick", shown, *more)
         page.browser.size(1400)
         head = page.run("document.getElementById('tick').innerText")
         page.hold(head.startswith(f"A tick is {shown}: ") and "shown exactly" in head, f"its head says {head}")

@@ -94,7 +94,7 @@ afresh() {
   rm -rf "$work"
   mkdir -p "$work"/{docs,examples,python/src,library}
   cp "$top/lokwurmi" "$work/" && cp -r "$top"/python/src/{lokwurmi,lokwurmi_tools} "$work/python/src/" || exit 1
-  cp "$top"/library/lokwurmi.{h,map,pc} "$work/library/" && cp "$top"/python/{pyproject.toml,README.md} "$work/python/" || exit 1
+  cp "$top"/library/lokwurmi.{h,map,pc} "$work/library/" && cp "$top"/python/*.{toml,py,md} "$work/python/" || exit 1
   cp "$top/examples/two_tasks.toml" "$work/examples/" && cp "$top/docs/FILES.md" "$work/docs/" || exit 1
   cat >"$work/crates.txt" <<'END'
 # the crates, and what they use
@@ -736,7 +736,7 @@ if command -v cc >/dev/null; then
   hold "build-library: proves what it depends on" said '^lokwurmi: the library isn.t built yet: it is proved and built first, 5 crates, of which [0-9] are proved already'
   hold "build-library: the archive" is "$(ar t "$work/library/out/liblokwurmi.a" | sort | tr '\n' ' ')" "one.o two.o "
   hold "build-library: the shared object shows its functions alone" is "$(nm -D --defined-only "$work/library/out/liblokwurmi.so" | awk '{ print $3 }' | tr '\n' ' ')" "lokwurmi_version "
-  hold "build-library: the wheel's platform" is "$(cd "$work/library/out" && echo ./*.whl)" "./lokwurmi-0.1.0-py3-none-linux_x86_64.whl"
+  hold "build-library: the wheel's platform" is "$(cd "$work/library/out" && echo ./*.whl | sed 's/[0-9.]*-py3/VERSION-py3/')" "./lokwurmi-VERSION-py3-none-linux_$(uname -m).whl"
   hold "build-library: the wheel has the library" is "$(python3 -m zipfile -l "$work/library/out"/*.whl | grep -c 'lokwurmi/liblokwurmi.so')" 1
   : >"$room/calls"
   call build-library

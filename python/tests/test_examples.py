@@ -1,4 +1,5 @@
 """The scripts of examples/python run, as their help says, and answer what is worked out by hand."""
+import importlib.util
 import os
 import re
 import subprocess
@@ -52,9 +53,7 @@ class Scripts(unittest.TestCase):
 
     def test_chart(self) -> None:
         need_engine()
-        try:
-            import matplotlib  # noqa: F401
-        except ImportError:
+        if importlib.util.find_spec("matplotlib") is None:
             raise unittest.SkipTest("there is no matplotlib")
         with tempfile.TemporaryDirectory() as folder:
             picture = Path(folder, "chart.svg")

@@ -98,6 +98,7 @@ class Calls(unittest.TestCase):
             for page in ("docs/LIBRARY.md", "docs/PYTHON.md", "python/README.md", "docs/COMING_FROM.md"):
                 with self.subTest(page):
                     need_engine("chain")
+                    need_engine("schedule")
                     seen = self.follow(page)
         self.assertEqual(seen["s"], System.from_file(EXAMPLES / "pycpa_first.toml"))
         self.assertEqual(list(seen["bounds"].values()), [10, 13, 2, 19])

@@ -1,4 +1,5 @@
 """How results are shown: tables of notebooks, charts, data frames."""
+import importlib.util
 import subprocess
 import sys
 import unittest
@@ -133,9 +134,7 @@ class Tables(unittest.TestCase):
 
 class Charts(unittest.TestCase):
     def setUp(self) -> None:
-        try:
-            import matplotlib  # noqa: F401
-        except ImportError:
+        if importlib.util.find_spec("matplotlib") is None:
             raise unittest.SkipTest("there is no matplotlib")
 
     def test_report(self) -> None:

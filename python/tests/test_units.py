@@ -187,7 +187,8 @@ class Rounded(unittest.TestCase):
         task.worst = us(5)
         self.assertEqual(system.roundings, [])
         system.tick = us(10)
-        self.assertIn("worst = 1", system.to_toml())
+        with self.assertWarns(RoundingWarning):
+            self.assertIn("worst = 1", system.to_toml())
 
     def test_no_tick(self) -> None:
         system = System()
@@ -218,7 +219,11 @@ class Rounded(unittest.TestCase):
 
     def test_file(self) -> None:
         """A file with units becomes that of docs/NETWORKS.md: examples/switch_port.toml."""
-        system = System.from_file(TOP / "examples/units/switch_port.toml", tick="1us")
+        with warnings.catch_warnings(record=True) as told:
+            warnings.simplefilter("always")
+            system = System.from_file(TOP / "examples/units/switch_port.toml", tick="1us")
+        # those of the comments at the head of the other file
+        self.assertEqual(len(told), 8)
         self.assertEqual(system, System.from_file(TOP / "examples/switch_port.toml"))
         self.assertTrue(system.roundings)
 

@@ -32,7 +32,8 @@ def find(words: list[str]) -> tuple[str, int]:
 
 def end_by(number: int) -> NoReturn:
     """Ends by a signal, as a program does that doesn't know of it."""
-    sys.stdout = None  # what is left to write has no reader
+    # what is left to write has no reader
+    os.dup2(os.open(os.devnull, os.O_WRONLY), sys.stdout.fileno())
     signal.signal(number, signal.SIG_DFL)
     os.kill(os.getpid(), number)
     raise SystemExit(128 + number)

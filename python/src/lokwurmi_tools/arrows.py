@@ -41,7 +41,7 @@ def read_times(run: Run, watch: Watch, late: Late, what: str) -> list[int]:
 def marked_in(run: Run, tasks: list[str], reading: str, bounds: dict[str, int | None], rule: str) -> list[Marked]:
     """The latest reaction and the oldest data of a chain in a run, where there are any."""
     seen, watch = seen_of(run, tasks, reading), Watch(run, tasks, reading)
-    several = [(what, seen.latest[what]) for what in LOOKS if seen.latest[what]]
+    several = [(what, late) for what in LOOKS if (late := seen.latest[what])]
     return [Marked(what, it, tasks, read_times(run, watch, it, what), bounds.get(what), rule) for what, it in several]
 
 

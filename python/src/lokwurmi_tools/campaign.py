@@ -93,7 +93,8 @@ def read_words(arguments: list[str] | None) -> argparse.Namespace:
     reader = reader_of(
         "campaign",
         "Runs many calls of the proved program on many processors or machines, and joins what they write.",
-        f"example:\n  ./lokwurmi {named('campaign').example}\n\nMore: docs/CAMPAIGNS.md, and hammer --help, variants --help",
+        f"example:\n  ./lokwurmi {named('campaign').example}\n\n"
+        "More: docs/CAMPAIGNS.md, and hammer --help, variants --help",
     )
     commands = reader.add_subparsers(dest="command", required=True, metavar="COMMAND")
     form: Any = {"parents": [common_words()], "formatter_class": argparse.RawDescriptionHelpFormatter}

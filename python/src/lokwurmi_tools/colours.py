@@ -37,7 +37,7 @@ def letters_on(colour: str) -> str:
 
 def hues(system: Values) -> dict[str, str]:
     """The colour of each task that is on a path: that of the first such path."""
-    found = {}
+    found: dict[str, str] = {}
     for place, path in enumerate(system.get("path", [])):
         for name in path["tasks"]:
             found.setdefault(name, HUES[place % len(HUES)])
@@ -47,7 +47,8 @@ def hues(system: Values) -> dict[str, str]:
 def shades(system: Values) -> dict[str, str]:
     """A colour a task: along a path that of the path, lighter from task to task; tasks on none take turns with paler
     ones."""
-    found, hue, others = {}, hues(system), 0
+    found: dict[str, str] = {}
+    hue, others = hues(system), 0
     for path in system.get("path", []):
         for place, name in enumerate(path["tasks"]):
             found.setdefault(name, lighter(hue[name], min(0.14 * place, 0.56)))
@@ -60,7 +61,8 @@ def shades(system: Values) -> dict[str, str]:
 
 def hues_of_sources(system: Values) -> dict[str, str]:
     """A colour a source: that of the first path that begins behind it, or a paler one."""
-    tasks, found = {it["name"]: it for it in system.get("task", [])}, {}
+    tasks = {it["name"]: it for it in system.get("task", [])}
+    found: dict[str, str] = {}
     for place, path in enumerate(system.get("path", [])):
         after = tasks[path["tasks"][0]]["after"]
         for before in [after] if isinstance(after, str) else after:

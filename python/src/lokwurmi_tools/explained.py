@@ -33,7 +33,8 @@ class Explained:
         self.text = ""
         self.parts = Parts(system, {name: it["worst"] for name, it in found_tasks.items()})
         self.paths = {it["name"]: it["tasks"] for it in system.get("path", [])}
-        self.faults, self.known = [], {}
+        self.faults: list[str] = []
+        self.known: dict[str, dict] = {}
         self.behind = Behind(system, found_tasks)
         self.causes, self.over = self.behind.causes()
 
@@ -95,7 +96,8 @@ class Explained:
     def path(self, name: str) -> dict:
         """What there is to tell of a path: its tasks, and by whom it waits in all."""
         tasks, found = [self.task(it) for it in self.paths[name]], self.found_paths[name]
-        own, waits, before = 0, {}, 0
+        own = before = 0
+        waits: dict[tuple[str, str], int] = {}
         for it in tasks:
             job = it.get("job")
             before += job["came"] if job else 0

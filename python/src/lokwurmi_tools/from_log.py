@@ -27,6 +27,7 @@ It needs python-can, and canmatrix with --database: apt-get install python3-can 
 """
 import argparse
 import sys
+from typing import Any
 
 from lokwurmi_tools.faults import Fault
 from lokwurmi_tools.program import add_program
@@ -43,7 +44,7 @@ def bus_of(word: str) -> tuple[str, str]:
 
 def add_words(reader: argparse.ArgumentParser) -> None:
     """The words of a call."""
-    several = {"action": "append", "default": []}
+    several: Any = {"action": "append", "default": []}
     reader.add_argument("log", metavar="LOG", help="a recorded log")
     reader.add_argument("--system", metavar="SYSTEM", help="a system file that the log is held against")
     reader.add_argument("--report", metavar="REPORT", help="what lokwurmi analyse wrote of it; it is called if absent")
@@ -95,5 +96,5 @@ def main(arguments: list[str] | None = None) -> int | None:
     names = Names(words, log)
     if words.system is None:
         made(words, log, names)
-        return
+        return 0
     return compare(words, log, names)

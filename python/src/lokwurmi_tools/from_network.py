@@ -18,6 +18,7 @@ import argparse
 import re
 import sys
 from fractions import Fraction
+from typing import Any
 
 from lokwurmi_tools.entries import comment, comments, entry, printable, put
 from lokwurmi_tools.faults import Fault
@@ -141,7 +142,7 @@ def add_times(reader: argparse.ArgumentParser) -> None:
         ),
     ):
         reader.add_argument(option, metavar=metavar, type=kind, help=help_text)
-    rates = {"metavar": "[BUS=]BITS", "type": rate, "action": "append", "default": []}
+    rates: Any = {"metavar": "[BUS=]BITS", "type": rate, "action": "append", "default": []}
     reader.add_argument("--bitrate", help="bits per second, of all buses or of one; the database's if absent", **rates)
     reader.add_argument("--data-bitrate", help="those in the data phase of CAN FD; the database's if absent", **rates)
     reader.set_defaults(tick=time_of("1us"), jitter=("time", Fraction(0)), fast=Fraction(0), deadline="100%")
@@ -149,7 +150,7 @@ def add_times(reader: argparse.ArgumentParser) -> None:
 
 def add_choices(reader: argparse.ArgumentParser) -> None:
     """The words on what is taken, and how."""
-    several = {"action": "append", "default": []}
+    several: Any = {"action": "append", "default": []}
     for option, metavar, help_text in (
         ("--without", "FRAME", "leaves a frame out; a pattern with * leaves several"),
         ("--bus", "BUS", "takes this bus alone"),
@@ -211,3 +212,4 @@ def main(arguments: list[str] | None = None) -> int | None:
     for line in taker.report.lines(MOST_NAMES):
         print(printable(line), file=sys.stderr)
     put(text, words.to)
+    return 0

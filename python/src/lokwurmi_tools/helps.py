@@ -61,7 +61,8 @@ class Changes:
     """The changes that are tried for a path: of each number one, for the first task that waits by it."""
 
     def __init__(self, explained: Explained, path: str):
-        self.parts, self.found = explained.parts, {}
+        self.parts = explained.parts
+        self.found: dict[tuple, Change] = {}
         for name in explained.paths[path]:
             self.of_task(name)
 

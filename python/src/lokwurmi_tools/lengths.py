@@ -130,3 +130,4 @@ def main(arguments: list[str] | None = None) -> int | None:
             "take another --tick"
         )
     print(f"best = {least}, worst = {greatest} # {text_of(exact[0])} to {text_of(exact[1])}")
+    return 0

@@ -95,7 +95,8 @@ class Search(Sharing):
     def __init__(self, words: argparse.Namespace, room: str):
         self.system, self.file, self.program, self.room = read_system(words.file), words.file, words.program, room
         super().__init__(self.system)
-        self.draw, self.looked, self.seen = random.Random(words.seed), 0, {}
+        self.draw, self.looked = random.Random(words.seed), 0
+        self.seen: dict[tuple, Verdict] = {}
         self.until = None if words.seconds is None else time.monotonic() + words.seconds
         self.progress = Progress("lokwurmi optimise")
         self.periods = {it["name"]: it["period"] for it in self.system.get("source", [])}
@@ -104,7 +105,10 @@ class Search(Sharing):
         ranked = [name for name, it in self.resources.items() if it["kind"] in ("preemptive", "can")]
         self.given = {name: self.ranked(name) for name in ranked}
         self.numbers = {on: [self.tasks[it]["priority"] for it in order] for on, order in self.given.items()}
-        self.best, self.best_verdict, self.how = None, None, None
+        # nothing is known before the first look
+        self.best: Any = None
+        self.best_verdict: Any = None
+        self.how = ""
 
     def ranked(self, on: str) -> list[str]:
         """The tasks of a resource, the most urgent first."""
@@ -126,7 +130,7 @@ class Search(Sharing):
 
     def look(self, order: Order, how: str) -> Verdict:
         """What the program says of an order, which is kept where it is the best so far."""
-        key = tuple(map(tuple, order.values()))
+        key = tuple(tuple(names) for names in order.values())
         if key not in self.seen:
             file = write(os.path.join(self.room, "order.toml"), self.with_order(order))
             self.seen[key] = verdict_in(written_by(self.program, "analyse", file))
@@ -157,7 +161,7 @@ class Search(Sharing):
 
     def shared(self, weights: dict[str, float]) -> dict[str, float]:
         """Parts of the deadlines for the tasks, by weights."""
-        parts = {}
+        parts: dict[str, float] = {}
         for it in self.paths.values():
             if "deadline" in it:
                 whole = sum(weights[name] for name in it["tasks"])
@@ -185,7 +189,9 @@ class Search(Sharing):
     def alone(self, on: str, names: list[str], parts: dict[str, float], streams: dict) -> dict:
         """A resource alone: its tasks with their streams as sources and their parts as deadlines. The least urgent one
         stands first, and so comes as low as it may."""
-        sources, tasks, paths = [], [], []
+        sources: list[dict] = []
+        tasks: list[dict] = []
+        paths: list[dict] = []
         for name in reversed(names):
             after = [f"s.{len(sources) + k}" for k in range(len(streams[name]))]
             for source, (period, jitter, distance) in zip(after, streams[name]):
@@ -216,7 +222,7 @@ class Search(Sharing):
 
     def excess(self, bound: dict[str, int]) -> dict[str, float]:
         """By how much each task's share of a late path is too long, that of its latest path."""
-        found = {}
+        found: dict[str, float] = {}
         for it in self.paths.values():
             if "deadline" in it:
                 whole = sum(bound[name] for name in it["tasks"])
@@ -250,7 +256,7 @@ class Search(Sharing):
         """Pairs of a task and one that waits for it, and how long: those of late paths, or of the tightest one."""
         verdict = self.best_verdict
         explained = Explained(self.ordered(self.best), verdict.tasks, verdict.paths, MOST_LOOKS)
-        found = {}
+        found: dict[tuple[str, str], int] = {}
         for path in sorted(verdict.paths, key=lambda it: -verdict.late.get(it, 0)):
             if found and not verdict.is_late(path):
                 continue
@@ -271,7 +277,8 @@ class Search(Sharing):
         pairs = sorted(worth, key=lambda it: -worth[it])[: MOST_EXCHANGES * 3 // 4]
         wide = [on for on, names in self.best.items() if len(names) > 1]
         for _ in range(MOST_EXCHANGES - len(pairs) if wide else 0):
-            pairs.append(tuple(self.draw.sample(self.best[self.draw.choice(wide)], 2)))
+            one, other = self.draw.sample(self.best[self.draw.choice(wide)], 2)
+            pairs.append((one, other))
         return list(dict.fromkeys(pairs))
 
     def exchange(self, rounds: int) -> None:

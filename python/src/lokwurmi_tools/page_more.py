@@ -1,4 +1,4 @@
-"""What a page has on request: what a script changes, how far numbers may move, other priorities, and what would help."""
+"""What a page has on request: what a script changes, how far numbers may move, other priorities, what would help."""
 import argparse
 import os
 import tempfile
@@ -120,7 +120,7 @@ def priorities_of(words: argparse.Namespace) -> Values:
 
 
 def paths_to_help(system: System) -> list[str]:
-    """The paths that are late or have no bound but a deadline, those first that are latest; or else the tightest one."""
+    """The paths that are late, or have a deadline and no bound, the latest first; or else the tightest one."""
     limits = {name: it for name, it in system.found_paths.items() if it["deadline"] is not None}
     room = {
         name: float("-inf") if it["worst"] is None else 1 - it["worst"] / it["deadline"] for name, it in limits.items()

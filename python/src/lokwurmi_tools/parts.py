@@ -51,11 +51,13 @@ class Rival(NamedTuple):
 
     def events(self, window: int) -> int:
         """How many jobs it has in a window of the task at most."""
-        return sum(most_events(it, window + self.ahead) for it in self.streams)
+        return sum(most_events(it, window + self.ahead) for it in self.streams or [])
 
     def steady(self, window: int) -> int:
         """How many these would be if its streams had no jitter."""
-        return sum(most_events((period, 0, distance), window + self.ahead) for period, _, distance in self.streams)
+        return sum(
+            most_events((period, 0, distance), window + self.ahead) for period, _, distance in self.streams or []
+        )
 
 
 class Place(NamedTuple):
@@ -151,7 +153,7 @@ class Parts(Sharing):
     def shared(self, rival: Rival, rounds: int, window: int) -> Part:
         """What a rival takes in a window."""
         turns = None if rival.slot is None else Part("turns", rival.name, rounds, rival.slot)
-        if rival.streams is None:
+        if rival.streams is None and turns:
             return turns
         count = rival.events(window)
         if turns and turns.ticks < count * rival.worst:
@@ -212,11 +214,14 @@ class Parts(Sharing):
         if self.inputs[name] is None:
             return None
         self.until = None if most is None else self.looks + most
-        rivals, late, of = self.before(name) if rivals is None else rivals, None, 0
+        rivals, of = self.before(name) if rivals is None else rivals, 0
+        late: Place | None = None
         try:
             for it in self.places(name, rivals):
                 late, of = it if late is None or it.response > late.response else late, it.number
         except Endless:
+            return None
+        if late is None:
             return None
         # the window of a frame is up to its start, in which there are those before it
         jobs = late.number - 1 if self.kind(name) == "can" else late.number
@@ -229,8 +234,8 @@ class Parts(Sharing):
         if self.inputs[name] is None:
             return None
         found = []
-        for (source, *way), (period, jitter, distance) in zip(ways_to(self.system, name), self.inputs[name]):
-            varies = [(it, self.bounds[it] - self.executions[it][0]) for it in way]
+        for (source, *way), (period, jitter, distance) in zip(ways_to(self.system, name), self.inputs[name] or []):
+            varies = [(it, (self.bounds[it] or 0) - self.executions[it][0]) for it in way]
             found.append(
                 {
                     "source": source,

@@ -191,9 +191,11 @@ class Watch:
 
     def ages(self) -> list[Late]:
         """For each job of the last task that is done the oldest data of the first that it may have."""
-        earlier = {k: (job.came, (k,)) for k, job in enumerate(self.run.jobs[self.tasks[0]])}
+        earlier: dict[int, tuple[int, tuple[int, ...]]] = {
+            k: (job.came, (k,)) for k, job in enumerate(self.run.jobs[self.tasks[0]])
+        }
         for before, name in zip(self.tasks, self.tasks[1:]):
-            ways = {}
+            ways: dict[int, tuple[int, tuple[int, ...]]] = {}
             for n, done in enumerate(self.windows[name].done):
                 several = self.data_of(before, name, n) if done < NEVER else ()
                 known = [earlier[k] for k in several if k in earlier]
@@ -201,8 +203,8 @@ class Watch:
                     since, jobs = min(known)
                     ways[n] = (since, (*jobs, n))
             earlier = ways
-        done = self.windows[self.tasks[-1]].done
-        return [Late(since, done[n], jobs) for n, (since, jobs) in earlier.items() if done[n] < NEVER]
+        ends = self.windows[self.tasks[-1]].done
+        return [Late(since, ends[n], jobs) for n, (since, jobs) in earlier.items() if ends[n] < NEVER]
 
     def held(self, ages: list[Late]) -> list[Late]:
         """Until the last tick at which the register of the last task has what a job wrote: that before the next job of
@@ -218,7 +220,7 @@ def seen_of(run: Run, tasks: list[str], reading: str) -> Seen:
     watch = Watch(run, tasks, reading)
     reactions, ages = watch.reactions(), watch.ages()
     found = dict(zip(ASKED, (reactions, ages, watch.held(ages))))
-    latest = {what: max(several, key=Late.ticks, default=None) for what, several in found.items()}
+    latest = {what: max(several, key=Late.ticks) if several else None for what, several in found.items()}
     lasts = sum(job.done is not None for job in run.jobs[tasks[-1]])
     return Seen(latest, len(reactions), len(run.jobs[tasks[0]]), len(ages), lasts)
 

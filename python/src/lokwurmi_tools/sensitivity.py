@@ -448,3 +448,4 @@ def main(arguments: list[str] | None = None) -> int | None:
         print(shown("\n".join([*lines_of(rows), "", NOTE])))
     if words.to:
         draw(rows, words.to, os.path.basename(words.file))
+    return 0

@@ -54,7 +54,7 @@ def inputs_of(system: Values, bounds: Bounds) -> dict[str, list[Stream] | None]:
     def look(name: str) -> Any:
         if name not in found:
             several = [sent_by(before) for before in activators(tasks[name])]
-            found[name] = None if None in several else [stream for streams in several for stream in streams]
+            found[name] = None if None in several else [stream for streams in several for stream in streams or []]
         return found[name]
 
     return {name: look(name) for name in tasks}

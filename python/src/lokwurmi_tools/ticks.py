@@ -83,3 +83,4 @@ def main(arguments: list[str] | None = None) -> int | None:
     for line in shown:
         print(printable(line), file=sys.stderr)
     put(text, words.to)
+    return 0

@@ -54,3 +54,4 @@ def main(arguments: list[str] | None = None) -> int | None:
         raise Fault(f"{words.report}: can't be read: {fault.strerror}")
     except UnicodeDecodeError:
         raise Fault(f"{words.report or 'the standard input'}: it isn't ASCII, and so no report")
+    return 0

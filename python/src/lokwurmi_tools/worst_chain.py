@@ -79,7 +79,8 @@ class Maker:
         return sum(slots) + self.resources[resource].get("gap", 0)
 
     def events(self, plan: Plan, source: str) -> list[int]:
-        it, times = self.sources[source], []
+        it = self.sources[source]
+        times: list[int] = []
         jitter, distance = it.get("jitter", 0), it.get("distance", 0)
         while source in plan.start and len(times) < MOST_EVENTS and (not times or times[-1] < self.span):
             k = len(times)
@@ -138,8 +139,9 @@ class Mover:
         (before, k), (name, n) = steps[place - 1], steps[place]
         written, read = found.run.jobs[before], found.run.jobs[name]
         m, j = self.draw.choice(((k, n - 1), (k + 1, n)))
-        if 0 <= j < len(read) and m < len(written) and written[m].done is not None:
-            aim = written[m].done - self.draw.choice((1, 1, 1, 0, 2))
+        done = written[m].done if m < len(written) else None
+        if 0 <= j < len(read) and done is not None:
+            aim = done - self.draw.choice((1, 1, 1, 0, 2))
             self.maker.shifted(plan, self.source_of(name), aim - read[j].came)
 
     def meet(self, plan: Plan, found: Found) -> None:
@@ -219,7 +221,8 @@ class ChainSearch:
 
     def run(self) -> Found | None:
         """The latest that is found in so many tries, by the time, or up to an interrupt."""
-        mover, pool, progress = Mover(self.maker, self.draw), [], Progress("lokwurmi worst")
+        mover, progress = Mover(self.maker, self.draw), Progress("lokwurmi worst")
+        pool: list = []
         ends, of = time.monotonic() + self.options.seconds, "overload" if self.bound is None else self.bound
         try:
             for tried in range(self.options.tries):

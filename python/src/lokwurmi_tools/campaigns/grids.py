@@ -109,8 +109,8 @@ class Entry:
 def read_grid(file: str, system: dict) -> list[Entry]:
     """The entries of a grid."""
     try:
-        with open(file, "rb") as it:
-            grid = tomllib.load(it)
+        with open(file, "rb") as source:
+            grid = tomllib.load(source)
     except (OSError, ValueError) as fault:
         raise Wrong(f"{file}: can't be read: {fault}") from None
     if (
@@ -196,9 +196,9 @@ def fronted(rows: Iterable[dict[str, Any]], latency: str, cost: str) -> set[int]
     as high in the other."""
     points = []
     for place, row in enumerate(rows):
-        with contextlib.suppress(ValueError, TypeError):
+        with contextlib.suppress(ValueError, TypeError, KeyError):
             if row["verdict"] == "met":
-                points.append((float(row.get(latency)), float(row.get(cost)), place))
+                points.append((float(row[latency]), float(row[cost]), place))
     best, marked = math.inf, set()
     for point, group in itertools.groupby(sorted(points), key=lambda it: it[:2]):
         if point[1] < best:
@@ -232,4 +232,4 @@ def columns_of(front: str, grid: list[Entry], system: dict) -> list[str]:
     found = [next((it for it in (name, "path." + name, "task." + name) if it in there), None) for name in names]
     if None in found:
         raise Wrong(f"--front: there is no column {names[found.index(None)]}; there are {', '.join(there)}")
-    return found
+    return [it for it in found if it is not None]

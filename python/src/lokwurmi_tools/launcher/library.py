@@ -6,7 +6,6 @@ import re
 import shutil
 import subprocess
 import sys
-import sysconfig
 import tempfile
 from pathlib import Path
 
@@ -78,14 +77,11 @@ def link(archive: Path, cc: str) -> None:
 
 
 def build_wheel() -> Path:
-    """The wheel of the Python package with the shared object, whose tag names this platform."""
-    platform = sysconfig.get_platform().replace("-", "_")
+    """The wheel of the Python package with the shared object, whose tag names this platform: by python/setup.py."""
     with tempfile.TemporaryDirectory(prefix="lokwurmi-") as folder:
         room, out = Path(folder, "python"), Path(folder, "out")
-        shutil.copytree(
-            TOP / "python", room, ignore=shutil.ignore_patterns("__pycache__", "*.egg-info", "build", "tests")
-        )
-        (room / "setup.cfg").write_text(f"[bdist_wheel]\nplat_name = {platform}\n", encoding="utf-8")
+        left_out = shutil.ignore_patterns("__pycache__", "*.egg-info", "build", "tests")
+        shutil.copytree(TOP / "python", room, ignore=left_out)
         flags = ["--no-deps", "--no-build-isolation", "--no-index", "--quiet", "--disable-pip-version-check"]
         try:
             call([sys.executable, "-m", "pip", "wheel", *flags, "--wheel-dir", str(out), str(room)], Path(folder))

@@ -13,7 +13,7 @@ from lokwurmi_tools.launcher.places import PAGE, program
 from lokwurmi_tools.launcher.table import BY_NAME, Command
 from lokwurmi_tools.launcher.words import operands_of, said_of
 
-# seconds after which a hint by the status has to do
+# seconds of work after which a hint by the status has to do, and seconds that a second call may take
 PATIENCE = 10
 # the statuses whose line says which file and where, so that the file is read again
 IN_FILES = range(11, 20)
@@ -152,8 +152,9 @@ def in_words(status: int, line: str, command: Command, words: list[str]) -> bool
     found = operands_of(command, words)
     if status == 10 or found is None:
         return False
-    signal.signal(signal.SIGALRM, out_of_patience)
-    signal.alarm(PATIENCE)
+    # by the work that it takes, so that a busy machine keeps no words back
+    signal.signal(signal.SIGPROF, out_of_patience)
+    signal.setitimer(signal.ITIMER_PROF, PATIENCE)
     if isinstance(sys.stderr, io.TextIOWrapper):
         sys.stderr.reconfigure(encoding="utf-8", errors="backslashreplace")
     try:
@@ -165,7 +166,7 @@ def in_words(status: int, line: str, command: Command, words: list[str]) -> bool
             raise
         return False
     finally:
-        signal.alarm(0)
+        signal.setitimer(signal.ITIMER_PROF, 0)
 
 
 def out_of_patience(number: int, frame: object) -> None:
