@@ -4,7 +4,12 @@ from pathlib import Path
 
 from setuptools import Distribution, setup
 from setuptools.command.build_py import build_py
-from wheel.bdist_wheel import bdist_wheel
+
+try:
+    # newer versions of setuptools have it
+    from setuptools.command.bdist_wheel import bdist_wheel
+except ImportError:
+    from wheel.bdist_wheel import bdist_wheel
 
 LIBRARY = Path(__file__).resolve().parent / "src/lokwurmi/liblokwurmi.so"
 
