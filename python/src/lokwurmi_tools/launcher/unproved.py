@@ -17,7 +17,8 @@ import time
 from pathlib import Path
 from typing import BinaryIO, NoReturn
 
-from lokwurmi_tools.launcher import shown, words as of_words
+from lokwurmi_tools.launcher import shown
+from lokwurmi_tools.launcher import words as of_words
 from lokwurmi_tools.launcher.build import ENDINGS, FAILED, need_rt, note_changes
 from lokwurmi_tools.launcher.places import TOP
 from lokwurmi_tools.launcher.plan import clock
