@@ -170,7 +170,7 @@ class Watch:
     def forward(self) -> dict[int, Late]:
         """For each job of the first task the slowest way to the end of the chain, from its arrival."""
         done = self.windows[self.tasks[-1]].done
-        later = {n: (end, (n,)) for n, end in enumerate(done) if end < NEVER}
+        later: dict[int, tuple[int, tuple[int, ...]]] = {n: (end, (n,)) for n, end in enumerate(done) if end < NEVER}
         for before, name in reversed(list(zip(self.tasks, self.tasks[1:]))):
             ways: dict[int, tuple[int, tuple[int, ...]]] = {}
             for k, written in enumerate(self.windows[before].done):
@@ -180,8 +180,8 @@ class Watch:
                     end, jobs = max(known)
                     ways[k] = (end, (k, *jobs))
             later = ways
-        jobs = self.run.jobs[self.tasks[0]]
-        return {k: Late(jobs[k].came, end, way) for k, (end, way) in later.items()}
+        firsts = self.run.jobs[self.tasks[0]]
+        return {k: Late(firsts[k].came, end, way) for k, (end, way) in later.items()}
 
     def reactions(self) -> list[Late]:
         """From when each job of the first task that follows on has just been missed by the one before it."""
