@@ -185,7 +185,8 @@ def check_drawn(page, text, room, python):
                 continue
             drawn = os.path.join(room, os.path.basename(words[-1]))
             done = subprocess.run([*tool("", python), *words[1:-1], drawn], capture_output=True, text=True, check=False)
-            hold(f"{page}: {line}", done.stderr, "")
+            # how far a long call is may be told
+            hold(f"{page}: {line}", re.sub(r"^lokwurmi \w+: \d+ of .*\n", "", done.stderr, flags=re.M), "")
             if not done.returncode:
                 for wrote, told in zip(said(read(drawn)), said(read(words[-1]))):
                     hold(f"{page}: {words[-1]}", [it for it in wrote if it not in told], [it for it in told if it not in wrote])

@@ -29,7 +29,7 @@ class Behind(Sharing):
 
     def loads(self, name: str) -> dict[str, Fraction]:
         """What a task asks for of its resource at most, as a share of the time, by the sources of its streams."""
-        found = {}
+        found: dict[str, Fraction] = {}
         for source, rate in self.rates[name]:
             found[source] = found.get(source, 0) + rate * self.greatest[name]
         return found
@@ -76,7 +76,8 @@ class Behind(Sharing):
         it."""
         why = {name: self.edges(name) for name in self.over}
         reach = {name: reached(name, why) for name in self.over}
-        causes, done = [], set()
+        causes: list[Values] = []
+        done: set[str] = set()
         for name in self.over:
             circle = {it for it in reach[name] if name in reach[it]}
             # whatever a circle leads to lies behind it
@@ -111,7 +112,8 @@ class Behind(Sharing):
 
     def circle(self, several: list[str], why: dict[str, Edge]) -> Values:
         """A way round a circle of tasks, and the loads and limits of the resources that it is over."""
-        way, at = [], several[0]
+        way: list[str] = []
+        at = several[0]
         while at not in way:
             way.append(at)
             at = next(it for it in why[at][1] if it in several)
@@ -133,7 +135,8 @@ class Behind(Sharing):
 
 def reached(name: str, why: dict[str, Edge]) -> set[str]:
     """The tasks that lie behind one, however far."""
-    found, left = set(), list(why[name][1])
+    found: set[str] = set()
+    left = list(why[name][1])
     while left:
         it = left.pop()
         if it not in found:

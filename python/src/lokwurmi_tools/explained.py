@@ -144,7 +144,8 @@ class Explained:
 
     def shares(self, name: str) -> list[tuple[str, Fraction]]:
         """The shares of the time that the rivals of a task ask for; on round robin no more than their turns."""
-        own, slot, found = self.behind.load(name), self.parts.tasks[name].get("slot"), []
+        own, slot = self.behind.load(name), self.parts.tasks[name].get("slot")
+        found: list[tuple[str, Fraction]] = []
         for it in self.parts.before(name):
             share = self.behind.load(it.name)
             if it.slot is not None:

@@ -159,7 +159,8 @@ def draw_slots(axes: Any, chart: Chart, colour: dict[str, str]) -> None:
 def draw_bars(axes: Any, chart: Chart, colour: dict[str, str], unit: float) -> None:
     """The segments, with the names of their tasks where there is room: a letter is about 4 points wide, and a point
     `unit` ticks."""
-    place, bars = chart.place(), {}
+    place = chart.place()
+    bars: dict = {}
     for name, start, end in chart.rows:
         bars.setdefault(name, []).append((max(start, chart.start), min(end, chart.until)))
     for name, several in bars.items():
@@ -344,12 +345,14 @@ def draw_frame(axes: Any, chart: Chart, below: float = 0.0) -> None:
 
 def draw_legend(axes: Any, chart: Chart, colour: dict[str, str], width: float) -> None:
     """The tasks, or where there are many the paths, and the marks that are there."""
-    ran, entries = {row[0] for row in chart.rows}, []
+    ran = {row[0] for row in chart.rows}
+    entries: list = []
     names = [it["name"] for it in chart.system.get("task", []) if it["name"] in ran]
     if len(names) <= MOST_NAMES:
         entries += [(Patch(color=colour[name]), name) for name in names]
     else:
-        on_paths, paths = hues(chart.system), {}
+        on_paths = hues(chart.system)
+        paths: dict = {}
         for path in chart.system.get("path", []):
             paths.setdefault(on_paths[path["tasks"][0]], []).append(path["name"])
         entries += [(Patch(color=hue), ", ".join(several)) for hue, several in paths.items()]

@@ -47,7 +47,8 @@ class ChainTable:
         return percent(Fraction(ticks) / self.scale)
 
     def bar(self, chain: Chain, what: str, deadline: int | None, late: Late | None) -> dict:
-        found, parts = self.found[chain.name], []
+        found = self.found[chain.name]
+        parts: list[Values] = []
         for name, kind, ticks in parts_of(self.bounds[chain.name], what):
             hue = self.system.shades[name]
             width = self.share(ticks or 0)

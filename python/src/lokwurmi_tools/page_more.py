@@ -56,7 +56,8 @@ def changes_of(words: argparse.Namespace, system: System) -> Values:
     reports = reports_in(written_by(words.program, "session", words.file, words.session).splitlines(), words.session)
     steps = steps_in(text_of(words.session).split("\n"), reports)
     columns = [(system.found_tasks, system.found_paths)] + [it[:2] for it in reports[: len(steps)]]
-    kept, rows = 0, []
+    kept = 0
+    rows: list[Values] = []
     for part, kind in ((0, "task"), (1, "path")):
         for name in dict.fromkeys(name for it in columns for name in it[part]):
             cells = cells_of(columns, part, name)

@@ -74,7 +74,7 @@ class System:
                 {
                     "name": source,
                     "share": percent(share),
-                    "width": percent(share / max(load, 1)),
+                    "width": percent(share / max(load, Fraction(1))),
                     "hue": self.hue_of_source[source],
                 }
                 for source, share in sorted(by_source.items(), key=lambda it: -it[1])
@@ -90,7 +90,7 @@ class System:
                     "value": float(load),
                     "parts": parts,
                     "over": load > 1,
-                    "full": percent(1 / max(load, 1)),
+                    "full": percent(1 / max(load, Fraction(1))),
                 }
             )
         return rows
@@ -113,8 +113,8 @@ class System:
             "deadline": deadline,
             "value": None if share is None else float(share),
             "share": None if share is None else percent(share),
-            "width": percent(min(share, 1)) if share is not None else "100",
-            "seen_at": percent(min(Fraction(seen, deadline), 1)) if seen is not None else None,
+            "width": percent(min(share, Fraction(1))) if share is not None else "100",
+            "seen_at": percent(min(Fraction(seen, deadline), Fraction(1))) if seen is not None else None,
         }
 
     def task_rows(self, seen: Seen | None) -> list[Values]:
@@ -144,7 +144,7 @@ class System:
                     "value": float(load),
                     "worst": found["worst"],
                     "seen": observed,
-                    "deadline": self.tightest(name, observed and observed["worst"]),
+                    "deadline": self.tightest(name, observed["worst"] if observed else None),
                 }
             )
         return rows

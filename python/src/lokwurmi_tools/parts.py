@@ -30,7 +30,7 @@ class Part(NamedTuple):
 
     kind: str
     of: str
-    count: int
+    count: int  # type: ignore[assignment]
     each: int
     burst: int = 0
 
@@ -106,7 +106,8 @@ class Parts(Sharing):
         self.executions = {name: execution(it, self.resources[it["on"]]) for name, it in self.tasks.items()}
         self.inputs = inputs_of(system, bounds)
         # how many looks at the work of a task were taken, and with how many it ends
-        self.looks, self.until = 0, None
+        self.looks = 0
+        self.until: int | None = None
 
     def before(self, name: str) -> list[Rival]:
         """Who may go before a task, the most urgent first, or in the order of the file."""
@@ -204,8 +205,8 @@ class Parts(Sharing):
             window = self.window(name, rivals, number if frames is None else number - 1, window + worst)
             if window + rest > limit:
                 raise Endless
-            yield Place(number, least_time(own, number), window, window + rest)
-            if number == frames if frames is not None else window <= least_time(own, number + 1):
+            yield Place(number, least_time(own or [], number), window, window + rest)
+            if number == frames if frames is not None else window <= least_time(own or [], number + 1):
                 return
 
     def latest(self, name: str, rivals: list[Rival] | None = None, most: int | None = None) -> Job | None:

@@ -54,7 +54,8 @@ def jobs_in(system: Values, schedule: Schedule, trace: Trace) -> Jobs:
     events, executions, _ = trace
     resources = {it["name"]: it for it in system.get("resource", [])}
     tasks = {it["name"]: it for it in system.get("task", [])}
-    segments, ends = segments_of(schedule, tasks), {}
+    segments = segments_of(schedule, tasks)
+    ends: dict[str, list[int]] = {}
     for name, task in tasks.items():
         ends[name] = ends_in(segments[name], executions.get(name, []), execution(task, resources[task["on"]])[1])
     jobs = {}

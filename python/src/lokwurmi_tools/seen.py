@@ -87,7 +87,8 @@ class Run:
     def parts_of(self, system: dict, schedule: list, trace: tuple) -> dict[str, list]:
         """The parts of each task's jobs that have begun."""
         resources = {it["name"]: it for it in system.get("resource", [])}
-        segments, found = segments_of(schedule, self.tasks), {}
+        segments = segments_of(schedule, self.tasks)
+        found: dict = {}
         for name, task in self.tasks.items():
             greatest = execution(task, resources[task["on"]])[1]
             found[name] = [parts for parts, _ in parts_in(segments[name], trace[1].get(name, []), greatest)]
@@ -169,9 +170,9 @@ class Watch:
     def forward(self) -> dict[int, Late]:
         """For each job of the first task the slowest way to the end of the chain, from its arrival."""
         done = self.windows[self.tasks[-1]].done
-        later = {n: (end, (n,)) for n, end in enumerate(done) if end < NEVER}
+        later: dict[int, tuple[int, tuple[int, ...]]] = {n: (end, (n,)) for n, end in enumerate(done) if end < NEVER}
         for before, name in reversed(list(zip(self.tasks, self.tasks[1:]))):
-            ways = {}
+            ways: dict[int, tuple[int, tuple[int, ...]]] = {}
             for k, written in enumerate(self.windows[before].done):
                 several = self.first_to_know(before, k, name) if written < NEVER else ()
                 known = [later[n] for n in several if n in later]
@@ -179,8 +180,8 @@ class Watch:
                     end, jobs = max(known)
                     ways[k] = (end, (k, *jobs))
             later = ways
-        jobs = self.run.jobs[self.tasks[0]]
-        return {k: Late(jobs[k].came, end, way) for k, (end, way) in later.items()}
+        firsts = self.run.jobs[self.tasks[0]]
+        return {k: Late(firsts[k].came, end, way) for k, (end, way) in later.items()}
 
     def reactions(self) -> list[Late]:
         """From when each job of the first task that follows on has just been missed by the one before it."""

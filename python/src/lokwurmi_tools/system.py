@@ -38,7 +38,7 @@ def inputs_of(system: Values, bounds: Bounds) -> dict[str, list[Stream] | None]:
     sources = {it["name"]: it for it in system.get("source", [])}
     tasks = {it["name"]: it for it in system.get("task", [])}
     resources = {it["name"]: it for it in system.get("resource", [])}
-    found = {}
+    found: dict[str, list[Stream] | None] = {}
 
     def sent_by(before: str) -> list[Stream] | None:
         if before in sources:
@@ -69,7 +69,7 @@ def ways_to(system: Values, name: str) -> list[tuple[str, ...]]:
     """The way of each stream that starts a task, in the order of its streams: its source, and the tasks behind that one
     by one."""
     tasks = {it["name"]: it for it in system.get("task", [])}
-    found = {}
+    found: dict[str, list[tuple[str, ...]]] = {}
 
     def look(name: str) -> Any:
         if name not in found:

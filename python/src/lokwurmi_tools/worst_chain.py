@@ -91,7 +91,8 @@ class Maker:
 
     def rows(self, plan: Plan) -> list[str]:
         """The rows of a trace: a job without a row takes the greatest execution."""
-        rows, counts = [], {}
+        rows: list[str] = []
+        counts: dict[str, int] = {}
         for source in self.sources:
             times = self.events(plan, source)
             counts[source] = len(times)

@@ -83,7 +83,7 @@ class Best:
     """The latest that was seen of each task and path, and by which plan."""
 
     def __init__(self):
-        self.found = {}
+        self.found: dict[Target, tuple[int, Plan, int]] = {}
 
     def take(self, plans: list[Plan], answers: list[Shown], span: int) -> None:
         for plan, answer in zip(plans, answers):
@@ -158,7 +158,8 @@ class Search:
 
     def look_for(self, target: Target, ends: float, last: float) -> None:
         """Looks for a plan that is late for a task or a path until a time; by `last` all searches end."""
-        scope, made, pool = Scope(self.system, target, self.bounds), 0, []
+        scope, made = Scope(self.system, target, self.bounds), 0
+        pool: list[tuple[int, Plan]] = []
         # of its own, so that a target is looked for alike whatever else is asked for
         rng = random.Random(f"{self.options.seed} {' '.join(target)}")
         plans = scope.first_plans(self.system, target, self.best)

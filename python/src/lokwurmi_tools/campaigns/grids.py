@@ -40,11 +40,12 @@ class Entry:
     """What an entry of a grid varies: the label of its column, whose value it is (None of scripts), which key, the
     values, and what each of them costs."""
 
+    who: tuple[str, str] | None
+
     def __init__(self, place: int, given: dict[str, Any], names: dict[str, list[str]]):
         self.place = place
         entry = dict(given)
         costs, label = entry.pop("costs", None), entry.pop("label", None)
-        self.who: tuple[str, str] | None = None
         if set(entry) == {"scripts"}:
             self.take_scripts(entry["scripts"])
         else:
@@ -64,7 +65,7 @@ class Entry:
 
     def take_scripts(self, texts: Any) -> None:
         """The texts of scripts."""
-        self.key, self.values = "script", texts
+        self.who, self.key, self.values = None, "script", texts
         self.hold(
             isinstance(texts, list) and all(map(is_script, texts)),
             "scripts is a list of texts, each the lines of a script in ASCII",
