@@ -142,11 +142,18 @@ def hammers(folder):
 def kill_worker(running, slow):
     """Kills a worker of a campaign that has a stand-in under way; how many were killed."""
 
+    found = []
+
     def at_work():
-        return [pid for pid, args in children(running.pid) if "spawn_main" in args and any("lokwurmi-" in it for _, it in children(pid))]
+        found[:] = [
+            pid
+            for pid, args in children(running.pid)
+            if "spawn_main" in args and any("lokwurmi-" in it for _, it in children(pid))
+        ]
+        return found
 
     if wait_for(lambda: len(calls_in(slow)) >= 4) and wait_for(at_work, 20):
-        os.kill(at_work()[-1], signal.SIGKILL)
+        os.kill(found[-1], signal.SIGKILL)
         return 1
     return 0
 
