@@ -181,7 +181,7 @@ def check_interrupt(number, program):
             rest, said = it.communicate()
         hold(it.returncode == 130, f"{number.name}: status {it.returncode}")
         last = said.splitlines()[-1] if said else ""
-        hold("Traceback" not in said and last.startswith("worst: interrupted in search "), f"{number.name}: {said}")
+        hold("Traceback" not in said and last.startswith("lokwurmi worst: interrupted in search "), f"{number.name}: {said}")
         rows, seen = rows_in(told + rest), seen_in("car_network.toml", traces_in(folder), program)
         hold(all(seen.get(what) == worst for what, worst in rows.items()), f"{number.name}: what is kept doesn't show the table: {rows}")
         check_late("car_network.toml", told + rest)
