@@ -50,7 +50,7 @@ COMPARED = ["crossing_chains.toml", "pycpa_first.toml", "two_activators.toml", "
 ROW = re.compile(r"^((?:task|path) \S+) seen (\d+) ", re.M)
 LATE_TASK = re.compile(r"^late task (\S+) job (\d+) from (\d+) to (\d+) trace (.*)$", re.M)
 LATE_PATH = re.compile(r"^late path (\S+) passage (\d+) from (\d+) to (\d+) jobs (\S+) trace (.*)$", re.M)
-PROGRESS = re.compile(r"^worst\.py: \d+ of \d+, (task|path) \S+: seen \d+ of \d+, \d+ of \d+ tries, some \S+ (s|min|h) to go$")
+PROGRESS = re.compile(r"^lokwurmi worst: \d+ of \d+, (task|path) \S+: seen \d+ of \d+, \d+ of \d+ tries, some \S+ (s|min|h) to go$")
 faults, tried = [], 0
 
 
