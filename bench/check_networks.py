@@ -393,7 +393,7 @@ def here(room):
     os.mkdir(folder)
     for name in ("python", "examples", "docs"):
         os.symlink(os.path.abspath(name), os.path.join(folder, name))
-    os.symlink(PROGRAM, os.path.join(folder, "lokwurmi"))
+    os.symlink(os.path.abspath("lokwurmi"), os.path.join(folder, "lokwurmi"))
     return folder
 
 
