@@ -26,7 +26,7 @@ module _ (Fits : (ℕ → Bool) → ℕ → Type 0) (fewer_fits : (fewer above :
     pub once : AreOnce p
     pub fits : OrderFits p
 
-  -- the lower part of the best order, where `free` tells who has no place yet
+  -- the lower part of the best order, where `free` says who has no place yet
   pub record IsLowerPart (free : ℕ → Bool) (o : List ℕ) : Type 0 where
     pub apart : (j : ℕ) → free j ≡ (there j && not (is_member o j))
     pub known : (j : ℕ) → is_member o j ≡ true → there j ≡ true

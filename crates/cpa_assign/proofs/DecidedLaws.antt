@@ -49,7 +49,7 @@ path-decides : (p : Path) (i : ℕ) (bound : Bound) → Decides (path_in_time p 
 path-decides p i bound = then-decides (is_alone p.tasks i) (meets_deadline p.deadline bound) (alone-decides p.tasks i) (deadline-decides p.deadline bound)
 
 module _ (s : SystemLists) (r : ℕ) where
-  -- whether a task is in time below those that `above` tells
+  -- whether a task is in time below those that `above` says
   is_fit : (ℕ → Bool) → ℕ → Bool
   is_fit above i = all_pass (λ k. path_in_time (path_at s k) i (placed_bound s r above i)) (length s.paths)
 

@@ -29,7 +29,7 @@ rivals_at s test = map (rival_at s) (filter test (task_places s))
 abbrev pub greatest_worst : SystemLists → (ℕ → Bool) → ℕ
 greatest_worst s test = fold (λ most j. max most (task_at s j).worst) 0 (filter test (task_places s))
 
--- whether j is below task i of the resource, where `above` tells which are above
+-- whether j is below task i of the resource, where `above` says which are above
 abbrev pub is_below : SystemLists → ℕ → (ℕ → Bool) → ℕ → ℕ → Bool
 is_below s r above i j = is_task_on s r j && not (above j || j == i)
 
@@ -40,7 +40,7 @@ placed_by_kind s r above i (Can bit) =
     can_bound (sources_model s i) (task_at s i).worst (greatest_worst s (is_below s r above i)) (rivals_at s above) bit (resource_at s r).limit
 placed_by_kind s r above i _ = Overload
 
--- the bound of task i of a resource below those that `above` tells
+-- the bound of task i of a resource below those that `above` says
 unfoldable pub placed_bound : SystemLists → ℕ → (ℕ → Bool) → ℕ → Bound
 placed_bound s r above i = placed_by_kind s r above i (resource_at s r).kind
 
@@ -48,7 +48,7 @@ placed_bound s r above i = placed_by_kind s r above i (resource_at s r).kind
 abbrev pub without : (ℕ → Bool) → ℕ → ℕ → Bool
 without free i j = free j && not (j == i)
 
--- task i is in time below those that `above` tells
+-- task i is in time below those that `above` says
 abbrev pub Fits : SystemLists → ℕ → (ℕ → Bool) → ℕ → Type 0
 Fits s r above i = IsInTime s i (placed_bound s r above i)
 

@@ -1,4 +1,4 @@
-//! What the search for an order stands on, for whoever builds on this crate.
+//! What the search for an order depends on, for crates that depend on this one.
 
 ghost use Rattle.cpa_assign.specs.Laws.{FewerAboveIsNoWorse, OrderKeepsRules, OrdersAreDecided, BestOrderIsOne};
 

@@ -6,3 +6,4 @@ pub mod AuditText
 pub mod Compared
 pub mod Firsts
 pub mod Laws
+pub mod FaultTexts

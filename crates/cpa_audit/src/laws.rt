@@ -1,4 +1,4 @@
-//! What holds of segments, for whoever builds on this crate.
+//! What holds of segments, for crates that depend on this one.
 
 ghost use Rattle.cpa_audit.specs.Laws.{SameIsEqual, SegmentsAreAll};
 

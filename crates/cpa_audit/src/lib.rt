@@ -4,6 +4,7 @@
 #![tactic(auto)]
 
 mod auditing;
+mod display;
 pub mod fault;
 pub mod finding;
 mod laws;

@@ -1,4 +1,4 @@
-//! The line that tells what an audit found.
+//! The line that says what an audit found.
 
 ghost use Rattle.std.specs.Prelude.{◌≡◌, ◌<◌, ◌++◌, length, Some, OnOk, IfOk};
 ghost use Rattle.std.specs.Option.{ForSome};
@@ -30,7 +30,7 @@ fn put_expected(text: &mut Text, system: &System, expected: Option<Segment>) -> 
     }
 }
 
-/// The line that tells what an audit found. A task that is expected belongs to the system.
+/// The line that says what an audit found. A task that is expected belongs to the system.
 #[tactic(auto, unfolding(crate::specs::AuditText::audit_text))]
 pub fn audit_text(
     alloc: Global,

@@ -147,7 +147,7 @@ fn read_file(
     read_bytes(alloc, system, &index, schedule, bytes)
 }
 
-/// The schedule that the bytes of a file stand for. The first refusal is told, in the order of the rows.
+/// The schedule that the bytes of a file stand for. The first refusal is reported, in the order of the rows.
 pub fn read_schedule(
     alloc: Global,
     system: &System,

@@ -4,7 +4,7 @@ ghost use Rattle.std.specs.Prelude.{◌≡◌, ◌+◌, ◌≤◌, ◌++◌, len
 ghost use Rattle.cpa_events.specs.Streams.{IsStreamInRange};
 ghost use Rattle.cpa_events.specs.Events.{IsModelInRange};
 
-use crate::told::tell;
+use crate::first_failure::tell;
 use cpa_events::{MAX_MODEL_JITTER, Model, Stream};
 
 fn stream(period: u64, jitter: u64, distance: u64) -> Stream

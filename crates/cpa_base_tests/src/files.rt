@@ -1,6 +1,6 @@
 //! What no contract says of files and sinks: that calls succeed, and what the edge does.
 
-use crate::told::tell;
+use crate::first_failure::tell;
 use cpa_io::{
     Files, LoadFault, MemoryFiles, MemorySink, RealFiles, RealSink, Sink, SinkFault, put_all,
 };

@@ -5,7 +5,7 @@ ghost use Rattle.std.specs.Option.{ForSome};
 ghost use Rattle.cpa_events.specs.Events.{IsModelInRange};
 ghost use Rattle.cpa_window.specs.Rivals.{IsRival};
 
-use crate::told::tell;
+use crate::first_failure::tell;
 use cpa_events::{Model, Stream};
 use cpa_units::Bound;
 use cpa_units::limits::{MAX_JITTER, MAX_LIMIT, MAX_PERIOD};

@@ -11,9 +11,9 @@ mod events;
 #[cfg(test)]
 mod files;
 #[cfg(test)]
-mod kinds;
+mod first_failure;
 #[cfg(test)]
-mod told;
+mod kinds;
 #[cfg(test)]
 mod values;
 #[cfg(test)]

@@ -1,6 +1,6 @@
 //! Names, vectors and the lengths of frames.
 
-use crate::told::tell;
+use crate::first_failure::tell;
 use cpa_units::{Bound, Name, NameFault, TaskId, Vector, frame_bits};
 use std::test::Fail;
 

@@ -6,7 +6,7 @@ ghost use Rattle.cpa_units.specs.declared.limits.TheConstants.{MAX_EXECUTION};
 ghost use Rattle.cpa_events.specs.Events.{eta_plus, IsModelInRange};
 ghost use Rattle.cpa_events.proofs.EventLaws.{eta_plus-mono};
 
-use crate::told::tell;
+use crate::first_failure::tell;
 use cpa_events::{Model, Stream};
 use cpa_units::limits::MAX_EXECUTION;
 use cpa_window::{Demand, events_work, least_window};

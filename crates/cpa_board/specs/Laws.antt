@@ -1,4 +1,4 @@
--- How seats become more and fewer, as the public function of the crate states it: a table tells its callers nothing of these
+-- How seats become more and fewer, as the public function of the crate states it: a table says nothing of these to its callers
 -- moves but the new views.
 use Rattle.std.specs.Prelude.{◌≡◌, ℕ, List, [], ◌∷◌, ◌++◌, slice_set}
 use mathlib.Core.Option.{some}

@@ -52,7 +52,7 @@ fn opened<J: Named, P: Caps>(
 impl Board {
     /// A board with these words, at most 512 and each at most its cap, no claims, and a seat that has seen
     /// them. Whatever steps are taken on it, no word falls, none passes its cap, and no seat has seen more
-    /// than the words are. Refused only for want of memory.
+    /// than the words are. Refused only when out of memory.
     pub fn start<P: Caps>(alloc: Global, words: &[u64], caps: &P) -> Result<(Board, Seat), NoMemory>
         requires count { length words.now ≤ 512 }
         requires caps { AreAtMost words.now (P.caps caps.now) }

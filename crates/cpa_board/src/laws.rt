@@ -1,4 +1,4 @@
-//! What holds of a board, for whoever judges it.
+//! What holds of a board, for crates that depend on this one.
 
 ghost use Rattle.cpa_board.specs.Laws.{SplitsAreSteps, JoinsAreSteps};
 

@@ -1,5 +1,5 @@
 //! Tests of crates by their public calls: bounds of single tasks, rounds by several workers, sessions, jobs beyond their
-//! bounds, made systems and traces, priority orders, slack, and jobs that wait.
+//! bounds, generated systems and traces, priority orders, slack, and jobs that wait.
 //!
 //! They stand here, above those crates, so that what they try isn't proved once more with them.
 #![tactic(auto)]
@@ -9,9 +9,9 @@ mod bounds;
 #[cfg(test)]
 mod buffers;
 #[cfg(test)]
-mod lateness;
+mod generated;
 #[cfg(test)]
-mod made;
+mod lateness;
 #[cfg(test)]
 mod orders;
 #[cfg(test)]

@@ -361,7 +361,7 @@ fn are_equal(first: &Vector, second: &Vector) -> bool {
     first.len() == second.len()
 }
 
-/// Makes an edit. Where it meets want of memory, tells whether the session is as before: the file of its system, which stands
+/// Makes an edit. Where it runs out of memory, says whether the session is as before: the file of its system, which stands
 /// for all four lists of it, and all bounds.
 fn edits_or_keeps(alloc: Global, session: &mut Session, edit: &Edit) -> Result<bool, Fail> {
     let bounds = session.bounds().copy(alloc)?;
@@ -377,8 +377,8 @@ fn edits_or_keeps(alloc: Global, session: &mut Session, edit: &Edit) -> Result<b
     }
 }
 
-/// Where an edit of the case *session_reports* meets want of memory the session is as before. Each allocation in turn is
-/// refused by bench/refused_memory.sh; wherever else one is, the test ends with the fault of the allocation.
+/// Where an edit of the case *session_reports* runs out of memory the session is as before. Each allocation in turn is
+/// refused by tests/check_refused_memory.sh; wherever else one is, the test ends with the fault of the allocation.
 #[test]
 fn edit_without_memory(rt: HostRuntime) -> Result<(), Fail> {
     let alloc = rt.alloc();

@@ -13,7 +13,7 @@ use Rattle.cpa_sim.specs.declared.jobs.Job.{Job}
 use Rattle.cpa_sim.specs.declared.jobs.Cause.{Cause}
 use Rattle.cpa_sim.specs.Run.{Progress, is_unset, is_open, after_tick, serve, new_jobs, arriving, runs_in, served, ended_in, run}
 use Rattle.cpa_sim.specs.Outcome.{job_of, jobs_seen, end_of, outcome_of}
-use Rattle.cpa_sim.proofs.LineLaws.{serve-here, serve-there}
+use Rattle.cpa_sim.proofs.QueueLaws.{serve-here, serve-there}
 use Rattle.cpa_sound.proofs.JobLaws.{tick-last, tick-more}
 use Rattle.cpa_sim.proofs.RunLaws.{jobs-zero, jobs-suc}
 use Rattle.cpa_sound.proofs.RunLaws.{served-runs, served-idle}

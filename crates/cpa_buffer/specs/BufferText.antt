@@ -1,4 +1,4 @@
--- The text that tells buffers beside peaks.
+-- The text of buffers beside peaks.
 use Rattle.std.specs.Prelude.{ℕ, ◌++◌, List, length, count_by, codes, slice_index_or}
 use Rattle.std.specs.List.{flat_map, range_with_len}
 use Rattle.std.specs.Fmt.{decimal}

@@ -1,4 +1,4 @@
-//! What buffers say of runs, for whoever builds on this crate.
+//! What buffers say of runs, for crates that depend on this one.
 
 ghost use Rattle.cpa_buffer.specs.Laws.{HeldBoundsBoundBuffers, ClosedVectorsBoundBuffers, LeastSolutionsBoundBuffers};
 

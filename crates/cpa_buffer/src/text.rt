@@ -1,4 +1,4 @@
-//! The text that tells buffers beside peaks.
+//! The text of buffers beside peaks.
 
 ghost use Rattle.std.specs.Prelude.{◌≡◌, ◌<◌, ◌≤◌, ◌++◌, if◌then◌else◌, length, OnOk, IfOk};
 ghost use Rattle.std.specs.List.{flat_map, range_with_len};
@@ -139,7 +139,7 @@ fn put_summary(text: &mut Text, tasks: u64, overloads: u64) -> Result<(), NoMemo
     Ok(())
 }
 
-/// The text that tells for each task and each resource its buffer and its peak, and how many tasks
+/// The text that says for each task and each resource its buffer and its peak, and how many tasks
 /// have no number as their buffer.
 #[tactic(auto, unfolding(crate::specs::BufferText::buffer_text))]
 pub fn buffer_text(

@@ -3,7 +3,7 @@ use Rattle.std.proofs.Common.{◌≡◌, ℕ, List, length, Ok, Err, IfOk, sym, 
 use Rattle.std.specs.Prelude.{Result}
 use Rattle.std.specs.Result.{IsOkAnd}
 use Rattle.cpa_units.specs.declared.places.NoMemory.{NoMemory}
-use Rattle.cpa_call.specs.declared.ended.Reply.{Reply}
+use Rattle.cpa_call.specs.declared.errors.Reply.{Reply}
 use Rattle.cpa_call.specs.Answers.{Answer, reply}
 use Rattle.cpa_memory.specs.Given.{over}
 use Rattle.cpa_c.specs.Given.{Gives}

@@ -20,7 +20,7 @@ ghost use Rattle.cpa_kept.specs.Kept.{kept_in, edit_in, IsOpened, IsEdited};
 ghost use Rattle.cpa_kept.specs.Numbers.{TellsNumbers, latencies_of};
 ghost use Rattle.cpa_c.specs.Given.{Gives, GivesNothing};
 
-use cpa_call::ended::Reply;
+use cpa_call::errors::Reply;
 use cpa_kept::{Handle, Told};
 use cpa_memory::{SCHEDULE, SCRIPT, SYSTEM, TRACE, Texts, call};
 use cpa_units::NoMemory;
@@ -221,7 +221,7 @@ pub extern "C" fn lokwurmi_audit(
     answer(alloc, command, texts, out, used)
 }
 
-/// The file of the system that is made from a number and a size, which are in their ranges; else the status is 10.
+/// The file of the system that is generated from a seed and a size, which are in their ranges; else the status is 10.
 #[unsafe(no_mangle)]
 pub extern "C" fn lokwurmi_generate(
     alloc: Global,
@@ -251,7 +251,7 @@ pub extern "C" fn lokwurmi_generate(
     answer(alloc, command, texts, out, used)
 }
 
-/// What is observed of a system under so many made traces of a number, which are in their ranges; else the status is 10.
+/// What is observed of a system under so many generated traces of a number, which are in their ranges; else the status is 10.
 #[unsafe(no_mangle)]
 pub extern "C" fn lokwurmi_hammer(
     alloc: Global,

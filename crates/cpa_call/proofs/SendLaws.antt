@@ -4,8 +4,8 @@ use Rattle.std.specs.Prelude.{Result}
 use Rattle.std.proofs.lemmas.List.{append-nil, append_assoc, length-append, take-append-le}
 use Rattle.std.proofs.Math.Seq.{take-append-add}
 use Rattle.cpa_io.specs.Causes.{grown, SentPart}
-use Rattle.cpa_call.specs.declared.ended.Ended.{Ended}
-use Rattle.cpa_call.specs.declared.ended.Ended.TheVariants.{Unread}
+use Rattle.cpa_call.specs.declared.errors.InputError.{InputError}
+use Rattle.cpa_call.specs.declared.errors.InputError.TheVariants.{Unread}
 use Rattle.cpa_call.specs.Answers.{Answer, reply, Sends, SendsPart}
 use Rattle.cpa_call.specs.Ends.{IsUnreadLine}
 use Rattle.cpa_call.specs.Lines.{cannot_read}
@@ -60,7 +60,7 @@ sends-by P status text before now (Err e) is sent same = sent
 
 -- ---- the line of a file that couldn't be loaded
 
-pub unread-text : (known : Type 0) (last : List ℕ) (e : Ended) (line : _) → IsUnreadLine known last e → e ≡ Unread line → line.items ≡ cannot_read last
+pub unread-text : (known : Type 0) (last : List ℕ) (e : InputError) (line : _) → IsUnreadLine known last e → e ≡ Unread line → line.items ≡ cannot_read last
 unread-text known last e line h is = (subst (IsUnreadLine known last) is h).1
 
 -- it was sent
@@ -69,7 +69,7 @@ unread-sent (Ok status) before now text line sent same = λ eleven. sent ∙ ap 
 unread-sent (Err e) before now text line sent same = sent
 
 -- or a part of it
-pub unread-part : (known : Type 0) (last : List ℕ) (e : Ended) (line : _) (text : List ℕ) (before now : Option (List ℕ)) → IsUnreadLine known last e → e ≡ Unread line → text ≡ line.items
+pub unread-part : (known : Type 0) (last : List ℕ) (e : InputError) (line : _) (text : List ℕ) (before now : Option (List ℕ)) → IsUnreadLine known last e → e ≡ Unread line → text ≡ line.items
     → SentPart before now text → known × SentPart before now (cannot_read last)
 unread-part known last e line text before now h is same part =
     let call = subst (IsUnreadLine known last) is h in

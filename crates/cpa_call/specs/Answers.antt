@@ -9,7 +9,7 @@ pub record Answer : Type 0 where
 abbrev pub reply : ℕ → List ℕ → Answer
 reply status text = record { status = Some status; text = text }
 
--- a status that the output decides: neither a fault nor want of memory
+-- a status that the output decides: neither a fault nor out of memory
 abbrev pub IsOfOutput : ℕ → Type 0
 IsOfOutput status = (status ≢ 11) × (status ≢ 20) × (status ≢ 30)
 

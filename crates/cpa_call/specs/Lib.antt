@@ -2,3 +2,5 @@ pub mod Answers
 pub mod Ends
 pub mod Lines
 pub mod Plans
+pub mod FaultTexts
+pub mod Calls

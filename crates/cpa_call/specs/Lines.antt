@@ -35,7 +35,7 @@ system_refused r = codes "system refused reason " ++ decimal r.reason ++ codes "
 abbrev pub row_refused : ℕ → List ℕ → List ℕ
 row_refused row why = codes "trace refused row " ++ decimal row ++ why
 
--- want of memory has no line
+-- out of memory has no line
 abbrev pub trace_refused : TraceFault → List ℕ
 trace_refused (trace.BadRow row) = row_refused row (codes " malformed\n")
 trace_refused (trace.UnknownName row) = row_refused row (codes " name\n")

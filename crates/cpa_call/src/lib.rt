@@ -1,7 +1,9 @@
 //! What calls share: the files that they name, the lines of refusals, and the sending of texts.
 #![tactic(auto)]
 
-pub mod ended;
+mod display;
+pub mod errors;
 pub mod lines;
 pub mod loading;
 pub mod sending;
+pub mod statuses;

@@ -69,7 +69,7 @@ fn row_line(alloc: Global, row: u32, why: &[u8]) -> Result<Vec<u8>, NoMemory>
     Ok(text.into_bytes())
 }
 
-/// The line of a trace that is refused; want of memory has none.
+/// The line of a trace that is refused; out of memory has none.
 pub fn trace_line(alloc: Global, fault: TraceFault) -> Result<Vec<u8>, NoMemory>
     ensures { IfOk result (λ v. v.items ≡ trace_refused fault) }
 {
@@ -82,7 +82,7 @@ pub fn trace_line(alloc: Global, fault: TraceFault) -> Result<Vec<u8>, NoMemory>
     }
 }
 
-/// Writes what a breach tells.
+/// Writes what a breach says.
 fn put_breach(text: &mut Text, system: &System, breach: Breach) -> Result<(), NoMemory>
     requires { IsBreachOf system.now breach }
     ensures { OnOk result (text.new ≡ text.old ++ breach_text system.now breach) }

@@ -9,8 +9,9 @@ ghost use Rattle.cpa_call.specs.Plans.{Do, Refuse, content_in, system_by, system
 ghost use Rattle.cpa_call.specs.Answers.{IsOfOutput};
 ghost use Rattle.cpa_call.specs.Ends.{IsEndOf, HasStatus, IsUnreadFile, IsNoUnread};
 
-use crate::ended::{Ended, Reply};
+use crate::errors::{InputError, Reply};
 use crate::lines::{breach_line, file_line, refusal_line, trace_line};
+use crate::statuses;
 use cpa_file::{FileRefusal, read_system};
 use cpa_io::{Files, LoadFault};
 use cpa_model::System;
@@ -32,7 +33,7 @@ pub fn load_file<F: Files>(
     files: &mut F,
     file: &str,
     most: u64,
-) -> Result<Vec<u8>, Ended>
+) -> Result<Vec<u8>, InputError>
     requires { most ≤ MAX_TRACE_FILE }
     ensures planned { F.told files.old ≡ true → IfOk result (λ v. content_in (F.held files.old) file.now most ≡ Do v.items) }
     ensures within { IfOk result (λ v. vec_len v ≤ most) }
@@ -45,27 +46,27 @@ pub fn load_file<F: Files>(
 {
     match files.load(alloc, file, most) {
         Ok(bytes) => Ok(bytes),
-        Err(LoadFault::Failed) => Err(Ended::Unread(file_line(alloc, b"cannot read ", file)?)),
-        Err(LoadFault::TooLong) => Err(Ended::Refused(Reply {
-            status: 12,
+        Err(LoadFault::Failed) => Err(InputError::Unread(file_line(alloc, b"cannot read ", file)?)),
+        Err(LoadFault::TooLong) => Err(InputError::Refused(Reply {
+            status: statuses::FILE_TOO_LONG,
             text: file_line(alloc, b"too long ", file)?,
         })),
-        Err(LoadFault::Memory) => Err(Ended::Memory),
+        Err(LoadFault::Memory) => Err(InputError::Memory),
     }
 }
 
-/// The reply where a file stands for no system; want of memory has none.
+/// The reply where a file stands for no system; out of memory has none.
 fn refuse_system(alloc: Global, file: &str, refusal: FileRefusal) -> Result<Reply, NoMemory>
     ensures reply { IfOk result (λ reply. (reading : Reading) → IsReadFault refusal reading → system_by file.now reading ≡ Refuse reply.status reply.text.items) }
     ensures status { IfOk result (λ reply. IsOfOutput reply.status) }
 {
     match refusal {
         FileRefusal::NotToml => Ok(Reply {
-            status: 13,
+            status: statuses::NOT_TOML,
             text: file_line(alloc, b"not TOML ", file)?,
         }),
         FileRefusal::Refused(refusal) => Ok(Reply {
-            status: 14,
+            status: statuses::SYSTEM_REFUSED,
             text: refusal_line(alloc, refusal)?,
         }),
         FileRefusal::Memory => Err(NoMemory),
@@ -73,19 +74,19 @@ fn refuse_system(alloc: Global, file: &str, refusal: FileRefusal) -> Result<Repl
 }
 
 /// How a call ends where a file stands for no system.
-fn end_system(alloc: Global, file: &str, refusal: FileRefusal) -> Ended
+fn end_system(alloc: Global, file: &str, refusal: FileRefusal) -> InputError
     ensures ended { (reading : Reading) → IsReadFault refusal reading → IsEndOf (system_by file.now reading) result }
     ensures status { HasStatus result }
     ensures unread { IsNoUnread result }
 {
     match refuse_system(alloc, file, refusal) {
-        Ok(reply) => Ended::Refused(reply),
-        Err(NoMemory) => Ended::Memory,
+        Ok(reply) => InputError::Refused(reply),
+        Err(NoMemory) => InputError::Memory,
     }
 }
 
 /// The system that the bytes of a file stand for.
-fn read_system_file(alloc: Global, file: &str, bytes: &[u8]) -> Result<System, Ended>
+fn read_system_file(alloc: Global, file: &str, bytes: &[u8]) -> Result<System, InputError>
     ensures planned { IfOk result (λ s. system_by file.now (reading_of bytes.now) ≡ Do s) }
     ensures ended { IfErr result (IsEndOf (system_by file.now (reading_of bytes.now))) }
     ensures status { IfErr result HasStatus }
@@ -98,7 +99,7 @@ fn read_system_file(alloc: Global, file: &str, bytes: &[u8]) -> Result<System, E
 }
 
 /// The system that a file stands for.
-pub fn load_system<F: Files>(alloc: Global, files: &mut F, file: &str) -> Result<System, Ended>
+pub fn load_system<F: Files>(alloc: Global, files: &mut F, file: &str) -> Result<System, InputError>
     ensures planned { F.told files.old ≡ true → IfOk result (λ s. system_in (F.held files.old) file.now ≡ Do s) }
     ensures ended { F.told files.old ≡ true → IfErr result (IsEndOf (system_in (F.held files.old) file.now)) }
     ensures status { IfErr result HasStatus }
@@ -112,7 +113,7 @@ pub fn load_system<F: Files>(alloc: Global, files: &mut F, file: &str) -> Result
 }
 
 /// The trace that the bytes of a file are, where it obeys the system.
-fn read_trace_file(alloc: Global, system: &System, bytes: &[u8]) -> Result<Trace, Ended>
+fn read_trace_file(alloc: Global, system: &System, bytes: &[u8]) -> Result<Trace, InputError>
     ensures planned { IfOk result (λ tr. trace_by system.now (trace_of system.now bytes.now) ≡ Do tr) }
     ensures replay { IfOk result (CanReplay system.now) }
     ensures ended { IfErr result (IsEndOf (trace_by system.now (trace_of system.now bytes.now))) }
@@ -121,16 +122,16 @@ fn read_trace_file(alloc: Global, system: &System, bytes: &[u8]) -> Result<Trace
 {
     let trace = match read_trace(alloc, system, bytes) {
         Ok(trace) => trace,
-        Err(TraceFault::Memory) => return Err(Ended::Memory),
-        Err(fault) => return Err(Ended::Refused(Reply {
-            status: 16,
+        Err(TraceFault::Memory) => return Err(InputError::Memory),
+        Err(fault) => return Err(InputError::Refused(Reply {
+            status: statuses::TRACE_REFUSED,
             text: trace_line(alloc, fault)?,
         })),
     };
     match obeys(system, &trace) {
         None => Ok(trace),
-        Some(breach) => Err(Ended::Refused(Reply {
-            status: 17,
+        Some(breach) => Err(InputError::Refused(Reply {
+            status: statuses::TRACE_BREACHES,
             text: breach_line(alloc, system, breach)?,
         })),
     }
@@ -142,7 +143,7 @@ pub fn load_trace<F: Files>(
     files: &mut F,
     system: &System,
     file: &str,
-) -> Result<Trace, Ended>
+) -> Result<Trace, InputError>
     ensures planned { F.told files.old ≡ true → IfOk result (λ tr. trace_in (F.held files.old) system.now file.now ≡ Do tr) }
     ensures replay { IfOk result (CanReplay system.now) }
     ensures ended { F.told files.old ≡ true → IfErr result (IsEndOf (trace_in (F.held files.old) system.now file.now)) }
@@ -162,7 +163,7 @@ pub fn load_traced<F: Files>(
     files: &mut F,
     file: &str,
     trace: &str,
-) -> Result<Traced, Ended>
+) -> Result<Traced, InputError>
     ensures planned { F.told files.old ≡ true → IfOk result (λ t. traced_in (F.held files.old) file.now trace.now ≡ Do t) }
     ensures replay { IfOk result (λ t. CanReplay t.system t.trace) }
     ensures ended { F.told files.old ≡ true → IfErr result (IsEndOf (traced_in (F.held files.old) file.now trace.now)) }

@@ -82,7 +82,7 @@ impl<'a> BusyWindow for FrameStarts<'a> {
     }
 
     #[inline(always)]
-    fn steady_until(&self, _jobs: u64, window: u64) -> u64 {
+    fn constant_until(&self, _jobs: u64, window: u64) -> u64 {
         work_until(self.rivals, window + self.bit).saturating_sub(self.bit)
     }
 }

@@ -4,7 +4,7 @@ use Rattle.std.specs.Fmt.{decimal}
 use Rattle.cpa_io.specs.Causes.{Rose}
 use Rattle.cpa_model.specs.SystemLists.{SystemLists}
 use Rattle.cpa_local.specs.Solution.{least_of}
-use Rattle.cpa_call.specs.declared.ended.Ended.{Ended}
+use Rattle.cpa_call.specs.declared.errors.InputError.{InputError}
 use Rattle.cpa_call.specs.Answers.{Answer, reply}
 use Rattle.cpa_call.specs.Ends.{IsUnreadLine}
 use Rattle.cpa_call.specs.Lines.{words_refused, not_toml}
@@ -96,6 +96,6 @@ pub record IsUnread (words : List (List ℕ)) (told : Bool) (held : Held) (befor
   pub named : IsSecond told held asked.file asked.chains last
   pub rose : Rose before now
 
--- why a call ends before its work: where a file couldn't be loaded, its line tells its name
-abbrev pub IsUnreadCall : List (List ℕ) → Bool → Held → ℕ → ℕ → List ℕ → Ended → Type 0
+-- why a call ends before its work: where a file couldn't be loaded, its line says its name
+abbrev pub IsUnreadCall : List (List ℕ) → Bool → Held → ℕ → ℕ → List ℕ → InputError → Type 0
 IsUnreadCall words told held before now last = IsUnreadLine (IsUnread words told held before now last) last

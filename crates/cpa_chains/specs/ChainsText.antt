@@ -1,11 +1,11 @@
--- The text that tells the bounds of chains and the verdicts on their deadlines, and its status.
+-- The text of the bounds of chains and the verdicts on their deadlines, and its status.
 use Rattle.std.specs.Prelude.{ℕ, ◌++◌, ◌||◌, nat_lt, if◌then◌else◌, Bool, List, Option, length, count_by, codes}
 use Rattle.std.specs.Fmt.{decimal}
 use Rattle.std.specs.List.{flat_map}
 use Rattle.cpa_units.specs.declared.bound.Bound.{Bound}
 use Rattle.cpa_model.specs.SystemLists.{SystemLists}
-use Rattle.cpa_local.specs.Paths.{outcome_of, is_missed_by, is_overload}
-use Rattle.cpa_report.specs.Report.{bound_text, deadline_text, outcome_text}
+use Rattle.cpa_local.specs.Paths.{deadline_verdict_of, is_missed_by, is_overload}
+use Rattle.cpa_report.specs.Report.{bound_text, deadline_text, deadline_verdict_text}
 use Rattle.cpa_effects.specs.Bounds.{reaction_of, age_of}
 use Rattle.cpa_chains.specs.Chain.{Chain}
 use Rattle.cpa_chains.specs.declared.text.Totals.{Totals}
@@ -13,7 +13,7 @@ use Rattle.cpa_chains.specs.declared.text.Totals.{Totals}
 -- a bound, a deadline, and the verdict
 unfoldable pub judged_text : Option ℕ → Bound → List ℕ
 judged_text deadline bound =
-    codes " " ++ bound_text bound ++ codes " deadline " ++ deadline_text deadline ++ codes " " ++ outcome_text (outcome_of deadline bound)
+    codes " " ++ bound_text bound ++ codes " deadline " ++ deadline_text deadline ++ codes " " ++ deadline_verdict_text (deadline_verdict_of deadline bound)
 
 unfoldable pub chain_line : SystemLists → List Bound → Chain → List ℕ
 chain_line s x c =
@@ -27,7 +27,7 @@ is_overloaded s x c = is_overload (reaction_of s x c.tasks) || is_overload (age_
 
 -- one of the two deadlines is missed
 abbrev pub is_late : SystemLists → List Bound → Chain → Bool
-is_late s x c = is_missed_by (outcome_of c.reaction (reaction_of s x c.tasks)) || is_missed_by (outcome_of c.age (age_of s x c.tasks))
+is_late s x c = is_missed_by (deadline_verdict_of c.reaction (reaction_of s x c.tasks)) || is_missed_by (deadline_verdict_of c.age (age_of s x c.tasks))
 
 -- how many chains lack a bound, and how many miss a deadline
 unfoldable pub totals : SystemLists → List Bound → List Chain → Totals

@@ -17,14 +17,14 @@ IsWordsRefused answer = answer ≡ reply 10 words_refused
 
 -- the output of a command for the words after it
 abbrev pub IsOutputOf : Command → List (List ℕ) → Held → Answer → Type 0
-IsOutputOf Chain words held answer = effects.IsOutput words held answer
-IsOutputOf Chains words held answer = chains.IsOutput words held answer
-IsOutputOf Unknown words held answer = IsWordsRefused answer
+IsOutputOf Chain words held = effects.IsOutput words held
+IsOutputOf Chains words held = chains.IsOutput words held
+IsOutputOf Unknown words held = IsWordsRefused
 
 -- the output for words that begin with a command
 abbrev pub IsOutput : List (List ℕ) → Held → Answer → Type 0
-IsOutput [] held answer = IsWordsRefused answer
-IsOutput (command ∷ words) held answer = IsOutputOf (command_of command) words held answer
+IsOutput [] held = IsWordsRefused
+IsOutput (command ∷ words) held = IsOutputOf (command_of command) words held
 
 -- a file that the words after a command name is the one whose load failed last
 abbrev pub IsUnreadOf : Command → List (List ℕ) → Bool → Held → ℕ → ℕ → List ℕ → Type 0

@@ -2,9 +2,10 @@
 
 ghost use Rattle.std.specs.Prelude.{◌≡◌, ◌≢◌, ◌⊎◌, ◌≤◌, true, map, All, Err, IfOk, IfErr, OnOk, OnErr, string_bytes};
 ghost use Rattle.cpa_io.specs.Causes.{grown, Rose, SentPart};
-ghost use Rattle.cpa_local.specs.Solution.{IsVector, least_of};
-ghost use Rattle.cpa_call.specs.declared.ended.Stopped.TheVariants as stopped;
+ghost use Rattle.cpa_local.specs.Solution.{least_of};
+ghost use Rattle.cpa_call.specs.declared.errors.OutputError.TheVariants as stopped;
 ghost use Rattle.cpa_call.specs.Answers.{IsOfOutput, Sends, SendsPart};
+ghost use Rattle.cpa_call.specs.Calls.{MeetsCall, loaded, sent};
 ghost use Rattle.cpa_call.specs.Ends.{IsEndOf, HasStatus, IsUnreadFile, IsNoUnread};
 ghost use Rattle.cpa_call.specs.Lines.{cannot_read};
 ghost use Rattle.cpa_call.specs.Plans.{Do, Refuse, IsSecond};
@@ -16,16 +17,16 @@ use crate::chains::{Chain, read_chains};
 use crate::refusal::{ChainsFault, ChainsRefusal};
 use crate::text::judge_chains;
 use crate::words::accept;
-use cpa_call::ended::{Ended, Reply, Stopped};
+use cpa_call::errors::{InputError, OutputError, Reply};
 use cpa_call::lines::{file_line, words_line};
 use cpa_call::loading::{load_file, load_system};
 use cpa_call::sending::send;
-use cpa_fix::{OneByOne, Readings, solve};
+use cpa_call::statuses;
+use cpa_fix::{OneByOne, least_bounds};
 use cpa_io::{Files, Sink};
-use cpa_local::{Trail, floor};
 use cpa_model::System;
 use cpa_text::Text;
-use cpa_units::{NoMemory, Vector};
+use cpa_units::NoMemory;
 use std::alloc::Global;
 
 /// The most bytes of a file of chains.
@@ -56,18 +57,18 @@ fn chains_line(alloc: Global, refusal: ChainsRefusal) -> Result<Vec<u8>, NoMemor
     Ok(text.into_bytes())
 }
 
-/// The reply where a file stands for no chains; want of memory has none.
+/// The reply where a file stands for no chains; out of memory has none.
 fn refuse_chains(alloc: Global, file: &str, fault: ChainsFault) -> Result<Reply, NoMemory>
     ensures reply { IfOk result (λ reply. (reading : Reading) → IsFault fault reading → chains_by file.now reading ≡ Refuse reply.status reply.text.items) }
     ensures status { IfOk result (λ reply. IsOfOutput reply.status) }
 {
     match fault {
         ChainsFault::NotToml => Ok(Reply {
-            status: 13,
+            status: statuses::NOT_TOML,
             text: file_line(alloc, b"not TOML ", file)?,
         }),
         ChainsFault::Refused(refusal) => Ok(Reply {
-            status: 18,
+            status: statuses::NAME_REFUSED,
             text: chains_line(alloc, refusal)?,
         }),
         ChainsFault::Memory => Err(NoMemory),
@@ -75,14 +76,14 @@ fn refuse_chains(alloc: Global, file: &str, fault: ChainsFault) -> Result<Reply,
 }
 
 /// How a call ends where a file stands for no chains.
-fn end_chains(alloc: Global, file: &str, fault: ChainsFault) -> Ended
+fn end_chains(alloc: Global, file: &str, fault: ChainsFault) -> InputError
     ensures ended { (reading : Reading) → IsFault fault reading → IsEndOf (chains_by file.now reading) result }
     ensures status { HasStatus result }
     ensures unread { IsNoUnread result }
 {
     match refuse_chains(alloc, file, fault) {
-        Ok(reply) => Ended::Refused(reply),
-        Err(NoMemory) => Ended::Memory,
+        Ok(reply) => InputError::Refused(reply),
+        Err(NoMemory) => InputError::Memory,
     }
 }
 
@@ -92,7 +93,7 @@ fn read_chains_file(
     system: &System,
     file: &str,
     bytes: &[u8],
-) -> Result<Vec<Chain>, Ended>
+) -> Result<Vec<Chain>, InputError>
     ensures planned { IfOk result (λ v. chains_by file.now (reading_of system.now bytes.now) ≡ Do v.items) }
     ensures chains { IfOk result (λ v. All (IsChainIn system.now) v.items) }
     ensures ended { IfErr result (IsEndOf (chains_by file.now (reading_of system.now bytes.now))) }
@@ -111,7 +112,7 @@ fn load_chains<F: Files>(
     files: &mut F,
     system: &System,
     file: &str,
-) -> Result<Vec<Chain>, Ended>
+) -> Result<Vec<Chain>, InputError>
     ensures planned { F.told files.old ≡ true → IfOk result (λ v. chains_in (F.held files.old) system.now file.now ≡ Do v.items) }
     ensures chains { IfOk result (λ v. All (IsChainIn system.now) v.items) }
     ensures ended { F.told files.old ≡ true → IfErr result (IsEndOf (chains_in (F.held files.old) system.now file.now)) }
@@ -129,7 +130,7 @@ fn load_listed<F: Files>(
     files: &mut F,
     file: &str,
     chains: &str,
-) -> Result<Listed, Ended>
+) -> Result<Listed, InputError>
     ensures planned { F.told files.old ≡ true → IfOk result (λ l. plan_for (F.held files.old) file.now chains.now ≡ Do (chains_of l)) }
     ensures chains { IfOk result (λ l. All (IsChainIn l.system) l.chains.items) }
     ensures ended { F.told files.old ≡ true → IfErr result (IsEndOf (plan_for (F.held files.old) file.now chains.now)) }
@@ -142,7 +143,7 @@ fn load_listed<F: Files>(
 }
 
 /// The system and the chains that the words name.
-fn plan<F: Files>(alloc: Global, words: &[String], files: &mut F) -> Result<Listed, Ended>
+fn plan<F: Files>(alloc: Global, words: &[String], files: &mut F) -> Result<Listed, InputError>
     ensures planned { F.told files.old ≡ true → IfOk result (λ l. plan_of (map string_bytes words.now) (F.held files.old) ≡ Do (chains_of l)) }
     ensures chains { IfOk result (λ l. All (IsChainIn l.system) l.chains.items) }
     ensures ended { F.told files.old ≡ true → IfErr result (IsEndOf (plan_of (map string_bytes words.now) (F.held files.old))) }
@@ -151,23 +152,11 @@ fn plan<F: Files>(alloc: Global, words: &[String], files: &mut F) -> Result<List
 {
     match accept(words) {
         Some(named) => load_listed(alloc, files, named.file, named.chains),
-        None => Err(Ended::Refused(Reply {
-            status: 10,
+        None => Err(InputError::Refused(Reply {
+            status: statuses::WORDS_REFUSED,
             text: words_line(alloc)?,
         })),
     }
-}
-
-/// The bounds of the least solution.
-fn least_bounds(alloc: Global, system: &System) -> Result<Vector, NoMemory>
-    ensures least { IfOk result (λ x. x ≡ least_of system.now) }
-    ensures vector { IfOk result (λ x. IsVector system.now x) }
-{
-    let start = floor(alloc, system)?;
-    let kept = Readings::none(alloc, system)?;
-    let mut trail = Trail::with_room(alloc, system.tasks())?;
-    let solution = solve(&(), alloc, system, start, kept, &mut OneByOne, &mut trail)?;
-    Ok(solution.bounds)
 }
 
 /// The bounds of chains at the least solution, which is found once for all of them, and the status.
@@ -177,7 +166,7 @@ fn judge_listed(alloc: Global, system: &System, chains: &[Chain]) -> Result<Repl
     ensures status { IfOk result (λ r. r.status ≡ chains_status system.now (least_of system.now) chains.now) }
     ensures small { IfOk result (λ r. r.status ≤ 2) }
 {
-    let bounds = least_bounds(alloc, system)?;
+    let bounds = least_bounds(&(), alloc, system, &mut OneByOne)?;
     judge_chains(alloc, system, &bounds, chains)
 }
 
@@ -187,7 +176,7 @@ fn write<K: Sink>(
     system: &System,
     chains: &[Chain],
     sink: &mut K,
-) -> Result<u8, Stopped>
+) -> Result<u8, OutputError>
     requires { All (IsChainIn system.now) chains.now }
     ensures status { IfOk result (λ status. status ≡ chains_status system.now (least_of system.now) chains.now) }
     ensures small { IfOk result (λ status. status ≤ 2) }
@@ -206,7 +195,7 @@ fn answer<F: Files, K: Sink>(
     words: &[String],
     files: &mut F,
     sink: &mut K,
-) -> Result<u8, Stopped>
+) -> Result<u8, OutputError>
     ensures answered { F.told files.old ≡ true → IfOk result (λ status. status ≢ 11 → Sends (IsOutput (map string_bytes words.now) (F.held files.old)) status (K.sent sink.old) (K.sent sink.new)) }
     ensures status { IfOk result (λ status. (status ≢ 20) × (status ≢ 30)) }
     ensures unread { IfOk result (λ status. status ≡ 11 → IsUnread (map string_bytes words.now) (F.told files.old) (F.held files.old) (F.faults files.old) (F.faults files.new) (F.last_failed files.new)) }
@@ -217,9 +206,9 @@ fn answer<F: Files, K: Sink>(
 {
     match plan(alloc, words, files) {
         Ok(listed) => write(alloc, &listed.system, listed.chains.as_slice(), sink),
-        Err(Ended::Refused(reply)) => send(sink, reply.status, reply.text.as_slice()),
-        Err(Ended::Unread(line)) => send(sink, 11, line.as_slice()),
-        Err(Ended::Memory) => Err(Stopped::Memory),
+        Err(InputError::Refused(reply)) => send(sink, reply.status, reply.text.as_slice()),
+        Err(InputError::Unread(line)) => send(sink, statuses::FILE_UNREAD, line.as_slice()),
+        Err(InputError::Memory) => Err(OutputError::Memory),
     }
 }
 
@@ -228,32 +217,25 @@ fn answer<F: Files, K: Sink>(
 ///
 /// The words are those after the command: the system file and the file of chains, neither of which is empty or begins with a
 /// hyphen. The statuses: 0 with the bounds sent; 2 where one of them is missing; else 1 where a deadline is missed; 10, 12 to 14
-/// and 18 a refusal, 11 a file that couldn't be read, each with its line sent; 20 a fault of the sink; 30 want of memory.
+/// and 18 a refusal, 11 a file that couldn't be read, each with its line sent; 20 a fault of the sink; 30 out of memory.
 pub fn write_chains<F: Files, K: Sink>(
     alloc: Global,
     words: &[String],
     files: &mut F,
     sink: &mut K,
 ) -> u8
-    // Over files that tell what they hold, status and bytes sent are those of the output.
-    ensures answered { F.told files.old ≡ true → IsOfOutput result → Sends (IsOutput (map string_bytes words.now) (F.held files.old)) result (K.sent sink.old) (K.sent sink.new) }
-
-    // They are so, or memory was wanting, wherever neither count of faults rose.
-    ensures complete { F.told files.old ≡ true → ¬ (Rose (F.faults files.old) (F.faults files.new)) → ¬ (Rose (K.faults sink.old) (K.faults sink.new)) → result ≢ 30 → Sends (IsOutput (map string_bytes words.now) (F.held files.old)) result (K.sent sink.old) (K.sent sink.new) }
-
-    // A named file couldn't be loaded, and its line was sent.
-    ensures unread { result ≡ 11 → IsUnread (map string_bytes words.now) (F.told files.old) (F.held files.old) (F.faults files.old) (F.faults files.new) (F.last_failed files.new) }
-    ensures unread_line { result ≡ 11 → K.sent sink.new ≡ grown (K.sent sink.old) (cannot_read (F.last_failed files.new)) }
-
-    // The sink failed.
-    ensures unsent { result ≡ 20 → Rose (K.faults sink.old) (K.faults sink.new) }
-
-    // At a fault of the sink and at want of memory a prefix of the output was sent, or of the line of a file that couldn't be loaded.
-    ensures part { F.told files.old ≡ true → (result ≡ 20) ⊎ (result ≡ 30) → SendsPart (IsOutput (map string_bytes words.now) (F.held files.old)) (K.sent sink.old) (K.sent sink.new) ⊎ (IsUnread (map string_bytes words.now) (F.told files.old) (F.held files.old) (F.faults files.old) (F.faults files.new) (F.last_failed files.new) × SentPart (K.sent sink.old) (K.sent sink.new) (cannot_read (F.last_failed files.new))) }
+    // What every call owes: its status and what it sent.
+    ensures { MeetsCall
+        (IsOutput (map string_bytes words.now) (F.held files.old))
+        (SendsPart (IsOutput (map string_bytes words.now) (F.held files.old)))
+        (IsUnread (map string_bytes words.now) (F.told files.old) (F.held files.old) (F.faults files.old) (F.faults files.new) (F.last_failed files.new))
+        (loaded (F.told files.old) (F.faults files.old) (F.faults files.new) (F.last_failed files.new))
+        (sent (K.sent sink.old) (K.sent sink.new) (K.faults sink.old) (K.faults sink.new))
+        result }
 {
     match answer(alloc, words, files, sink) {
         Ok(status) => status,
-        Err(Stopped::Sink) => 20,
-        Err(Stopped::Memory) => 30,
+        Err(OutputError::Sink) => statuses::SINK_FAILED,
+        Err(OutputError::Memory) => statuses::OUT_OF_MEMORY,
     }
 }

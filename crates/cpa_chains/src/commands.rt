@@ -1,16 +1,17 @@
 //! The program's one call: words that begin with a command, `chain` or `chains`.
 
-ghost use Rattle.std.specs.Prelude.{◌≡◌, ◌≢◌, ◌⊎◌, ◌≤◌, true, map, Err, IfOk, OnErr, string_bytes};
-ghost use Rattle.cpa_io.specs.Causes.{grown, Rose, SentPart};
-ghost use Rattle.cpa_call.specs.declared.ended.Stopped.TheVariants as stopped;
+ghost use Rattle.std.specs.Prelude.{◌≡◌, ◌≢◌, ◌⊎◌, ◌≤◌, map, Err, IfOk, OnErr, string_bytes};
+ghost use Rattle.cpa_io.specs.Causes.{Rose};
+ghost use Rattle.cpa_call.specs.declared.errors.OutputError.TheVariants as stopped;
 ghost use Rattle.cpa_call.specs.Answers.{IsOfOutput, Sends, SendsPart};
-ghost use Rattle.cpa_call.specs.Lines.{cannot_read};
+ghost use Rattle.cpa_call.specs.Calls.{MeetsCall, loaded, sent};
 ghost use Rattle.cpa_chains.specs.Commands.{command_of, IsWordsRefused, IsOutputOf, IsOutput, IsUnreadOf, IsUnread};
 
 use crate::command::write_chains;
-use cpa_call::ended::Stopped;
+use cpa_call::errors::OutputError;
 use cpa_call::lines::words_line;
 use cpa_call::sending::send;
+use cpa_call::statuses;
 use cpa_effects::write_chain;
 use cpa_io::{Files, Sink};
 use std::alloc::Global;
@@ -37,7 +38,7 @@ fn command_of(word: &str) -> Command
 }
 
 /// Sends the line of words that aren't accepted.
-fn send_refusal<K: Sink>(alloc: Global, sink: &mut K) -> Result<u8, Stopped>
+fn send_refusal<K: Sink>(alloc: Global, sink: &mut K) -> Result<u8, OutputError>
     ensures sends { IfOk result (λ status. Sends IsWordsRefused status (K.sent sink.old) (K.sent sink.new)) }
     ensures status { IfOk result (λ status. status ≡ 10) }
     ensures part { OnErr result (SendsPart IsWordsRefused (K.sent sink.old) (K.sent sink.new)) }
@@ -45,7 +46,7 @@ fn send_refusal<K: Sink>(alloc: Global, sink: &mut K) -> Result<u8, Stopped>
     ensures failed { result ≡ Err stopped.Sink → Rose (K.faults sink.old) (K.faults sink.new) }
 {
     let line = words_line(alloc)?;
-    send(sink, 10, line.as_slice())
+    send(sink, statuses::WORDS_REFUSED, line.as_slice())
 }
 
 /// Refuses words, and answers the status.
@@ -58,8 +59,8 @@ fn refuse_words<K: Sink>(alloc: Global, sink: &mut K) -> u8
 {
     match send_refusal(alloc, sink) {
         Ok(status) => status,
-        Err(Stopped::Sink) => 20,
-        Err(Stopped::Memory) => 30,
+        Err(OutputError::Sink) => statuses::SINK_FAILED,
+        Err(OutputError::Memory) => statuses::OUT_OF_MEMORY,
     }
 }
 
@@ -71,12 +72,13 @@ fn run_command<F: Files, K: Sink>(
     files: &mut F,
     sink: &mut K,
 ) -> u8
-    ensures answered { F.told files.old ≡ true → IsOfOutput result → Sends (IsOutputOf command (map string_bytes words.now) (F.held files.old)) result (K.sent sink.old) (K.sent sink.new) }
-    ensures complete { F.told files.old ≡ true → ¬ (Rose (F.faults files.old) (F.faults files.new)) → ¬ (Rose (K.faults sink.old) (K.faults sink.new)) → result ≢ 30 → Sends (IsOutputOf command (map string_bytes words.now) (F.held files.old)) result (K.sent sink.old) (K.sent sink.new) }
-    ensures unread { result ≡ 11 → IsUnreadOf command (map string_bytes words.now) (F.told files.old) (F.held files.old) (F.faults files.old) (F.faults files.new) (F.last_failed files.new) }
-    ensures unread_line { result ≡ 11 → K.sent sink.new ≡ grown (K.sent sink.old) (cannot_read (F.last_failed files.new)) }
-    ensures unsent { result ≡ 20 → Rose (K.faults sink.old) (K.faults sink.new) }
-    ensures part { F.told files.old ≡ true → (result ≡ 20) ⊎ (result ≡ 30) → SendsPart (IsOutputOf command (map string_bytes words.now) (F.held files.old)) (K.sent sink.old) (K.sent sink.new) ⊎ (IsUnreadOf command (map string_bytes words.now) (F.told files.old) (F.held files.old) (F.faults files.old) (F.faults files.new) (F.last_failed files.new) × SentPart (K.sent sink.old) (K.sent sink.new) (cannot_read (F.last_failed files.new))) }
+    ensures { MeetsCall
+        (IsOutputOf command (map string_bytes words.now) (F.held files.old))
+        (SendsPart (IsOutputOf command (map string_bytes words.now) (F.held files.old)))
+        (IsUnreadOf command (map string_bytes words.now) (F.told files.old) (F.held files.old) (F.faults files.old) (F.faults files.new) (F.last_failed files.new))
+        (loaded (F.told files.old) (F.faults files.old) (F.faults files.new) (F.last_failed files.new))
+        (sent (K.sent sink.old) (K.sent sink.new) (K.faults sink.old) (K.faults sink.new))
+        result }
 {
     match command {
         Command::Chain => write_chain(alloc, words, files, sink),
@@ -93,21 +95,14 @@ pub fn run_chains<F: Files, K: Sink>(
     files: &mut F,
     sink: &mut K,
 ) -> u8
-    // Over files that tell what they hold, status and bytes sent are those of the output.
-    ensures answered { F.told files.old ≡ true → IsOfOutput result → Sends (IsOutput (map string_bytes words.now) (F.held files.old)) result (K.sent sink.old) (K.sent sink.new) }
-
-    // They are so, or memory was wanting, wherever neither count of faults rose.
-    ensures complete { F.told files.old ≡ true → ¬ (Rose (F.faults files.old) (F.faults files.new)) → ¬ (Rose (K.faults sink.old) (K.faults sink.new)) → result ≢ 30 → Sends (IsOutput (map string_bytes words.now) (F.held files.old)) result (K.sent sink.old) (K.sent sink.new) }
-
-    // A named file couldn't be loaded, and its line was sent.
-    ensures unread { result ≡ 11 → IsUnread (map string_bytes words.now) (F.told files.old) (F.held files.old) (F.faults files.old) (F.faults files.new) (F.last_failed files.new) }
-    ensures unread_line { result ≡ 11 → K.sent sink.new ≡ grown (K.sent sink.old) (cannot_read (F.last_failed files.new)) }
-
-    // The sink failed.
-    ensures unsent { result ≡ 20 → Rose (K.faults sink.old) (K.faults sink.new) }
-
-    // At a fault of the sink and at want of memory a prefix of the output was sent, or of the line of a file that couldn't be loaded.
-    ensures part { F.told files.old ≡ true → (result ≡ 20) ⊎ (result ≡ 30) → SendsPart (IsOutput (map string_bytes words.now) (F.held files.old)) (K.sent sink.old) (K.sent sink.new) ⊎ (IsUnread (map string_bytes words.now) (F.told files.old) (F.held files.old) (F.faults files.old) (F.faults files.new) (F.last_failed files.new) × SentPart (K.sent sink.old) (K.sent sink.new) (cannot_read (F.last_failed files.new))) }
+    // What every call owes: its status and what it sent.
+    ensures { MeetsCall
+        (IsOutput (map string_bytes words.now) (F.held files.old))
+        (SendsPart (IsOutput (map string_bytes words.now) (F.held files.old)))
+        (IsUnread (map string_bytes words.now) (F.told files.old) (F.held files.old) (F.faults files.old) (F.faults files.new) (F.last_failed files.new))
+        (loaded (F.told files.old) (F.faults files.old) (F.faults files.new) (F.last_failed files.new))
+        (sent (K.sent sink.old) (K.sent sink.new) (K.faults sink.old) (K.faults sink.new))
+        result }
 {
     match words {
         [] => refuse_words(alloc, sink),

@@ -1,18 +1,18 @@
-//! The text that tells the bounds of chains and the verdicts on their deadlines.
+//! The text of the bounds of chains and the verdicts on their deadlines.
 
 ghost use Rattle.std.specs.Prelude.{◌≡◌, ◌≤◌, ◌++◌, length, All, OnOk, IfOk};
 ghost use Rattle.std.specs.List.{flat_map};
 ghost use Rattle.cpa_local.specs.Solution.{IsVector};
-ghost use Rattle.cpa_local.specs.Paths.{outcome_of, is_missed_by};
+ghost use Rattle.cpa_local.specs.Paths.{deadline_verdict_of, is_missed_by};
 ghost use Rattle.cpa_chains.specs.Reading.{IsChainIn};
 ghost use Rattle.cpa_chains.specs.ChainsText.{judged_text, chain_line, is_overloaded, is_late, totals, summary_line, chains_text, status_of, chains_status};
 
 use crate::chains::Chain;
-use cpa_call::ended::Reply;
+use cpa_call::errors::Reply;
 use cpa_effects::{age, reaction};
-use cpa_local::{Outcome, is_overload, judge};
+use cpa_local::{DeadlineVerdict, deadline_verdict, is_overload};
 use cpa_model::System;
-use cpa_report::{put_bound, put_deadline, put_outcome};
+use cpa_report::{put_bound, put_deadline, put_deadline_verdict};
 use cpa_text::Text;
 use cpa_units::{Bound, NoMemory, Vector};
 use std::alloc::Global;
@@ -26,7 +26,7 @@ fn put_judged(text: &mut Text, deadline: Option<u64>, bound: Bound) -> Result<()
     text.put(b" deadline ")?;
     put_deadline(text, deadline)?;
     text.put(b" ")?;
-    put_outcome(text, judge(deadline, bound))
+    put_deadline_verdict(text, deadline_verdict(deadline, bound))
 }
 
 #[tactic(auto, unfolding(crate::specs::ChainsText::chain_line))]
@@ -74,11 +74,11 @@ fn is_overloaded(system: &System, x: &Vector, chain: &Chain) -> bool
 }
 
 fn is_missed(deadline: Option<u64>, bound: Bound) -> bool
-    ensures { result ≡ is_missed_by (outcome_of deadline bound) }
+    ensures { result ≡ is_missed_by (deadline_verdict_of deadline bound) }
 {
-    match judge(deadline, bound) {
-        Outcome::Missed => true,
-        Outcome::Met | Outcome::Unknown | Outcome::NoDeadline => false,
+    match deadline_verdict(deadline, bound) {
+        DeadlineVerdict::Missed => true,
+        DeadlineVerdict::Met | DeadlineVerdict::Unknown | DeadlineVerdict::NoDeadline => false,
     }
 }
 
@@ -143,7 +143,7 @@ fn status_of(totals: Totals) -> u8
     }
 }
 
-/// The text that tells the bounds of chains at a vector, and its status.
+/// The text of the bounds of chains at a vector, and its status.
 #[tactic(auto, unfolding(crate::specs::ChainsText::chains_text))]
 pub(crate) fn judge_chains(
     alloc: Global,

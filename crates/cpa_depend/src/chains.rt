@@ -69,7 +69,7 @@ pub fn reads(system: &System, res: ResId) -> ResSet
 }
 
 /// Whether a task on a resource has an earlier task of a chain of it on that resource as well.
-pub fn leads_back(system: &System, res: ResId) -> bool
+pub fn has_cyclic_chain(system: &System, res: ResId) -> bool
     requires { res.0 < length system.now.resources }
     ensures { IsTrue result ↔ LeadsBack system.now res.0 }
 {

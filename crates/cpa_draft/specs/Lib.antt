@@ -6,4 +6,5 @@ pub mod Names
 pub mod Chains
 pub mod Search
 pub mod Refusals
-pub mod Judged
+pub mod Validated
+pub mod FaultTexts

@@ -5,24 +5,25 @@
 #![tactic(auto)]
 
 mod chains;
+mod display;
 pub mod draft;
 mod entry;
-mod fits;
-pub mod judging;
+mod entry_checks;
+mod kind_checks;
 pub mod links;
 pub mod names;
 pub mod numbers;
 mod paths;
 mod ranks;
 pub mod refusal;
-mod refusals;
 mod streams;
 pub mod tables;
+pub mod validation;
 
 pub use draft::{Draft, DraftPath, DraftResource, DraftSource, DraftTask, KindWord, Raw, RawList};
-pub use judging::judge;
 pub use names::Names;
 pub use numbers::{natural, natural_or};
 pub use ranks::is_by_priority;
 pub use refusal::{BuildFault, Part, Refusal};
 pub use tables::Tables;
+pub use validation::validate;

@@ -10,10 +10,10 @@ ghost use Rattle.cpa_draft.specs.Refusals.{is_linked, unlinked};
 ghost use Rattle.cpa_draft.specs.Search.{is_short, HaveSameNames, AreLongLists, AreLookedUp};
 
 use crate::draft::{Draft, DraftPath, DraftTask, Raw};
+use crate::entry_checks::refuse_at;
 use crate::links::Link;
 use crate::names::{Names, different};
 use crate::refusal::{Part, Refusal};
-use crate::refusals::refuse_at;
 use crate::tables::Tables;
 use cpa_events::MAX_STREAMS;
 use std::alloc::{AllocError, Global};

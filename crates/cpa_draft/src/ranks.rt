@@ -7,9 +7,9 @@ ghost use Rattle.cpa_draft.specs.Names.{AreTables};
 ghost use Rattle.cpa_draft.specs.Refusals.{by_priority, rank_of, ranks_of, same_rank, is_taken, known_priority};
 
 use crate::draft::{Draft, DraftTask, KindWord};
+use crate::entry_checks::refuse_at;
 use crate::numbers::natural;
 use crate::refusal::{Part, Refusal};
-use crate::refusals::refuse_at;
 use crate::tables::Tables;
 use indexmap::IndexSet;
 use std::alloc::{AllocError, Global};

@@ -11,10 +11,10 @@ ghost use Rattle.cpa_events.specs.declared.TheConstants.{MAX_STREAMS};
 ghost use Rattle.cpa_units.specs.declared.limits.TheConstants.{MAX_CHAIN};
 
 use crate::draft::{Draft, DraftTask, Raw};
+use crate::entry_checks::refuse_at;
 use crate::links::{Link, Links};
 use crate::names::has_double;
 use crate::refusal::{Part, Refusal};
-use crate::refusals::refuse_at;
 use cpa_events::MAX_STREAMS;
 use cpa_units::limits::MAX_CHAIN;
 use std::alloc::{AllocError, Global};

@@ -9,9 +9,9 @@ use Rattle.cpa_model.specs.SystemLists.{SystemLists, task_named, no_task}
 use Rattle.std.proofs.lemmas.Option.{none-some}
 use Rattle.std.proofs.lemmas.List.Quantifiers.{position-Some}
 use Rattle.cpa_io.specs.Causes.{SentPart}
-use Rattle.cpa_call.specs.declared.ended.Reply.{Reply}
-use Rattle.cpa_call.specs.declared.ended.Ended.{Ended}
-use Rattle.cpa_call.specs.declared.ended.Ended.TheVariants.{Refused}
+use Rattle.cpa_call.specs.declared.errors.Reply.{Reply}
+use Rattle.cpa_call.specs.declared.errors.InputError.{InputError}
+use Rattle.cpa_call.specs.declared.errors.InputError.TheVariants.{Refused}
 use Rattle.cpa_call.specs.Answers.{reply, SendsPart}
 use Rattle.cpa_call.specs.Ends.{IsEndOf}
 use Rattle.cpa_call.specs.Lines.{words_refused}
@@ -73,7 +73,7 @@ pub done-answer : (it : Call) (held : Held) (c : Chain) (status : ℕ) (text : L
 done-answer it held c status text plan told is = (λ i. reply (told i) (is i)) ∙ ap (answer_to it.reading) (sym plan)
 
 -- the line of a refusal is the output
-pub refused-answer : (it : Call) (held : Held) (e : Ended) (r : Reply) (text : List ℕ) → IsEndOf (plan_of it.words held) e → e ≡ Refused r → text ≡ r.text.items → IsOutputOf it held (reply r.status text)
+pub refused-answer : (it : Call) (held : Held) (e : InputError) (r : Reply) (text : List ℕ) → IsEndOf (plan_of it.words held) e → e ≡ Refused r → text ≡ r.text.items → IsOutputOf it held (reply r.status text)
 refused-answer it held e r text end is same =
     let plan : plan_of it.words held ≡ Refuse r.status r.text.items = subst (IsEndOf (plan_of it.words held)) is end in
     ap (reply r.status) same ∙ ap (answer_to it.reading) (sym plan)
@@ -83,7 +83,7 @@ pub nothing-yet : (it : Call) (held : Held) (sent : Option (List ℕ)) → Sends
 nothing-yet it held sent = record { answer = answer_to it.reading (plan_of it.words held); is_output = refl; part = sent-nothing sent _ }
 
 -- a part of the line of a refusal
-pub refused-part : (it : Call) (held : Held) (e : Ended) (r : Reply) (text : List ℕ) (before now : Option (List ℕ)) → IsEndOf (plan_of it.words held) e → e ≡ Refused r → text ≡ r.text.items
+pub refused-part : (it : Call) (held : Held) (e : InputError) (r : Reply) (text : List ℕ) (before now : Option (List ℕ)) → IsEndOf (plan_of it.words held) e → e ≡ Refused r → text ≡ r.text.items
     → SentPart before now text → SendsPart (IsOutputOf it held) before now
 refused-part it held e r text before now end is same part =
     part-reply (IsOutputOf it held) r.status text before now (refused-answer it held e r text end is same) part

@@ -7,7 +7,7 @@ use Rattle.cpa_units.specs.declared.limits.TheConstants.{MAX_CHAIN}
 use Rattle.cpa_io.specs.Causes.{Rose}
 use Rattle.cpa_model.specs.SystemLists.{SystemLists, task_named}
 use Rattle.cpa_local.specs.Solution.{least_of}
-use Rattle.cpa_call.specs.declared.ended.Ended.{Ended}
+use Rattle.cpa_call.specs.declared.errors.InputError.{InputError}
 use Rattle.cpa_call.specs.Answers.{Answer, reply}
 use Rattle.cpa_call.specs.Ends.{IsUnreadLine}
 use Rattle.cpa_call.specs.Lines.{words_refused}
@@ -134,6 +134,6 @@ pub record IsUnread (words : List (List ℕ)) (before now : ℕ) (last : List �
   pub named : last ≡ asked.file
   pub rose : Rose before now
 
--- why a call ends before its work: where the file couldn't be loaded, its line tells its name
-abbrev pub IsUnreadCall : List (List ℕ) → ℕ → ℕ → List ℕ → Ended → Type 0
+-- why a call ends before its work: where the file couldn't be loaded, its line says its name
+abbrev pub IsUnreadCall : List (List ℕ) → ℕ → ℕ → List ℕ → InputError → Type 0
 IsUnreadCall words before now last = IsUnreadLine (IsUnread words before now last) last

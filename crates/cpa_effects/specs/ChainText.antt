@@ -1,4 +1,4 @@
--- The text that tells the bounds of a chain, and its status.
+-- The text of the bounds of a chain, and its status.
 use Rattle.std.specs.Prelude.{ℕ, zero, suc, ◌++◌, ◌||◌, if◌then◌else◌, List, length, codes}
 use Rattle.std.specs.Fmt.{decimal}
 use Rattle.std.specs.List.{flat_map, range_with_len}

@@ -3,9 +3,10 @@
 ghost use Rattle.std.specs.Prelude.{◌≡◌, ◌≢◌, ◌⊎◌, ◌<◌, ◌≤◌, ◌∷◌, [], ◌++◌, true, length, map, All, Err, IfOk, IfErr, OnOk, OnErr, string_bytes};
 ghost use Rattle.cpa_units.specs.declared.limits.TheConstants.{MAX_CHAIN};
 ghost use Rattle.cpa_io.specs.Causes.{grown, Rose, SentPart};
-ghost use Rattle.cpa_local.specs.Solution.{IsVector, least_of};
-ghost use Rattle.cpa_call.specs.declared.ended.Stopped.TheVariants as stopped;
-ghost use Rattle.cpa_call.specs.Answers.{IsOfOutput, Sends, SendsPart};
+ghost use Rattle.cpa_local.specs.Solution.{least_of};
+ghost use Rattle.cpa_call.specs.declared.errors.OutputError.TheVariants as stopped;
+ghost use Rattle.cpa_call.specs.Answers.{Sends, SendsPart};
+ghost use Rattle.cpa_call.specs.Calls.{MeetsCall, loaded, sent};
 ghost use Rattle.cpa_call.specs.Ends.{IsEndOf, HasStatus, IsUnreadFile, IsNoUnread};
 ghost use Rattle.cpa_call.specs.Lines.{cannot_read};
 ghost use Rattle.cpa_call.specs.Plans.{Do};
@@ -15,16 +16,16 @@ ghost use Rattle.cpa_effects.specs.ChainText.{chain_text, chain_status};
 use crate::steps::Reading;
 use crate::text::{chain_text, status};
 use crate::words::{accept, read_request};
-use cpa_call::ended::{Ended, Reply, Stopped};
+use cpa_call::errors::{InputError, OutputError, Reply};
 use cpa_call::lines::words_line;
 use cpa_call::loading::load_system;
 use cpa_call::sending::send;
-use cpa_fix::{OneByOne, Readings, solve};
+use cpa_call::statuses;
+use cpa_fix::{OneByOne, least_bounds};
 use cpa_io::{Files, Sink};
-use cpa_local::{Trail, floor};
 use cpa_model::System;
 use cpa_text::Text;
-use cpa_units::{NoMemory, TaskId, Vector};
+use cpa_units::{NoMemory, TaskId};
 use std::alloc::Global;
 
 /// A chain of tasks of a system.
@@ -45,14 +46,17 @@ fn chain_line(alloc: Global, place: u64) -> Result<Vec<u8>, NoMemory>
 }
 
 /// How a call ends where no task has the name in a place.
-fn refuse(alloc: Global, place: u64) -> Ended
+fn refuse(alloc: Global, place: u64) -> InputError
     ensures ended { IsEndOf (refused_at place) result }
     ensures status { HasStatus result }
     ensures unread { IsNoUnread result }
 {
     match chain_line(alloc, place) {
-        Ok(text) => Ended::Refused(Reply { status: 18, text }),
-        Err(NoMemory) => Ended::Memory,
+        Ok(text) => InputError::Refused(Reply {
+            status: statuses::NAME_REFUSED,
+            text,
+        }),
+        Err(NoMemory) => InputError::Memory,
     }
 }
 
@@ -64,7 +68,7 @@ fn push_task(tasks: &mut Vec<TaskId>, task: TaskId) -> Result<(), NoMemory>
 }
 
 /// The tasks with these names.
-fn find_tasks(alloc: Global, system: &System, names: &[String]) -> Result<Vec<TaskId>, Ended>
+fn find_tasks(alloc: Global, system: &System, names: &[String]) -> Result<Vec<TaskId>, InputError>
     ensures planned { IfOk result (λ v. chain_by system.now (map string_bytes names.now) ≡ Do (record { system = system.now; tasks = v.items })) }
     ensures long { IfOk result (λ v. length v.items ≡ length names.now) }
     ensures there { IfOk result (λ v. All (λ (i : TaskId). i.0 < length system.now.tasks) v.items) }
@@ -88,7 +92,7 @@ fn load_chain<F: Files>(
     files: &mut F,
     file: &str,
     names: &[String],
-) -> Result<Chained, Ended>
+) -> Result<Chained, InputError>
     ensures planned { F.told files.old ≡ true → IfOk result (λ c. plan_for (F.held files.old) (record { file = file.now; tasks = map string_bytes names.now }) ≡ Do (chain_of c)) }
     ensures long { IfOk result (λ c. length c.tasks.items ≡ length names.now) }
     ensures there { IfOk result (λ c. All (λ (i : TaskId). i.0 < length c.system.tasks) c.tasks.items) }
@@ -102,7 +106,7 @@ fn load_chain<F: Files>(
 }
 
 /// The chain that the words name.
-fn plan<F: Files>(alloc: Global, words: &[String], files: &mut F) -> Result<Chained, Ended>
+fn plan<F: Files>(alloc: Global, words: &[String], files: &mut F) -> Result<Chained, InputError>
     ensures planned { F.told files.old ≡ true → IfOk result (λ c. plan_of (map string_bytes words.now) (F.held files.old) ≡ Do (chain_of c)) }
     ensures some { IfOk result (λ c. 0 < length c.tasks.items) }
     ensures few { IfOk result (λ c. length c.tasks.items ≤ MAX_CHAIN) }
@@ -113,23 +117,11 @@ fn plan<F: Files>(alloc: Global, words: &[String], files: &mut F) -> Result<Chai
 {
     match accept(words) {
         Some(named) => load_chain(alloc, files, named.file, named.tasks),
-        None => Err(Ended::Refused(Reply {
-            status: 10,
+        None => Err(InputError::Refused(Reply {
+            status: statuses::WORDS_REFUSED,
             text: words_line(alloc)?,
         })),
     }
-}
-
-/// The bounds of the least solution.
-fn least_bounds(alloc: Global, system: &System) -> Result<Vector, NoMemory>
-    ensures least { IfOk result (λ x. x ≡ least_of system.now) }
-    ensures vector { IfOk result (λ x. IsVector system.now x) }
-{
-    let start = floor(alloc, system)?;
-    let kept = Readings::none(alloc, system)?;
-    let mut trail = Trail::with_room(alloc, system.tasks())?;
-    let solution = solve(&(), alloc, system, start, kept, &mut OneByOne, &mut trail)?;
-    Ok(solution.bounds)
 }
 
 /// Sends the bounds of a chain, with their status.
@@ -139,7 +131,7 @@ fn write<K: Sink>(
     system: &System,
     tasks: &[TaskId],
     sink: &mut K,
-) -> Result<u8, Stopped>
+) -> Result<u8, OutputError>
     requires some { 0 < length tasks.now }
     requires few { length tasks.now ≤ MAX_CHAIN }
     requires there { All (λ (i : TaskId). i.0 < length system.now.tasks) tasks.now }
@@ -150,7 +142,7 @@ fn write<K: Sink>(
     ensures rises { K.faults sink.old ≤ K.faults sink.new }
     ensures failed { result ≡ Err stopped.Sink → Rose (K.faults sink.old) (K.faults sink.new) }
 {
-    let bounds = least_bounds(alloc, system)?;
+    let bounds = least_bounds(&(), alloc, system, &mut OneByOne)?;
     let text = chain_text(alloc, reading, system, &bounds, tasks)?;
     send(
         sink,
@@ -166,7 +158,7 @@ fn answer<F: Files, K: Sink>(
     words: &[String],
     files: &mut F,
     sink: &mut K,
-) -> Result<u8, Stopped>
+) -> Result<u8, OutputError>
     ensures answered { F.told files.old ≡ true → IfOk result (λ status. status ≢ 11 → Sends (IsOutputOf (record { reading = reading; words = map string_bytes words.now }) (F.held files.old)) status (K.sent sink.old) (K.sent sink.new)) }
     ensures status { IfOk result (λ status. (status ≢ 20) × (status ≢ 30)) }
     ensures unread { IfOk result (λ status. status ≡ 11 → IsUnread (map string_bytes words.now) (F.faults files.old) (F.faults files.new) (F.last_failed files.new)) }
@@ -183,9 +175,9 @@ fn answer<F: Files, K: Sink>(
             chained.tasks.as_slice(),
             sink,
         ),
-        Err(Ended::Refused(reply)) => send(sink, reply.status, reply.text.as_slice()),
-        Err(Ended::Unread(line)) => send(sink, 11, line.as_slice()),
-        Err(Ended::Memory) => Err(Stopped::Memory),
+        Err(InputError::Refused(reply)) => send(sink, reply.status, reply.text.as_slice()),
+        Err(InputError::Unread(line)) => send(sink, statuses::FILE_UNREAD, line.as_slice()),
+        Err(InputError::Memory) => Err(OutputError::Memory),
     }
 }
 
@@ -201,26 +193,19 @@ pub fn write_chain<F: Files, K: Sink>(
     files: &mut F,
     sink: &mut K,
 ) -> u8
-    // Over files that tell what they hold, status and bytes sent are those of the output.
-    ensures answered { F.told files.old ≡ true → IsOfOutput result → Sends (IsOutput (map string_bytes words.now) (F.held files.old)) result (K.sent sink.old) (K.sent sink.new) }
-
-    // They are so, or memory was wanting, wherever neither count of faults rose.
-    ensures complete { F.told files.old ≡ true → ¬ (Rose (F.faults files.old) (F.faults files.new)) → ¬ (Rose (K.faults sink.old) (K.faults sink.new)) → result ≢ 30 → Sends (IsOutput (map string_bytes words.now) (F.held files.old)) result (K.sent sink.old) (K.sent sink.new) }
-
-    // The named file couldn't be loaded, and its line was sent.
-    ensures unread { result ≡ 11 → IsUnread (call_of (map string_bytes words.now)).words (F.faults files.old) (F.faults files.new) (F.last_failed files.new) }
-    ensures unread_line { result ≡ 11 → K.sent sink.new ≡ grown (K.sent sink.old) (cannot_read (F.last_failed files.new)) }
-
-    // The sink failed.
-    ensures unsent { result ≡ 20 → Rose (K.faults sink.old) (K.faults sink.new) }
-
-    // At a fault of the sink and at want of memory a prefix of the output was sent, or of the line of a file that couldn't be loaded.
-    ensures part { F.told files.old ≡ true → (result ≡ 20) ⊎ (result ≡ 30) → SendsPart (IsOutput (map string_bytes words.now) (F.held files.old)) (K.sent sink.old) (K.sent sink.new) ⊎ (IsUnread (call_of (map string_bytes words.now)).words (F.faults files.old) (F.faults files.new) (F.last_failed files.new) × SentPart (K.sent sink.old) (K.sent sink.new) (cannot_read (F.last_failed files.new))) }
+    // What every call owes: its status and what it sent.
+    ensures { MeetsCall
+        (IsOutput (map string_bytes words.now) (F.held files.old))
+        (SendsPart (IsOutput (map string_bytes words.now) (F.held files.old)))
+        (IsUnread (call_of (map string_bytes words.now)).words (F.faults files.old) (F.faults files.new) (F.last_failed files.new))
+        (loaded (F.told files.old) (F.faults files.old) (F.faults files.new) (F.last_failed files.new))
+        (sent (K.sent sink.old) (K.sent sink.new) (K.faults sink.old) (K.faults sink.new))
+        result }
 {
     let request = read_request(words);
     match answer(alloc, request.reading, request.words, files, sink) {
         Ok(status) => status,
-        Err(Stopped::Sink) => 20,
-        Err(Stopped::Memory) => 30,
+        Err(OutputError::Sink) => statuses::SINK_FAILED,
+        Err(OutputError::Memory) => statuses::OUT_OF_MEMORY,
     }
 }

@@ -1,4 +1,4 @@
-//! What bounds of chains say of runs, for whoever builds on this crate.
+//! What bounds of chains say of runs, for crates that depend on this one.
 
 ghost use Rattle.cpa_effects.specs.Laws.{HeldBoundsBoundChains, ClosedVectorsBoundChains, LeastSolutionsBoundChains, OneStreamGoesOn, EqualWhereAllRead};
 

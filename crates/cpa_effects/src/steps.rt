@@ -4,7 +4,7 @@ ghost use Rattle.std.specs.Prelude.{◌≡◌, ◌<◌, length};
 ghost use Rattle.cpa_model.specs.SystemLists.{priority_of, is_higher};
 ghost use Rattle.cpa_effects.specs.Bounds.{step_between, is_preemptive, is_above, sole_source, is_one_source, have_one_source, passage_between};
 
-use cpa_model::{Activator, Kind, System, Turn};
+use cpa_model::{Activator, Kind, System};
 use cpa_units::{SourceId, TaskId};
 
 /// A step from a task to the next of a chain.
@@ -64,16 +64,6 @@ fn is_preemptive(kind: Kind) -> bool
     }
 }
 
-/// The priority number of a turn, 0 where it has a slot.
-fn priority(turn: Turn) -> u32
-    ensures { result ≡ priority_of turn }
-{
-    match turn {
-        Turn::Priority(number) => number,
-        Turn::Slot(_) => 0,
-    }
-}
-
 /// Whether the second task is on the resource of the first, and of higher priority.
 fn is_higher(system: &System, task: TaskId, other: TaskId) -> bool
     requires task { task.0 < length system.now.tasks }
@@ -82,7 +72,7 @@ fn is_higher(system: &System, task: TaskId, other: TaskId) -> bool
 {
     let first = system.task(task);
     let second = system.task(other);
-    first.res.0 == second.res.0 && priority(second.turn) < priority(first.turn)
+    first.res.0 == second.res.0 && second.turn.priority() < first.turn.priority()
 }
 
 /// Whether a task is on the preemptive resource of the next, of higher priority, and starts none of its jobs.

@@ -1,4 +1,4 @@
-//! The text that tells the bounds of a chain.
+//! The text of the bounds of a chain.
 
 ghost use Rattle.std.specs.Prelude.{◌≡◌, ◌<◌, ◌≤◌, ◌++◌, length, All, OnOk, IfOk};
 ghost use Rattle.std.specs.List.{flat_map, range_with_len};
@@ -133,7 +133,7 @@ fn put_total(
     text.put(b"\n")
 }
 
-/// The text that tells of a chain how data comes to each task, its wait and its bound, and the bounds on reaction time
+/// The text that says of a chain how data comes to each task, its wait and its bound, and the bounds on reaction time
 /// and data age, and on the time for which data is held, where jobs read so. A chain has 1 to 32 tasks.
 #[tactic(auto, unfolding(crate::specs::ChainText::chain_text))]
 pub fn chain_text(

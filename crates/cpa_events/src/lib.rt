@@ -9,7 +9,7 @@
 
 ghost use Rattle.cpa_events.specs.Laws.{EventsFit, LeastTimeHasRoom, OneStreamIsAModel, EventsByQuotients, LongerWindowsHaveMore, DenserModelsHaveMore, LaterResponsesSendDenser};
 
-mod kept;
+mod compact_stream;
 mod model;
 mod stream;
 

@@ -8,7 +8,7 @@ ghost use Rattle.cpa_events.specs.Streams.{stream_delta_minus, IsStreamInRange};
 ghost use Rattle.cpa_events.specs.Events.{delta_minus, delta_plus, eta_plus, after_response, IsModelInRange, HasJitterUpTo};
 
 use crate::MAX_STREAMS;
-use crate::kept::Kept;
+use crate::compact_stream::CompactStream;
 use crate::stream::{MAX_MODEL_JITTER, Stream};
 use cpa_units::limits::MAX_LIMIT;
 
@@ -20,7 +20,7 @@ const ROOM: usize = 34;
 #[derive(Debug, Drop)]
 pub struct Model {
     len: u32,
-    streams: [Kept; ROOM],
+    streams: [CompactStream; ROOM],
 }
 
 impl std::marker::Model for Model {
@@ -43,7 +43,7 @@ impl Model {
     {
         Model {
             len: 1,
-            streams: [Kept::of(stream); ROOM],
+            streams: [CompactStream::of(stream); ROOM],
         }
     }
 
@@ -80,7 +80,7 @@ impl Model {
         requires room { length self.old < MAX_STREAMS }
         ensures { self.new ≡ self.old ++ stream ∷ [] }
     {
-        self.push_kept(Kept::of(stream));
+        self.push_kept(CompactStream::of(stream));
     }
 
     /// Adds the streams of another model at the end.
@@ -123,13 +123,13 @@ impl Model {
     /// can come.
     #[inline(always)]
     #[tactic(auto, unfolding(crate::specs::Events::eta_plus))]
-    pub fn steady_until(&self, delta: u64) -> u64
+    pub fn constant_until(&self, delta: u64) -> u64
         requires model { IsModelInRange self.now }
         requires window { delta ≤ 2 ^ 31 }
         ensures { (w : ℕ) → delta ≤ w → w ≤ result → eta_plus self.now w ≡ eta_plus self.now delta }
     {
         match self.only() {
-            Some(stream) => stream.steady_until(delta),
+            Some(stream) => stream.constant_until(delta),
             None => steady(self.streams(), delta),
         }
     }
@@ -183,7 +183,7 @@ impl Model {
         ensures value { self.new ≡ stream ∷ [] }
         ensures in_range { IsModelInRange self.new }
     {
-        self.begin(Kept::of(stream));
+        self.begin(CompactStream::of(stream));
     }
 
     /// Becomes the list of another model.
@@ -210,7 +210,7 @@ impl Model {
     }
 
     /// A stream by its place, as it is kept.
-    fn kept(&self, k: u32) -> Kept
+    fn kept(&self, k: u32) -> CompactStream
         requires { k < length self.now }
         ensures { result ≡ slice_index_or self.now k result }
     {
@@ -218,7 +218,7 @@ impl Model {
     }
 
     /// Becomes the list of one stream.
-    fn begin(&mut self, stream: Kept)
+    fn begin(&mut self, stream: CompactStream)
         ensures { self.new ≡ stream ∷ [] }
     {
         self.streams[0] = stream;
@@ -226,7 +226,7 @@ impl Model {
     }
 
     /// Adds a stream, as it is kept, at the end.
-    fn push_kept(&mut self, stream: Kept)
+    fn push_kept(&mut self, stream: CompactStream)
         requires { length self.old < MAX_STREAMS }
         ensures { self.new ≡ self.old ++ stream ∷ [] }
     {
@@ -234,7 +234,7 @@ impl Model {
         self.len += 1;
     }
 
-    fn streams(&self) -> &[Kept]
+    fn streams(&self) -> &[CompactStream]
         ensures value { result.now ≡ self.now }
         ensures some { 1 ≤ length result.now }
         ensures few { length result.now ≤ MAX_STREAMS }
@@ -247,7 +247,7 @@ impl Model {
 #[cold]
 #[inline(never)]
 #[tactic(auto, unfolding(crate::specs::Events::eta_plus))]
-fn events_in(streams: &[Kept], delta: u64) -> u128
+fn events_in(streams: &[CompactStream], delta: u64) -> u128
     requires streams { IsModelInRange streams.now }
     requires window { delta ≤ 2 ^ 63 }
     ensures { result ≡ eta_plus streams.now delta }
@@ -263,14 +263,14 @@ fn events_in(streams: &[Kept], delta: u64) -> u128
 #[cold]
 #[inline(never)]
 #[tactic(auto, unfolding(crate::specs::Events::eta_plus))]
-fn steady(streams: &[Kept], delta: u64) -> u64
+fn steady(streams: &[CompactStream], delta: u64) -> u64
     requires streams { IsModelInRange streams.now }
     requires window { delta ≤ 2 ^ 31 }
     ensures { (w : ℕ) → delta ≤ w → w ≤ result → eta_plus streams.now w ≡ eta_plus streams.now delta }
 {
     let mut until = u64::MAX;
     for stream in streams {
-        until = until.min(stream.stream().steady_until(delta));
+        until = until.min(stream.stream().constant_until(delta));
     }
     until
 }
@@ -278,7 +278,7 @@ fn steady(streams: &[Kept], delta: u64) -> u64
 /// The least time from the first to the last of n events of all streams.
 #[cold]
 #[inline(never)]
-fn least_time(streams: &[Kept], n: u64) -> u64
+fn least_time(streams: &[CompactStream], n: u64) -> u64
     requires streams { IsModelInRange streams.now }
     requires events { n ≤ 2 ^ 32 }
     ensures { result ≡ delta_minus streams.now n }
@@ -287,7 +287,7 @@ fn least_time(streams: &[Kept], n: u64) -> u64
 }
 
 /// The least of the times in which the streams have n events, each alone.
-fn least_alone(streams: &[Kept], n: u64) -> u64
+fn least_alone(streams: &[CompactStream], n: u64) -> u64
     requires streams { IsModelInRange streams.now }
     requires events { n ≤ 2 ^ 32 }
     ensures room { n ≤ eta_plus streams.now (result + 1) }
@@ -301,7 +301,7 @@ fn least_alone(streams: &[Kept], n: u64) -> u64
 }
 
 /// The least time whose window, with its end, has room for n events, found by halving; `enough` has.
-fn least_room(streams: &[Kept], n: u64, enough: u64) -> u64
+fn least_room(streams: &[CompactStream], n: u64, enough: u64) -> u64
     requires streams { IsModelInRange streams.now }
     requires room { n ≤ eta_plus streams.now (enough + 1) }
     requires small { enough < 2 ^ 63 }

@@ -59,7 +59,7 @@ impl Stream {
     /// Up to which length windows have no more events than one of `delta` ticks: when the next event
     /// can come.
     #[inline(always)]
-    pub fn steady_until(&self, delta: u64) -> u64
+    pub fn constant_until(&self, delta: u64) -> u64
         requires stream { IsStreamInRange self.now }
         requires window { delta ≤ 2 ^ 31 }
         ensures { (w : ℕ) → delta ≤ w → w ≤ result → stream_eta_plus self.now w ≡ stream_eta_plus self.now delta }

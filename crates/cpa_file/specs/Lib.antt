@@ -5,3 +5,4 @@ pub mod Document
 pub mod Given
 pub mod Printed
 pub mod Reading
+pub mod FaultTexts

@@ -2,6 +2,7 @@
 //! other kinds.
 #![tactic(auto)]
 
+mod display;
 mod entries;
 mod fault;
 mod fields;

@@ -18,7 +18,7 @@ pub record MayStart (s : SystemLists) (x : List Bound) (kept : List (Option Read
   pub sound : AreSound s kept x
   pub room : length s.tasks ≤ trail.room
 
--- a whole round over the resources that `dirty` tells
+-- a whole round over the resources that `dirty` says
 pub record IsRound (s : SystemLists) (dirty : ℕ → Bool) (old new : List Bound) (before after : List (Option Reading)) : Type 0 where
   -- bounds on other resources are as before
   pub others : (i : ℕ) → i < length s.tasks → dirty (task_at s i).res.0 ≡ false → bound_of new i ≡ bound_of old i

@@ -11,7 +11,7 @@ ghost use Rattle.cpa_local.specs.Rising.{IsRisen, IsRaised, AgreeOutside, TasksO
 ghost use Rattle.cpa_fix.specs.Rounds.{HasNoFeedback};
 
 use crate::readings::Reading;
-use cpa_depend::leads_back;
+use cpa_depend::has_cyclic_chain;
 use cpa_local::{Trail, raise};
 use cpa_model::{Kind, System};
 use cpa_units::{NoMemory, ResId, Vector};
@@ -42,7 +42,7 @@ pub fn analyse(
     ensures up { IfOk result (λ reading. IsNowhereAbove x.old reading.seen) }
     ensures outside { IfOk result (λ reading. AgreeOutside system.now res.0 reading.seen x.new) }
 {
-    let back = leads_back(system, res);
+    let back = has_cyclic_chain(system, res);
     if has_feedback(system, res, back) {
         let reading = reading_at(alloc, old, x)?;
         raise(system, res, back, x, trail);

@@ -1,4 +1,4 @@
-//! What the search for the least solution stands on, for whoever builds on this crate.
+//! What the search for the least solution depends on, for crates that depend on this one.
 
 ghost use Rattle.cpa_fix.specs.Laws.{BoundsDependOnReads, BoundsWithoutFeedback, CleanIsLeast};
 

@@ -16,4 +16,4 @@ pub use laws::{bounds_depend_on_reads, clean_is_least, readings_cross_threads};
 pub use one_by_one::{OneByOne, round_of_one};
 pub use readings::{Reading, Readings};
 pub use rounds::Round;
-pub use solving::{Solution, solve, solve_within};
+pub use solving::{Solution, least_bounds, solve, solve_within};

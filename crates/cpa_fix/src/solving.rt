@@ -5,7 +5,7 @@ ghost use Rattle.std.specs.Bool.{OnTrue, OnFalse};
 ghost use Rattle.std.specs.Result.{OnOk};
 ghost use Rattle.cpa_units.specs.Sets.{Members};
 ghost use Rattle.cpa_model.specs.Rules.{IsSystem};
-ghost use Rattle.cpa_local.specs.Solution.{IsVector, IsLeast};
+ghost use Rattle.cpa_local.specs.Solution.{IsVector, IsLeast, least_of};
 ghost use Rattle.cpa_local.specs.Trails.{IsKept, NewMarksAre, AreMarked};
 ghost use Rattle.cpa_depend.specs.Cone.{Reads, InCone, AreReads, IsClosedUnder};
 ghost use Rattle.cpa_fix.specs.Readings.{AgreeOnReads, AreSound, HasCleanReading, AreCleanBeyond, AreKeptBeyond, IsDirty, IsSolved};
@@ -16,7 +16,7 @@ ghost use Rattle.cpa_fix.specs.Stale.{Differs, DiffersOn, AgreeOn, IsStale, AreS
 use crate::readings::Readings;
 use crate::rounds::Round;
 use cpa_depend::reads_of_all;
-use cpa_local::Trail;
+use cpa_local::{Trail, floor};
 use cpa_model::System;
 use cpa_units::{Bound, NoMemory, ResId, ResSet, Vector};
 use std::alloc::Global;
@@ -57,7 +57,7 @@ pub fn solve<H: Sync, R: Round<H>>(
 
 /// The same, where resources beyond `reach` are known to be clean at the start, and `reach` has every
 /// resource that reads a member: only members are looked at, and the readings of others are kept. The
-/// table tells what each resource reads.
+/// table says what each resource reads.
 pub fn solve_within<H: Sync, R: Round<H>>(
     rt: &H,
     alloc: Global,
@@ -93,7 +93,7 @@ pub fn solve_within<H: Sync, R: Round<H>>(
     })
 }
 
-/// The resources that aren't clean, where the table tells what each reads and those beyond `reach` are
+/// The resources that aren't clean, where the table says what each reads and those beyond `reach` are
 /// clean; none where all are.
 fn dirty_resources(
     system: &System,
@@ -182,4 +182,22 @@ fn is_same(a: Bound, b: Bound) -> bool
         (Bound::Overload, Bound::Overload) => true,
         _ => false,
     }
+}
+
+/// The bounds of the least solution of a system, in ticks, found from nothing by rounds of this kind.
+pub fn least_bounds<H: Sync, R: Round<H>>(
+    rt: &H,
+    alloc: Global,
+    system: &System,
+    round: &mut R,
+) -> Result<Vector, NoMemory>
+    ensures least { IfOk result (λ x. IsLeast system.now x) }
+    ensures value { IfOk result (λ x. x ≡ least_of system.now) }
+    ensures vector { IfOk result (λ x. IsVector system.now x) }
+{
+    let start = floor(alloc, system)?;
+    let kept = Readings::none(alloc, system)?;
+    let mut trail = Trail::with_room(alloc, system.tasks())?;
+    let solution = solve(rt, alloc, system, start, kept, round, &mut trail)?;
+    Ok(solution.bounds)
 }

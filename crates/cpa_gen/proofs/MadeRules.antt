@@ -1,4 +1,4 @@
--- Each made system keeps the rules of systems.
+-- Each generated system keeps the rules of systems.
 use Rattle.std.proofs.Common.{◌≡◌, ◌≢◌, ◌<◌, ◌≤◌, ℕ, zero, suc, ◌+◌, ◌-◌, ◌*◌, ◌/◌, ◌%◌, ◌⊎◌, inl, inr, List, [], ◌∷◌, ◌++◌, length, slice_index_or, All, Bool, true, false, codes, if◌then◌else◌, nat_lt, Option, Some, IsSome, unwrap_or, max, refl, ap, ap₂, ◌∙◌, sym, subst, arith, rules}
 use Rattle.std.specs.Prelude.{◌==◌}
 use Rattle.std.specs.List.{flat_map, list_any}
@@ -27,7 +27,7 @@ use Rattle.cpa_gen.proofs.ListLaws.{all_table, map_table, pairs_append, pairs_ta
 use Rattle.cpa_gen.proofs.MadeNumbers.{chain_fits, few_buses, few_processors, place_is, some_buses, some_processors, third, thirds}
 use Rattle.cpa_gen.proofs.Names.{bus_named, ended_same, first_named, frame_named, last_named, letters_same, path_named, plain_same, processor_named, source_named}
 
--- the lists of a made system
+-- the lists of a generated system
 abbrev pub lists : ℕ → ℕ → SystemLists
 lists number size = record {
   resources = table (made_resource size) (processors size + buses size);

@@ -1,4 +1,4 @@
--- Each made trace obeys its system.
+-- Each generated trace obeys its system.
 use Rattle.std.proofs.Common.{◌≡◌, ◌<◌, ◌≤◌, ℕ, ◌+◌, ◌-◌, ◌%◌, ◌==◌, if◌then◌else◌, Bool, true, false, List, [], replicate, length, slice_index_or, refl, sym, ap, ◌∙◌, subst, arith, rules, ◌⊎◌, inl, inr}
 use Rattle.std.proofs.lemmas.Bool.{cases_lt}
 use Rattle.std.proofs.lemmas.Bool.Decides.{Decides-eqb}
@@ -155,7 +155,7 @@ if_even : (s : SystemLists) (g : Lcg) (b : Bool) → IsSystem s → Obeys s (if 
 if_even s g true kept = worst_trace-obeys s kept
 if_even s g false kept = drawn_trace-obeys s g kept
 
--- each made trace obeys its system
+-- each generated trace obeys its system
 pub made_traces_obey : (s : SystemLists) (number k : ℕ) → IsSystem s → Obeys s (made_trace s number k)
 made_traces_obey s number k kept = if_even s (generator number k) (k % 2 == 0) kept
 

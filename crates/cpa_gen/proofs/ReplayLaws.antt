@@ -1,4 +1,4 @@
--- Each made trace can be replayed.
+-- Each generated trace can be replayed.
 use Rattle.std.proofs.Common.{◌≡◌, ◌<◌, ◌≤◌, ℕ, ◌+◌, ◌%◌, ◌==◌, if◌then◌else◌, Bool, true, false, List, [], All, length, slice_index_or, refl, sym, ap, subst, arith, inl, inr}
 use Rattle.std.proofs.lemmas.Bool.{cases_lt}
 use Rattle.std.proofs.lemmas.List.{get_or_past, length-replicate}
@@ -146,6 +146,6 @@ if_even : (s : SystemLists) (g : Lcg) (b : Bool) → IsSystem s → CanReplay s 
 if_even s g true kept = worst_trace-replays s kept
 if_even s g false kept = drawn_trace-replays s g kept
 
--- each made trace can be replayed
+-- each generated trace can be replayed
 pub made_traces_replay : (s : SystemLists) (number k : ℕ) → IsSystem s → CanReplay s (made_trace s number k)
 made_traces_replay s number k kept = if_even s (generator number k) (k % 2 == 0) kept

@@ -21,7 +21,7 @@ use Rattle.cpa_sound.specs.Beyond.{beyond_of, is_beyond, late_jobs}
 use Rattle.cpa_sound.proofs.BeyondLaws.{nothing_is_beyond}
 use Rattle.cpa_sim.proofs.JobCount.{few_jobs}
 use Rattle.cpa_gen.specs.MadeTraces.{made_trace}
-use Rattle.cpa_gen.specs.declared.seen.Tally.{Tally}
+use Rattle.cpa_gen.specs.declared.observation.Tally.{Tally}
 use Rattle.cpa_gen.specs.Adding.{IsSmall, MOST_JOBS, seen_plus, tallies_plus, tally_of, tally_plus}
 use Rattle.cpa_gen.specs.Seen.{SeenLists, jobs_in, no_tally, run_made, seen_over, tally_at, tally_over}
 use Rattle.cpa_gen.proofs.ListLaws.{same_table, table, table_at, table_length}

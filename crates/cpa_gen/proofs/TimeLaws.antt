@@ -1,4 +1,4 @@
--- The times of made traces.
+-- The times of generated traces.
 use Rattle.std.proofs.Common.{◌≡◌, ◌<◌, ◌≤◌, ℕ, zero, suc, ◌+◌, ◌*◌, ◌-◌, ◌/◌, min, nat_le, ◌==◌, if◌then◌else◌, Bool, true, false, refl, ap, ◌∙◌, arith, rules}
 use Rattle.std.proofs.Math.Nat.{div-mul-le_self, mod-lt}
 use Rattle.std.proofs.lemmas.Nat.{le-div, mul-le}

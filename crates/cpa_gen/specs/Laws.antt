@@ -1,4 +1,4 @@
--- What holds of all made systems and made traces.
+-- What holds of all generated systems and generated traces.
 use Rattle.std.specs.Prelude.{ℕ, ◌↔◌, ◌<◌, ◌≤◌, ◌+◌, ◌*◌}
 use Rattle.cpa_units.specs.declared.limits.TheConstants.{MAX_SIZE, MAX_TRACE_TIME}
 use Rattle.cpa_model.specs.declared.entries.Source.{Source}
@@ -10,7 +10,7 @@ use Rattle.cpa_gen.specs.MadeSystems.{made_system}
 use Rattle.cpa_gen.specs.MadeTraces.{events_made, made_trace}
 use Rattle.cpa_gen.specs.declared.traces.TheConstants.{MADE_EVENTS}
 
--- a made system is a system
+-- a generated system is a system
 abbrev pub MadeSystemsKeepRules : Type 0
 MadeSystemsKeepRules = (number size : ℕ) → size ≤ MAX_SIZE → IsSystem (made_system number size)
 
@@ -18,7 +18,7 @@ MadeSystemsKeepRules = (number size : ℕ) → size ≤ MAX_SIZE → IsSystem (m
 abbrev pub EventsAreInTime : Type 0
 EventsAreInTime = (r : Source) → IsSource r → (m : ℕ) → (m < events_made r) ↔ ((m < MADE_EVENTS) × (m * r.period + r.jitter ≤ MAX_TRACE_TIME))
 
--- a made trace obeys its system
+-- a generated trace obeys its system
 abbrev pub MadeTracesObey : Type 0
 MadeTracesObey = (s : SystemLists) (number k : ℕ) → IsSystem s → Obeys s (made_trace s number k)
 

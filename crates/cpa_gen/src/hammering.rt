@@ -1,4 +1,4 @@
-//! Runs under many made traces.
+//! Runs under many generated traces.
 
 ghost use Rattle.std.specs.Prelude.{◌≡◌, ◌<◌, ◌≤◌, ◌-◌, ◌∷◌, [], IfOk, length};
 ghost use Rattle.std.specs.List.{AllZip, range_with_len};
@@ -8,7 +8,7 @@ ghost use Rattle.cpa_local.specs.Solution.{IsClosed};
 ghost use Rattle.cpa_gen.specs.Adding.{IsSmall, seen_plus};
 ghost use Rattle.cpa_gen.specs.Seen.{seen_over};
 
-use crate::seen::{Seen, see};
+use crate::observation::{Seen, see};
 use cpa_model::System;
 use cpa_units::{NoMemory, Vector};
 use rayon::prelude::*;
@@ -81,9 +81,9 @@ fn see_more<R: Threads + Sync>(
     Ok(total)
 }
 
-/// What is seen of a system in its runs under at most 10,000 made traces of a number, those from 0 on, as if they were
+/// What is seen of a system in its runs under at most 10,000 generated traces of a number, those from 0 on, as if they were
 /// replayed one after the other; they are replayed on several threads. Where the vector is closed no job is beyond its
-/// bound. The only error is want of memory.
+/// bound. The only error is out of memory.
 pub fn hammer<R: Threads + Sync>(
     rt: &R,
     alloc: Global,

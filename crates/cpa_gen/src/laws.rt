@@ -1,8 +1,8 @@
-//! What holds of all made systems and made traces. The calls do nothing.
+//! What holds of all generated systems and generated traces. The calls do nothing.
 
 ghost use Rattle.cpa_gen.specs.Laws.{EventsAreInTime, MadeSystemsKeepRules, MadeTracesObey, MadeTracesReplay};
 
-/// A made system keeps the rules of systems.
+/// A generated system keeps the rules of systems.
 pub fn made_systems_have_laws()
     ensures { MadeSystemsKeepRules }
 {}

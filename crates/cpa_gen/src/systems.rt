@@ -1,4 +1,4 @@
-//! Made systems.
+//! Generated systems.
 
 ghost use Rattle.std.specs.Prelude.{◌≡◌, ◌<◌, ◌≤◌, ◌+◌, ◌*◌, ◌/◌, ◌%◌, true, codes, All, IfOk, length, map};
 ghost use Rattle.std.specs.List.{list_all, range_with_len};
@@ -201,10 +201,10 @@ fn make_paths(alloc: Global, chains: &[Chain]) -> Result<Vec<Path>, NoMemory>
     Ok(paths)
 }
 
-/// The system that is made from a number and a size of at most 128: so many chains of a task on a processor, a frame on
+/// The system that is generated from a seed and a size of at most 128: so many chains of a task on a processor, a frame on
 /// a bus and a task on a processor, each from a source of its own, with a quarter as many processors and an eighth as many
 /// CAN buses, rounded up. Periods, jitters, executions, payloads and the last processors are drawn by PCG32 (O'Neill 2014);
-/// times are in ticks. The only error is want of memory.
+/// times are in ticks. The only error is out of memory.
 pub fn make_system(alloc: Global, number: u64, size: u32) -> Result<System, NoMemory>
     requires { size ≤ MAX_SIZE }
     ensures { IfOk result (λ s. s ≡ made_system number size) }

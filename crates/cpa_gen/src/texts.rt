@@ -1,4 +1,4 @@
-//! The texts of made systems, and of runs under made traces.
+//! The texts of generated systems, and of runs under generated traces.
 
 ghost use Rattle.std.specs.Prelude.{◌≡◌, ◌<◌, ◌++◌, IfOk, OnOk, length, sum_by};
 ghost use Rattle.std.specs.List.{flat_map};
@@ -6,7 +6,7 @@ ghost use Rattle.cpa_local.specs.Solution.{IsVector};
 ghost use Rattle.cpa_model.specs.SystemLists.{task_places};
 ghost use Rattle.cpa_gen.specs.Texts.{hammer_line, hammer_summary, hammer_text, load_text, number_of_bound};
 
-use crate::seen::Seen;
+use crate::observation::Seen;
 use cpa_model::System;
 use cpa_report::{put_bound, put_summary_at};
 use cpa_sim::put_worst;
@@ -36,8 +36,8 @@ fn sum_of_bounds(system: &System, x: &Vector) -> u64
     sum
 }
 
-/// The summary of a made system's analysis: its number and size, the sum of all bounds that are numbers, in ticks, and
-/// the last line of its report. The only error is want of memory.
+/// The summary of a generated system's analysis: its number and size, the sum of all bounds that are numbers, in ticks, and
+/// the last line of its report. The only error is out of memory.
 #[tactic(auto, unfolding(crate::specs::Texts::load_text))]
 pub fn load_text(
     alloc: Global,
@@ -104,8 +104,8 @@ fn put_sums(text: &mut Text, traces: u64, jobs: u64, beyond: u64) -> Result<(), 
     Ok(())
 }
 
-/// What is seen of a system under made traces, beside its bounds: per task its jobs, and the greatest response of a
-/// complete one and the bound, in ticks; and the sums. The only error is want of memory.
+/// What is seen of a system under generated traces, beside its bounds: per task its jobs, and the greatest response of a
+/// complete one and the bound, in ticks; and the sums. The only error is out of memory.
 #[tactic(auto, unfolding(crate::specs::Texts::hammer_text))]
 pub fn hammer_text(
     alloc: Global,

@@ -1,4 +1,4 @@
-//! Made traces.
+//! Generated traces.
 
 ghost use Rattle.std.specs.Prelude.{◌≡◌, if◌then◌else◌, ◌<◌, ◌≤◌, ◌+◌, ◌*◌, [], map, max, length, replicate, IfOk, OnOk};
 ghost use Rattle.std.specs.List.{range_with_len};
@@ -20,10 +20,10 @@ use rand_pcg::Pcg32;
 use std::alloc::Global;
 use std::cmp::min;
 
-/// The most events of a source in a made trace.
+/// The most events of a source in a generated trace.
 const MADE_EVENTS: u64 = 100;
 
-/// How many events a source has in a made trace.
+/// How many events a source has in a generated trace.
 fn events_made(source: &Source) -> u64
     requires { IsSource source.now }
     ensures value { result ≡ events_made source.now }
@@ -156,7 +156,7 @@ fn draw_all_times(
     Ok(times)
 }
 
-/// How many jobs a task has in a made trace.
+/// How many jobs a task has in a generated trace.
 fn jobs_made(system: &System, task: TaskId) -> u64
     requires { task.0 < length system.now.tasks }
     ensures { result ≡ jobs_made system.now task.0 }
@@ -246,7 +246,7 @@ fn drawn_trace(alloc: Global, mut rng: Pcg32, system: &System) -> Result<Trace, 
 
 /// Trace `k` that is made for a system from a number. Each source has at most 100 events, by 10,000,000 ticks. Where `k`
 /// is even, its first event is as late as may be, and each execution is the greatest; else all is drawn by PCG32 (O'Neill
-/// 2014), from the stream `k`. The trace obeys the system, and can be replayed. The only error is want of memory.
+/// 2014), from the stream `k`. The trace obeys the system, and can be replayed. The only error is out of memory.
 pub fn make_trace(alloc: Global, system: &System, number: u64, k: u64) -> Result<Trace, NoMemory>
     ensures value { IfOk result (λ tr. tr ≡ made_trace system.now number k) }
     ensures obeys { IfOk result (λ tr. Obeys system.now tr) }

@@ -41,7 +41,7 @@ impl<R: rt::Files + Drop> RealFiles<R> {
         }
     }
 
-    /// Counts an error of the library, and answers `Memory` where it tells of want of memory.
+    /// Counts an error of the library, and answers `Memory` where it says that memory ran out.
     fn fail(&mut self, alloc: Global, name: &str, error: io::Error) -> LoadFault
         ensures fault { result ≢ LoadFault.TooLong }
         ensures counted { self.new.faults ≡ risen self.old.faults }

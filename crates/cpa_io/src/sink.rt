@@ -14,7 +14,7 @@ pub enum SinkFault {
 
 /// A sink that takes the first bytes of each piece, as many as it likes.
 pub trait Sink {
-    /// The bytes sent so far, where the sink tells them.
+    /// The bytes sent so far, where the sink says what they are.
     ghost sent: { Self → Option (List ℕ) };
 
     /// How often a send failed.

@@ -17,14 +17,14 @@ use denote.Struct.Owning.{shape}
 use mir.Syntax.{impl, tnil, dnil}
 use Rattle.std.specs.Box.Ownership.{box_owns}
 use Rattle.std_alloc.proofs.BoxSteps.Form.{Bx}
-use Rattle.cpa_kept.specs.Sealed.{frees}
+use Rattle.cpa_kept.specs.HiddenBox.{frees}
 use Rattle.std_heap.specs.contracts.Global as Heap
 use Rattle.std_heap.specs.contracts.GlobalAllocator.TheImpl.{ghosts, dict}
 use Rattle.std_heap.proofs.Global.TheLaws as heap
 use Rattle.cpa_session.specs.contracts.session.Session as Session
 use Rattle.cpa_session.proofs.session.Session.TheLaws as session
 use Rattle.cpa_kept.specs.contracts.parts.Parts as Parts
-use Rattle.cpa_kept.specs.contracts.sealed.Sealed as Sealed
+use Rattle.cpa_kept.specs.contracts.hidden_box.Sealed as Sealed
 
 -- a box of a session
 abbrev pub E : Bx

@@ -7,11 +7,12 @@ ghost use Rattle.cpa_edit.specs.Script.{script_of};
 ghost use Rattle.cpa_kept.specs.Kept.{kept_in, edit_in, no_edit, one_edit, IsMade, IsEdited};
 
 use crate::handle::Handle;
-use crate::lines::{edit_line, no_edit_line, script_line};
-use cpa_call::ended::Reply;
+use cpa_call::errors::Reply;
+use cpa_call::statuses;
 use cpa_edit::{Edit, EditFault, Script, ScriptFault, Step, read_script};
 use cpa_fix::OneByOne;
 use cpa_local::Trail;
+use cpa_run::{edit_line, script_line};
 use cpa_session::Session;
 use cpa_units::NoMemory;
 use std::alloc::Global;
@@ -29,11 +30,18 @@ fn make(alloc: Global, session: &mut Session, line: u32, edit: &Edit) -> Result<
             text: Vec::new(alloc),
         }),
         Err(EditFault::Refused(number)) => Ok(Reply {
-            status: 21,
+            status: statuses::EDIT_REFUSED,
             text: edit_line(alloc, line, number)?,
         }),
         Err(EditFault::Memory) => Err(NoMemory),
     }
+}
+
+/// The line of a script that isn't one edit.
+fn no_edit_line(alloc: Global) -> Result<Vec<u8>, NoMemory>
+    ensures { IfOk result (λ v. v.items ≡ no_edit) }
+{
+    Ok(Vec::from_slice(alloc, b"script refused no edit\n")?)
 }
 
 /// The reply where a script isn't one edit.
@@ -41,7 +49,7 @@ fn refuse(alloc: Global) -> Result<Reply, NoMemory>
     ensures { IfOk result (λ r. reply r.status r.text.items ≡ reply 15 no_edit) }
 {
     Ok(Reply {
-        status: 15,
+        status: statuses::SCRIPT_REFUSED,
         text: no_edit_line(alloc)?,
     })
 }
@@ -78,7 +86,7 @@ pub fn edit(alloc: Global, handle: &mut Handle, text: &[u8]) -> Result<Reply, No
         }
         Err(ScriptFault::Memory) => Err(NoMemory),
         Err(fault) => Ok(Reply {
-            status: 15,
+            status: statuses::SCRIPT_REFUSED,
             text: script_line(alloc, fault)?,
         }),
     }

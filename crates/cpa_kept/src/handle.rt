@@ -2,8 +2,8 @@
 
 ghost use Rattle.std.specs.Prelude.{◌≡◌, ◌↔◌, Some, None, IsSome, IsTrue, is_some, not, nat_eq};
 
+use crate::hidden_box::Sealed;
 use crate::parts::Parts;
-use crate::sealed::Sealed;
 use cpa_session::Session;
 use std::alloc::Global;
 use std::mem::replace;

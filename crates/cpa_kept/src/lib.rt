@@ -5,12 +5,11 @@
 
 mod editing;
 mod handle;
-mod lines;
+mod hidden_box;
 mod numbers;
 mod opening;
 mod parts;
 mod reporting;
-mod sealed;
 
 pub use editing::edit;
 pub use handle::{Handle, handles_cross_threads};

@@ -8,7 +8,7 @@ ghost use Rattle.cpa_memory.specs.Held.{held_of};
 ghost use Rattle.cpa_kept.specs.Kept.{kept_in, IsOpened};
 
 use crate::handle::Handle;
-use cpa_call::ended::{Ended, Reply};
+use cpa_call::errors::{InputError, Reply};
 use cpa_call::loading::load_system;
 use cpa_fix::OneByOne;
 use cpa_local::Trail;
@@ -28,7 +28,7 @@ fn start(alloc: Global, system: System) -> Result<Box<Session>, NoMemory>
 }
 
 /// The system that a text stands for; a refusal has its reply.
-fn read(alloc: Global, text: &[u8]) -> Result<System, Ended>
+fn read(alloc: Global, text: &[u8]) -> Result<System, InputError>
     ensures planned { IfOk result (λ system. system_in (held_of text.now [] [] [] []) (codes "system") ≡ Do system) }
     ensures ended { IfErr result (IsEndOf (system_in (held_of text.now [] [] [] []) (codes "system"))) }
     ensures status { IfErr result HasStatus }
@@ -60,9 +60,9 @@ pub fn open(alloc: Global, handle: &mut Handle, system: &[u8]) -> Result<Reply, 
                 text: Vec::new(alloc),
             })
         }
-        Err(Ended::Refused(reply)) => Ok(reply),
-        Err(Ended::Unread(_)) => unreachable!(),
-        Err(Ended::Memory) => Err(NoMemory),
+        Err(InputError::Refused(reply)) => Ok(reply),
+        Err(InputError::Unread(_)) => unreachable!(),
+        Err(InputError::Memory) => Err(NoMemory),
     }
 }
 

@@ -6,7 +6,7 @@ ghost use Rattle.cpa_run.specs.Answers.{IsReport};
 ghost use Rattle.cpa_kept.specs.Kept.{kept_in};
 
 use crate::handle::Handle;
-use cpa_call::ended::Reply;
+use cpa_call::errors::Reply;
 use cpa_report::{report_text, verdict};
 use cpa_session::Session;
 use cpa_units::NoMemory;

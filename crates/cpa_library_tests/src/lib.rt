@@ -4,4 +4,4 @@
 #[cfg(test)]
 mod kept;
 #[cfg(test)]
-mod worded;
+mod text_commands;

@@ -5,9 +5,9 @@ use Rattle.cpa_units.specs.declared.limits.TheConstants.{MAX_CHAIN, MAX_EXECUTIO
 use Rattle.cpa_events.specs.Events.{Model, later}
 use Rattle.cpa_events.specs.Streams.{IsStreamInRange}
 use Rattle.cpa_model.specs.SystemLists.{SystemLists, depth_of, streams_of}
-use Rattle.cpa_local.specs.declared.ways.Way.{Way}
-use Rattle.cpa_local.specs.declared.ways.End.{End}
-use Rattle.cpa_local.specs.declared.ways.End.TheVariants.{Sent, Several, Unbounded}
+use Rattle.cpa_local.specs.declared.chain_walks.ChainWalk.{ChainWalk}
+use Rattle.cpa_local.specs.declared.chain_walks.WalkEnd.{WalkEnd}
+use Rattle.cpa_local.specs.declared.chain_walks.WalkEnd.TheVariants.{Sent, Several, Unbounded}
 use Rattle.cpa_local.specs.Inputs.{input}
 
 -- what is sent on after several tasks in a row; nothing is known where what they receive is unbounded
@@ -30,7 +30,7 @@ pub record IsOnWay (s : SystemLists) (x : List Bound) (i late least at more floo
   pub deep : depth_of s at ≤ depth_of s i
 
 -- where a way ends that came back to task i: what that task's input is where the way began
-abbrev pub EndsThere : SystemLists → List Bound → ℕ → Way → End → Type 0
+abbrev pub EndsThere : SystemLists → List Bound → ℕ → ChainWalk → WalkEnd → Type 0
 EndsThere s x i way (Sent stream) = IsStreamInRange stream × (later_of way.late way.least (input s x i) ≡ Some (stream ∷ []))
 EndsThere s x i way (Several at back) = IsOnWay s x i way.late way.least at.0 back.late back.least
 EndsThere s x i way Unbounded = later_of way.late way.least (input s x i) ≡ None

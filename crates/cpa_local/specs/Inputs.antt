@@ -18,7 +18,7 @@ output_of best (Within bound) (Some m) = Some (after_response m best bound)
 output_of best (Within bound) None = None
 output_of best Overload m = None
 
--- what an activator sends, where `input` tells the tasks' inputs
+-- what an activator sends, where `input` says the tasks' inputs
 abbrev pub sent_by : SystemLists → List Bound → (ℕ → Option Model) → Activator → Option Model
 sent_by s x input (FromSource k) = Some (source_model s k.0)
 sent_by s x input (FromTask j) = output_of (task_at s j.0).best (bound_of x j.0) (input j.0)

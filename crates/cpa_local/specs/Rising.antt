@@ -8,7 +8,7 @@ use Rattle.cpa_local.specs.Local.{response}
 use Rattle.cpa_local.specs.Solution.{IsVector, least_of}
 use Rattle.cpa_local.specs.Trails.{Marks, IsKept, NewMarksAre, AreMarked}
 
--- the tasks on resources that `which` tells
+-- the tasks on resources that `which` says
 abbrev pub TasksOn : SystemLists → (ℕ → Type 0) → ℕ → Type 0
 TasksOn s which i = (i < length s.tasks) × which (task_at s i).res.0
 

@@ -15,10 +15,10 @@ pub record IsKept (old new : Marks) : Type 0 where
   pub marks : (i : ℕ) → IsMarked old i → IsMarked new i
   pub room : old.room ≤ new.room
 
--- every mark that is new is of a task that `which` tells
+-- every mark that is new is of a task that `which` says
 abbrev pub NewMarksAre : Marks → Marks → (ℕ → Type 0) → Type 0
 NewMarksAre old new which = (i : ℕ) → IsMarked new i → IsMarked old i ⊎ which i
 
--- every task that `which` tells is marked
+-- every task that `which` says is marked
 abbrev pub AreMarked : Marks → (ℕ → Type 0) → Type 0
 AreMarked new which = (i : ℕ) → which i → IsMarked new i

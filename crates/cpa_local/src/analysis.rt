@@ -13,10 +13,10 @@ ghost use Rattle.cpa_local.specs.Inputs.{AreInputs};
 ghost use Rattle.cpa_local.specs.Trails.{IsKept, NewMarksAre, AreMarked};
 ghost use Rattle.cpa_local.specs.Worked.{IsPrepared, HasCycle, HasInputs};
 
-use crate::known::own_input;
-use crate::neighbours::{blocking, gather_higher, gather_others, slot};
+use crate::neighbours::{blocking, gather_higher, gather_others};
+use crate::prepared_inputs::own_input;
+use crate::scratch::{Scratch, make_rivals};
 use crate::trail::Trail;
-use crate::work::{Work, make_rivals};
 use cpa_events::Model;
 use cpa_model::{Kind, System};
 use cpa_units::{Bound, TaskId, Vector};
@@ -46,7 +46,12 @@ pub fn respond(system: &System, task: TaskId, x: &Vector, trail: &mut Trail) -> 
 /// The same, where what the analyses on the task's resource share at the vector is worked out. It stays
 /// as it is.
 #[tactic(auto, unfolding(crate::specs::Local::response))]
-pub(crate) fn respond_prepared(system: &System, task: TaskId, x: &Vector, work: &mut Work) -> Bound
+pub(crate) fn respond_prepared(
+    system: &System,
+    task: TaskId,
+    x: &Vector,
+    work: &mut Scratch,
+) -> Bound
     requires there { task.0 < length system.now.tasks }
     requires vector { IsVector system.now x.now }
     requires room { length system.now.tasks ≤ length work.old.inputs }
@@ -148,7 +153,7 @@ fn round_robin(
     let count = gather_others(system, task, x, inputs, rivals);
     let entry = system.task(task);
     let limit = system.resource(entry.res).limit;
-    cpa_rr::respond(own, entry.worst, slot(entry.turn), &rivals[..count], limit)
+    cpa_rr::respond(own, entry.worst, entry.turn.slot(), &rivals[..count], limit)
 }
 
 /// The bound under TDMA, which is the same at every vector. The gap is in the cycle.
@@ -162,7 +167,7 @@ fn tdma(system: &System, task: TaskId, own: &Model, cycle: u64) -> Bound
 {
     let entry = system.task(task);
     let limit = system.resource(entry.res).limit;
-    cpa_tdma::respond(own, entry.worst, slot(entry.turn), cycle, limit)
+    cpa_tdma::respond(own, entry.worst, entry.turn.slot(), cycle, limit)
 }
 
 /// The bound on a CAN bus whose bits take so many ticks.

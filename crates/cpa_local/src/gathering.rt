@@ -14,7 +14,7 @@ ghost use Rattle.cpa_local.specs.Inputs.{AreKnown, input, found_if, joined};
 ghost use Rattle.cpa_local.specs.Gathered.{IsOnWay, later_of, so_far};
 ghost use Rattle.cpa_local.specs.Solution.{IsVector};
 
-use crate::ways::{End, Way, walk};
+use crate::chain_walks::{ChainWalk, WalkEnd, walk};
 use cpa_events::{Model, Stream};
 use cpa_model::{Activator, System};
 use cpa_units::{Bound, TaskId, Vector};
@@ -35,7 +35,7 @@ fn put(found: &mut Model, none: bool, stream: Stream)
 /// Puts the streams of an input, as they are at the end of a way, behind those that were found so far.
 /// False where it is unbounded.
 #[cold]
-fn put_all(input: &Option<Model>, way: Way, none: bool, found: &mut Model) -> bool
+fn put_all(input: &Option<Model>, way: ChainWalk, none: bool, found: &mut Model) -> bool
     requires in_range { ForSome input.now IsModelInRange }
     requires late { way.late ≤ MAX_MODEL_JITTER }
     requires jitter { ForSome input.now (λ m. HasJitterUpTo m (MAX_MODEL_JITTER - way.late)) }
@@ -66,7 +66,7 @@ fn gather(
     x: &Vector,
     known: &[bool; 512],
     inputs: &[Option<Model>],
-    way: Way,
+    way: ChainWalk,
     none: bool,
     found: &mut Model,
 ) -> bool
@@ -97,14 +97,14 @@ fn gather(
                     put_all(&inputs[place], longer, first, found)
                 } else {
                     match walk(system, earlier, x, longer) {
-                        End::Sent(stream) => {
+                        WalkEnd::Sent(stream) => {
                             put(found, first, stream);
                             true
                         }
-                        End::Several(at, back) => {
+                        WalkEnd::Several(at, back) => {
                             gather(system, at, x, known, inputs, back, first, found)
                         }
-                        End::Unbounded => false,
+                        WalkEnd::Unbounded => false,
                     }
                 }
             }
@@ -133,12 +133,12 @@ pub(crate) fn find_along(
     requires known { AreKnown system.now x.now known.now inputs.now }
     ensures { found_if result found.new ≡ input system.now x.now task.0 }
 {
-    match walk(system, task, x, Way::none()) {
-        End::Sent(stream) => {
+    match walk(system, task, x, ChainWalk::none()) {
+        WalkEnd::Sent(stream) => {
             found.set_one(stream);
             true
         }
-        End::Several(at, way) => gather(system, at, x, known, inputs, way, true, found),
-        End::Unbounded => false,
+        WalkEnd::Several(at, way) => gather(system, at, x, known, inputs, way, true, found),
+        WalkEnd::Unbounded => false,
     }
 }

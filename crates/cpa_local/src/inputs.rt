@@ -6,7 +6,7 @@ ghost use Rattle.cpa_local.specs.Inputs.{AreKnown, input, found_if};
 ghost use Rattle.cpa_local.specs.Solution.{IsVector};
 
 use crate::gathering::find_along;
-use crate::work::no_model;
+use crate::scratch::no_model;
 use cpa_events::Model;
 use cpa_model::System;
 use cpa_units::{TaskId, Vector};

@@ -1,4 +1,4 @@
-//! What holds of bounds and of least solutions, for whoever builds on this crate.
+//! What holds of bounds and of least solutions, for crates that depend on this one.
 
 ghost use Rattle.cpa_local.specs.Laws.{InputsFollowStreams, ResponsesAreMonotone, LeastExists, LeastIsUnique, LeastIsFixed, ClosedBelowIsLeast, RaisingLiftsLeast};
 

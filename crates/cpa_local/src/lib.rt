@@ -6,17 +6,17 @@
 #![tactic(auto)]
 
 mod analysis;
+mod chain_walks;
 mod gathering;
 mod inputs;
-mod known;
 mod laws;
 mod neighbours;
 mod paths;
+mod prepared_inputs;
 mod rising;
+mod scratch;
 mod start;
 mod trail;
-mod ways;
-mod work;
 
 pub use analysis::respond;
 pub use inputs::input;
@@ -24,7 +24,8 @@ pub use laws::{
     inputs_follow_streams, least_solutions_have_laws, responses_are_monotone, trails_cross_threads,
 };
 pub use paths::{
-    Outcome, count_missed, count_overloads, is_missed, is_overload, judge, path_best, path_worst,
+    DeadlineVerdict, count_missed, count_overloads, deadline_verdict, is_missed, is_overload,
+    path_best, path_worst,
 };
 pub use rising::raise;
 pub use start::floor;

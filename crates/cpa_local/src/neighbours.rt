@@ -4,35 +4,16 @@ ghost use Rattle.std.specs.Prelude.{◌≡◌, ◌<◌, ◌≤◌, ◌==◌, ◌
 ghost use Rattle.cpa_units.specs.declared.limits.TheConstants.{MAX_CYCLE, MAX_EXECUTION};
 ghost use Rattle.cpa_events.specs.Events.{IsModelInRange};
 ghost use Rattle.cpa_window.specs.Rivals.{IsRival, AreRivals};
-ghost use Rattle.cpa_model.specs.SystemLists.{task_at, tasks_on, priority_of, slot_of, is_higher, is_other, higher_tasks, other_tasks, blocking_of, cycle_of};
+ghost use Rattle.cpa_model.specs.SystemLists.{task_at, tasks_on, is_higher, is_other, higher_tasks, other_tasks, blocking_of, cycle_of};
 ghost use Rattle.cpa_local.specs.Inputs.{AreInputs, input};
 ghost use Rattle.cpa_local.specs.Local.{rival_of};
 ghost use Rattle.cpa_local.specs.Solution.{IsVector};
 
-use crate::known::keep;
+use crate::prepared_inputs::keep;
 use cpa_events::Model;
-use cpa_model::{System, Turn};
+use cpa_model::System;
 use cpa_units::{TaskId, Vector};
 use cpa_window::Rival;
-
-fn priority(turn: Turn) -> u32
-    ensures { result ≡ priority_of turn }
-{
-    match turn {
-        Turn::Priority(number) => number,
-        Turn::Slot(_) => 0,
-    }
-}
-
-/// The slot of a turn, 0 where it has a priority.
-pub(crate) fn slot(turn: Turn) -> u64
-    ensures { result ≡ slot_of turn }
-{
-    match turn {
-        Turn::Priority(_) => 0,
-        Turn::Slot(ticks) => ticks,
-    }
-}
 
 /// Whether the second task is on the resource of the first, and of higher priority.
 fn is_higher(system: &System, task: TaskId, other: TaskId) -> bool
@@ -42,7 +23,7 @@ fn is_higher(system: &System, task: TaskId, other: TaskId) -> bool
 {
     let first = system.task(task);
     let second = system.task(other);
-    first.res.0 == second.res.0 && priority(second.turn) < priority(first.turn)
+    first.res.0 == second.res.0 && second.turn.priority() < first.turn.priority()
 }
 
 /// Whether the second task is another on the resource of the first.
@@ -79,7 +60,7 @@ fn put_rival(system: &System, task: TaskId, x: &Vector, inputs: &[Option<Model>]
     system.has_rules();
     let entry = system.task(task);
     place.worst = entry.worst;
-    place.slot = slot(entry.turn);
+    place.slot = entry.turn.slot();
     place.bound = x.get(task);
     put_input(&mut place.model, &inputs[task.0 as usize]);
 }

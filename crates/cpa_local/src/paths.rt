@@ -5,7 +5,7 @@ ghost use Rattle.cpa_units.specs.Bounds.{bound_of, sum_bounds};
 ghost use Rattle.cpa_model.specs.SystemLists.{task_at, path_at};
 ghost use Rattle.cpa_local.specs.Solution.{IsVector};
 ghost use Rattle.std.specs.List.{sum_by};
-ghost use Rattle.cpa_local.specs.Paths.{path_best, path_worst, outcome_of, is_missed_by, is_missed, is_overload};
+ghost use Rattle.cpa_local.specs.Paths.{path_best, path_worst, deadline_verdict_of, is_missed_by, is_missed, is_overload};
 
 use cpa_model::{System, TaskList};
 use cpa_units::{Bound, PathId, TaskId, Vector};
@@ -13,7 +13,7 @@ use cpa_units::{Bound, PathId, TaskId, Vector};
 /// The verdict on a path's deadline: met or missed by the greatest time, or that this has no bound, or that there is no
 /// deadline.
 #[derive(Clone, Copy, Debug, PartialEq, Eq)]
-pub enum Outcome {
+pub enum DeadlineVerdict {
     Met,
     Missed,
     Unknown,
@@ -61,25 +61,25 @@ pub fn path_worst(system: &System, path: PathId, x: &Vector) -> Bound
 }
 
 /// The verdict on a deadline, by the greatest time.
-pub fn judge(deadline: Option<u64>, worst: Bound) -> Outcome
-    ensures { result ≡ outcome_of deadline worst }
+pub fn deadline_verdict(deadline: Option<u64>, worst: Bound) -> DeadlineVerdict
+    ensures { result ≡ deadline_verdict_of deadline worst }
 {
     match deadline {
-        None => Outcome::NoDeadline,
+        None => DeadlineVerdict::NoDeadline,
         Some(deadline) => match worst {
-            Bound::Overload => Outcome::Unknown,
-            Bound::Within(worst) if worst <= deadline => Outcome::Met,
-            Bound::Within(_) => Outcome::Missed,
+            Bound::Overload => DeadlineVerdict::Unknown,
+            Bound::Within(worst) if worst <= deadline => DeadlineVerdict::Met,
+            Bound::Within(_) => DeadlineVerdict::Missed,
         },
     }
 }
 
-fn is_missed_by(outcome: Outcome) -> bool
-    ensures { result ≡ is_missed_by outcome }
+fn is_missed_by(verdict: DeadlineVerdict) -> bool
+    ensures { result ≡ is_missed_by verdict }
 {
-    match outcome {
-        Outcome::Missed => true,
-        Outcome::Met | Outcome::Unknown | Outcome::NoDeadline => false,
+    match verdict {
+        DeadlineVerdict::Missed => true,
+        DeadlineVerdict::Met | DeadlineVerdict::Unknown | DeadlineVerdict::NoDeadline => false,
     }
 }
 
@@ -90,7 +90,7 @@ pub fn is_missed(system: &System, path: PathId, x: &Vector) -> bool
     ensures { result ≡ is_missed x.now (path_at system.now path.0) }
 {
     let worst = path_worst(system, path, x);
-    is_missed_by(judge(system.path(path).deadline, worst))
+    is_missed_by(deadline_verdict(system.path(path).deadline, worst))
 }
 
 /// Whether a bound is an overload.

@@ -9,15 +9,15 @@ ghost use Rattle.cpa_local.specs.Rising.{IsRisen, IsRaised, AgreeOutside, HasInp
 ghost use Rattle.cpa_local.specs.Worked.{IsPrepared};
 
 use crate::analysis::respond_prepared;
+use crate::scratch::Scratch;
 use crate::trail::Trail;
-use crate::work::Work;
 use cpa_model::System;
 use cpa_units::{ResId, TaskId, Vector};
 
 /// Raises the bounds on a resource by its analysis, task after task, each at the vector as it has risen
 /// by then, and marks its tasks. No bound rises above the least solution. `back` may be false only
 /// where no bound on the resource bears on an input of its tasks: these are then worked out once for
-/// all of them, and else anew after each bound that has risen. The place is below the number of
+/// all of them, and else again after each bound that has risen. The place is below the number of
 /// resources, the vector nowhere above the least solution, and the trail has room for all tasks.
 pub fn raise(system: &System, res: ResId, back: bool, x: &mut Vector, trail: &mut Trail)
     requires in_range { res.0 < length system.now.resources }
@@ -31,7 +31,7 @@ pub fn raise(system: &System, res: ResId, back: bool, x: &mut Vector, trail: &mu
 }
 
 /// The same without marks.
-fn raise_all(system: &System, res: ResId, back: bool, x: &mut Vector, work: &mut Work)
+fn raise_all(system: &System, res: ResId, back: bool, x: &mut Vector, work: &mut Scratch)
     requires in_range { res.0 < length system.now.resources }
     requires apart { OnFalse back (HasInputsApart system.now res.0) }
     requires start { IsRisen system.now x.old x.old }
@@ -55,7 +55,7 @@ fn raise_task(
     task: TaskId,
     back: bool,
     x: &mut Vector,
-    work: &mut Work,
+    work: &mut Scratch,
 )
     requires in_range { res.0 < length system.now.resources }
     requires there { task.0 < length system.now.tasks }

@@ -5,7 +5,7 @@ ghost use Rattle.cpa_units.specs.declared.limits.TheConstants.{MAX_TASKS};
 ghost use Rattle.cpa_local.specs.Trails.{IsMarked, IsKept, NewMarksAre, AreMarked};
 ghost use Rattle.cpa_local.specs.Rising.{TasksOn};
 
-use crate::work::Work;
+use crate::scratch::Scratch;
 use cpa_model::System;
 use cpa_units::{NoMemory, ResId, TaskId};
 use std::alloc::Global;
@@ -15,7 +15,7 @@ use std::marker::Model;
 #[derive(Drop)]
 pub struct Trail {
     marks: [bool; 512],
-    pub(crate) work: Work,
+    pub(crate) work: Scratch,
 }
 
 impl Model for Trail {
@@ -36,7 +36,7 @@ impl Trail {
         ensures room { IfOk result (λ t. t.room ≡ tasks) }
         ensures none { IfOk result (λ t. (i : ℕ) → IsMarked t i → ⊥) }
     {
-        let work = Work::with_room(alloc, tasks)?;
+        let work = Scratch::with_room(alloc, tasks)?;
         Ok(Trail {
             marks: [false; 512],
             work,

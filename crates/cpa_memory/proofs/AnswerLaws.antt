@@ -3,9 +3,9 @@ use Rattle.std.proofs.Common.{◌≡◌, ℕ, List, [], ◌++◌, Some, sym, ◌
 use Rattle.std.proofs.lemmas.Option.{same_Some}
 use Rattle.std.specs.Prelude.{◌≢◌, Result, Ok, Err, IfOk}
 use Rattle.cpa_units.specs.declared.places.NoMemory.{NoMemory}
-use Rattle.cpa_call.specs.declared.ended.Reply.{Reply}
+use Rattle.cpa_call.specs.declared.errors.Reply.{Reply}
 use Rattle.cpa_call.specs.Answers.{Answer, reply, Sends}
-use Rattle.cpa_memory.specs.declared.written.Written.{Written}
+use Rattle.cpa_memory.specs.declared.written_output.Written.{Written}
 
 pub sent-all : (P : Answer → Type 0) (status : ℕ) (before bytes : List ℕ) → before ≡ [] → Sends P status (Some before) (Some bytes) → P (reply status bytes)
 sent-all P status before bytes none h =

@@ -9,8 +9,8 @@ ghost use Rattle.cpa_run.specs.Output.{IsAnswerTo};
 ghost use Rattle.cpa_memory.specs.Held.{held_in};
 
 use crate::texts::Texts;
-use crate::written::Written;
-use cpa_call::ended::Reply;
+use crate::written_output::Written;
+use cpa_call::errors::Reply;
 use cpa_run::run_command;
 use cpa_units::NoMemory;
 use cpa_words::Command;

@@ -4,10 +4,10 @@
 #![tactic(auto)]
 
 mod calling;
+mod text_commands;
 mod texts;
-mod worded;
-mod written;
+mod written_output;
 
 pub use calling::call;
+pub use text_commands::{chain, chains, schedule};
 pub use texts::{CHAINS, SCHEDULE, SCRIPT, SYSTEM, TRACE, Texts};
-pub use worded::{chain, chains, schedule};

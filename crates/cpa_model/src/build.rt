@@ -9,7 +9,7 @@ ghost use Rattle.cpa_draft.specs.declared.draft.DraftTask.{DraftTask};
 ghost use Rattle.cpa_draft.specs.declared.draft.DraftPath.{DraftPath};
 ghost use Rattle.cpa_draft.specs.Numbers.{nat_of, nat_or};
 ghost use Rattle.cpa_draft.specs.Names.{AreTables, kind_of};
-ghost use Rattle.cpa_draft.specs.Judged.{Judges};
+ghost use Rattle.cpa_draft.specs.Validated.{Validates};
 ghost use Rattle.cpa_draft.specs.Refusals.{by_priority, first_refusal};
 ghost use Rattle.cpa_draft.specs.declared.refusal.BuildFault.TheVariants.{Memory};
 ghost use Rattle.cpa_model.specs.declared.activators.TheConstants.{MAX_ACTIVATORS};
@@ -24,7 +24,7 @@ use crate::system::System;
 use crate::task_lists::{ResourceTasks, gather};
 use cpa_draft::{
     BuildFault, Draft, DraftPath, DraftResource, DraftSource, DraftTask, KindWord, Raw, Tables,
-    is_by_priority, judge, natural, natural_or,
+    is_by_priority, natural, natural_or, validate,
 };
 use cpa_units::limits::DEFAULT_LIMIT;
 use cpa_units::{Name, NameFault, NoMemory, ResId, SourceId, TaskId, frame_bits};
@@ -308,7 +308,7 @@ fn build_task_lists(
 }
 
 /// The system of a draft that isn't refused.
-fn build_judged(alloc: Global, draft: &Draft, tables: &Tables) -> Result<System, BuildFault>
+fn build_validated(alloc: Global, draft: &Draft, tables: &Tables) -> Result<System, BuildFault>
     requires tables { AreTables draft.now tables.now.resources tables.now.activities }
     requires refusal { first_refusal draft.now ≡ None }
     requires executions { All (λ t. has_executions t ≡ true) draft.now.tasks }
@@ -334,11 +334,11 @@ impl System {
     /// the first of them and its first place.
     pub fn build(alloc: Global, draft: Draft) -> Result<System, BuildFault>
         requires executions { All (λ t. has_executions t ≡ true) draft.tasks }
-        ensures refused { Judges result (first_refusal draft) }
+        ensures refused { Validates result (first_refusal draft) }
         ensures ok { IfOk result (λ s. s ≡ system_of draft) }
     {
-        let tables = judge(alloc, &draft)?;
-        build_judged(alloc, &draft, &tables)
+        let tables = validate(alloc, &draft)?;
+        build_validated(alloc, &draft, &tables)
     }
 }
 

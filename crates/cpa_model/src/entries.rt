@@ -4,7 +4,7 @@ ghost use Rattle.std.specs.Prelude.{◌≡◌, ◌<◌, ◌^◌, length, map, sl
 ghost use Rattle.std.specs.Str.{bytes_eq};
 ghost use Rattle.cpa_units.specs.declared.limits.TheConstants.{MAX_JITTER};
 ghost use Rattle.cpa_events.specs.Streams.{IsStreamInRange};
-ghost use Rattle.cpa_model.specs.SystemLists.{gap_of, slot_of};
+ghost use Rattle.cpa_model.specs.SystemLists.{gap_of, priority_of, slot_of};
 ghost use Rattle.cpa_model.specs.Streams.{stream_of};
 ghost use Rattle.cpa_model.specs.Rules.{IsSource};
 ghost use Rattle.cpa_model.specs.Changes.{id_without};
@@ -80,6 +80,30 @@ pub enum Turn {
     Priority(u32),
     /// The ticks of a turn, 1 to 1,000,000.
     Slot(u64),
+}
+
+impl Turn {
+    /// The priority number, 0 where it is a slot.
+    #[inline(always)]
+    pub fn priority(self) -> u32
+        ensures { result ≡ priority_of self }
+    {
+        match self {
+            Turn::Priority(number) => number,
+            Turn::Slot(_) => 0,
+        }
+    }
+
+    /// The slot in ticks, 0 where it is a priority.
+    #[inline(always)]
+    pub fn slot(self) -> u64
+        ensures { result ≡ slot_of self }
+    {
+        match self {
+            Turn::Priority(_) => 0,
+            Turn::Slot(ticks) => ticks,
+        }
+    }
 }
 
 /// A task, or the frames of one sender on a bus.
@@ -216,15 +240,5 @@ pub(crate) fn gap_of(kind: Kind) -> u64
     match kind {
         Kind::Tdma { gap } => gap,
         _ => 0,
-    }
-}
-
-/// The slot of a turn, 0 where it has a priority.
-pub(crate) fn slot_of(turn: Turn) -> u64
-    ensures { result ≡ slot_of turn }
-{
-    match turn {
-        Turn::Priority(_) => 0,
-        Turn::Slot(ticks) => ticks,
     }
 }

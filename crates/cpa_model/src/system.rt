@@ -5,7 +5,7 @@ ghost use Rattle.cpa_units.specs.declared.places.TaskId.{TaskId};
 ghost use Rattle.cpa_events.specs.declared.TheConstants.{MAX_STREAMS};
 
 use crate::chains::{chain_depth, chain_stream, chain_streams};
-use crate::entries::{Path, Resource, Source, Task, first_with_name, gap_of, slot_of};
+use crate::entries::{Path, Resource, Source, Task, first_with_name, gap_of};
 use crate::task_lists::{ResourceTasks, gather};
 use cpa_units::limits::MAX_CHAIN;
 use cpa_units::{NoMemory, PathId, ResId, SourceId, TaskId};
@@ -226,7 +226,7 @@ impl System {
     {
         let mut cycle = gap_of(self.resources[res.0 as usize].kind);
         for task in self.tasks_on(res) {
-            cycle += slot_of(self.task(*task).turn);
+            cycle += self.task(*task).turn.slot();
         }
         cycle
     }

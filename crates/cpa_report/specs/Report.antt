@@ -10,9 +10,9 @@ use Rattle.cpa_events.specs.Events.{Model}
 use Rattle.cpa_model.specs.declared.entries.Path.{Path}
 use Rattle.cpa_model.specs.SystemLists.{SystemLists, task_at, source_at, resource_of, root_of, streams_of, task_places}
 use Rattle.cpa_local.specs.Inputs.{input}
-use Rattle.cpa_local.specs.Paths.{path_best, path_worst, outcome_of, is_missed, is_overload}
-use Rattle.cpa_local.specs.declared.paths.Outcome.{Outcome}
-use Rattle.cpa_local.specs.declared.paths.Outcome.TheVariants.{Met, Missed, Unknown, NoDeadline}
+use Rattle.cpa_local.specs.Paths.{path_best, path_worst, deadline_verdict_of, is_missed, is_overload}
+use Rattle.cpa_local.specs.declared.paths.DeadlineVerdict.{DeadlineVerdict}
+use Rattle.cpa_local.specs.declared.paths.DeadlineVerdict.TheVariants.{Met, Missed, Unknown, NoDeadline}
 
 -- 2 where a bound is missing; else 1 where a deadline is missed; else 0
 unfoldable pub verdict : SystemLists → List Bound → ℕ
@@ -22,11 +22,11 @@ abbrev pub bound_text : Bound → List ℕ
 bound_text (Within ticks) = decimal ticks
 bound_text Overload = codes "overload"
 
-abbrev pub outcome_text : Outcome → List ℕ
-outcome_text Met = codes "met"
-outcome_text Missed = codes "missed"
-outcome_text Unknown = codes "unknown"
-outcome_text NoDeadline = codes "none"
+abbrev pub deadline_verdict_text : DeadlineVerdict → List ℕ
+deadline_verdict_text Met = codes "met"
+deadline_verdict_text Missed = codes "missed"
+deadline_verdict_text Unknown = codes "unknown"
+deadline_verdict_text NoDeadline = codes "none"
 
 abbrev pub deadline_text : Option ℕ → List ℕ
 deadline_text (Some deadline) = decimal deadline
@@ -74,7 +74,7 @@ task_line s x i = names_text s i ++ streams_text s x i ++ bounds_text (task_at s
 unfoldable pub path_line : SystemLists → List Bound → Path → List ℕ
 path_line s x p =
     codes "path " ++ p.name ++ bounds_text (path_best s p) (path_worst x p)
-    ++ codes " deadline " ++ deadline_text p.deadline ++ codes " " ++ outcome_text (outcome_of p.deadline (path_worst x p)) ++ codes "\n"
+    ++ codes " deadline " ++ deadline_text p.deadline ++ codes " " ++ deadline_verdict_text (deadline_verdict_of p.deadline (path_worst x p)) ++ codes "\n"
 
 unfoldable pub summary_line : ℕ → ℕ → ℕ → List ℕ
 summary_line tasks overload missed =

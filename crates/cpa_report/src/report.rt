@@ -8,12 +8,12 @@ ghost use Rattle.cpa_events.specs.Events.{IsModelInRange};
 ghost use Rattle.cpa_model.specs.SystemLists.{path_at, streams_of, task_places};
 ghost use Rattle.cpa_local.specs.Solution.{IsVector};
 ghost use Rattle.cpa_local.specs.Paths.{is_overload, is_missed};
-ghost use Rattle.cpa_report.specs.Report.{bound_text, outcome_text, deadline_text, names_text, stream_text, model_text, unbounded_text, root_period, count_text, streams_text, bounds_text, task_line, path_line, summary_line, report_text, verdict};
+ghost use Rattle.cpa_report.specs.Report.{bound_text, deadline_verdict_text, deadline_text, names_text, stream_text, model_text, unbounded_text, root_period, count_text, streams_text, bounds_text, task_line, path_line, summary_line, report_text, verdict};
 
 use cpa_events::{Model, Stream};
 use cpa_local::{
-    Outcome, count_missed, count_overloads, input, is_missed, is_overload, judge, path_best,
-    path_worst,
+    DeadlineVerdict, count_missed, count_overloads, deadline_verdict, input, is_missed,
+    is_overload, path_best, path_worst,
 };
 use cpa_model::System;
 use cpa_text::Text;
@@ -152,14 +152,14 @@ pub fn put_deadline(text: &mut Text, deadline: Option<u64>) -> Result<(), NoMemo
 }
 
 /// Writes the verdict on a deadline.
-pub fn put_outcome(text: &mut Text, outcome: Outcome) -> Result<(), NoMemory>
-    ensures { OnOk result (text.new ≡ text.old ++ outcome_text outcome) }
+pub fn put_deadline_verdict(text: &mut Text, outcome: DeadlineVerdict) -> Result<(), NoMemory>
+    ensures { OnOk result (text.new ≡ text.old ++ deadline_verdict_text outcome) }
 {
     match outcome {
-        Outcome::Met => text.put(b"met"),
-        Outcome::Missed => text.put(b"missed"),
-        Outcome::Unknown => text.put(b"unknown"),
-        Outcome::NoDeadline => text.put(b"none"),
+        DeadlineVerdict::Met => text.put(b"met"),
+        DeadlineVerdict::Missed => text.put(b"missed"),
+        DeadlineVerdict::Unknown => text.put(b"unknown"),
+        DeadlineVerdict::NoDeadline => text.put(b"none"),
     }
 }
 
@@ -177,7 +177,7 @@ fn put_path(text: &mut Text, system: &System, path: PathId, x: &Vector) -> Resul
     text.put(b" deadline ")?;
     put_deadline(text, entry.deadline)?;
     text.put(b" ")?;
-    put_outcome(text, judge(entry.deadline, worst))?;
+    put_deadline_verdict(text, deadline_verdict(entry.deadline, worst))?;
     text.put(b"\n")
 }
 

@@ -56,7 +56,7 @@ impl<'a> BusyWindow for RoundRobinJobs<'a> {
         self.worst
     }
 
-    fn steady_until(&self, jobs: u64, window: u64) -> u64 {
+    fn constant_until(&self, jobs: u64, window: u64) -> u64 {
         let rounds = (jobs * self.worst).div_ceil(self.slot);
         shares_until(self.rivals, rounds, window)
     }

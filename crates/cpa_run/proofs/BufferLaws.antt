@@ -11,7 +11,7 @@ use Rattle.cpa_buffer.specs.Peaks.{peaks_of}
 use Rattle.cpa_buffer.specs.BufferText.{buffer_text}
 use Rattle.cpa_buffer.proofs.BufferLaws.{least_solutions_bound_buffers}
 use Rattle.cpa_call.specs.Answers.{Answer, reply}
-use Rattle.cpa_run.specs.Work.{IsBuffered}
+use Rattle.cpa_run.specs.Request.{IsBuffered}
 
 pub buffered-at : (s : SystemLists) (tr : TraceLists) (x : List Bound) → IsSystem s → IsLeast s x → IsBuffered s tr (reply 0 (buffer_text s x (peaks_of s tr)))
 buffered-at s tr x rules least =

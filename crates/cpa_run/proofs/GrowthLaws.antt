@@ -21,7 +21,7 @@ use Rattle.cpa_slack.specs.SlackText.{slack_text}
 use Rattle.cpa_slack.proofs.OneSlackLaws.{slack_exists, slack_is_one}
 use Rattle.cpa_slack.proofs.SlackLaws.{longer-rules}
 use Rattle.cpa_call.specs.Answers.{Answer, reply}
-use Rattle.cpa_run.specs.Work.{IsAssigned, order_status, IsGrowth, slack_status}
+use Rattle.cpa_run.specs.Request.{IsAssigned, order_status, IsGrowth, slack_status}
 
 -- who is named is there
 res_at : (o : Option ℕ) (r : ResId) → option_map (λ k. record { 0 = k }) o ≡ Some r → o ≡ Some r.0

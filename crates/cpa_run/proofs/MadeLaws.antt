@@ -1,4 +1,4 @@
--- The summary of a made system, and what is seen of a system under made traces, are there, and one only.
+-- The summary of a generated system, and what is seen of a system under generated traces, are there, and one only.
 use Rattle.std.proofs.Common.{◌≡◌, ℕ, ◌≤◌, List, Some, refl, sym, ap, ◌∙◌}
 use Rattle.std.specs.List.{range_with_len}
 use Rattle.cpa_units.specs.declared.bound.Bound.{Bound}
@@ -16,7 +16,7 @@ use Rattle.cpa_gen.specs.Texts.{load_text, hammer_text}
 use Rattle.cpa_gen.proofs.MadeRules.{made_systems_keep_rules}
 use Rattle.cpa_gen.proofs.SeenLaws.{none-beyond}
 use Rattle.cpa_call.specs.Answers.{Answer, reply}
-use Rattle.cpa_run.specs.Work.{IsSummary, IsHammered}
+use Rattle.cpa_run.specs.Request.{IsSummary, IsHammered}
 
 pub summary-at : (number size : ℕ) (s t : SystemLists) (x : List Bound) → size ≤ MAX_SIZE → t ≡ made_system number size → s ≡ t → IsLeast s x
     → IsSummary number size (made_system number size) (reply (verdict s x) (load_text number size s x))

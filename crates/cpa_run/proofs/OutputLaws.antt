@@ -11,11 +11,11 @@ use Rattle.cpa_call.specs.Lines.{words_refused}
 use Rattle.cpa_call.specs.Plans.{Held, Plan, Do, Refuse, Missing, and_then, system_in, traced_in}
 use Rattle.cpa_call.proofs.PlanLaws.{planned-system, planned-traced}
 use Rattle.cpa_call.proofs.SendLaws.{nothing-sent}
-use Rattle.cpa_run.specs.declared.work.Work.{Work}
-use Rattle.cpa_run.specs.declared.work.Work.TheVariants as work
+use Rattle.cpa_run.specs.declared.request.Request.{Request}
+use Rattle.cpa_run.specs.declared.request.Request.TheVariants as work
 use Rattle.cpa_run.specs.Plan.{script_in, schedule_in, orderable_in, task_in, plan_for, plan_by, plan_of}
 use Rattle.cpa_run.specs.Output.{IsAnswerTo, IsOutput, HasAnswer, AreAlike, SendsSome}
-use Rattle.cpa_run.specs.Work.{audited}
+use Rattle.cpa_run.specs.Request.{audited}
 use Rattle.cpa_run.proofs.BufferLaws.{some-buffered, one-buffered}
 use Rattle.cpa_run.proofs.GrowthLaws.{some-assigned, one-assigned, some-growth, one-growth}
 use Rattle.cpa_run.proofs.MadeLaws.{some-summary, one-summary, some-hammered, one-hammered}
@@ -25,7 +25,7 @@ use Rattle.cpa_run.proofs.SessionLaws.{some-session, one-session}
 
 -- ---- there is one: a plan has an answer where each plan that it may go on with has
 
-some-then : {A : Type 0} (p : Plan A) (next : A → Plan Work) → ((it : A) → p ≡ Do it → HasAnswer (next it)) → HasAnswer (and_then p next)
+some-then : {A : Type 0} (p : Plan A) (next : A → Plan Request) → ((it : A) → p ≡ Do it → HasAnswer (next it)) → HasAnswer (and_then p next)
 some-then (Do it) next each = each it refl
 some-then (Refuse status line) next each = (reply status line, refl)
 some-then Missing next each = (record { status = None; text = [] }, refl)
@@ -63,7 +63,7 @@ unfolding plan_of
 some-output words held = some-by held (accepted words) (accepted_within words)
 
 -- where nothing was sent yet
-nothing-of : (plan : Plan Work) (sent : Option (List ℕ)) → HasAnswer plan → SendsSome plan sent sent
+nothing-of : (plan : Plan Request) (sent : Option (List ℕ)) → HasAnswer plan → SendsSome plan sent sent
 nothing-of (Do (work.Generate number size)) sent some = inl refl
 nothing-of plan sent some = nothing-sent (IsAnswerTo plan) some sent
 
@@ -72,7 +72,7 @@ nothing-yet words held sent = nothing-of (plan_of words held) sent (some-output 
 
 -- ---- and only one
 
-one-answer : (plan : Plan Work) (a b : Answer) → IsAnswerTo plan a → IsAnswerTo plan b → AreAlike plan a b
+one-answer : (plan : Plan Request) (a b : Answer) → IsAnswerTo plan a → IsAnswerTo plan b → AreAlike plan a b
 one-answer (Do (work.Analyse s workers)) a b h k = one-report s a b h k
 one-answer (Do (work.Session s steps workers)) a b h k = one-session steps s a b h k
 one-answer (Do (work.Simulate s tr)) a b h k = h ∙ sym k

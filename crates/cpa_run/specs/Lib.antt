@@ -4,4 +4,4 @@ pub mod Output
 pub mod Plan
 pub mod Session
 pub mod Steps
-pub mod Work
+pub mod Request

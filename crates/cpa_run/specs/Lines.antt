@@ -7,7 +7,7 @@ use Rattle.cpa_edit.specs.declared.script.ScriptFault.TheVariants as script
 use Rattle.cpa_audit.specs.declared.fault.ScheduleFault.{ScheduleFault}
 use Rattle.cpa_audit.specs.declared.fault.ScheduleFault.TheVariants as schedule
 
--- want of memory has no line
+-- out of memory has no line
 abbrev pub script_refused : ScriptFault → List ℕ
 script_refused (script.BadLine line) = codes "script refused line " ++ decimal line ++ codes "\n"
 script_refused script.TooManyLines = codes "script refused too many lines\n"
@@ -16,7 +16,7 @@ script_refused script.Memory = []
 abbrev pub schedule_row_refused : ℕ → List ℕ → List ℕ
 schedule_row_refused row why = codes "schedule refused row " ++ decimal row ++ why
 
--- want of memory has no line
+-- out of memory has no line
 abbrev pub schedule_refused : ScheduleFault → List ℕ
 schedule_refused (schedule.BadRow row) = schedule_row_refused row (codes " malformed\n")
 schedule_refused (schedule.UnknownName row) = schedule_row_refused row (codes " name\n")
@@ -32,6 +32,6 @@ assign_refused number = codes "assign refused " ++ decimal number ++ codes "\n"
 abbrev pub slack_refused : List ℕ
 slack_refused = codes "slack refused 1\n"
 
--- the line of a session that tells of a refused edit
+-- the line of a session that says of a refused edit
 abbrev pub edit_refused : ℕ → EditRefusal → List ℕ
 edit_refused line number = codes "line " ++ decimal line ++ codes " refused " ++ decimal number.0 ++ codes "\n"

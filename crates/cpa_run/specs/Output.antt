@@ -3,18 +3,18 @@ use Rattle.std.specs.Prelude.{◌≡◌, ◌⊎◌, ℕ, Bool, true, List, [], O
 use Rattle.cpa_io.specs.Causes.{Rose}
 use Rattle.cpa_file.specs.Reading.{reading_of}
 use Rattle.cpa_words.specs.Words.{Asked, accepted, Analyse, Session, Simulate, Generate, Load, Hammer, Assign, Slack, Buffers, Audit}
-use Rattle.cpa_call.specs.declared.ended.Ended.{Ended}
+use Rattle.cpa_call.specs.declared.errors.InputError.{InputError}
 use Rattle.cpa_call.specs.declared.loading.Traced.{Traced}
 use Rattle.cpa_call.specs.Answers.{Answer, reply, SendsPart}
 use Rattle.cpa_call.specs.Ends.{IsUnreadLine}
 use Rattle.cpa_call.specs.Plans.{Held, Plan, Do, Refuse, Missing, traced_in, IsSecond}
-use Rattle.cpa_run.specs.declared.work.Work.{Work}
-use Rattle.cpa_run.specs.declared.work.Work.TheVariants as work
+use Rattle.cpa_run.specs.declared.request.Request.{Request}
+use Rattle.cpa_run.specs.declared.request.Request.TheVariants as work
 use Rattle.cpa_run.specs.Plan.{plan_of}
-use Rattle.cpa_run.specs.Work.{IsDone}
+use Rattle.cpa_run.specs.Request.{IsDone}
 
 -- a refusal is its status and its line; where a file in turn isn't held, there is no answer but a fault
-abbrev pub IsAnswerTo : Plan Work → Answer → Type 0
+abbrev pub IsAnswerTo : Plan Request → Answer → Type 0
 IsAnswerTo (Do it) answer = IsDone it answer
 IsAnswerTo (Refuse status line) answer = answer ≡ reply status line
 IsAnswerTo Missing answer = answer ≡ record { status = None; text = [] }
@@ -23,19 +23,19 @@ IsAnswerTo Missing answer = answer ≡ record { status = None; text = [] }
 abbrev pub IsOutput : List (List ℕ) → Held → Answer → Type 0
 IsOutput words held answer = IsAnswerTo (plan_of words held) answer
 
--- what may have been sent when a call ends before its whole answer: a prefix of an answer's text; of a made system's file, of which no
+-- what may have been sent when a call ends before its whole answer: a prefix of an answer's text; of a generated system's file, of which no
 -- definition lays one out, nothing or such a prefix
-abbrev pub SendsSome : Plan Work → Option (List ℕ) → Option (List ℕ) → Type 0
+abbrev pub SendsSome : Plan Request → Option (List ℕ) → Option (List ℕ) → Type 0
 SendsSome (Do (work.Generate number size)) before now = (now ≡ before) ⊎ SendsPart (IsDone (work.Generate number size)) before now
 SendsSome plan before now = SendsPart (IsAnswerTo plan) before now
 
--- two answers to one call: of two files of a made system it is said that both stand for it, and all else is the same
-abbrev pub AreAlike : Plan Work → Answer → Answer → Type 0
+-- two answers to one call: of two files of a generated system it is said that both stand for it, and all else is the same
+abbrev pub AreAlike : Plan Request → Answer → Answer → Type 0
 AreAlike (Do (work.Generate number size)) a b = (a.status ≡ b.status) × (reading_of a.text ≡ reading_of b.text)
 AreAlike plan a b = a ≡ b
 
--- of a made system's file it isn't said that there is one
-abbrev pub HasAnswer : Plan Work → Type 0
+-- of a generated system's file it isn't said that there is one
+abbrev pub HasAnswer : Plan Request → Type 0
 HasAnswer (Do (work.Generate number size)) = Unit {0}
 HasAnswer plan = (answer : Answer) × IsAnswerTo plan answer
 
@@ -74,6 +74,6 @@ pub record IsUnread (words : List (List ℕ)) (told : Bool) (held : Held) (befor
   pub named : IsNamed told held asked last
   pub rose : Rose before now
 
--- why a call ends before its work: where a file couldn't be loaded, its line tells its name
-abbrev pub IsUnreadCall : List (List ℕ) → Bool → Held → ℕ → ℕ → List ℕ → Ended → Type 0
+-- why a call ends before its work: where a file couldn't be loaded, its line says its name
+abbrev pub IsUnreadCall : List (List ℕ) → Bool → Held → ℕ → ℕ → List ℕ → InputError → Type 0
 IsUnreadCall words told held before now last = IsUnreadLine (IsUnread words told held before now last) last

@@ -14,8 +14,8 @@ use Rattle.cpa_audit.specs.ScheduleReading.{schedule_of}
 use Rattle.cpa_call.specs.Lines.{words_refused}
 use Rattle.cpa_call.specs.Plans.{Held, Plan, Do, Refuse, and_then, content_in, system_in, traced_in}
 use Rattle.cpa_run.specs.Lines.{script_refused, assign_refused, slack_refused, schedule_refused}
-use Rattle.cpa_run.specs.declared.work.Work.{Work}
-use Rattle.cpa_run.specs.declared.work.Work.TheVariants as work
+use Rattle.cpa_run.specs.declared.request.Request.{Request}
+use Rattle.cpa_run.specs.declared.request.Request.TheVariants as work
 
 -- the script that a file is
 abbrev pub script_by : Read → Plan (List (ℕ × Step))
@@ -51,8 +51,8 @@ task_by (Some i) = Do i
 abbrev pub task_in : SystemLists → List ℕ → Plan TaskId
 task_in s name = task_by (task_named s name)
 
--- what accepted words ask for: the system file is read first, and a made system needs none
-abbrev pub plan_for : Held → Asked → Plan Work
+-- what accepted words ask for: the system file is read first, and a generated system needs none
+abbrev pub plan_for : Held → Asked → Plan Request
 plan_for held (Analyse file workers) = and_then (system_in held file) (λ s. Do (work.Analyse s workers))
 plan_for held (Session file script workers) = and_then (system_in held file) (λ s. and_then (script_in held script) (λ steps. Do (work.Session s steps workers)))
 plan_for held (Simulate file trace) = and_then (traced_in held file trace) (λ t. Do (work.Simulate t.system t.trace))
@@ -64,9 +64,9 @@ plan_for held (Slack file task workers) = and_then (system_in held file) (λ s. 
 plan_for held (Buffers file trace workers) = and_then (traced_in held file trace) (λ t. Do (work.Buffers t.system t.trace workers))
 plan_for held (Audit file trace schedule) = and_then (traced_in held file trace) (λ t. and_then (schedule_in held t.system schedule) (λ segments. Do (work.Audit t.system t.trace segments)))
 
-abbrev pub plan_by : Held → Option Asked → Plan Work
+abbrev pub plan_by : Held → Option Asked → Plan Request
 plan_by held None = Refuse 10 words_refused
 plan_by held (Some asked) = plan_for held asked
 
-unfoldable pub plan_of : List (List ℕ) → Held → Plan Work
+unfoldable pub plan_of : List (List ℕ) → Held → Plan Request
 plan_of words held = plan_by held (accepted words)

@@ -2,8 +2,9 @@
 
 ghost use Rattle.std.specs.Prelude.{◌≡◌, ◌≢◌, ◌⊎◌, ◌≤◌, true, map, Err, IfOk, OnErr, string_bytes};
 ghost use Rattle.cpa_io.specs.Causes.{grown, Rose, SentPart};
-ghost use Rattle.cpa_call.specs.declared.ended.Stopped.TheVariants as stopped;
-ghost use Rattle.cpa_call.specs.Answers.{IsOfOutput, Sends};
+ghost use Rattle.cpa_call.specs.declared.errors.OutputError.TheVariants as stopped;
+ghost use Rattle.cpa_call.specs.Answers.{Sends};
+ghost use Rattle.cpa_call.specs.Calls.{MeetsCall, loaded, sent};
 ghost use Rattle.cpa_call.specs.Lines.{cannot_read};
 ghost use Rattle.cpa_run.specs.Plan.{plan_of};
 ghost use Rattle.cpa_run.specs.Session.{SessionsEndEdited};
@@ -11,8 +12,9 @@ ghost use Rattle.cpa_run.specs.Output.{IsOutput, SendsSome, IsUnread, OutputsExi
 
 use crate::loading::plan;
 use crate::performing::perform;
-use cpa_call::ended::{Ended, Stopped};
+use cpa_call::errors::{InputError, OutputError};
 use cpa_call::sending::send;
+use cpa_call::statuses;
 use cpa_fix::Round;
 use cpa_io::{Files, Sink};
 use cpa_workers::{Gate, NoGate, Shared};
@@ -27,7 +29,7 @@ fn answer<H: Threads + Sync, F: Files, K: Sink, G: Gate>(
     files: &mut F,
     sink: &mut K,
     gate: G,
-) -> Result<u8, Stopped>
+) -> Result<u8, OutputError>
 where
     Shared<G>: Round<H>,
     ensures answered { F.told files.old ≡ true → IfOk result (λ status. status ≢ 11 → Sends (IsOutput (map string_bytes words.now) (F.held files.old)) status (K.sent sink.old) (K.sent sink.new)) }
@@ -40,9 +42,9 @@ where
 {
     match plan(alloc, words, files) {
         Ok(work) => perform(rt, alloc, work, sink, gate),
-        Err(Ended::Refused(reply)) => send(sink, reply.status, reply.text.as_slice()),
-        Err(Ended::Unread(line)) => send(sink, 11, line.as_slice()),
-        Err(Ended::Memory) => Err(Stopped::Memory),
+        Err(InputError::Refused(reply)) => send(sink, reply.status, reply.text.as_slice()),
+        Err(InputError::Unread(line)) => send(sink, statuses::FILE_UNREAD, line.as_slice()),
+        Err(InputError::Memory) => Err(OutputError::Memory),
     }
 }
 
@@ -51,7 +53,7 @@ where
 /// The words are those after the program's name. The statuses: 0 to 2 the verdict of a report or a summary, 3 where no
 /// order meets or a deadline is missed already, 4 where a schedule isn't that of the run, 0 besides for what has none;
 /// 10 and 12 to 19 a refusal, 11 a file that
-/// couldn't be read, each with its line sent; 20 a fault of the sink; 30 want of memory.
+/// couldn't be read, each with its line sent; 20 a fault of the sink; 30 out of memory.
 pub fn run<H: Threads + Sync, F: Files, K: Sink>(
     rt: &H,
     alloc: Global,
@@ -61,21 +63,14 @@ pub fn run<H: Threads + Sync, F: Files, K: Sink>(
 ) -> u8
 where
     Shared<NoGate>: Round<H>,
-    // Over files that tell what they hold, status and bytes sent are those of the output.
-    ensures answered { F.told files.old ≡ true → IsOfOutput result → Sends (IsOutput (map string_bytes words.now) (F.held files.old)) result (K.sent sink.old) (K.sent sink.new) }
-
-    // They are so, or memory was wanting, wherever neither count of faults rose.
-    ensures complete { F.told files.old ≡ true → ¬ (Rose (F.faults files.old) (F.faults files.new)) → ¬ (Rose (K.faults sink.old) (K.faults sink.new)) → result ≢ 30 → Sends (IsOutput (map string_bytes words.now) (F.held files.old)) result (K.sent sink.old) (K.sent sink.new) }
-
-    // A named file couldn't be loaded, and its line was sent.
-    ensures unread { result ≡ 11 → IsUnread (map string_bytes words.now) (F.told files.old) (F.held files.old) (F.faults files.old) (F.faults files.new) (F.last_failed files.new) }
-    ensures unread_line { result ≡ 11 → K.sent sink.new ≡ grown (K.sent sink.old) (cannot_read (F.last_failed files.new)) }
-
-    // The sink failed.
-    ensures unsent { result ≡ 20 → Rose (K.faults sink.old) (K.faults sink.new) }
-
-    // At a fault of the sink and at want of memory a prefix of the output was sent, or of the line of a file that couldn't be loaded.
-    ensures part { F.told files.old ≡ true → (result ≡ 20) ⊎ (result ≡ 30) → SendsSome (plan_of (map string_bytes words.now) (F.held files.old)) (K.sent sink.old) (K.sent sink.new) ⊎ (IsUnread (map string_bytes words.now) (F.told files.old) (F.held files.old) (F.faults files.old) (F.faults files.new) (F.last_failed files.new) × SentPart (K.sent sink.old) (K.sent sink.new) (cannot_read (F.last_failed files.new))) }
+    // What every call owes: its status and what it sent.
+    ensures { MeetsCall
+        (IsOutput (map string_bytes words.now) (F.held files.old))
+        (SendsSome (plan_of (map string_bytes words.now) (F.held files.old)))
+        (IsUnread (map string_bytes words.now) (F.told files.old) (F.held files.old) (F.faults files.old) (F.faults files.new) (F.last_failed files.new))
+        (loaded (F.told files.old) (F.faults files.old) (F.faults files.new) (F.last_failed files.new))
+        (sent (K.sent sink.old) (K.sent sink.new) (K.faults sink.old) (K.faults sink.new))
+        result }
 {
     run_with(rt, alloc, words, files, sink, NoGate)
 }
@@ -93,26 +88,19 @@ pub fn run_with<H: Threads + Sync, F: Files, K: Sink, G: Gate>(
 ) -> u8
 where
     Shared<G>: Round<H>,
-    // Over files that tell what they hold, status and bytes sent are those of the output.
-    ensures answered { F.told files.old ≡ true → IsOfOutput result → Sends (IsOutput (map string_bytes words.now) (F.held files.old)) result (K.sent sink.old) (K.sent sink.new) }
-
-    // They are so, or memory was wanting, wherever neither count of faults rose.
-    ensures complete { F.told files.old ≡ true → ¬ (Rose (F.faults files.old) (F.faults files.new)) → ¬ (Rose (K.faults sink.old) (K.faults sink.new)) → result ≢ 30 → Sends (IsOutput (map string_bytes words.now) (F.held files.old)) result (K.sent sink.old) (K.sent sink.new) }
-
-    // A named file couldn't be loaded, and its line was sent.
-    ensures unread { result ≡ 11 → IsUnread (map string_bytes words.now) (F.told files.old) (F.held files.old) (F.faults files.old) (F.faults files.new) (F.last_failed files.new) }
-    ensures unread_line { result ≡ 11 → K.sent sink.new ≡ grown (K.sent sink.old) (cannot_read (F.last_failed files.new)) }
-
-    // The sink failed.
-    ensures unsent { result ≡ 20 → Rose (K.faults sink.old) (K.faults sink.new) }
-
-    // At a fault of the sink and at want of memory a prefix of the output was sent, or of the line of a file that couldn't be loaded.
-    ensures part { F.told files.old ≡ true → (result ≡ 20) ⊎ (result ≡ 30) → SendsSome (plan_of (map string_bytes words.now) (F.held files.old)) (K.sent sink.old) (K.sent sink.new) ⊎ (IsUnread (map string_bytes words.now) (F.told files.old) (F.held files.old) (F.faults files.old) (F.faults files.new) (F.last_failed files.new) × SentPart (K.sent sink.old) (K.sent sink.new) (cannot_read (F.last_failed files.new))) }
+    // What every call owes: its status and what it sent.
+    ensures { MeetsCall
+        (IsOutput (map string_bytes words.now) (F.held files.old))
+        (SendsSome (plan_of (map string_bytes words.now) (F.held files.old)))
+        (IsUnread (map string_bytes words.now) (F.told files.old) (F.held files.old) (F.faults files.old) (F.faults files.new) (F.last_failed files.new))
+        (loaded (F.told files.old) (F.faults files.old) (F.faults files.new) (F.last_failed files.new))
+        (sent (K.sent sink.old) (K.sent sink.new) (K.faults sink.old) (K.faults sink.new))
+        result }
 {
     match answer(rt, alloc, words, files, sink, gate) {
         Ok(status) => status,
-        Err(Stopped::Sink) => 20,
-        Err(Stopped::Memory) => 30,
+        Err(OutputError::Sink) => statuses::SINK_FAILED,
+        Err(OutputError::Memory) => statuses::OUT_OF_MEMORY,
     }
 }
 

@@ -26,7 +26,7 @@ pub fn slack_line(alloc: Global) -> Result<Vec<u8>, NoMemory>
     Ok(Vec::from_slice(alloc, b"slack refused 1\n")?)
 }
 
-/// The line of a script that is refused; want of memory has none.
+/// The line of a script that is refused; out of memory has none.
 pub fn script_line(alloc: Global, fault: ScriptFault) -> Result<Vec<u8>, NoMemory>
     ensures { IfOk result (λ v. v.items ≡ script_refused fault) }
 {
@@ -51,7 +51,7 @@ fn schedule_row_line(alloc: Global, row: u32, why: &[u8]) -> Result<Vec<u8>, NoM
     Ok(text.into_bytes())
 }
 
-/// The line of a schedule that is refused; want of memory has none.
+/// The line of a schedule that is refused; out of memory has none.
 pub fn schedule_line(alloc: Global, fault: ScheduleFault) -> Result<Vec<u8>, NoMemory>
     ensures { IfOk result (λ v. v.items ≡ schedule_refused fault) }
 {
@@ -64,7 +64,7 @@ pub fn schedule_line(alloc: Global, fault: ScheduleFault) -> Result<Vec<u8>, NoM
     }
 }
 
-/// The line of a session that tells of a refused edit.
+/// The line of a session where an edit is refused.
 pub fn edit_line(alloc: Global, line: u32, number: EditRefusal) -> Result<Vec<u8>, NoMemory>
     ensures { IfOk result (λ v. v.items ≡ edit_refused line number) }
 {

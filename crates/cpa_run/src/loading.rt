@@ -6,20 +6,21 @@ ghost use Rattle.cpa_audit.specs.ScheduleReading.{schedule_of};
 ghost use Rattle.cpa_assign.specs.Orders.{IsOrderable};
 ghost use Rattle.cpa_words.specs.Words.{Analyse, Session, Simulate, Hammer, Assign, Slack, Buffers, Audit, AreWorkers, AreTraces, IsWithin};
 ghost use Rattle.cpa_words.specs.Commands.{asked};
-ghost use Rattle.cpa_call.specs.declared.ended.Ended.TheVariants.{Refused};
+ghost use Rattle.cpa_call.specs.declared.errors.InputError.TheVariants.{Refused};
 ghost use Rattle.cpa_call.specs.Ends.{IsEndOf, HasStatus, IsUnreadFile, IsNoUnread};
 ghost use Rattle.cpa_call.specs.Plans.{Do, IsSecond};
 ghost use Rattle.cpa_run.specs.Plan.{script_by, script_in, schedule_by, schedule_in, orderable_in, task_in, plan_for, plan_of};
-ghost use Rattle.cpa_run.specs.Work.{IsWithinLimits};
+ghost use Rattle.cpa_run.specs.Request.{IsWithinLimits};
 ghost use Rattle.cpa_run.specs.Output.{IsNamed, IsThird, IsUnreadCall};
 
 use crate::lines::{assign_line, schedule_line, script_line, slack_line};
-use crate::work::Work;
+use crate::request::Request;
 use cpa_assign::{has_priorities, is_fed_by_sources};
 use cpa_audit::{Schedule, ScheduleFault, read_schedule};
-use cpa_call::ended::{Ended, Reply};
+use cpa_call::errors::{InputError, Reply};
 use cpa_call::lines::words_line;
 use cpa_call::loading::{load_file, load_system, load_traced};
+use cpa_call::statuses;
 use cpa_edit::{Script, ScriptFault, read_script};
 use cpa_io::Files;
 use cpa_model::System;
@@ -29,7 +30,7 @@ use cpa_words::{Command, accept};
 use std::alloc::Global;
 
 /// The script that the bytes of a file are.
-fn read_script_file(alloc: Global, bytes: &[u8]) -> Result<Script, Ended>
+fn read_script_file(alloc: Global, bytes: &[u8]) -> Result<Script, InputError>
     ensures planned { IfOk result (λ steps. script_by (script_of bytes.now) ≡ Do steps) }
     ensures named { IfOk result AreNamed }
     ensures ended { IfErr result (IsEndOf (script_by (script_of bytes.now))) }
@@ -38,16 +39,16 @@ fn read_script_file(alloc: Global, bytes: &[u8]) -> Result<Script, Ended>
 {
     match read_script(alloc, bytes) {
         Ok(script) => Ok(script),
-        Err(ScriptFault::Memory) => Err(Ended::Memory),
-        Err(fault) => Err(Ended::Refused(Reply {
-            status: 15,
+        Err(ScriptFault::Memory) => Err(InputError::Memory),
+        Err(fault) => Err(InputError::Refused(Reply {
+            status: statuses::SCRIPT_REFUSED,
             text: script_line(alloc, fault)?,
         })),
     }
 }
 
 /// The script that a file is.
-fn load_script<F: Files>(alloc: Global, files: &mut F, file: &str) -> Result<Script, Ended>
+fn load_script<F: Files>(alloc: Global, files: &mut F, file: &str) -> Result<Script, InputError>
     ensures planned { F.told files.old ≡ true → IfOk result (λ steps. script_in (F.held files.old) file.now ≡ Do steps) }
     ensures named { IfOk result AreNamed }
     ensures ended { F.told files.old ≡ true → IfErr result (IsEndOf (script_in (F.held files.old) file.now)) }
@@ -60,7 +61,7 @@ fn load_script<F: Files>(alloc: Global, files: &mut F, file: &str) -> Result<Scr
 }
 
 /// The schedule that the bytes of a file are.
-fn read_schedule_file(alloc: Global, system: &System, bytes: &[u8]) -> Result<Schedule, Ended>
+fn read_schedule_file(alloc: Global, system: &System, bytes: &[u8]) -> Result<Schedule, InputError>
     ensures planned { IfOk result (λ schedule. schedule_by (schedule_of system.now bytes.now) ≡ Do schedule) }
     ensures ended { IfErr result (IsEndOf (schedule_by (schedule_of system.now bytes.now))) }
     ensures status { IfErr result HasStatus }
@@ -68,9 +69,9 @@ fn read_schedule_file(alloc: Global, system: &System, bytes: &[u8]) -> Result<Sc
 {
     match read_schedule(alloc, system, bytes) {
         Ok(schedule) => Ok(schedule),
-        Err(ScheduleFault::Memory) => Err(Ended::Memory),
-        Err(fault) => Err(Ended::Refused(Reply {
-            status: 19,
+        Err(ScheduleFault::Memory) => Err(InputError::Memory),
+        Err(fault) => Err(InputError::Refused(Reply {
+            status: statuses::SCHEDULE_REFUSED,
             text: schedule_line(alloc, fault)?,
         })),
     }
@@ -82,7 +83,7 @@ fn load_schedule<F: Files>(
     files: &mut F,
     system: &System,
     file: &str,
-) -> Result<Schedule, Ended>
+) -> Result<Schedule, InputError>
     ensures planned { F.told files.old ≡ true → IfOk result (λ schedule. schedule_in (F.held files.old) system.now file.now ≡ Do schedule) }
     ensures ended { F.told files.old ≡ true → IfErr result (IsEndOf (schedule_in (F.held files.old) system.now file.now)) }
     ensures status { IfErr result HasStatus }
@@ -100,7 +101,7 @@ fn plan_session<F: Files>(
     file: &str,
     script: &str,
     workers: u32,
-) -> Result<Work, Ended>
+) -> Result<Request, InputError>
     requires { AreWorkers workers }
     ensures planned { F.told files.old ≡ true → IfOk result (λ work. plan_for (F.held files.old) (Session file.now script.now workers) ≡ Do work) }
     ensures limits { IfOk result IsWithinLimits }
@@ -110,7 +111,7 @@ fn plan_session<F: Files>(
 {
     let system = load_system(alloc, files, file)?;
     let script = load_script(alloc, files, script)?;
-    Ok(Work::Session {
+    Ok(Request::Session {
         system,
         script,
         workers,
@@ -123,7 +124,7 @@ fn plan_simulation<F: Files>(
     files: &mut F,
     file: &str,
     trace: &str,
-) -> Result<Work, Ended>
+) -> Result<Request, InputError>
     ensures planned { F.told files.old ≡ true → IfOk result (λ work. plan_for (F.held files.old) (Simulate file.now trace.now) ≡ Do work) }
     ensures limits { IfOk result IsWithinLimits }
     ensures ended { F.told files.old ≡ true → IfErr result (IsEndOf (plan_for (F.held files.old) (Simulate file.now trace.now))) }
@@ -131,7 +132,7 @@ fn plan_simulation<F: Files>(
     ensures unread { IfErr result (IsUnreadFile (IsSecond (F.told files.old) (F.held files.old) file.now trace.now) (F.faults files.old) (F.faults files.new) (F.last_failed files.new)) }
 {
     let traced = load_traced(alloc, files, file, trace)?;
-    Ok(Work::Simulate {
+    Ok(Request::Simulate {
         system: traced.system,
         trace: traced.trace,
     })
@@ -143,7 +144,7 @@ fn plan_analysis<F: Files>(
     files: &mut F,
     file: &str,
     workers: u32,
-) -> Result<Work, Ended>
+) -> Result<Request, InputError>
     requires { AreWorkers workers }
     ensures planned { F.told files.old ≡ true → IfOk result (λ work. plan_for (F.held files.old) (Analyse file.now workers) ≡ Do work) }
     ensures limits { IfOk result IsWithinLimits }
@@ -152,7 +153,7 @@ fn plan_analysis<F: Files>(
     ensures unread { IfErr result (IsUnreadFile (λ last. last ≡ file.now) (F.faults files.old) (F.faults files.new) (F.last_failed files.new)) }
 {
     let system = load_system(alloc, files, file)?;
-    Ok(Work::Analyse { system, workers })
+    Ok(Request::Analyse { system, workers })
 }
 
 /// A hammering's work.
@@ -162,7 +163,7 @@ fn plan_hammering<F: Files>(
     file: &str,
     number: u64,
     traces: u64,
-) -> Result<Work, Ended>
+) -> Result<Request, InputError>
     requires { AreTraces traces }
     ensures planned { F.told files.old ≡ true → IfOk result (λ work. plan_for (F.held files.old) (Hammer file.now number traces) ≡ Do work) }
     ensures limits { IfOk result IsWithinLimits }
@@ -171,7 +172,7 @@ fn plan_hammering<F: Files>(
     ensures unread { IfErr result (IsUnreadFile (λ last. last ≡ file.now) (F.faults files.old) (F.faults files.new) (F.last_failed files.new)) }
 {
     let system = load_system(alloc, files, file)?;
-    Ok(Work::Hammer {
+    Ok(Request::Hammer {
         system,
         number,
         traces,
@@ -179,7 +180,7 @@ fn plan_hammering<F: Files>(
 }
 
 /// The resource of a name, which can be given an order.
-fn find_resource(alloc: Global, system: &System, name: &str) -> Result<ResId, Ended>
+fn find_resource(alloc: Global, system: &System, name: &str) -> Result<ResId, InputError>
     ensures planned { IfOk result (λ r. orderable_in system.now name.now ≡ Do r) }
     ensures able { IfOk result (λ r. IsOrderable system.now r.0) }
     ensures ended { IfErr result (IsEndOf (orderable_in system.now name.now)) }
@@ -199,17 +200,17 @@ fn find_resource(alloc: Global, system: &System, name: &str) -> Result<ResId, En
 }
 
 /// The end of a call whose resource or task is refused.
-fn refused_by(line: Vec<u8>) -> Ended
+fn refused_by(line: Vec<u8>) -> InputError
     ensures { result ≡ Refused (record { status = 18; text = line }) }
 {
-    Ended::Refused(Reply {
-        status: 18,
+    InputError::Refused(Reply {
+        status: statuses::NAME_REFUSED,
         text: line,
     })
 }
 
 /// The task of a name.
-fn find_task(alloc: Global, system: &System, name: &str) -> Result<TaskId, Ended>
+fn find_task(alloc: Global, system: &System, name: &str) -> Result<TaskId, InputError>
     ensures planned { IfOk result (λ i. task_in system.now name.now ≡ Do i) }
     ensures there { IfOk result (λ i. i.0 < length system.now.tasks) }
     ensures ended { IfErr result (IsEndOf (task_in system.now name.now)) }
@@ -228,7 +229,7 @@ fn plan_assigning<F: Files>(
     files: &mut F,
     file: &str,
     resource: &str,
-) -> Result<Work, Ended>
+) -> Result<Request, InputError>
     ensures planned { F.told files.old ≡ true → IfOk result (λ work. plan_for (F.held files.old) (Assign file.now resource.now) ≡ Do work) }
     ensures limits { IfOk result IsWithinLimits }
     ensures ended { F.told files.old ≡ true → IfErr result (IsEndOf (plan_for (F.held files.old) (Assign file.now resource.now))) }
@@ -237,7 +238,7 @@ fn plan_assigning<F: Files>(
 {
     let system = load_system(alloc, files, file)?;
     let res = find_resource(alloc, &system, resource)?;
-    Ok(Work::Assign { system, res })
+    Ok(Request::Assign { system, res })
 }
 
 /// The work of a slack.
@@ -247,7 +248,7 @@ fn plan_slack<F: Files>(
     file: &str,
     task: &str,
     workers: u32,
-) -> Result<Work, Ended>
+) -> Result<Request, InputError>
     requires { AreWorkers workers }
     ensures planned { F.told files.old ≡ true → IfOk result (λ work. plan_for (F.held files.old) (Slack file.now task.now workers) ≡ Do work) }
     ensures limits { IfOk result IsWithinLimits }
@@ -257,7 +258,7 @@ fn plan_slack<F: Files>(
 {
     let system = load_system(alloc, files, file)?;
     let task = find_task(alloc, &system, task)?;
-    Ok(Work::Slack {
+    Ok(Request::Slack {
         system,
         task,
         workers,
@@ -271,7 +272,7 @@ fn plan_buffers<F: Files>(
     file: &str,
     trace: &str,
     workers: u32,
-) -> Result<Work, Ended>
+) -> Result<Request, InputError>
     requires { AreWorkers workers }
     ensures planned { F.told files.old ≡ true → IfOk result (λ work. plan_for (F.held files.old) (Buffers file.now trace.now workers) ≡ Do work) }
     ensures limits { IfOk result IsWithinLimits }
@@ -280,7 +281,7 @@ fn plan_buffers<F: Files>(
     ensures unread { IfErr result (IsUnreadFile (IsSecond (F.told files.old) (F.held files.old) file.now trace.now) (F.faults files.old) (F.faults files.new) (F.last_failed files.new)) }
 {
     let traced = load_traced(alloc, files, file, trace)?;
-    Ok(Work::Buffers {
+    Ok(Request::Buffers {
         system: traced.system,
         trace: traced.trace,
         workers,
@@ -294,7 +295,7 @@ fn plan_audit<F: Files>(
     file: &str,
     trace: &str,
     schedule: &str,
-) -> Result<Work, Ended>
+) -> Result<Request, InputError>
     ensures planned { F.told files.old ≡ true → IfOk result (λ work. plan_for (F.held files.old) (Audit file.now trace.now schedule.now) ≡ Do work) }
     ensures limits { IfOk result IsWithinLimits }
     ensures ended { F.told files.old ≡ true → IfErr result (IsEndOf (plan_for (F.held files.old) (Audit file.now trace.now schedule.now))) }
@@ -303,7 +304,7 @@ fn plan_audit<F: Files>(
 {
     let traced = load_traced(alloc, files, file, trace)?;
     let schedule = load_schedule(alloc, files, &traced.system, schedule)?;
-    Ok(Work::Audit {
+    Ok(Request::Audit {
         system: traced.system,
         trace: traced.trace,
         schedule,
@@ -311,7 +312,11 @@ fn plan_audit<F: Files>(
 }
 
 /// What a command asks for.
-pub fn plan_command<F: Files>(alloc: Global, files: &mut F, command: Command) -> Result<Work, Ended>
+pub fn plan_command<F: Files>(
+    alloc: Global,
+    files: &mut F,
+    command: Command,
+) -> Result<Request, InputError>
     requires { IsWithin (asked command) }
     ensures planned { F.told files.old ≡ true → IfOk result (λ work. plan_for (F.held files.old) (asked command.entry) ≡ Do work) }
     ensures limits { IfOk result IsWithinLimits }
@@ -327,12 +332,12 @@ pub fn plan_command<F: Files>(alloc: Global, files: &mut F, command: Command) ->
             workers,
         } => plan_session(alloc, files, file, script, workers),
         Command::Simulate { file, trace } => plan_simulation(alloc, files, file, trace),
-        Command::Generate { number, size } => Ok(Work::Generate { number, size }),
+        Command::Generate { number, size } => Ok(Request::Generate { number, size }),
         Command::Load {
             number,
             size,
             workers,
-        } => Ok(Work::Load {
+        } => Ok(Request::Load {
             number,
             size,
             workers,
@@ -362,7 +367,7 @@ pub fn plan_command<F: Files>(alloc: Global, files: &mut F, command: Command) ->
 }
 
 /// What the words ask for, with the files that they name.
-pub fn plan<F: Files>(alloc: Global, words: &[String], files: &mut F) -> Result<Work, Ended>
+pub fn plan<F: Files>(alloc: Global, words: &[String], files: &mut F) -> Result<Request, InputError>
     ensures planned { F.told files.old ≡ true → IfOk result (λ work. plan_of (map string_bytes words.now) (F.held files.old) ≡ Do work) }
     ensures limits { IfOk result IsWithinLimits }
     ensures ended { F.told files.old ≡ true → IfErr result (IsEndOf (plan_of (map string_bytes words.now) (F.held files.old))) }
@@ -371,8 +376,8 @@ pub fn plan<F: Files>(alloc: Global, words: &[String], files: &mut F) -> Result<
 {
     match accept(alloc, words)? {
         Some(command) => plan_command(alloc, files, command),
-        None => Err(Ended::Refused(Reply {
-            status: 10,
+        None => Err(InputError::Refused(Reply {
+            status: statuses::WORDS_REFUSED,
             text: words_line(alloc)?,
         })),
     }

@@ -7,24 +7,23 @@ ghost use Rattle.cpa_assign.specs.Orders.{IsOrderable};
 ghost use Rattle.cpa_gen.specs.MadeSystems.{made_system};
 ghost use Rattle.cpa_sim.specs.Outcome.{CanReplay, outcome_of};
 ghost use Rattle.cpa_sim.specs.SimText.{sim_text};
-ghost use Rattle.cpa_call.specs.declared.ended.Stopped.TheVariants as stopped;
+ghost use Rattle.cpa_call.specs.declared.errors.OutputError.TheVariants as stopped;
 ghost use Rattle.cpa_call.specs.Answers.{reply, IsOfOutput, Sends, SendsPart};
 ghost use Rattle.cpa_call.specs.Plans.{Do};
 ghost use Rattle.cpa_run.specs.Answers.{IsReport};
-ghost use Rattle.cpa_run.specs.Work.{IsAssigned, IsBuffered, IsDone, IsFileOf, IsGrowth, IsHammered, IsSummary, IsWithinLimits, audited, finding_status, order_status, slack_status, workers_of};
+ghost use Rattle.cpa_run.specs.Request.{IsAssigned, IsBuffered, IsDone, IsFileOf, IsGrowth, IsHammered, IsSummary, IsWithinLimits, audited, finding_status, order_status, slack_status, workers_of};
 ghost use Rattle.cpa_run.specs.Output.{SendsSome};
 
-use crate::analysis::least_bounds;
+use crate::request::Request;
 use crate::sending::send_report;
 use crate::session::run_session;
-use crate::work::Work;
 use cpa_assign::{Order, assign_text};
 use cpa_audit::{Finding, Schedule, audit_text};
 use cpa_buffer::{buffer_text, find_peaks};
-use cpa_call::ended::Stopped;
+use cpa_call::errors::OutputError;
 use cpa_call::sending::send;
 use cpa_file::print_system;
-use cpa_fix::{OneByOne, Round};
+use cpa_fix::{OneByOne, Round, least_bounds};
 use cpa_gen::{hammer_text, load_text, make_system};
 use cpa_io::Sink;
 use cpa_local::Trail;
@@ -46,7 +45,7 @@ fn analyse<H: Sync, R: Round<H>, K: Sink>(
     system: &System,
     round: &mut R,
     sink: &mut K,
-) -> Result<u8, Stopped>
+) -> Result<u8, OutputError>
     ensures sends { IfOk result (λ status. Sends (IsReport system.now) status (K.sent sink.old) (K.sent sink.new)) }
     ensures status { IfOk result IsOfOutput }
     ensures part { OnErr result (SendsPart (IsReport system.now) (K.sent sink.old) (K.sent sink.new)) }
@@ -64,7 +63,7 @@ fn simulate<K: Sink>(
     system: &System,
     trace: &Trace,
     sink: &mut K,
-) -> Result<u8, Stopped>
+) -> Result<u8, OutputError>
     requires { CanReplay system.now trace.now }
     ensures sends { IfOk result (λ status. Sends (λ a. a ≡ reply 0 (sim_text system.now (outcome_of system.now trace.now))) status (K.sent sink.old) (K.sent sink.new)) }
     ensures status { IfOk result IsOfOutput }
@@ -77,8 +76,8 @@ fn simulate<K: Sink>(
     send(sink, 0, text.as_slice())
 }
 
-/// Sends the file of a made system.
-fn generate<K: Sink>(alloc: Global, number: u64, size: u32, sink: &mut K) -> Result<u8, Stopped>
+/// Sends the file of a generated system.
+fn generate<K: Sink>(alloc: Global, number: u64, size: u32, sink: &mut K) -> Result<u8, OutputError>
     requires { IsSize size }
     ensures sends { IfOk result (λ status. Sends (IsFileOf (made_system number size)) status (K.sent sink.old) (K.sent sink.new)) }
     ensures status { IfOk result IsOfOutput }
@@ -91,7 +90,7 @@ fn generate<K: Sink>(alloc: Global, number: u64, size: u32, sink: &mut K) -> Res
     send(sink, 0, text.as_slice())
 }
 
-/// Sends the summary of a made system's analysis.
+/// Sends the summary of a generated system's analysis.
 fn load<H: Sync, R: Round<H>, K: Sink>(
     rt: &H,
     alloc: Global,
@@ -99,7 +98,7 @@ fn load<H: Sync, R: Round<H>, K: Sink>(
     size: u32,
     round: &mut R,
     sink: &mut K,
-) -> Result<u8, Stopped>
+) -> Result<u8, OutputError>
     requires { IsSize size }
     ensures sends { IfOk result (λ status. Sends (IsSummary number size (made_system number size)) status (K.sent sink.old) (K.sent sink.new)) }
     ensures status { IfOk result IsOfOutput }
@@ -113,7 +112,7 @@ fn load<H: Sync, R: Round<H>, K: Sink>(
     send(sink, verdict(&system, &bounds), text.as_slice())
 }
 
-/// Sends what is observed of a system under made traces.
+/// Sends what is observed of a system under generated traces.
 fn hammer<H: Threads + Sync, K: Sink>(
     rt: &H,
     alloc: Global,
@@ -121,7 +120,7 @@ fn hammer<H: Threads + Sync, K: Sink>(
     number: u64,
     traces: u64,
     sink: &mut K,
-) -> Result<u8, Stopped>
+) -> Result<u8, OutputError>
     requires { AreTraces traces }
     ensures sends { IfOk result (λ status. Sends (IsHammered system.now number traces) status (K.sent sink.old) (K.sent sink.new)) }
     ensures status { IfOk result IsOfOutput }
@@ -143,7 +142,7 @@ fn hammer_one_by_one<K: Sink>(
     number: u64,
     traces: u64,
     sink: &mut K,
-) -> Result<u8, Stopped>
+) -> Result<u8, OutputError>
     requires { AreTraces traces }
     ensures sends { IfOk result (λ status. Sends (IsHammered system.now number traces) status (K.sent sink.old) (K.sent sink.new)) }
     ensures status { IfOk result IsOfOutput }
@@ -179,7 +178,12 @@ fn slack_status(slack: &Slack) -> u8
 }
 
 /// Sends the best priority order of a resource, or that no order meets.
-fn assign<K: Sink>(alloc: Global, system: &System, res: ResId, sink: &mut K) -> Result<u8, Stopped>
+fn assign<K: Sink>(
+    alloc: Global,
+    system: &System,
+    res: ResId,
+    sink: &mut K,
+) -> Result<u8, OutputError>
     requires { IsOrderable system.now res.0 }
     ensures sends { IfOk result (λ status. Sends (IsAssigned system.now res.0) status (K.sent sink.old) (K.sent sink.new)) }
     ensures status { IfOk result IsOfOutput }
@@ -201,7 +205,7 @@ fn slack<H: Sync, R: Round<H>, K: Sink>(
     task: TaskId,
     round: &mut R,
     sink: &mut K,
-) -> Result<u8, Stopped>
+) -> Result<u8, OutputError>
     requires { task.0 < length system.now.tasks }
     ensures sends { IfOk result (λ status. Sends (IsGrowth system.now task.0) status (K.sent sink.old) (K.sent sink.new)) }
     ensures status { IfOk result IsOfOutput }
@@ -224,7 +228,7 @@ fn buffers<H: Sync, R: Round<H>, K: Sink>(
     trace: &Trace,
     round: &mut R,
     sink: &mut K,
-) -> Result<u8, Stopped>
+) -> Result<u8, OutputError>
     requires { CanReplay system.now trace.now }
     ensures sends { IfOk result (λ status. Sends (IsBuffered system.now trace.now) status (K.sent sink.old) (K.sent sink.new)) }
     ensures status { IfOk result IsOfOutput }
@@ -260,7 +264,7 @@ fn audit<K: Sink>(
     trace: &Trace,
     schedule: &Schedule,
     sink: &mut K,
-) -> Result<u8, Stopped>
+) -> Result<u8, OutputError>
     requires { CanReplay system.now trace.now }
     ensures sends { IfOk result (λ status. Sends (λ a. a ≡ audited system.now trace.now schedule.now) status (K.sent sink.old) (K.sent sink.new)) }
     ensures status { IfOk result IsOfOutput }
@@ -274,29 +278,29 @@ fn audit<K: Sink>(
 }
 
 /// By how many workers the work is done, 1 where it doesn't say.
-fn workers_of(work: &Work) -> u32
+fn workers_of(work: &Request) -> u32
     requires { IsWithinLimits work.now }
     ensures value { result ≡ workers_of work.now }
     ensures within { AreWorkers result }
 {
     match work {
-        Work::Analyse { workers, .. } => *workers,
-        Work::Session { workers, .. } => *workers,
-        Work::Load { workers, .. } => *workers,
-        Work::Slack { workers, .. } => *workers,
-        Work::Buffers { workers, .. } => *workers,
+        Request::Analyse { workers, .. } => *workers,
+        Request::Session { workers, .. } => *workers,
+        Request::Load { workers, .. } => *workers,
+        Request::Slack { workers, .. } => *workers,
+        Request::Buffers { workers, .. } => *workers,
         _ => 1,
     }
 }
 
-/// Does the work by rounds of this kind, all runs under made traces on the calling thread, and sends what comes of it.
+/// Does the work by rounds of this kind, all runs under generated traces on the calling thread, and sends the result.
 pub fn perform_by<H: Sync, R: Round<H>, K: Sink>(
     rt: &H,
     alloc: Global,
-    work: Work,
+    work: Request,
     round: &mut R,
     sink: &mut K,
-) -> Result<u8, Stopped>
+) -> Result<u8, OutputError>
     requires { IsWithinLimits work }
     ensures sends { IfOk result (λ status. Sends (IsDone work) status (K.sent sink.old) (K.sent sink.new)) }
     ensures status { IfOk result IsOfOutput }
@@ -305,22 +309,22 @@ pub fn perform_by<H: Sync, R: Round<H>, K: Sink>(
     ensures failed { result ≡ Err stopped.Sink → Rose (K.faults sink.old) (K.faults sink.new) }
 {
     match work {
-        Work::Analyse { system, .. } => analyse(rt, alloc, &system, round, sink),
-        Work::Session { system, script, .. } => {
+        Request::Analyse { system, .. } => analyse(rt, alloc, &system, round, sink),
+        Request::Session { system, script, .. } => {
             run_session(rt, alloc, system, &script, round, sink)
         }
-        Work::Simulate { system, trace } => simulate(alloc, &system, &trace, sink),
-        Work::Generate { number, size } => generate(alloc, number, size, sink),
-        Work::Load { number, size, .. } => load(rt, alloc, number, size, round, sink),
-        Work::Hammer {
+        Request::Simulate { system, trace } => simulate(alloc, &system, &trace, sink),
+        Request::Generate { number, size } => generate(alloc, number, size, sink),
+        Request::Load { number, size, .. } => load(rt, alloc, number, size, round, sink),
+        Request::Hammer {
             system,
             number,
             traces,
         } => hammer_one_by_one(alloc, &system, number, traces, sink),
-        Work::Assign { system, res } => assign(alloc, &system, res, sink),
-        Work::Slack { system, task, .. } => slack(rt, alloc, &system, task, round, sink),
-        Work::Buffers { system, trace, .. } => buffers(rt, alloc, &system, &trace, round, sink),
-        Work::Audit {
+        Request::Assign { system, res } => assign(alloc, &system, res, sink),
+        Request::Slack { system, task, .. } => slack(rt, alloc, &system, task, round, sink),
+        Request::Buffers { system, trace, .. } => buffers(rt, alloc, &system, &trace, round, sink),
+        Request::Audit {
             system,
             trace,
             schedule,
@@ -328,15 +332,15 @@ pub fn perform_by<H: Sync, R: Round<H>, K: Sink>(
     }
 }
 
-/// Does the work, and sends what comes of it. Workers pass the gate before each analysis, and runs under made traces are
+/// Does the work, and sends the result. Workers pass the gate before each analysis, and runs under generated traces are
 /// on several threads.
 pub fn perform<H: Threads + Sync, K: Sink, G: Gate>(
     rt: &H,
     alloc: Global,
-    work: Work,
+    work: Request,
     sink: &mut K,
     gate: G,
-) -> Result<u8, Stopped>
+) -> Result<u8, OutputError>
 where
     Shared<G>: Round<H>,
     requires { IsWithinLimits work }
@@ -347,7 +351,7 @@ where
     ensures failed { result ≡ Err stopped.Sink → Rose (K.faults sink.old) (K.faults sink.new) }
 {
     match work {
-        Work::Hammer {
+        Request::Hammer {
             system,
             number,
             traces,

@@ -3,11 +3,11 @@
 ghost use Rattle.std.specs.Prelude.{◌≡◌, ◌≤◌, Err, IfOk, OnErr};
 ghost use Rattle.cpa_io.specs.Causes.{Rose};
 ghost use Rattle.cpa_local.specs.Solution.{IsLeast};
-ghost use Rattle.cpa_call.specs.declared.ended.Stopped.TheVariants as stopped;
+ghost use Rattle.cpa_call.specs.declared.errors.OutputError.TheVariants as stopped;
 ghost use Rattle.cpa_call.specs.Answers.{IsOfOutput, Sends, SendsPart};
 ghost use Rattle.cpa_run.specs.Answers.{IsReport};
 
-use cpa_call::ended::Stopped;
+use cpa_call::errors::OutputError;
 use cpa_call::sending::send;
 use cpa_io::Sink;
 use cpa_model::System;
@@ -21,7 +21,7 @@ pub fn send_report<K: Sink>(
     system: &System,
     bounds: &Vector,
     sink: &mut K,
-) -> Result<u8, Stopped>
+) -> Result<u8, OutputError>
     requires { IsLeast system.now bounds.now }
     ensures sends { IfOk result (λ status. Sends (IsReport system.now) status (K.sent sink.old) (K.sent sink.new)) }
     ensures status { IfOk result IsOfOutput }

@@ -3,7 +3,7 @@
 ghost use Rattle.std.specs.Prelude.{◌≡◌, ◌≤◌, Err, IfOk, OnOk, OnErr};
 ghost use Rattle.cpa_units.specs.declared.limits.TheConstants.{MAX_TASKS};
 ghost use Rattle.cpa_io.specs.Causes.{Rose};
-ghost use Rattle.cpa_call.specs.declared.ended.Stopped.TheVariants as stopped;
+ghost use Rattle.cpa_call.specs.declared.errors.OutputError.TheVariants as stopped;
 ghost use Rattle.cpa_call.specs.Answers.{IsOfOutput, Sends, SendsPart};
 ghost use Rattle.cpa_run.specs.Session.{IsSession, system_after};
 ghost use Rattle.cpa_run.specs.Steps.{IsWritten, IsWrittenPart};
@@ -11,7 +11,7 @@ ghost use Rattle.cpa_edit.specs.Script.{AreNamed};
 
 use crate::lines::edit_line;
 use crate::sending::send_report;
-use cpa_call::ended::Stopped;
+use cpa_call::errors::OutputError;
 use cpa_edit::{EditFault, Script, Step};
 use cpa_fix::Round;
 use cpa_io::{Sink, put_all};
@@ -31,7 +31,7 @@ fn take_step<H: Sync, R: Round<H>, K: Sink>(
     round: &mut R,
     trail: &mut Trail,
     sink: &mut K,
-) -> Result<(), Stopped>
+) -> Result<(), OutputError>
     requires { MAX_TASKS ≤ trail.old.room }
     ensures written { OnOk result (IsWritten session.old line step.now (K.sent sink.old) (K.sent sink.new)) }
     ensures system { OnOk result (session.new ≡ system_after session.old step.now) }
@@ -52,7 +52,7 @@ fn take_step<H: Sync, R: Round<H>, K: Sink>(
                 put_all(sink, text.as_slice())?;
                 Ok(())
             }
-            Err(EditFault::Memory) => Err(Stopped::Memory),
+            Err(EditFault::Memory) => Err(OutputError::Memory),
         },
     }
 }
@@ -66,7 +66,7 @@ pub fn run_session<H: Sync, R: Round<H>, K: Sink>(
     script: &Script,
     round: &mut R,
     sink: &mut K,
-) -> Result<u8, Stopped>
+) -> Result<u8, OutputError>
     requires { AreNamed script.now }
     ensures sends { IfOk result (λ status. Sends (IsSession system script.now) status (K.sent sink.old) (K.sent sink.new)) }
     ensures status { IfOk result IsOfOutput }

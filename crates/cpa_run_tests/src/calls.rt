@@ -142,7 +142,7 @@ pub const NO_OPTION: Options = &[&[]];
 /// Several numbers of workers, which are in no answer.
 pub const WORKERS: Options = &[&["--workers", "1"], &["--workers", "2"], &["--workers=8"]];
 
-/// Whether a call of a table answers as it tells, with an option; where there is one, also where all workers come.
+/// Whether a call of a table answers as it says, with an option; where there is one, also where all workers come.
 fn answers<R: AllocGlobal + Threads + Sync, G: Gate>(
     rt: &R,
     (words, texts, status, pieces): &Call,

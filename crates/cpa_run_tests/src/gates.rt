@@ -2,9 +2,9 @@
 
 ghost use Rattle.std.specs.Prelude.{None};
 
-use crate::anew::edit_once;
 use crate::calls::{call_with, given_words, held_files};
 use crate::cases::{CROSSING_CHAINS, CROSSING_CHAINS_REPORT, ENDLESS_JITTER};
+use crate::fresh_analyses::edit_once;
 use cpa_fix::Round;
 use cpa_io::{MemoryFiles, Sink, SinkFault};
 use cpa_run::run_with;

@@ -42,7 +42,7 @@ const HELD: &[(&str, &str)] = &[
     ("sch", SCHEDULE),
 ];
 
-/// Whether a call tells the name of each file in turn where its load fails, and loads no other file.
+/// Whether a call says the name of each file in turn where its load fails, and loads no other file.
 fn names_each_file<R: AllocGlobal + Threads + Sync>(
     rt: &R,
     words: &[&str],
@@ -187,7 +187,7 @@ impl Files for FailingFiles {
     }
 }
 
-/// A sink that takes all, or whose calls all fail. It tells nothing but its faults.
+/// A sink that takes all, or whose calls all fail. It says nothing but its faults.
 #[derive(Drop)]
 struct FailingSink {
     faults: u64,

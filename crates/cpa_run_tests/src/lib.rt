@@ -4,9 +4,9 @@
 #![tactic(auto)]
 
 #[cfg(test)]
-mod anew;
-#[cfg(test)]
 mod audits;
+#[cfg(test)]
+mod buffers;
 #[cfg(test)]
 mod calls;
 #[cfg(test)]
@@ -14,11 +14,13 @@ mod car;
 #[cfg(test)]
 mod cases;
 #[cfg(test)]
+mod fresh_analyses;
+#[cfg(test)]
 mod gates;
 #[cfg(test)]
-mod hostile;
+mod generated;
 #[cfg(test)]
-mod made;
+mod hostile;
 #[cfg(test)]
 mod orders;
 #[cfg(test)]
@@ -29,5 +31,3 @@ mod runs;
 mod sessions;
 #[cfg(test)]
 mod tests;
-#[cfg(test)]
-mod waiting;

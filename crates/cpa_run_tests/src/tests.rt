@@ -1,15 +1,15 @@
 use crate::audits::{LONG_SCHEDULES, REFUSED_ROWS, RINGS, RUNS as RECORDED};
+use crate::buffers::{REFUSED, WAITING};
 use crate::calls::{
     Call, Faults, LongCall, NO_FAULTS, NO_OPTION, Options, WORKERS, call, open_gates, try_calls,
     try_long_calls,
 };
 use crate::car::{CAR_NETWORK, CAR_NETWORK_REPORT};
 use crate::cases::*;
-use crate::made::{HAMMERED, LOADS};
+use crate::generated::{HAMMERED, LOADS};
 use crate::orders::{GROWTHS, ORDERS};
 use crate::runs::{REFUSED_TRACES, RUNS, RUNS_OF_SEVERAL};
 use crate::sessions::{EDITS, REFUSED_EDITS, SESSION_REPORTS};
-use crate::waiting::{REFUSED, WAITING};
 use cpa_cases::{BURST, LONG_WINDOW, TWO_TASKS};
 use std::test::Fail;
 

@@ -1,4 +1,4 @@
-mod FollowingLaws
+mod TrackingLaws
 mod PlanLaws
 mod ReadLaws
 mod RowLaws

@@ -1,9 +1,9 @@
 -- What plans answer.
 use Rattle.std.proofs.Common.{◌≡◌, ℕ, List, Option, Some, None, refl, sym, ap, ◌∙◌, subst}
 use Rattle.cpa_io.specs.Causes.{SentPart}
-use Rattle.cpa_call.specs.declared.ended.Reply.{Reply}
-use Rattle.cpa_call.specs.declared.ended.Ended.{Ended}
-use Rattle.cpa_call.specs.declared.ended.Ended.TheVariants.{Refused}
+use Rattle.cpa_call.specs.declared.errors.Reply.{Reply}
+use Rattle.cpa_call.specs.declared.errors.InputError.{InputError}
+use Rattle.cpa_call.specs.declared.errors.InputError.TheVariants.{Refused}
 use Rattle.cpa_call.specs.declared.loading.Traced.{Traced}
 use Rattle.cpa_call.specs.Answers.{reply, SendsPart}
 use Rattle.cpa_call.specs.Ends.{IsEndOf}
@@ -27,7 +27,7 @@ pub done-answer : (words : List (List ℕ)) (held : Held) (t : Traced) (status :
 done-answer words held t status text plan zero is = (λ i. reply (zero i) (is i)) ∙ ap answer_to (sym plan)
 
 -- the line of a refusal is the output
-pub refused-answer : (words : List (List ℕ)) (held : Held) (e : Ended) (r : Reply) (text : List ℕ) → IsEndOf (plan_of words held) e → e ≡ Refused r → text ≡ r.text.items → IsOutput words held (reply r.status text)
+pub refused-answer : (words : List (List ℕ)) (held : Held) (e : InputError) (r : Reply) (text : List ℕ) → IsEndOf (plan_of words held) e → e ≡ Refused r → text ≡ r.text.items → IsOutput words held (reply r.status text)
 refused-answer words held e r text end is same =
     let plan : plan_of words held ≡ Refuse r.status r.text.items = subst (IsEndOf (plan_of words held)) is end in
     ap (reply r.status) same ∙ ap answer_to (sym plan)
@@ -37,7 +37,7 @@ pub nothing-yet : (words : List (List ℕ)) (held : Held) (sent : Option (List �
 nothing-yet words held sent = record { answer = answer_to (plan_of words held); is_output = refl; part = sent-nothing sent _ }
 
 -- a part of the line of a refusal
-pub refused-part : (words : List (List ℕ)) (held : Held) (e : Ended) (r : Reply) (text : List ℕ) (before now : Option (List ℕ)) → IsEndOf (plan_of words held) e → e ≡ Refused r → text ≡ r.text.items
+pub refused-part : (words : List (List ℕ)) (held : Held) (e : InputError) (r : Reply) (text : List ℕ) (before now : Option (List ℕ)) → IsEndOf (plan_of words held) e → e ≡ Refused r → text ≡ r.text.items
     → SentPart before now text → SendsPart (IsOutput words held) before now
 refused-part words held e r text before now end is same part =
     part-reply (IsOutput words held) r.status text before now (refused-answer words held e r text end is same) part

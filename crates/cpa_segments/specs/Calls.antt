@@ -2,7 +2,7 @@
 use Rattle.std.specs.Prelude.{◌≡◌, ℕ, Bool, false, ◌==◌, not, ◌&&◌, if◌then◌else◌, List, [], ◌∷◌, Option, Some, None}
 use Rattle.cpa_io.specs.Causes.{Rose}
 use Rattle.cpa_audit.specs.Segments.{segments}
-use Rattle.cpa_call.specs.declared.ended.Ended.{Ended}
+use Rattle.cpa_call.specs.declared.errors.InputError.{InputError}
 use Rattle.cpa_call.specs.declared.loading.Traced.{Traced}
 use Rattle.cpa_call.specs.Answers.{Answer, reply}
 use Rattle.cpa_call.specs.Ends.{IsUnreadLine}
@@ -58,6 +58,6 @@ pub record IsUnread (words : List (List ℕ)) (told : Bool) (held : Held) (befor
   pub named : IsSecond told held asked.file asked.trace last
   pub rose : Rose before now
 
--- why a call ends before its work: where a file couldn't be loaded, its line tells its name
-abbrev pub IsUnreadCall : List (List ℕ) → Bool → Held → ℕ → ℕ → List ℕ → Ended → Type 0
+-- why a call ends before its work: where a file couldn't be loaded, its line says its name
+abbrev pub IsUnreadCall : List (List ℕ) → Bool → Held → ℕ → ℕ → List ℕ → InputError → Type 0
 IsUnreadCall words told held before now last = IsUnreadLine (IsUnread words told held before now last) last

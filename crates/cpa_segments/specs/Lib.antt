@@ -1,5 +1,5 @@
 pub mod Calls
-pub mod Following
+pub mod Tracking
 pub mod Laws
 pub mod Rows
 pub mod Written

@@ -4,7 +4,7 @@
 #![tactic(auto)]
 
 mod command;
-mod following;
+mod tracking;
 mod words;
 mod writing;
 

@@ -5,14 +5,14 @@ ghost use Rattle.std.specs.Option.{ForSome, option_to_list};
 ghost use Rattle.cpa_io.specs.Causes.{Rose, SentPart, grown};
 ghost use Rattle.cpa_sim.specs.Outcome.{CanReplay, end_of};
 ghost use Rattle.cpa_audit.specs.Segments.{starting, started, segments};
-ghost use Rattle.cpa_call.specs.declared.ended.Stopped.TheVariants as stopped;
-ghost use Rattle.cpa_segments.specs.Following.{AreFollowing};
+ghost use Rattle.cpa_call.specs.declared.errors.OutputError.TheVariants as stopped;
+ghost use Rattle.cpa_segments.specs.Tracking.{AreTracking};
 ghost use Rattle.cpa_segments.specs.Rows.{row_text, schedule_text};
 ghost use Rattle.cpa_segments.specs.Written.{IsWritten};
 
-use crate::following::{Follower, follow};
+use crate::tracking::{SegmentTracker, follow};
 use cpa_audit::Segment;
-use cpa_call::ended::Stopped;
+use cpa_call::errors::OutputError;
 use cpa_io::{Sink, put_all};
 use cpa_model::System;
 use cpa_sim::Replay;
@@ -54,7 +54,7 @@ fn put_row(
 }
 
 /// Sends what is written, if that is enough for a piece.
-fn send_full<K: Sink>(unsent: &mut Vec<u8>, sink: &mut K) -> Result<(), Stopped>
+fn send_full<K: Sink>(unsent: &mut Vec<u8>, sink: &mut K) -> Result<(), OutputError>
     ensures written { OnOk result (IsWritten (K.sent sink.old) (K.sent sink.new) unsent.old.items unsent.new.items []) }
     ensures part { OnErr result (SentPart (K.sent sink.old) (K.sent sink.new) unsent.old.items) }
     ensures rises { K.faults sink.old ≤ K.faults sink.new }
@@ -75,7 +75,7 @@ fn put_segment<K: Sink>(
     segment: Option<Segment>,
     unsent: &mut Vec<u8>,
     sink: &mut K,
-) -> Result<(), Stopped>
+) -> Result<(), OutputError>
     requires { ForSome segment (λ seg. seg.task.0 < length system.now.tasks) }
     ensures written { OnOk result (IsWritten (K.sent sink.old) (K.sent sink.new) unsent.old.items unsent.new.items (schedule_text system.now (option_to_list segment))) }
     ensures part { OnErr result (SentPart (K.sent sink.old) (K.sent sink.new) (unsent.old.items ++ schedule_text system.now (option_to_list segment))) }
@@ -94,7 +94,7 @@ fn put_segment<K: Sink>(
 /// A schedule that is written along a run: what is followed of each resource, and what wasn't sent yet.
 #[derive(Drop)]
 struct Writing<'a> {
-    followers: Vec<Follower<'a>>,
+    trackers: Vec<SegmentTracker<'a>>,
     unsent: Vec<u8>,
 }
 
@@ -102,17 +102,17 @@ impl<'a> Writing<'a> {
     /// Nothing written so far.
     fn start(alloc: Global, system: &'a System, trace: &'a Trace) -> Result<Writing<'a>, NoMemory>
         requires { CanReplay system.now trace.now }
-        ensures long { IfOk result (λ w. length w.followers.items ≡ length system.now.resources) }
-        ensures following { IfOk result (λ w. AreFollowing system.now trace.now 0 0 0 w.followers.items) }
+        ensures long { IfOk result (λ w. length w.trackers.items ≡ length system.now.resources) }
+        ensures tracking { IfOk result (λ w. AreTracking system.now trace.now 0 0 0 w.trackers.items) }
         ensures unsent { IfOk result (λ w. w.unsent.items ≡ []) }
     {
-        let mut followers = Vec::new(alloc);
+        let mut trackers = Vec::new(alloc);
         for k in 0..system.resources() {
-            let follower = Follower::start(alloc, system, trace)?;
-            followers.push(follower)?;
+            let tracker = SegmentTracker::start(alloc, system, trace)?;
+            trackers.push(tracker)?;
         }
         Ok(Writing {
-            followers,
+            trackers,
             unsent: Vec::new(alloc),
         })
     }
@@ -126,15 +126,15 @@ impl<'a> Writing<'a> {
         replay: &Replay<'_>,
         time: u64,
         sink: &mut K,
-    ) -> Result<(), Stopped>
+    ) -> Result<(), OutputError>
         requires system { replay.now.system ≡ system.now }
         requires since { replay.now.since ≡ time }
         requires later { time < replay.now.time }
         requires within { replay.now.time ≤ end_of system.now replay.now.trace }
-        requires long { length self.old.followers.items ≡ length system.now.resources }
-        requires following { AreFollowing system.now replay.now.trace 0 time time self.old.followers.items }
-        ensures long { OnOk result (length self.new.followers.items ≡ length system.now.resources) }
-        ensures following { OnOk result (AreFollowing system.now replay.now.trace 0 replay.now.time replay.now.time self.new.followers.items) }
+        requires long { length self.old.trackers.items ≡ length system.now.resources }
+        requires tracking { AreTracking system.now replay.now.trace 0 time time self.old.trackers.items }
+        ensures long { OnOk result (length self.new.trackers.items ≡ length system.now.resources) }
+        ensures tracking { OnOk result (AreTracking system.now replay.now.trace 0 replay.now.time replay.now.time self.new.trackers.items) }
         ensures started { OnOk result (started system.now replay.now.trace replay.now.time ≡ started system.now replay.now.trace time ++ starting system.now replay.now.trace time) }
         ensures written { OnOk result (IsWritten (K.sent sink.old) (K.sent sink.new) self.old.unsent.items self.new.unsent.items (schedule_text system.now (starting system.now replay.now.trace time))) }
         ensures part { OnErr result (SentPart (K.sent sink.old) (K.sent sink.new) (self.old.unsent.items ++ schedule_text system.now (starting system.now replay.now.trace time))) }
@@ -143,7 +143,7 @@ impl<'a> Writing<'a> {
     {
         for k in 0..system.resources() {
             let ran = replay.ran(ResId(k));
-            let segment = follow(&mut self.followers[k as usize], ResId(k), ran, time);
+            let segment = follow(&mut self.trackers[k as usize], ResId(k), ran, time);
             put_segment(alloc, system, segment, &mut self.unsent, sink)?;
         }
         Ok(())
@@ -159,7 +159,7 @@ pub(crate) fn send_schedule<K: Sink>(
     system: &System,
     trace: &Trace,
     sink: &mut K,
-) -> Result<(), Stopped>
+) -> Result<(), OutputError>
     requires { CanReplay system.now trace.now }
     ensures sent { OnOk result (K.sent sink.new ≡ grown (K.sent sink.old) (schedule_text system.now (segments system.now trace.now))) }
     ensures part { OnErr result (SentPart (K.sent sink.old) (K.sent sink.new) (schedule_text system.now (segments system.now trace.now))) }

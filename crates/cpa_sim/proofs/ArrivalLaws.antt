@@ -18,8 +18,8 @@ use Rattle.cpa_sim.specs.declared.dispatches.Dispatch.{Dispatch}
 use Rattle.cpa_sim.specs.declared.jobs.Job.{Job}
 use Rattle.cpa_sim.specs.declared.jobs.Cause.{Cause}
 use Rattle.cpa_sim.specs.Run.{is_chosen, events_at, by_task, by_source}
-use Rattle.cpa_sim.specs.Lines.{LineCounts, new_seen, with_arrivals}
-use Rattle.cpa_sim.specs.Simulation.{line_at, dispatch_at, runner, runs_at, ends_at, ends_of, IsUnchanged, AreEnding}
+use Rattle.cpa_sim.specs.JobQueues.{QueueCounts, new_seen, with_arrivals}
+use Rattle.cpa_sim.specs.Simulation.{queue_at, dispatch_at, runner, runs_at, ends_at, ends_of, IsUnchanged, AreEnding}
 use Rattle.cpa_sim.specs.Arrivals.{is_among, IsListOf, IsWithin, AreGiven, ended_of, first_of, IsNextEnd}
 use Rattle.cpa_sim.proofs.CauseLists.{by-none}
 use Rattle.cpa_sim.proofs.DispatchLaws.{unchanged-same, unchanged-then}
@@ -38,48 +38,48 @@ seen-add now a b (Some js) =
     ap Some (append_assoc js (new_seen now a) (new_seen now b)
     ∙ ap (λ ks. js ++ ks) (sym (map-append (λ (cause : Cause). let made : Job = record { arrival = now; end = None; cause = cause } in made) a b)))
 
-pub arrivals-none : (now : ℕ) (line : LineCounts) → with_arrivals now [] line ≡ line
-arrivals-none now line =
-    let e : line.count + 0 ≡ line.count = omega arith in
-    ap (λ n. let made : LineCounts = record { count = n; done = line.done; left = line.left; kept = option_map (λ js. js ++ new_seen now []) line.kept } in made) e
-    ∙ ap (λ k. let made : LineCounts = record { count = line.count; done = line.done; left = line.left; kept = k } in made) (seen-none now line.kept)
+pub arrivals-none : (now : ℕ) (queue : QueueCounts) → with_arrivals now [] queue ≡ queue
+arrivals-none now queue =
+    let e : queue.count + 0 ≡ queue.count = omega arith in
+    ap (λ n. let made : QueueCounts = record { count = n; done = queue.done; left = queue.left; kept = option_map (λ js. js ++ new_seen now []) queue.kept } in made) e
+    ∙ ap (λ k. let made : QueueCounts = record { count = queue.count; done = queue.done; left = queue.left; kept = k } in made) (seen-none now queue.kept)
 
-arrivals-add : (now : ℕ) (a b : List Cause) (line : LineCounts) → with_arrivals now b (with_arrivals now a line) ≡ with_arrivals now (a ++ b) line
-arrivals-add now a b line =
-    let e : line.count + length a + length b ≡ line.count + length (a ++ b) = omega (arith, length-append a b) in
-    ap (λ n. let made : LineCounts = record { count = n; done = line.done; left = line.left; kept = option_map (λ js. js ++ new_seen now b) (option_map (λ js. js ++ new_seen now a) line.kept) } in made) e
-    ∙ ap (λ k. let made : LineCounts = record { count = line.count + length (a ++ b); done = line.done; left = line.left; kept = k } in made) (seen-add now a b line.kept)
+arrivals-add : (now : ℕ) (a b : List Cause) (queue : QueueCounts) → with_arrivals now b (with_arrivals now a queue) ≡ with_arrivals now (a ++ b) queue
+arrivals-add now a b queue =
+    let e : queue.count + length a + length b ≡ queue.count + length (a ++ b) = omega (arith, length-append a b) in
+    ap (λ n. let made : QueueCounts = record { count = n; done = queue.done; left = queue.left; kept = option_map (λ js. js ++ new_seen now b) (option_map (λ js. js ++ new_seen now a) queue.kept) } in made) e
+    ∙ ap (λ k. let made : QueueCounts = record { count = queue.count + length (a ++ b); done = queue.done; left = queue.left; kept = k } in made) (seen-add now a b queue.kept)
 
 module _ (s : SystemLists) (places : List ℕ) (now : ℕ) where
-  pub given-none : (lines : List LineCounts) (dispatches : List Dispatch) → length lines ≡ length s.tasks → length dispatches ≡ length s.resources → AreGiven s places now (λ i. []) lines dispatches lines dispatches
-  given-none lines dispatches count_lines count_dispatches =
+  pub given-none : (queues : List QueueCounts) (dispatches : List Dispatch) → length queues ≡ length s.tasks → length dispatches ≡ length s.resources → AreGiven s places now (λ i. []) queues dispatches queues dispatches
+  given-none queues dispatches count_queues count_dispatches =
       record {
-        count_lines = count_lines;
+        count_queues = count_queues;
         count_dispatches = count_dispatches;
-        arrived = λ i less. sym (arrivals-none now (line_at lines i));
+        arrived = λ i less. sym (arrivals-none now (queue_at queues i));
         unchanged = λ r less. unchanged-same (kind_of s r) (dispatch_at dispatches r) (dispatch_at dispatches r) refl;
         asked = λ i less more. refl;
         within = λ i less. inl refl;
       }
 
-  pub given-same : (c d : ℕ → List Cause) (l1 : List LineCounts) (d1 : List Dispatch) (l2 : List LineCounts) (d2 : List Dispatch) → AreGiven s places now c l1 d1 l2 d2 → ((i : ℕ) → i < length s.tasks → c i ≡ d i) → AreGiven s places now d l1 d1 l2 d2
+  pub given-same : (c d : ℕ → List Cause) (l1 : List QueueCounts) (d1 : List Dispatch) (l2 : List QueueCounts) (d2 : List Dispatch) → AreGiven s places now c l1 d1 l2 d2 → ((i : ℕ) → i < length s.tasks → c i ≡ d i) → AreGiven s places now d l1 d1 l2 d2
   given-same c d l1 d1 l2 d2 h same =
       record {
-        count_lines = h.count_lines;
+        count_queues = h.count_queues;
         count_dispatches = h.count_dispatches;
-        arrived = λ i less. h.arrived i less ∙ ap (λ new. with_arrivals now new (line_at l1 i)) (same i less);
+        arrived = λ i less. h.arrived i less ∙ ap (λ new. with_arrivals now new (queue_at l1 i)) (same i less);
         unchanged = h.unchanged;
         asked = λ i less more. sym (same i less) ∙ h.asked i less more;
         within = λ i less. elim (h.within i less) [ inl none ↦ inl (sym (same i less) ∙ none) | inr at ↦ inr at ];
       }
 
   module _ (placed : (i : ℕ) → i < length s.tasks → (task_at s i).res.0 < length s.resources) where
-    pub given-then : (c d : ℕ → List Cause) (l1 : List LineCounts) (d1 : List Dispatch) (l2 : List LineCounts) (d2 : List Dispatch) (l3 : List LineCounts) (d3 : List Dispatch) → AreGiven s places now c l1 d1 l2 d2 → AreGiven s places now d l2 d2 l3 d3 → AreGiven s places now (λ i. c i ++ d i) l1 d1 l3 d3
+    pub given-then : (c d : ℕ → List Cause) (l1 : List QueueCounts) (d1 : List Dispatch) (l2 : List QueueCounts) (d2 : List Dispatch) (l3 : List QueueCounts) (d3 : List Dispatch) → AreGiven s places now c l1 d1 l2 d2 → AreGiven s places now d l2 d2 l3 d3 → AreGiven s places now (λ i. c i ++ d i) l1 d1 l3 d3
     given-then c d l1 d1 l2 d2 l3 d3 first then =
         record {
-          count_lines = then.count_lines;
+          count_queues = then.count_queues;
           count_dispatches = then.count_dispatches;
-          arrived = λ i less. then.arrived i less ∙ (ap (with_arrivals now (d i)) (first.arrived i less) ∙ arrivals-add now (c i) (d i) (line_at l1 i));
+          arrived = λ i less. then.arrived i less ∙ (ap (with_arrivals now (d i)) (first.arrived i less) ∙ arrivals-add now (c i) (d i) (queue_at l1 i));
           unchanged = λ r less. unchanged-then (kind_of s r) (dispatch_at d1 r) (dispatch_at d2 r) (dispatch_at d3 r) (first.unchanged r less) (then.unchanged r less);
           asked = λ i less more.
               let r = (task_at s i).res.0 in
@@ -101,19 +101,19 @@ module _ (s : SystemLists) (places : List ℕ) (now : ℕ) where
 -- ---- the tasks of a list, one after the other
 
 -- the jobs of one task
-pub given-one : (s : SystemLists) (places : List ℕ) (now t : ℕ) (new : List Cause) (l1 : List LineCounts) (d1 : List Dispatch) (l2 : List LineCounts) (d2 : List Dispatch)
-    → length l2 ≡ length s.tasks → length d2 ≡ length s.resources → line_at l2 t ≡ with_arrivals now new (line_at l1 t) → ((i : ℕ) → i ≢ t → line_at l2 i ≡ line_at l1 i)
+pub given-one : (s : SystemLists) (places : List ℕ) (now t : ℕ) (new : List Cause) (l1 : List QueueCounts) (d1 : List Dispatch) (l2 : List QueueCounts) (d2 : List Dispatch)
+    → length l2 ≡ length s.tasks → length d2 ≡ length s.resources → queue_at l2 t ≡ with_arrivals now new (queue_at l1 t) → ((i : ℕ) → i ≢ t → queue_at l2 i ≡ queue_at l1 i)
     → ((r : ℕ) → r < length s.resources → IsUnchanged (kind_of s r) (dispatch_at d1 r) (dispatch_at d2 r))
-    → (dispatch_at d2 (task_at s t).res.0).gone ≡ (dispatch_at d2 (task_at s t).res.0).ticks → IsWithin (dispatch_at d2 (task_at s t).res.0).reach (get_or places t 0)
+    → (dispatch_at d2 (task_at s t).res.0).gone ≡ (dispatch_at d2 (task_at s t).res.0).ticks → IsWithin (dispatch_at d2 (task_at s t).res.0).waiters (get_or places t 0)
     → AreGiven s places now (λ i. cond (eqb t i) new []) l1 d1 l2 d2
-given-one s places now t new l1 d1 l2 d2 count_lines count_dispatches here others unchanged passed within =
+given-one s places now t new l1 d1 l2 d2 count_queues count_dispatches here others unchanged passed within =
     record {
-      count_lines = count_lines;
+      count_queues = count_queues;
       count_dispatches = count_dispatches;
       arrived = λ i less.
           elim (cases_Bool (eqb t i)) [
-            | inl same ↦ rw same (subst (λ k. line_at l2 k ≡ with_arrivals now new (line_at l1 k)) (eqb-true t i same) here)
-            | inr differs ↦ rw differs (others i (λ e. absurd (false≢true (sym differs ∙ eq-eqb t i (sym e)))) ∙ sym (arrivals-none now (line_at l1 i)))
+            | inl same ↦ rw same (subst (λ k. queue_at l2 k ≡ with_arrivals now new (queue_at l1 k)) (eqb-true t i same) here)
+            | inr differs ↦ rw differs (others i (λ e. absurd (false≢true (sym differs ∙ eq-eqb t i (sym e)))) ∙ sym (arrivals-none now (queue_at l1 i)))
           ];
       unchanged = unchanged;
       asked = λ i less more.
@@ -126,7 +126,7 @@ given-one s places now t new l1 d1 l2 d2 count_lines count_dispatches here other
           ];
       within = λ i less.
           elim (cases_Bool (eqb t i)) [
-            | inl same ↦ inr (subst (λ k. IsWithin (dispatch_at d2 (task_at s k).res.0).reach (get_or places k 0)) (eqb-true t i same) within)
+            | inl same ↦ inr (subst (λ k. IsWithin (dispatch_at d2 (task_at s k).res.0).waiters (get_or places k 0)) (eqb-true t i same) within)
             | inr differs ↦ inl (rw differs refl)
           ];
     }
@@ -374,25 +374,25 @@ pub upto-none : (n : ℕ) (o : Option TaskId) → ((task : TaskId) → o ≡ Som
 upto-none n None none = refl
 upto-none n (Some task) none = absurd (none task refl)
 
-module _ (s : SystemLists) (lines : List LineCounts) (dispatches : List Dispatch) (i : ℕ) where
+module _ (s : SystemLists) (queues : List QueueCounts) (dispatches : List Dispatch) (i : ℕ) where
   -- what the first so many tasks start
   abbrev pub started_below : ℕ → List Cause
-  started_below k = flat_map (λ j. by_task s (ended_of s lines dispatches) j i) (range_with_len 0 k)
+  started_below k = flat_map (λ j. by_task s (ended_of s queues dispatches) j i) (range_with_len 0 k)
 
-  quiet-task : (j : ℕ) → ends_of s dispatches j ≡ 0 → by_task s (ended_of s lines dispatches) j i ≡ []
-  quiet-task j none = by-none (is_activated_by s j i) (Task (record { 0 = j })) (ended_of s lines dispatches j) (ap (range_with_len ((line_at lines j).done - 1)) none)
+  quiet-task : (j : ℕ) → ends_of s dispatches j ≡ 0 → by_task s (ended_of s queues dispatches) j i ≡ []
+  quiet-task j none = by-none (is_activated_by s j i) (Task (record { 0 = j })) (ended_of s queues dispatches j) (ap (range_with_len ((queue_at queues j).done - 1)) none)
 
   -- none before the next one
   pub quiet-before : (from : ℕ) (next : Option ℕ) → from ≤ length s.tasks → ((j : ℕ) → from ≤ j → j < length s.tasks → ((k : ℕ) → next ≡ Some k → j < k) → ends_of s dispatches j ≡ 0)
       → ((j : ℕ) → next ≡ Some j → from ≤ j) → ((j : ℕ) → next ≡ Some j → j < length s.tasks) → started_below from ≡ started_below (upto (length s.tasks) next)
   quiet-before from None low none after there =
-      flat_map-quiet (λ j. by_task s (ended_of s lines dispatches) j i) from (length s.tasks) low (λ j l h. quiet-task j (none j l h (λ k e. cc)))
+      flat_map-quiet (λ j. by_task s (ended_of s queues dispatches) j i) from (length s.tasks) low (λ j l h. quiet-task j (none j l h (λ k e. cc)))
   quiet-before from (Some t) low none after there =
       let less = there t refl in
-      flat_map-quiet (λ j. by_task s (ended_of s lines dispatches) j i) from t (after t refl) (λ j l h. quiet-task j (none j l (omega arith) (λ k e. let same = same_Some t k e in omega (arith, same))))
+      flat_map-quiet (λ j. by_task s (ended_of s queues dispatches) j i) from t (after t refl) (λ j l h. quiet-task j (none j l (omega arith) (λ k e. let same = same_Some t k e in omega (arith, same))))
 
   -- a task whose job ends starts one job of each task that it activates
-  pub started-one : (t : ℕ) → ends_of s dispatches t ≡ 1 → is_activated_by s t i ≡ true → length (by_task s (ended_of s lines dispatches) t i) ≡ 1
+  pub started-one : (t : ℕ) → ends_of s dispatches t ≡ 1 → is_activated_by s t i ≡ true → length (by_task s (ended_of s queues dispatches) t i) ≡ 1
   started-one t one activates = rw (activates, one) refl
 
 -- ---- the events
@@ -403,4 +403,4 @@ module _ (s : SystemLists) (tr : TraceLists) (now i : ℕ) where
   fed_below k = flat_map (λ q. by_source s tr now q i) (range_with_len 0 k)
 
   pub length-fed : (k : ℕ) → is_fed_by s k i ≡ true → length (by_source s tr now k i) ≡ length (events_at tr k now)
-  length-fed k feeds = rw feeds (length-map (events_at tr k now) (λ n. let made : Cause = record { by = Source (record { 0 = k }); number = n } in made))
+  length-fed k cursors = rw cursors (length-map (events_at tr k now) (λ n. let made : Cause = record { by = Source (record { 0 = k }); number = n } in made))

@@ -11,7 +11,7 @@ use Rattle.cpa_sim.specs.declared.jobs.Cause.{Cause}
 use Rattle.cpa_sim.specs.declared.jobs.Causes.{Causes}
 use Rattle.cpa_sim.specs.Run.{causes_by, events_at, by_task, by_source, by_tasks, by_sources, arriving}
 use Rattle.cpa_sim.specs.declared.jobs.Job.{Job}
-use Rattle.cpa_sim.specs.Lines.{causes_of, new_seen}
+use Rattle.cpa_sim.specs.JobQueues.{causes_of, new_seen}
 use Rattle.cpa_sim.proofs.RangeLaws.{flat_map-agree, flat_map-none}
 
 -- none where nothing happens

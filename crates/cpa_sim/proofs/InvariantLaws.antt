@@ -12,7 +12,7 @@ use Rattle.cpa_sched.specs.Stretches.{state_after}
 use Rattle.cpa_sim.specs.declared.jobs.Cause.{Cause}
 use Rattle.cpa_sim.specs.Run.{Progress, is_open, waits, ended_count, new_jobs, arriving, settled, run}
 use Rattle.cpa_sim.proofs.JobLists.{AreInOrder, AreFresh, jobs_after}
-use Rattle.cpa_sim.proofs.LineLaws.{ordered-more, ordered-last, ordered-new, ended-is, waits-is, waits-less, first-runs, length-jobs, fresh-append, fresh-after, fresh-from}
+use Rattle.cpa_sim.proofs.QueueLaws.{ordered-more, ordered-last, ordered-new, ended-is, waits-is, waits-less, first-runs, length-jobs, fresh-append, fresh-after, fresh-from}
 use Rattle.cpa_sim.proofs.RunLaws.{jobs-zero, state-zero}
 use Rattle.cpa_sched.proofs.StepLaws.{tasks_on-are, last_is}
 use Rattle.cpa_sched.proofs.StretchLaws.{state_after-zero}

@@ -25,7 +25,7 @@ use Rattle.cpa_sim.specs.declared.jobs.Cause.{Cause}
 use Rattle.cpa_sim.specs.Run.{Progress, is_open, ended_count, after_tick, serve, new_jobs, causes_by, events_at, by_task, by_source, by_tasks, by_sources, arriving, is_chosen, choice_at, served, ends_in, ended_in, run}
 use Rattle.cpa_sim.specs.Outcome.{CanReplay, IsOutcome, jobs_seen, job_of, end_of, outcome_of}
 use Rattle.cpa_sched.proofs.StepLaws.{all_range}
-use Rattle.cpa_sim.proofs.LineLaws.{serve-here, serve-there, ended-open, ended-closed, ended-append, ended-new, ended-le, length-new}
+use Rattle.cpa_sim.proofs.QueueLaws.{serve-here, serve-there, ended-open, ended-closed, ended-append, ended-new, ended-le, length-new}
 use Rattle.cpa_sim.proofs.RunLaws.{jobs-zero, jobs-suc, served-is, ends-is, ended-is as numbers-are}
 
 -- ---- one task's jobs
@@ -261,9 +261,9 @@ module _ (s : SystemLists) (tr : TraceLists) where
       let e : suc t + 1 ≡ (t + 1) + 1 = omega arith in
       let by = length-by (is_fed_by s k i) (Source (record { 0 = k })) (events_at tr k (t + 1)) in
       elim (cases_Bool (is_fed_by s k i)) [
-        | inl feeds ↦
-            let by' = rw feeds at by in
-            rw (feeds, e) (omega (arith, by', length-events tr k (t + 1), before-suc (times_of tr k) (t + 1)))
+        | inl cursors ↦
+            let by' = rw cursors at by in
+            rw (cursors, e) (omega (arith, by', length-events tr k (t + 1), before-suc (times_of tr k) (t + 1)))
         | inr not_so ↦ rw not_so refl
       ]
 
@@ -271,9 +271,9 @@ module _ (s : SystemLists) (tr : TraceLists) where
   events-first i k =
       let by = length-by (is_fed_by s k i) (Source (record { 0 = k })) (events_at tr k 0) in
       elim (cases_Bool (is_fed_by s k i)) [
-        | inl feeds ↦
-            let by' = rw feeds at by in
-            rw feeds (omega (arith, by', length-events tr k 0, before-suc (times_of tr k) 0, before-none (times_of tr k)))
+        | inl cursors ↦
+            let by' = rw cursors at by in
+            rw cursors (omega (arith, by', length-events tr k 0, before-suc (times_of tr k) 0, before-none (times_of tr k)))
         | inr not_so ↦ rw not_so refl
       ]
 
@@ -374,7 +374,7 @@ module _ (s : SystemLists) (tr : TraceLists) where
 
     -- nor has a source that activates one more events
     events-le : (k i : ℕ) → k < length s.sources → i < length s.tasks → is_fed_by s k i ≡ true → length (times_of tr k) ≤ task_jobs s tr i
-    events-le k i low there feeds =
+    events-le k i low there cursors =
         let G : ℕ → ℕ = λ q. length (times_of tr q) in
         let many = (task_at s i).after in
         let f : Activator → List SourceId = λ a. streams_step a (streams_of s) in
@@ -382,7 +382,7 @@ module _ (s : SystemLists) (tr : TraceLists) where
         let each = each-le (weight (λ j. 0) G) (λ a. events_in (f a)) many (λ q d less. of-one (get_or many q d)) in
         let streams = ap events_in (streams_of-activators s rules i there) ∙ events_in-all f many in
         let one = sum-has (λ q. cond (is_fed_by s q i) (G q) 0) 0 (length s.sources) k (omega arith) (omega arith) in
-        let here : cond (is_fed_by s k i) (G k) 0 ≡ G k = rw feeds refl in
+        let here : cond (is_fed_by s k i) (G k) 0 ≡ G k = rw cursors refl in
         omega (arith, few, each, streams, one, here)
       where
         of-one : (a : Activator) → weight (λ j. 0) (λ q. length (times_of tr q)) a ≤ events_in (streams_step a (streams_of s))
@@ -390,7 +390,7 @@ module _ (s : SystemLists) (tr : TraceLists) where
         of-one (ByTask j) = omega arith
 
     pub events-few : CanReplay s tr → (k i : ℕ) → k < length s.sources → i < length s.tasks → is_fed_by s k i ≡ true → length (times_of tr k) ≤ MAX_TRACE_JOBS
-    events-few can k i low there feeds = omega (arith, events-le k i low there feeds, task-le i there, can.few)
+    events-few can k i low there cursors = omega (arith, events-le k i low there cursors, task-le i there, can.few)
 
     -- nor have the first tasks together
     pub few_jobs : (k : ℕ) → k ≤ length s.tasks → sum_by (λ i. length (jobs_seen (outcome_of s tr) i)) (range_with_len 0 k) ≤ jobs_of s tr

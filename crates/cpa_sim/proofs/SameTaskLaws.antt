@@ -11,7 +11,7 @@ use Rattle.cpa_sched.specs.States.{IsOn, IsWaiting, FrameWaits}
 use Rattle.cpa_sched.specs.Stretches.{state_after, task_after}
 use Rattle.cpa_sim.specs.Run.{no_job, Progress, waits, ended_count, serve, new_jobs, events_at, arriving, is_chosen, choice_at, served, ends_in, ended_in, settled, run}
 use Rattle.cpa_sim.proofs.JobLists.{AreInOrder, jobs_after}
-use Rattle.cpa_sim.proofs.LineLaws.{length-jobs, jobs-none, serve-jobs, ordered-more, ordered-last, ended-is, waits-is, waits-less}
+use Rattle.cpa_sim.proofs.QueueLaws.{length-jobs, jobs-none, serve-jobs, ordered-more, ordered-last, ended-is, waits-is, waits-less}
 use Rattle.cpa_sim.proofs.RunLaws.{jobs-next, state-next, served-is, ends-is, ended-is as numbers-are, choice-is}
 use Rattle.cpa_sim.proofs.CauseLists.{arriving-agrees, arriving-none}
 use Rattle.cpa_sim.proofs.ChoiceLaws.{Picks, step-picks, step-agrees, step-frame, frame-settled, FrameIs}

@@ -7,17 +7,17 @@ use Rattle.cpa_trace.specs.Trace.{TraceLists, phase_of, need}
 use Rattle.cpa_sched.specs.Steps.{Choice}
 use Rattle.cpa_sched.specs.States.{IsOn}
 use Rattle.cpa_sim.specs.declared.dispatches.Dispatch.{Dispatch}
-use Rattle.cpa_sim.specs.declared.feeds.Feed.{Feed}
+use Rattle.cpa_sim.specs.declared.source_cursors.SourceCursor.{SourceCursor}
 use Rattle.cpa_sim.specs.declared.jobs.Cause.{Cause}
 use Rattle.cpa_sim.specs.declared.jobs.Served.{Served}
 use Rattle.cpa_sim.specs.Run.{Progress, is_open, waits, is_chosen, choice_at, run}
 use Rattle.cpa_sim.specs.Arrivals.{AreGiven}
-use Rattle.cpa_sim.specs.Lines.{LineCounts, worked, served_line}
+use Rattle.cpa_sim.specs.JobQueues.{QueueCounts, worked, served_queue}
 use Rattle.cpa_sim.proofs.JobLists.{AreInOrder}
-use Rattle.cpa_sim.specs.Simulation.{line_at, dispatch_at, runner, runs_at, waiting, IsServed, IsAt}
+use Rattle.cpa_sim.specs.Simulation.{queue_at, dispatch_at, runner, runs_at, waiting, IsServed, IsAt}
 use Rattle.cpa_sim.specs.Served.{first_open, numbered, served_at}
 use Rattle.cpa_sim.specs.LastServed.{last_of, ran_by, RanWithin}
-use Rattle.cpa_sim.proofs.LineLaws.{ordered-more}
+use Rattle.cpa_sim.proofs.QueueLaws.{ordered-more}
 use Rattle.cpa_sim.proofs.SameTaskLaws.{SameTasksRun, chosen, jobs_at, left_at, picked, chosen-pending, after, task}
 use Rattle.cpa_sim.proofs.InvariantLaws.{CanRun, holds-always}
 use Rattle.cpa_sim.proofs.ChoiceLaws.{step-picks}
@@ -54,9 +54,9 @@ numbered-agree : (f g : ℕ → ℕ) (o : Option ℕ) → ((i : ℕ) → o ≡ S
 numbered-agree f g None agree = refl
 numbered-agree f g (Some i) agree = ap (λ n. let made : Served = record { task = record { 0 = i }; job = n } in Some made) (agree i refl)
 
-last-worked : (needs : ℕ → ℕ) (ticks now : ℕ) (line : LineCounts) → (worked needs ticks now line).done - cond (nat_le line.left ticks) 1 0 ≡ line.done
-last-worked needs ticks now line =
-    elim (cases_Bool (nat_le line.left ticks)) [
+last-worked : (needs : ℕ → ℕ) (ticks now : ℕ) (queue : QueueCounts) → (worked needs ticks now queue).done - cond (nat_le queue.left ticks) 1 0 ≡ queue.done
+last-worked needs ticks now queue =
+    elim (cases_Bool (nat_le queue.left ticks)) [
       | inl e ↦ rw e (omega arith)
       | inr e ↦ rw e (omega arith)
     ]
@@ -87,38 +87,38 @@ module _ (s : SystemLists) (tr : TraceLists) (t n : ℕ) (w : ℕ → Bool) (d :
 
 -- ---- as the simulator has it
 
-module _ (s : SystemLists) (tr : TraceLists) (can : CanRun s tr) (t : ℕ) (keeping : Bool) (lines : List LineCounts) (dispatches : List Dispatch) (feeds : List Feed) (at : IsAt s tr t keeping lines dispatches feeds) (n : ℕ) (ran : List Dispatch) (jump : IsJump s tr t lines dispatches feeds n ran)
-    (served_lines : List LineCounts) (served : (i : ℕ) → i < length s.tasks → line_at served_lines i ≡ served_line (need s tr i) (runs_at (dispatch_at ran (task_at s i).res.0) i) n (t + n) (line_at lines i))
-    (served_dispatches : List Dispatch) (serves : (r : ℕ) → r < length s.resources → IsServed s r lines n (dispatch_at ran r) (dispatch_at served_dispatches r))
-    (places : List ℕ) (causes : ℕ → List Cause) (next_lines : List LineCounts) (next_dispatches : List Dispatch) (given : AreGiven s places (t + n) causes served_lines served_dispatches next_lines next_dispatches) where
+module _ (s : SystemLists) (tr : TraceLists) (can : CanRun s tr) (t : ℕ) (keeping : Bool) (queues : List QueueCounts) (dispatches : List Dispatch) (cursors : List SourceCursor) (at : IsAt s tr t keeping queues dispatches cursors) (n : ℕ) (ran : List Dispatch) (jump : IsJump s tr t queues dispatches cursors n ran)
+    (served_queues : List QueueCounts) (served : (i : ℕ) → i < length s.tasks → queue_at served_queues i ≡ served_queue (need s tr i) (runs_at (dispatch_at ran (task_at s i).res.0) i) n (t + n) (queue_at queues i))
+    (served_dispatches : List Dispatch) (serves : (r : ℕ) → r < length s.resources → IsServed s r queues n (dispatch_at ran r) (dispatch_at served_dispatches r))
+    (places : List ℕ) (causes : ℕ → List Cause) (next_queues : List QueueCounts) (next_dispatches : List Dispatch) (given : AreGiven s places (t + n) causes served_queues served_dispatches next_queues next_dispatches) where
   -- the job that ran on a resource
-  last-is : (r i : ℕ) → r < length s.resources → runner (dispatch_at ran r) ≡ Some i → last_of (line_at next_lines i) (dispatch_at next_dispatches r).ends ≡ done_at s tr t i
+  last-is : (r i : ℕ) → r < length s.resources → runner (dispatch_at ran r) ≡ Some i → last_of (queue_at next_queues i) (dispatch_at next_dispatches r).ends ≡ done_at s tr t i
   last-is r i there e =
-      let w = who-waits s tr can t keeping lines dispatches feeds at n ran jump r i there e in
+      let w = who-waits s tr can t keeping queues dispatches cursors at n ran jump r i there e in
       let passes : runs_at (dispatch_at ran (task_at s i).res.0) i ≡ true = passes-is (λ q. runner (dispatch_at ran q)) (task_at s i).res.0 r i w.on.here e in
-      let ends : (dispatch_at next_dispatches r).ends ≡ nat_le (line_at lines i).left n = (given.unchanged r there).ends ∙ (serves r there).ends i e in
-      let done : (line_at next_lines i).done ≡ (worked (need s tr i) n (t + n) (line_at lines i)).done =
-      ap (λ (l : LineCounts). l.done) (given.arrived i w.on.task)
-      ∙ (ap (λ (l : LineCounts). l.done) (served i w.on.task) ∙ ap (λ b. (served_line (need s tr i) b n (t + n) (line_at lines i)).done) passes) in
-      ap (λ b. (line_at next_lines i).done - cond b 1 0) ends
-      ∙ (ap (λ m. m - cond (nat_le (line_at lines i).left n) 1 0) done ∙ (last-worked (need s tr i) n (t + n) (line_at lines i) ∙ done-is s tr can t keeping lines dispatches feeds at i w.on.task))
+      let ends : (dispatch_at next_dispatches r).ends ≡ nat_le (queue_at queues i).left n = (given.unchanged r there).ends ∙ (serves r there).ends i e in
+      let done : (queue_at next_queues i).done ≡ (worked (need s tr i) n (t + n) (queue_at queues i)).done =
+      ap (λ (l : QueueCounts). l.done) (given.arrived i w.on.task)
+      ∙ (ap (λ (l : QueueCounts). l.done) (served i w.on.task) ∙ ap (λ b. (served_queue (need s tr i) b n (t + n) (queue_at queues i)).done) passes) in
+      ap (λ b. (queue_at next_queues i).done - cond b 1 0) ends
+      ∙ (ap (λ m. m - cond (nat_le (queue_at queues i).left n) 1 0) done ∙ (last-worked (need s tr i) n (t + n) (queue_at queues i) ∙ done-is s tr can t keeping queues dispatches cursors at i w.on.task))
 
   runner-is : (r : ℕ) → r < length s.resources → runner (dispatch_at next_dispatches r) ≡ runner (dispatch_at ran r)
   runner-is r there = ap (option_map place_of) ((given.unchanged r there).running ∙ (serves r there).running)
 
   -- who gets each tick of the jump
-  pub jump-ran : (r u : ℕ) → r < length s.resources → t ≤ u → u < t + n → served_at s tr u r ≡ ran_by next_lines next_dispatches r
+  pub jump-ran : (r u : ℕ) → r < length s.resources → t ≤ u → u < t + n → served_at s tr u r ≡ ran_by next_queues next_dispatches r
   jump-ran r u there from before =
       let e : t + (u - t) ≡ u = omega arith in
-      let g = same_tasks-run s tr can t keeping lines dispatches feeds at n ran jump in
-      let h = served-in s tr t n (waiting lines) (done_at s tr t) (λ r. runner (dispatch_at ran r)) g r (u - t) there (omega arith) in
+      let g = same_tasks-run s tr can t keeping queues dispatches cursors at n ran jump in
+      let h = served-in s tr t n (waiting queues) (done_at s tr t) (λ r. runner (dispatch_at ran r)) g r (u - t) there (omega arith) in
       let h' : served_at s tr u r ≡ option_map (numbered (done_at s tr t)) (runner (dispatch_at ran r)) = rw e at h in
       h'
-      ∙ (sym (numbered-agree (λ i. last_of (line_at next_lines i) (dispatch_at next_dispatches r).ends) (done_at s tr t) (runner (dispatch_at ran r)) (λ i o. last-is r i there o))
-      ∙ ap (option_map (numbered (λ i. last_of (line_at next_lines i) (dispatch_at next_dispatches r).ends))) (sym (runner-is r there)))
+      ∙ (sym (numbered-agree (λ i. last_of (queue_at next_queues i) (dispatch_at next_dispatches r).ends) (done_at s tr t) (runner (dispatch_at ran r)) (λ i o. last-is r i there o))
+      ∙ ap (option_map (numbered (λ i. last_of (queue_at next_queues i) (dispatch_at next_dispatches r).ends))) (sym (runner-is r there)))
 
-  pub jump-within : RanWithin next_lines next_dispatches
+  pub jump-within : RanWithin next_queues next_dispatches
   jump-within r i there e =
       let less : r < length s.resources = omega (arith, there, given.count_dispatches) in
-      let w = who-waits s tr can t keeping lines dispatches feeds at n ran jump r i less (sym (runner-is r less) ∙ e) in
-      omega (arith, given.count_lines, w.on.task)
+      let w = who-waits s tr can t keeping queues dispatches cursors at n ran jump r i less (sym (runner-is r less) ∙ e) in
+      omega (arith, given.count_queues, w.on.task)

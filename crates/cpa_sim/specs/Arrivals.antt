@@ -6,12 +6,12 @@ use Rattle.cpa_model.specs.declared.entries.Activator.{Activator}
 use Rattle.cpa_model.specs.declared.entries.Activator.TheVariants.{Source, Task}
 use Rattle.cpa_model.specs.SystemLists.{SystemLists, places_of, task_at, is_fed_by, is_activated_by}
 use Rattle.cpa_sched.specs.Steps.{kind_of}
-use Rattle.cpa_sched.specs.declared.orders.Reach.{Reach}
+use Rattle.cpa_sched.specs.declared.orders.WaitingRange.{WaitingRange}
 use Rattle.cpa_sim.specs.declared.dispatches.Dispatch.{Dispatch}
 use Rattle.cpa_sim.specs.declared.jobs.Cause.{Cause}
-use Rattle.cpa_sim.specs.Lines.{LineCounts, with_arrivals}
+use Rattle.cpa_sim.specs.JobQueues.{QueueCounts, with_arrivals}
 use Rattle.cpa_sim.specs.Run.{by_task}
-use Rattle.cpa_sim.specs.Simulation.{line_at, dispatch_at, ends_of, IsUnchanged}
+use Rattle.cpa_sim.specs.Simulation.{queue_at, dispatch_at, ends_of, IsUnchanged}
 
 -- one of some lists of tasks
 abbrev pub listed : List (List TaskId) → ℕ → List TaskId
@@ -36,7 +36,7 @@ with_activated (Source k) task lists = lists
 with_activated (Task j) task lists = with_task lists j.0 task
 
 -- lists of those of the first so many tasks that have each source and each task among their activators
-pub record AreFollowers (s : SystemLists) (tasks : ℕ) (by_source by_task : List (List TaskId)) : Type 0 where
+pub record AreSuccessors (s : SystemLists) (tasks : ℕ) (by_source by_task : List (List TaskId)) : Type 0 where
   pub count_sources : length by_source ≡ length s.sources
   pub count_tasks : length by_task ≡ length s.tasks
   pub fed : (k : ℕ) → k < length s.sources → places_of (listed by_source k) ≡ filter (is_fed_by s k) (range_with_len 0 tasks)
@@ -55,27 +55,27 @@ abbrev pub IsListOf : SystemLists → List TaskId → Type 0
 IsListOf s tasks = places_of tasks ≡ filter (is_among tasks) (range_with_len 0 (length s.tasks))
 
 -- a place that is looked at where those that wait are looked for
-pub record IsWithin (reach : Reach) (place : ℕ) : Type 0 where
-  pub first : reach.first ≤ place
-  pub last : place ≤ reach.last
+pub record IsWithin (waiters : WaitingRange) (place : ℕ) : Type 0 where
+  pub first : waiters.first ≤ place
+  pub last : place ≤ waiters.last
 
 -- each task has got the jobs with these causes, and where it has got one, nothing is foreseen of its resource any more, and its place in the
 -- resource's list is looked at
-pub record AreGiven (s : SystemLists) (places : List ℕ) (now : ℕ) (causes : ℕ → List Cause) (lines : List LineCounts) (dispatches : List Dispatch) (next_lines : List LineCounts) (next_dispatches : List Dispatch) : Type 0 where
-  pub count_lines : length next_lines ≡ length s.tasks
+pub record AreGiven (s : SystemLists) (places : List ℕ) (now : ℕ) (causes : ℕ → List Cause) (queues : List QueueCounts) (dispatches : List Dispatch) (next_queues : List QueueCounts) (next_dispatches : List Dispatch) : Type 0 where
+  pub count_queues : length next_queues ≡ length s.tasks
   pub count_dispatches : length next_dispatches ≡ length s.resources
-  pub arrived : (i : ℕ) → i < length s.tasks → line_at next_lines i ≡ with_arrivals now (causes i) (line_at lines i)
+  pub arrived : (i : ℕ) → i < length s.tasks → queue_at next_queues i ≡ with_arrivals now (causes i) (queue_at queues i)
   pub unchanged : (r : ℕ) → r < length s.resources → IsUnchanged (kind_of s r) (dispatch_at dispatches r) (dispatch_at next_dispatches r)
   pub asked : (i : ℕ) → i < length s.tasks → (dispatch_at next_dispatches (task_at s i).res.0).gone < (dispatch_at next_dispatches (task_at s i).res.0).ticks → causes i ≡ []
-  pub within : (i : ℕ) → i < length s.tasks → (causes i ≡ []) ⊎ IsWithin (dispatch_at next_dispatches (task_at s i).res.0).reach (slice_index places i)
+  pub within : (i : ℕ) → i < length s.tasks → (causes i ≡ []) ⊎ IsWithin (dispatch_at next_dispatches (task_at s i).res.0).waiters (slice_index places i)
 
 -- which jobs of a task end now: the last that is complete, if one does
-abbrev pub ended_of : SystemLists → List LineCounts → List Dispatch → ℕ → List ℕ
-ended_of s lines dispatches j = range_with_len ((line_at lines j).done - 1) (ends_of s dispatches j)
+abbrev pub ended_of : SystemLists → List QueueCounts → List Dispatch → ℕ → List ℕ
+ended_of s queues dispatches j = range_with_len ((queue_at queues j).done - 1) (ends_of s dispatches j)
 
 -- what the last complete job of task j starts at task i
-abbrev pub by_last : SystemLists → List LineCounts → ℕ → ℕ → List Cause
-by_last s lines j i = by_task s (λ k. range_with_len ((line_at lines k).done - 1) 1) j i
+abbrev pub by_last : SystemLists → List QueueCounts → ℕ → ℕ → List Cause
+by_last s queues j i = by_task s (λ k. range_with_len ((queue_at queues k).done - 1) 1) j i
 
 -- whether a task stands before another one, if there is one
 abbrev pub comes_before : ℕ → Option ℕ → Bool

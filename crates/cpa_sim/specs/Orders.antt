@@ -3,10 +3,10 @@ use Rattle.std.specs.Prelude.{ℕ, ◌≡◌, ◌<◌, ◌≤◌, List, length, 
 use Rattle.cpa_units.specs.declared.places.TaskId.{TaskId}
 use Rattle.cpa_model.specs.SystemLists.{SystemLists, places_of, task_at}
 use Rattle.cpa_sched.specs.Urgency.{IsByUrgency}
-use Rattle.cpa_sched.specs.Reaches.{HasReach}
+use Rattle.cpa_sched.specs.WaitingRanges.{HasWaitingRange}
 use Rattle.cpa_sim.specs.Arrivals.{listed}
 use Rattle.cpa_sim.specs.declared.dispatches.Dispatch.{Dispatch}
-use Rattle.cpa_sim.specs.Lines.{LineCounts}
+use Rattle.cpa_sim.specs.JobQueues.{QueueCounts}
 use Rattle.cpa_sim.specs.Simulation.{dispatch_at, waiting}
 
 -- a list for each resource
@@ -26,5 +26,5 @@ ArePlaces s orders places =
     → IsPlace (places_of (listed orders (task_at s i).res.0)) (slice_index places i) p
 
 -- of each resource it is known between which places those of its tasks stand that wait
-abbrev pub AreReached : SystemLists → List (List TaskId) → List LineCounts → List Dispatch → Type 0
-AreReached s orders lines dispatches = (r : ℕ) → r < length s.resources → HasReach (places_of (listed orders r)) (waiting lines) (dispatch_at dispatches r).reach
+abbrev pub AreReached : SystemLists → List (List TaskId) → List QueueCounts → List Dispatch → Type 0
+AreReached s orders queues dispatches = (r : ℕ) → r < length s.resources → HasWaitingRange (places_of (listed orders r)) (waiting queues) (dispatch_at dispatches r).waiters

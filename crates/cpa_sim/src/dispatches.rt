@@ -10,17 +10,17 @@ ghost use Rattle.cpa_sched.specs.Steps.{kind_of, completed};
 ghost use Rattle.cpa_sched.specs.Stretches.{IsStretch, state_later};
 ghost use Rattle.cpa_sched.specs.States.{seen, Belongs, FrameWaits, IsWaiting};
 ghost use Rattle.cpa_sched.specs.Urgency.{IsByUrgency};
-ghost use Rattle.cpa_sched.specs.Reaches.{HasReach};
+ghost use Rattle.cpa_sched.specs.WaitingRanges.{HasWaitingRange};
 ghost use Rattle.cpa_sim.specs.Arrivals.{listed};
-ghost use Rattle.cpa_sim.specs.Lines.{served_line};
+ghost use Rattle.cpa_sim.specs.JobQueues.{served_queue};
 ghost use Rattle.cpa_sim.specs.Orders.{AreOrders, AreReached};
 ghost use Rattle.cpa_sim.specs.Outcome.{CanReplay};
 ghost use Rattle.cpa_sim.specs.Run.{settled};
-ghost use Rattle.cpa_sim.specs.Simulation.{line_at, dispatch_at, runner, runs_at, waiting, state_by, state_now, Foresees, HasEnough, IsServed, AreEnding};
+ghost use Rattle.cpa_sim.specs.Simulation.{queue_at, dispatch_at, runner, runs_at, waiting, state_by, state_now, Foresees, HasEnough, IsServed, AreEnding};
 
-use crate::lines::{Line, work};
+use crate::job_queues::{JobQueue, work};
 use cpa_model::System;
-use cpa_sched::{Queue, Ranking, Reach, ResState, Stretch, begin_within, completed, go_on};
+use cpa_sched::{Queue, Ranking, ResState, Stretch, WaitingRange, begin_within, completed, go_on};
 use cpa_trace::Trace;
 use cpa_units::limits::{HORIZON, MAX_PHASE};
 use cpa_units::{ResId, ResSet, TaskId};
@@ -39,24 +39,24 @@ pub(crate) struct Dispatch {
     /// Whether the job that ran is complete now.
     pub(crate) ends: bool,
     /// Between which places of its list by urgency those of its tasks stand that wait.
-    pub(crate) reach: Reach,
+    pub(crate) waiters: WaitingRange,
 }
 
 /// The tasks that wait.
 #[derive(Clone, Copy)]
 pub(crate) struct Waiting<'a> {
-    pub(crate) lines: &'a [Line],
+    pub(crate) queues: &'a [JobQueue],
 }
 
 impl Queue for Waiting<'_> {
     ghost use Rattle.cpa_sim.specs.Simulation.{waiting};
 
-    ghost waiting = { λ q i. waiting q.lines.now i };
+    ghost waiting = { λ q i. waiting q.queues.now i };
 
     fn waits(&self, task: TaskId) -> bool {
         let place = task.0 as usize;
-        if place < self.lines.len() {
-            self.lines[place].waits()
+        if place < self.queues.len() {
+            self.queues[place].waits()
         } else {
             false
         }
@@ -64,12 +64,12 @@ impl Queue for Waiting<'_> {
 }
 
 /// Whether some of a resource's tasks waits.
-fn is_busy(lines: &[Line], tasks: &[TaskId]) -> bool
-    requires { All (λ (t : TaskId). t.0 < length lines.now) tasks.now }
-    ensures { result ≡ list_any (waiting lines.now) (places_of tasks.now) }
+fn is_busy(queues: &[JobQueue], tasks: &[TaskId]) -> bool
+    requires { All (λ (t : TaskId). t.0 < length queues.now) tasks.now }
+    ensures { result ≡ list_any (waiting queues.now) (places_of tasks.now) }
 {
     for task in tasks {
-        if lines[task.0 as usize].waits() {
+        if queues[task.0 as usize].waits() {
             return true;
         }
     }
@@ -81,43 +81,43 @@ fn is_busy(lines: &[Line], tasks: &[TaskId]) -> bool
 fn begin_now(
     system: &System,
     trace: &Trace,
-    lines: &[Line],
+    queues: &[JobQueue],
     ranking: &Ranking<'_>,
-    reach: &mut Reach,
+    waiters: &mut WaitingRange,
     state: &mut ResState,
     now: u64,
     most: u64,
 ) -> Stretch
     requires there { ranking.now.res.0 < length system.now.resources }
     requires ranking { IsByUrgency system.now ranking.now.res.0 (places_of ranking.now.tasks.now) }
-    requires reach { HasReach (places_of ranking.now.tasks.now) (waiting lines.now) reach.old }
+    requires waiters { HasWaitingRange (places_of ranking.now.tasks.now) (waiting queues.now) waiters.old }
     requires can { CanReplay system.now trace.now }
     requires belongs { Belongs system.now ranking.now.res.0 (seen state.old) }
-    requires frame { FrameWaits (kind_of system.now ranking.now.res.0) (seen state.old) (waiting lines.now) }
+    requires frame { FrameWaits (kind_of system.now ranking.now.res.0) (seen state.old) (waiting queues.now) }
     requires some { 1 ≤ most }
     requires horizon { now + most ≤ HORIZON }
-    ensures stretch { (n : ℕ) → n < result.ticks → IsStretch system.now ranking.now.res.0 (seen state.old) (waiting lines.now) now (phase_of trace.now ranking.now.res.0) (n + 1) (option_map place_of result.task) (state_later (kind_of system.now ranking.now.res.0) (option_map place_of result.task) (seen state.new) n) }
+    ensures stretch { (n : ℕ) → n < result.ticks → IsStretch system.now ranking.now.res.0 (seen state.old) (waiting queues.now) now (phase_of trace.now ranking.now.res.0) (n + 1) (option_map place_of result.task) (state_later (kind_of system.now ranking.now.res.0) (option_map place_of result.task) (seen state.new) n) }
     ensures some { 1 ≤ result.ticks }
-    ensures reach { HasReach (places_of ranking.now.tasks.now) (waiting lines.now) reach.new }
-    ensures waits { IfSome result.task (λ t. IsWaiting system.now ranking.now.res.0 (waiting lines.now) t.0) }
+    ensures waiters { HasWaitingRange (places_of ranking.now.tasks.now) (waiting queues.now) waiters.new }
+    ensures waits { IfSome result.task (λ t. IsWaiting system.now ranking.now.res.0 (waiting queues.now) t.0) }
 {
-    let queue = Waiting { lines };
+    let queue = Waiting { queues };
     let phase = trace.phase(ranking.res).min(MAX_PHASE);
-    begin_within(system, ranking, reach, state, &queue, now, phase, most)
+    begin_within(system, ranking, waiters, state, &queue, now, phase, most)
 }
 
 /// For how many ticks of a stretch the job that runs isn't complete before the last of them is over.
-fn ticks_within(lines: &[Line], stretch: Stretch) -> u64
+fn ticks_within(queues: &[JobQueue], stretch: Stretch) -> u64
     requires some { 1 ≤ stretch.ticks }
-    requires there { IfSome stretch.task (λ t. t.0 < length lines.now) }
-    requires waits { IfSome stretch.task (λ t. waiting lines.now t.0 ≡ true) }
+    requires there { IfSome stretch.task (λ t. t.0 < length queues.now) }
+    requires waits { IfSome stretch.task (λ t. waiting queues.now t.0 ≡ true) }
     ensures some { 1 ≤ result }
     ensures most { result ≤ stretch.ticks }
-    ensures enough { (i : ℕ) → option_map place_of stretch.task ≡ Some i → result ≤ (line_at lines.now i).left }
+    ensures enough { (i : ℕ) → option_map place_of stretch.task ≡ Some i → result ≤ (queue_at queues.now i).left }
 {
     match stretch.task {
         None => stretch.ticks,
-        Some(task) => stretch.ticks.min(lines[task.0 as usize].left()),
+        Some(task) => stretch.ticks.min(queues[task.0 as usize].left()),
     }
 }
 
@@ -129,7 +129,7 @@ pub(crate) fn refresh(system: &System, dispatch: &mut Dispatch, res: ResId)
     ensures ticks { dispatch.new.ticks ≡ 0 }
     ensures running { dispatch.new.running ≡ dispatch.old.running }
     ensures ends { dispatch.new.ends ≡ dispatch.old.ends }
-    ensures reach { dispatch.new.reach ≡ dispatch.old.reach }
+    ensures waiters { dispatch.new.waiters ≡ dispatch.old.waiters }
 {
     dispatch.ticks = 0;
     if dispatch.gone == 0 {
@@ -150,32 +150,34 @@ pub(crate) fn refresh(system: &System, dispatch: &mut Dispatch, res: ResId)
 fn foresee(
     system: &System,
     trace: &Trace,
-    lines: &[Line],
+    queues: &[JobQueue],
     ranking: &Ranking<'_>,
     dispatch: &mut Dispatch,
     now: u64,
 )
     requires there { ranking.now.res.0 < length system.now.resources }
     requires ranking { IsByUrgency system.now ranking.now.res.0 (places_of ranking.now.tasks.now) }
-    requires reach { HasReach (places_of ranking.now.tasks.now) (waiting lines.now) dispatch.old.reach }
+    requires waiters { HasWaitingRange (places_of ranking.now.tasks.now) (waiting queues.now) dispatch.old.waiters }
     requires can { CanReplay system.now trace.now }
-    requires lines { length lines.now ≡ length system.now.tasks }
+    requires queues { length queues.now ≡ length system.now.tasks }
     requires belongs { Belongs system.now ranking.now.res.0 (state_now (kind_of system.now ranking.now.res.0) dispatch.old) }
-    requires frame { FrameWaits (kind_of system.now ranking.now.res.0) (state_now (kind_of system.now ranking.now.res.0) dispatch.old) (waiting lines.now) }
+    requires frame { FrameWaits (kind_of system.now ranking.now.res.0) (state_now (kind_of system.now ranking.now.res.0) dispatch.old) (waiting queues.now) }
     requires horizon { now < HORIZON }
-    ensures foresees { Foresees system.now ranking.now.res.0 (state_now (kind_of system.now ranking.now.res.0) dispatch.old) (waiting lines.now) now (phase_of trace.now ranking.now.res.0) dispatch.new }
+    ensures foresees { Foresees system.now ranking.now.res.0 (state_now (kind_of system.now ranking.now.res.0) dispatch.old) (waiting queues.now) now (phase_of trace.now ranking.now.res.0) dispatch.new }
     ensures some { dispatch.new.gone < dispatch.new.ticks }
-    ensures enough { HasEnough lines.now dispatch.new }
-    ensures reach { HasReach (places_of ranking.now.tasks.now) (waiting lines.now) dispatch.new.reach }
+    ensures enough { HasEnough queues.now dispatch.new }
+    ensures waiters { HasWaitingRange (places_of ranking.now.tasks.now) (waiting queues.now) dispatch.new.waiters }
 {
     refresh(system, dispatch, ranking.res);
     let most = HORIZON - now;
     let mut state = dispatch.state;
-    let reach = &mut dispatch.reach;
-    let stretch = begin_now(system, trace, lines, ranking, reach, &mut state, now, most);
+    let waiters = &mut dispatch.waiters;
+    let stretch = begin_now(
+        system, trace, queues, ranking, waiters, &mut state, now, most,
+    );
     if stretch.task.is_none()
         && stretch.ticks < most
-        && !is_busy(lines, system.tasks_on(ranking.res))
+        && !is_busy(queues, system.tasks_on(ranking.res))
     {
         dispatch.running = None;
         dispatch.ticks = most;
@@ -183,14 +185,14 @@ fn foresee(
     }
     dispatch.state = state;
     dispatch.running = stretch.task;
-    dispatch.ticks = ticks_within(lines, stretch);
+    dispatch.ticks = ticks_within(queues, stretch);
 }
 
 /// Foresees what becomes of a resource, where nothing is foreseen of it so far.
 fn foresee_more(
     system: &System,
     trace: &Trace,
-    lines: &[Line],
+    queues: &[JobQueue],
     orders: &Vec<Vec<TaskId>>,
     dispatch: &mut Dispatch,
     res: ResId,
@@ -198,18 +200,18 @@ fn foresee_more(
 )
     requires there { res.0 < length system.now.resources }
     requires orders { AreOrders system.now (map (λ v. v.items) orders.now.items) }
-    requires reach { HasReach (places_of (listed (map (λ v. v.items) orders.now.items) res.0)) (waiting lines.now) dispatch.old.reach }
+    requires waiters { HasWaitingRange (places_of (listed (map (λ v. v.items) orders.now.items) res.0)) (waiting queues.now) dispatch.old.waiters }
     requires can { CanReplay system.now trace.now }
-    requires lines { length lines.now ≡ length system.now.tasks }
+    requires queues { length queues.now ≡ length system.now.tasks }
     requires belongs { Belongs system.now res.0 (state_now (kind_of system.now res.0) dispatch.old) }
-    requires frame { FrameWaits (kind_of system.now res.0) (state_now (kind_of system.now res.0) dispatch.old) (waiting lines.now) }
+    requires frame { FrameWaits (kind_of system.now res.0) (state_now (kind_of system.now res.0) dispatch.old) (waiting queues.now) }
     requires horizon { now < HORIZON }
-    requires foresees { Foresees system.now res.0 (state_now (kind_of system.now res.0) dispatch.old) (waiting lines.now) now (phase_of trace.now res.0) dispatch.old }
-    requires enough { HasEnough lines.now dispatch.old }
-    ensures foresees { Foresees system.now res.0 (state_now (kind_of system.now res.0) dispatch.old) (waiting lines.now) now (phase_of trace.now res.0) dispatch.new }
+    requires foresees { Foresees system.now res.0 (state_now (kind_of system.now res.0) dispatch.old) (waiting queues.now) now (phase_of trace.now res.0) dispatch.old }
+    requires enough { HasEnough queues.now dispatch.old }
+    ensures foresees { Foresees system.now res.0 (state_now (kind_of system.now res.0) dispatch.old) (waiting queues.now) now (phase_of trace.now res.0) dispatch.new }
     ensures some { dispatch.new.gone < dispatch.new.ticks }
-    ensures enough { HasEnough lines.now dispatch.new }
-    ensures reach { HasReach (places_of (listed (map (λ v. v.items) orders.now.items) res.0)) (waiting lines.now) dispatch.new.reach }
+    ensures enough { HasEnough queues.now dispatch.new }
+    ensures waiters { HasWaitingRange (places_of (listed (map (λ v. v.items) orders.now.items) res.0)) (waiting queues.now) dispatch.new.waiters }
 {
     if dispatch.gone < dispatch.ticks {
         return;
@@ -218,7 +220,7 @@ fn foresee_more(
         res,
         tasks: orders[res.0 as usize].as_slice(),
     };
-    foresee(system, trace, lines, &ranking, dispatch, now);
+    foresee(system, trace, queues, &ranking, dispatch, now);
 }
 
 /// Foresees what becomes of all resources. Answers for how many ticks from now on, at most so many, the
@@ -226,7 +228,7 @@ fn foresee_more(
 pub(crate) fn foresee_all(
     system: &System,
     trace: &Trace,
-    lines: &[Line],
+    queues: &[JobQueue],
     orders: &Vec<Vec<TaskId>>,
     dispatches: &mut Vec<Dispatch>,
     now: u64,
@@ -234,19 +236,19 @@ pub(crate) fn foresee_all(
 ) -> u64
     requires orders { AreOrders system.now (map (λ v. v.items) orders.now.items) }
     requires can { CanReplay system.now trace.now }
-    requires lines { length lines.now ≡ length system.now.tasks }
+    requires queues { length queues.now ≡ length system.now.tasks }
     requires dispatches { length dispatches.old.items ≡ length system.now.resources }
     requires belongs { (r : ℕ) → r < length system.now.resources → Belongs system.now r (state_now (kind_of system.now r) (dispatch_at dispatches.old.items r)) }
-    requires frames { (r : ℕ) → r < length system.now.resources → FrameWaits (kind_of system.now r) (state_now (kind_of system.now r) (dispatch_at dispatches.old.items r)) (waiting lines.now) }
-    requires foresees { (r : ℕ) → r < length system.now.resources → Foresees system.now r (state_now (kind_of system.now r) (dispatch_at dispatches.old.items r)) (waiting lines.now) now (phase_of trace.now r) (dispatch_at dispatches.old.items r) }
-    requires enough { (r : ℕ) → r < length system.now.resources → HasEnough lines.now (dispatch_at dispatches.old.items r) }
-    requires reached { AreReached system.now (map (λ v. v.items) orders.now.items) lines.now dispatches.old.items }
+    requires frames { (r : ℕ) → r < length system.now.resources → FrameWaits (kind_of system.now r) (state_now (kind_of system.now r) (dispatch_at dispatches.old.items r)) (waiting queues.now) }
+    requires foresees { (r : ℕ) → r < length system.now.resources → Foresees system.now r (state_now (kind_of system.now r) (dispatch_at dispatches.old.items r)) (waiting queues.now) now (phase_of trace.now r) (dispatch_at dispatches.old.items r) }
+    requires enough { (r : ℕ) → r < length system.now.resources → HasEnough queues.now (dispatch_at dispatches.old.items r) }
+    requires reached { AreReached system.now (map (λ v. v.items) orders.now.items) queues.now dispatches.old.items }
     requires some { 1 ≤ most }
     requires horizon { now < HORIZON }
     ensures count { length dispatches.new.items ≡ length system.now.resources }
-    ensures foresees { (r : ℕ) → r < length system.now.resources → Foresees system.now r (state_now (kind_of system.now r) (dispatch_at dispatches.old.items r)) (waiting lines.now) now (phase_of trace.now r) (dispatch_at dispatches.new.items r) }
-    ensures enough { (r : ℕ) → r < length system.now.resources → HasEnough lines.now (dispatch_at dispatches.new.items r) }
-    ensures reached { AreReached system.now (map (λ v. v.items) orders.now.items) lines.now dispatches.new.items }
+    ensures foresees { (r : ℕ) → r < length system.now.resources → Foresees system.now r (state_now (kind_of system.now r) (dispatch_at dispatches.old.items r)) (waiting queues.now) now (phase_of trace.now r) (dispatch_at dispatches.new.items r) }
+    ensures enough { (r : ℕ) → r < length system.now.resources → HasEnough queues.now (dispatch_at dispatches.new.items r) }
+    ensures reached { AreReached system.now (map (λ v. v.items) orders.now.items) queues.now dispatches.new.items }
     ensures some { 1 ≤ result }
     ensures most { result ≤ most }
     ensures fits { (r : ℕ) → r < length system.now.resources → (dispatch_at dispatches.new.items r).gone + result ≤ (dispatch_at dispatches.new.items r).ticks }
@@ -255,7 +257,7 @@ pub(crate) fn foresee_all(
     let mut ticks = most;
     for (k, dispatch) in dispatches.iter_mut().enumerate() {
         let res = ResId(k as u32);
-        foresee_more(system, trace, lines, orders, dispatch, res, now);
+        foresee_more(system, trace, queues, orders, dispatch, res, now);
         ticks = ticks.min(dispatch.ticks - dispatch.gone);
     }
     ticks
@@ -270,7 +272,7 @@ fn complete(system: &System, dispatch: &mut Dispatch, res: ResId)
     ensures ticks { dispatch.new.ticks ≡ 0 }
     ensures running { dispatch.new.running ≡ dispatch.old.running }
     ensures ends { dispatch.new.ends ≡ dispatch.old.ends }
-    ensures reach { dispatch.new.reach ≡ dispatch.old.reach }
+    ensures waiters { dispatch.new.waiters ≡ dispatch.old.waiters }
 {
     refresh(system, dispatch, res);
     completed(system, res, &mut dispatch.state);
@@ -281,7 +283,7 @@ fn complete(system: &System, dispatch: &mut Dispatch, res: ResId)
 fn serve(
     system: &System,
     trace: &Trace,
-    lines: &mut Vec<Line>,
+    queues: &mut Vec<JobQueue>,
     dispatch: &mut Dispatch,
     res: ResId,
     ticks: u64,
@@ -289,14 +291,14 @@ fn serve(
 ) -> bool
     requires there { res.0 < length system.now.resources }
     requires can { CanReplay system.now trace.now }
-    requires lines { length lines.old.items ≡ length system.now.tasks }
+    requires queues { length queues.old.items ≡ length system.now.tasks }
     requires horizon { now ≤ HORIZON }
     requires fits { dispatch.old.gone + ticks ≤ dispatch.old.ticks }
     requires belongs { Belongs system.now res.0 (state_by (kind_of system.now res.0) (runner dispatch.old) (seen dispatch.old.state) (dispatch.old.gone + ticks)) }
-    requires waits { (i : ℕ) → runner dispatch.old ≡ Some i → IsWaiting system.now res.0 (waiting lines.old.items) i }
-    ensures count { length lines.new.items ≡ length system.now.tasks }
-    ensures lines { (i : ℕ) → line_at lines.new.items i ≡ served_line (need system.now trace.now i) (runs_at dispatch.old i) ticks now (line_at lines.old.items i) }
-    ensures served { IsServed system.now res.0 lines.old.items ticks dispatch.old dispatch.new }
+    requires waits { (i : ℕ) → runner dispatch.old ≡ Some i → IsWaiting system.now res.0 (waiting queues.old.items) i }
+    ensures count { length queues.new.items ≡ length system.now.tasks }
+    ensures queues { (i : ℕ) → queue_at queues.new.items i ≡ served_queue (need system.now trace.now i) (runs_at dispatch.old i) ticks now (queue_at queues.old.items i) }
+    ensures served { IsServed system.now res.0 queues.old.items ticks dispatch.old dispatch.new }
     ensures ends { result ≡ dispatch.new.ends }
 {
     dispatch.gone += ticks;
@@ -306,8 +308,8 @@ fn serve(
             false
         }
         Some(task) => {
-            let line = &mut lines[task.0 as usize];
-            let ends = work(system, trace, task, line, ticks, now);
+            let queue = &mut queues[task.0 as usize];
+            let ends = work(system, trace, task, queue, ticks, now);
             dispatch.ends = ends;
             if ends {
                 complete(system, dispatch, res);
@@ -330,30 +332,30 @@ fn with_if(set: ResSet, res: ResId, member: bool) -> ResSet
 pub(crate) fn serve_all(
     system: &System,
     trace: &Trace,
-    lines: &mut Vec<Line>,
+    queues: &mut Vec<JobQueue>,
     dispatches: &mut Vec<Dispatch>,
     ticks: u64,
     now: u64,
 ) -> ResSet
     requires can { CanReplay system.now trace.now }
-    requires lines { length lines.old.items ≡ length system.now.tasks }
+    requires queues { length queues.old.items ≡ length system.now.tasks }
     requires dispatches { length dispatches.old.items ≡ length system.now.resources }
     requires horizon { now ≤ HORIZON }
     requires fits { (r : ℕ) → r < length system.now.resources → (dispatch_at dispatches.old.items r).gone + ticks ≤ (dispatch_at dispatches.old.items r).ticks }
     requires belongs { (r : ℕ) → r < length system.now.resources → Belongs system.now r (state_by (kind_of system.now r) (runner (dispatch_at dispatches.old.items r)) (seen (dispatch_at dispatches.old.items r).state) ((dispatch_at dispatches.old.items r).gone + ticks)) }
-    requires waits { (r i : ℕ) → r < length system.now.resources → runner (dispatch_at dispatches.old.items r) ≡ Some i → IsWaiting system.now r (waiting lines.old.items) i }
+    requires waits { (r i : ℕ) → r < length system.now.resources → runner (dispatch_at dispatches.old.items r) ≡ Some i → IsWaiting system.now r (waiting queues.old.items) i }
     requires placed { (i : ℕ) → i < length system.now.tasks → (task_at system.now i).res.0 < length system.now.resources }
-    ensures count { length lines.new.items ≡ length system.now.tasks }
+    ensures count { length queues.new.items ≡ length system.now.tasks }
     ensures count_dispatches { length dispatches.new.items ≡ length system.now.resources }
-    ensures lines { (i : ℕ) → i < length system.now.tasks → line_at lines.new.items i ≡ served_line (need system.now trace.now i) (runs_at (dispatch_at dispatches.old.items (task_at system.now i).res.0) i) ticks now (line_at lines.old.items i) }
-    ensures served { (r : ℕ) → r < length system.now.resources → IsServed system.now r lines.old.items ticks (dispatch_at dispatches.old.items r) (dispatch_at dispatches.new.items r) }
+    ensures queues { (i : ℕ) → i < length system.now.tasks → queue_at queues.new.items i ≡ served_queue (need system.now trace.now i) (runs_at (dispatch_at dispatches.old.items (task_at system.now i).res.0) i) ticks now (queue_at queues.old.items i) }
+    ensures served { (r : ℕ) → r < length system.now.resources → IsServed system.now r queues.old.items ticks (dispatch_at dispatches.old.items r) (dispatch_at dispatches.new.items r) }
     ensures ended { AreEnding dispatches.new.items result }
 {
     system.has_rules();
     let mut ended = ResSet::none();
     for (k, dispatch) in dispatches.iter_mut().enumerate() {
         let res = ResId(k as u32);
-        let ends = serve(system, trace, lines, dispatch, res, ticks, now);
+        let ends = serve(system, trace, queues, dispatch, res, ticks, now);
         ended = with_if(ended, res, ends);
     }
     ended

@@ -4,8 +4,8 @@ ghost use Rattle.std.specs.Prelude.{◌≡◌, ◌<◌, ◌≤◌, ℕ, length, 
 ghost use Rattle.cpa_sim.specs.Outcome.{CanReplay, end_of};
 ghost use Rattle.cpa_sim.specs.Served.{served_at};
 
-use crate::courses::Course;
 use crate::jobs::Served;
+use crate::simulator::Simulator;
 use cpa_model::System;
 use cpa_trace::Trace;
 use cpa_units::{NoMemory, ResId};
@@ -20,7 +20,7 @@ use std::marker::Model;
 pub struct Replay<'a> {
     system: &'a System,
     trace: &'a Trace,
-    course: Course,
+    simulator: Simulator,
     since: u64,
 }
 
@@ -29,9 +29,9 @@ impl<'a> Model for Replay<'a> {
 
     ghost Value = { FollowedRun };
 
-    ghost view = { λ p. record { system = p.system.now; trace = p.trace.now; since = p.since; time = p.course.time } };
+    ghost view = { λ p. record { system = p.system.now; trace = p.trace.now; since = p.since; time = p.simulator.time } };
 
-    ghost invariant = { λ p. IsReplay p.system.now p.trace.now p.since p.course };
+    ghost invariant = { λ p. IsReplay p.system.now p.trace.now p.since p.simulator };
 }
 
 impl<'a> Replay<'a> {
@@ -44,11 +44,11 @@ impl<'a> Replay<'a> {
         requires { CanReplay system.now trace.now }
         ensures { IfOk result (λ p. p ≡ record { system = system.now; trace = trace.now; since = 0; time = 0 }) }
     {
-        let course = Course::start(alloc, system, trace, false)?;
+        let simulator = Simulator::start(alloc, system, trace, false)?;
         Ok(Replay {
             system,
             trace,
-            course,
+            simulator,
             since: 0,
         })
     }
@@ -57,14 +57,14 @@ impl<'a> Replay<'a> {
     pub fn time(&self) -> u64
         ensures { result ≡ self.now.time }
     {
-        self.course.time()
+        self.simulator.time()
     }
 
     /// Whether the run goes on from here: its end isn't reached.
     pub fn goes_on(&self) -> bool
         ensures { result ≡ nat_lt self.now.time (end_of self.now.system self.now.trace) }
     {
-        self.course.goes_on()
+        self.simulator.goes_on()
     }
 
     /// Follows the run to the next moment at which something can change.
@@ -76,8 +76,8 @@ impl<'a> Replay<'a> {
         ensures later { self.old.time < self.new.time }
         ensures within { self.new.time ≤ end_of self.new.system self.new.trace }
     {
-        let since = self.course.time();
-        self.course.step(self.system, self.trace).unwrap();
+        let since = self.simulator.time();
+        self.simulator.step(self.system, self.trace).unwrap();
         self.since = since;
     }
 
@@ -86,6 +86,6 @@ impl<'a> Replay<'a> {
         requires { res.0 < length self.now.system.resources }
         ensures { (u : ℕ) → self.now.since ≤ u → u < self.now.time → served_at self.now.system self.now.trace u res.0 ≡ result }
     {
-        self.course.ran(res)
+        self.simulator.ran(res)
     }
 }

@@ -87,7 +87,7 @@ longer-none s i less =
     ap (λ (w : ℕ). record s { tasks = set s.tasks i (record (task_at s i) { best = (task_at s i).best; worst = w }) }) e
     ∙ ap (λ (ts : List Task). record s { tasks = ts }) (set-get_or s.tasks i no_task)
 
--- the test of a path tells
+-- the test of a path says
 pub path-told : (x : List Bound) (p : Path) (d : ℕ) (verdict : Bool) → p.deadline ≡ Some d → verdict ≡ fits (path_worst x p) d
     → (IsTrue verdict → HoldsPath x p) × (HoldsPath x p → IsTrue verdict)
 path-told x p d verdict is told = (

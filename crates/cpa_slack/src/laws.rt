@@ -1,4 +1,4 @@
-//! What holds of growing, for whoever builds on this crate.
+//! What holds of growing, for crates that depend on this one.
 
 ghost use Rattle.cpa_slack.specs.Laws.{LessHolds, LongerKeepsRules, SlackExists, SlackIsOne};
 

@@ -7,7 +7,7 @@ use Rattle.cpa_model.specs.Rules.{IsSystem}
 use Rattle.cpa_model.specs.SystemLists.{SystemLists, task_at}
 use Rattle.cpa_trace.specs.Trace.{TraceLists, times_of, time_of, Obeys}
 use Rattle.cpa_sim.specs.Run.{ended_count, run}
-use Rattle.cpa_sim.proofs.LineLaws.{ended-le}
+use Rattle.cpa_sim.proofs.QueueLaws.{ended-le}
 use Rattle.cpa_sound.specs.BoundsHold.{job_at, HasJob, arrival_of, causes_at, IsDoneBy}
 use Rattle.cpa_sound.specs.Laws.{HappensAt, AJobArrivesWithItsCause}
 use Rattle.cpa_sound.specs.RunCourse.{course_of}

@@ -15,7 +15,7 @@ use Rattle.cpa_model.specs.SystemLists.{SystemLists, task_at}
 use Rattle.cpa_trace.specs.Trace.{TraceLists, times_of, time_of, need, Obeys}
 use Rattle.cpa_sim.specs.declared.jobs.Cause.{Cause}
 use Rattle.cpa_sim.specs.Run.{no_cause, no_job, Progress, is_open, ended_count, serve, new_jobs, events_at, arriving, runs_in, served, ended_in, ends_in, run}
-use Rattle.cpa_sim.proofs.LineLaws.{serve-here, serve-there, ended-new}
+use Rattle.cpa_sim.proofs.QueueLaws.{serve-here, serve-there, ended-new}
 use Rattle.cpa_sim.proofs.RunLaws.{jobs-zero, jobs-suc, ended-is}
 use Rattle.cpa_sim.proofs.JobCount.{ended-suc}
 use Rattle.cpa_sim.proofs.RangeLaws.{range-split, filter-between}

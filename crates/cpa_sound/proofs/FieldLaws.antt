@@ -9,7 +9,7 @@ use Rattle.cpa_sim.specs.declared.jobs.Cause.{Cause}
 use Rattle.cpa_sim.specs.Run.{no_job, Progress, is_unset, is_open, after_tick, serve, new_jobs, arriving, runs_in, served, ended_in, run}
 use Rattle.cpa_sound.specs.RunCourse.{arrived_before, course_of}
 use Rattle.cpa_sound.specs.BoundsHold.{job_at, HasJob}
-use Rattle.cpa_sim.proofs.LineLaws.{serve-here, serve-there, length-new}
+use Rattle.cpa_sim.proofs.QueueLaws.{serve-here, serve-there, length-new}
 use Rattle.cpa_sound.proofs.JobLaws.{tick-last, tick-more}
 use Rattle.cpa_sim.proofs.RunLaws.{jobs-zero, jobs-suc}
 use Rattle.cpa_sim.proofs.JobCount.{length-served, length-suc}

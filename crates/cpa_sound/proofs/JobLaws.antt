@@ -2,8 +2,8 @@
 use Rattle.std.proofs.Common.{◌≡◌, ℕ, zero, suc, ◌+◌, ◌-◌, ◌<◌, ◌≤◌, ◌++◌, length, List, [], ◌∷◌, true, ltb, min, Some, None, refl, sym, ◌∙◌, inl, inr, arith, get_or}
 use Rattle.std.proofs.lemmas.Bool.{cases_lt, cases_Bool, lt-ltb, le-ltb, le-leb, lt-leb, cond-true, cond-false, false≢true}
 use Rattle.cpa_sound.proofs.Serving.{work}
-use Rattle.cpa_sim.proofs.LineLaws.{serve-here, serve-there, ended-closed, ended-open}
-use Rattle.cpa_sim.proofs.LineLaws.{ended-le}
+use Rattle.cpa_sim.proofs.QueueLaws.{serve-here, serve-there, ended-closed, ended-open}
+use Rattle.cpa_sim.proofs.QueueLaws.{ended-le}
 use Rattle.cpa_sim.specs.declared.jobs.Cause.{Cause}
 use Rattle.cpa_sim.specs.Run.{no_job, Progress, is_open, waits, ended_count, after_tick, serve, new_jobs}
 use Rattle.cpa_sound.proofs.CourseLaws.{work-one, work-mono}

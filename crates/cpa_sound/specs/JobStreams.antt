@@ -16,7 +16,7 @@ abbrev pub is_same : Activator → Activator → Bool
 is_same (Source k) a = is_source k.0 a
 is_same (Task j) a = is_task j.0 a
 
--- how many of the streams of some activators come before those of one of them, where `deeper` tells the tasks' streams
+-- how many of the streams of some activators come before those of one of them, where `deeper` says the tasks' streams
 abbrev pub streams_before : (ℕ → List SourceId) → Activator → List Activator → ℕ
 streams_before deeper a [] = 0
 streams_before deeper a (other ∷ others) = if is_same a other then 0 else length (streams_step other deeper) + streams_before deeper a others

@@ -53,7 +53,7 @@ impl<'a> BusyWindow for PreemptiveJobs<'a> {
     }
 
     #[inline(always)]
-    fn steady_until(&self, _jobs: u64, window: u64) -> u64 {
+    fn constant_until(&self, _jobs: u64, window: u64) -> u64 {
         work_until(self.rivals, window)
     }
 }

@@ -4,7 +4,7 @@ mod wholes;
 use cases::{ADDED, BASE, Case, PLACES};
 use cpa_draft::{
     BuildFault, Draft, DraftPath, DraftResource, DraftSource, DraftTask, KindWord, Part, Raw,
-    RawList, judge,
+    RawList, validate,
 };
 use std::alloc::{AllocError, Global};
 use std::slice;
@@ -112,7 +112,7 @@ fn add_runs(alloc: Global, draft: &mut Draft, runs: &[Run]) -> Result<(), AllocE
     Ok(())
 }
 
-/// What the judge says of a draft: the reason, the part and the place.
+/// What validation says of a draft: the reason, the part and the place.
 fn told(
     alloc: Global,
     first: &[&str],
@@ -129,7 +129,7 @@ fn told(
     add_all(alloc, &mut draft, first)?;
     add_all(alloc, &mut draft, others)?;
     add_runs(alloc, &mut draft, runs)?;
-    Ok(match judge(alloc, &draft).err() {
+    Ok(match validate(alloc, &draft).err() {
         Some(BuildFault::Refused(refusal)) => {
             Some((refusal.reason, refusal.part, refusal.place))
         }

@@ -52,7 +52,7 @@ impl BusyWindow for TdmaJobs {
         self.worst
     }
 
-    fn steady_until(&self, _jobs: u64, window: u64) -> u64 {
+    fn constant_until(&self, _jobs: u64, window: u64) -> u64 {
         window
     }
 }

@@ -41,7 +41,7 @@ fn is_too_long(stream: &Stream, gaps: u64, passed: u64) -> bool
         || passed + (stream.jitter as u128) < gaps * stream.period as u128
 }
 
-/// The first event that comes too soon after an earlier one. `ahead` tells by how much the source
+/// The first event that comes too soon after an earlier one. `ahead` says by how much the source
 /// may be ahead of its period: it fills by a period with each event, and empties with time.
 fn first_too_soon(stream: &Stream, times: &[u64]) -> Option<usize>
     requires stream { IsStreamInRange stream.now }

@@ -6,3 +6,4 @@ pub mod Words
 pub mod Numbers
 pub mod Name
 pub mod Sets
+pub mod FaultTexts

@@ -78,11 +78,11 @@ pub const HORIZON: u64 = 20_000_000;
 /// The most workers of an analysis.
 pub const MAX_WORKERS: u64 = 64;
 
-/// The greatest number from which a system or traces are made.
+/// The greatest seed from which a system or traces are generated.
 pub const MAX_NUMBER: u64 = 4_294_967_295;
 
-/// The greatest size of a made system.
+/// The greatest size of a generated system.
 pub const MAX_SIZE: u64 = 128;
 
-/// The most made traces that are replayed.
+/// The most generated traces that are replayed.
 pub const MAX_TRACES: u64 = 10_000;

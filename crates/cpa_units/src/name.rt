@@ -7,6 +7,7 @@ ghost use Rattle.cpa_units.specs.Name.{is_name, is_name_byte};
 use crate::limits::MAX_NAME;
 use crate::places::NoMemory;
 use std::alloc::Global;
+use std::fmt;
 use std::marker::Model;
 
 /// Why a text is no name.
@@ -17,6 +18,22 @@ pub enum NameFault {
     /// A growth of memory was refused.
     Memory,
 }
+
+impl fmt::Display for NameFault {
+    ghost use Rattle.std.specs.Prelude.{Some};
+    ghost use Rattle.cpa_units.specs.FaultTexts.{name_fault};
+
+    ghost output = { λ fault. Some (name_fault fault) };
+
+    fn fmt<W: fmt::Write>(&self, f: &mut fmt::Formatter<W>) -> fmt::Result {
+        match self {
+            NameFault::Form => f.write_str("not 1 to 64 of letters, digits, `_`, `-` and `.`"),
+            NameFault::Memory => f.write_str("out of memory"),
+        }
+    }
+}
+
+impl std::error::Error for NameFault {}
 
 /// One to 64 of ASCII letters, digits, `_`, `-` and `.`.
 #[derive(Debug, Drop)]

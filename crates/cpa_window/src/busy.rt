@@ -39,7 +39,7 @@ pub trait BusyWindow {
     /// Up to which length a window after this one asks for no more than its further jobs do.
     /// `window` itself promises nothing. Less is right too, and only slower: no clause says how far
     /// it looks ahead.
-    fn steady_until(&self, jobs: u64, window: u64) -> u64
+    fn constant_until(&self, jobs: u64, window: u64) -> u64
         requires jobs { jobs ≤ MAX_LIMIT }
         requires window { window ≤ MAX_LIMIT }
         ensures { IsSteady (demand self.now) (each self.now) jobs window result };
@@ -118,7 +118,7 @@ pub fn look_ahead<B: BusyWindow>(busy: &B, jobs: u64, reached: Reached) -> u64
     if reached.end < reached.steady {
         reached.steady
     } else {
-        busy.steady_until(jobs, reached.end)
+        busy.constant_until(jobs, reached.end)
     }
 }
 

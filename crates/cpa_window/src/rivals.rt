@@ -41,7 +41,7 @@ pub fn events_until(model: &Model, window: u64) -> u64
     requires window { window ≤ 2 * MAX_LIMIT }
     ensures { IsConstant (eta_plus model.now) window result }
 {
-    model.steady_until(window)
+    model.constant_until(window)
 }
 
 /// Some rival's input is unbounded.

@@ -16,11 +16,11 @@ pub data Asked : Type 0 where
   Session : List ℕ → List ℕ → ℕ → Asked
   -- what is observed of a system under the trace in a second file
   Simulate : List ℕ → List ℕ → Asked
-  -- the made system of a number and a size
+  -- the generated system of a number and a size
   Generate : ℕ → ℕ → Asked
   -- the summary of its analysis, by so many workers
   Load : ℕ → ℕ → ℕ → Asked
-  -- what is observed of the system in a file under the made traces of a number
+  -- what is observed of the system in a file under the generated traces of a number
   Hammer : List ℕ → ℕ → ℕ → Asked
   -- a priority order of the resource with a name, of the system in a file
   Assign : List ℕ → List ℕ → Asked

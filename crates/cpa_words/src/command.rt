@@ -33,7 +33,7 @@ pub enum Command<'a> {
         file: &'a str,
         trace: &'a str,
     },
-    /// The system that is made from a number below 2^32 and a size of at most 128.
+    /// The system that is generated from a seed below 2^32 and a size of at most 128.
     Generate {
         number: u64,
         size: u32,
@@ -44,7 +44,7 @@ pub enum Command<'a> {
         size: u32,
         workers: u32,
     },
-    /// What is observed of a system under 1 to 10,000 traces that are made from a number below 2^32.
+    /// What is observed of a system under 1 to 10,000 traces that are generated from a seed below 2^32.
     Hammer {
         file: &'a str,
         number: u64,
@@ -86,7 +86,7 @@ fn workers_of(value: Option<&str>) -> Option<u32>
     }
 }
 
-/// The size of a made system.
+/// The size of a generated system.
 fn size_of(word: &str) -> Option<u32>
     ensures value { result ≡ number_within 0 MAX_SIZE word.now }
     ensures within { IfSome result IsSize }
@@ -204,7 +204,7 @@ fn accept_after<'a>(
 }
 
 /// What the words after the program's name ask for; None exactly where they aren't accepted. Numbers are within their
-/// limits. The only error is want of memory.
+/// limits. The only error is out of memory.
 pub fn accept<'a>(alloc: Global, words: &'a [String]) -> Result<Option<Command<'a>>, NoMemory>
     ensures value { IfOk result (λ command. option_map asked command ≡ accepted (map string_bytes words.now)) }
     ensures within { IfOk result (λ command. IfSome command (λ c. IsWithin (asked c))) }

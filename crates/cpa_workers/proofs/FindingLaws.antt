@@ -17,7 +17,7 @@ use Rattle.cpa_fix.proofs.SolveLaws.{nothing-kept}
 use Rattle.cpa_local.specs.Rising.{TasksOn, IsRaised, AgreeOutside}
 use Rattle.cpa_board.specs.Seats.{BoardId, SeatView, IsBetween, has_seen}
 use Rattle.cpa_board.specs.Machine.{greater}
-use Rattle.cpa_workers.specs.Words.{bound_read, bound_at, IsNoLower}
+use Rattle.cpa_workers.specs.BoardWords.{bound_read, bound_at, IsNoLower}
 use Rattle.cpa_workers.specs.Workers.{IsSeated, IsLook, IsFinding, AreFindings, IsWork}
 use Rattle.cpa_workers.proofs.WordLaws.{bound_read-limit, IsNoLower_refl, IsNoLower_trans}
 use Rattle.cpa_workers.proofs.SeatLaws.{seated-seen, seated-joined}

@@ -16,7 +16,7 @@ use Rattle.cpa_local.specs.Solution.{IsVector, least_of}
 use Rattle.cpa_board.specs.Seats.{BoardId, SeatView, IsBetween, has_seen}
 use Rattle.cpa_board.specs.Machine.{greater}
 use Rattle.cpa_board.proofs.MachineLaws.{greater-index, length-greater}
-use Rattle.cpa_workers.specs.Words.{bound_read, bound_at, words_of, least_words, IsNoLower}
+use Rattle.cpa_workers.specs.BoardWords.{bound_read, bound_at, words_of, least_words, IsNoLower}
 use Rattle.cpa_workers.specs.Workers.{IsSeated}
 use Rattle.cpa_workers.proofs.WordLaws.{bound_read-mono, bound_read-word, bound_read-below, bound_read-above, bound_read-max, word_of-mono, words_of-at, IsNoLower_trans}
 

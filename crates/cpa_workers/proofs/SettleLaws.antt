@@ -20,15 +20,15 @@ use Rattle.cpa_fix.specs.Rounds.{MayStart, IsRound}
 use Rattle.cpa_fix.proofs.ReadingLaws.{IsSound-mono}
 use Rattle.cpa_local.proofs.RisingLaws.{IsRisen_trans}
 use Rattle.cpa_board.specs.Seats.{BoardId, SeatView, IsBetween}
-use Rattle.cpa_workers.specs.Words.{bound_at}
-use Rattle.cpa_workers.specs.Workers.{IsFinding, IsWork, IsOutcome, IsTaken, IsMissing}
+use Rattle.cpa_workers.specs.BoardWords.{bound_at}
+use Rattle.cpa_workers.specs.Workers.{IsFinding, IsWork, IsRoundResult, IsTaken, IsMissing}
 use Rattle.cpa_workers.proofs.WordLaws.{bound_read-mono, bound_read-limit, bound_read-below, words_of-at}
 use Rattle.cpa_workers.proofs.FindingLaws.{finding-grows}
 
 -- ---- the board is closed
 
 pub outcome-closed : (s : SystemLists) (board : BoardId) (dirty : List Bool) (starts : List Bound) (seat : SeatView) (words : List ℕ) (found : List (Option Reading)) (trail : Marks) → IsVector s (least_of s) → IsWork s board dirty starts seat found trail → length words ≡ length s.tasks →
-    ((i : ℕ) → i < length s.tasks → IsBetween seat i (get_or words i 0)) → IsOutcome s dirty starts words found trail
+    ((i : ℕ) → i < length s.tasks → IsBetween seat i (get_or words i 0)) → IsRoundResult s dirty starts words found trail
 outcome-closed s board dirty starts seat words found trail least h long between =
     record {
       long = long;
@@ -90,7 +90,7 @@ taken-skip s dirty old words new count off h =
     }
 
 -- each entry is between the old one and that of the least solution
-pub taken-risen : (s : SystemLists) (dirty : List Bool) (old new : List Bound) (words : List ℕ) (found : List (Option Reading)) (trail : Marks) → IsVector s old → IsNowhereAbove old (least_of s) → IsOutcome s dirty old words found trail → IsTaken s dirty old words new → IsRisen s old new
+pub taken-risen : (s : SystemLists) (dirty : List Bool) (old new : List Bound) (words : List ℕ) (found : List (Option Reading)) (trail : Marks) → IsVector s old → IsNowhereAbove old (least_of s) → IsRoundResult s dirty old words found trail → IsTaken s dirty old words new → IsRisen s old new
 taken-risen s dirty old new words found trail vector below h taken =
     record {
       vector = record {
@@ -153,7 +153,7 @@ pub record IsHalf (s : SystemLists) (dirty : List Bool) (old mid : List Bound) (
   pub marked : (r : ℕ) (m : Reading) → reading_of found r ≡ Some m → AreMarked joined (TasksOn s (λ q. q ≡ r))
 
 pub half-way : (s : SystemLists) (dirty : List Bool) (old mid : List Bound) (words : List ℕ) (found before half : List (Option Reading)) (trail marks joined : Marks) →
-    MayStart s old before trail → IsOutcome s dirty old words found marks → IsTaken s dirty old words mid →
+    MayStart s old before trail → IsRoundResult s dirty old words found marks → IsTaken s dirty old words mid →
     length half ≡ length before → ((r : ℕ) (m : Reading) → reading_of found r ≡ Some m → reading_of half r ≡ Some m) → ((r : ℕ) → reading_of found r ≡ None → reading_of half r ≡ reading_of before r) →
     IsKept trail joined → NewMarksAre trail joined (IsMarked marks) → AreMarked joined (IsMarked marks) → IsHalf s dirty old mid found before half trail marks joined
 half-way s dirty old mid words found before half trail marks joined start h taken long over same kept fresh all =

@@ -9,7 +9,7 @@ use Rattle.cpa_units.specs.Bounds.{IsAtMost, RespectsLimit, IsNowhereAbove, boun
 use Rattle.cpa_units.specs.Words.{IsWordable, word_of}
 use Rattle.cpa_units.proofs.BoundLaws.{IsAtMost_refl, IsAtMost_trans, capped-mono, capped-within, capped-past, capped-limit}
 use Rattle.cpa_board.specs.Machine.{AreAtMost}
-use Rattle.cpa_workers.specs.Words.{bound_read, bound_at, words_of, IsNoLower}
+use Rattle.cpa_workers.specs.BoardWords.{bound_read, bound_at, words_of, IsNoLower}
 
 -- greater words stand for no lower bounds
 pub bound_read-mono : (m n : ℕ) → m ≤ n → IsAtMost (bound_read m) (bound_read n)

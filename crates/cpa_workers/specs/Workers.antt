@@ -12,7 +12,7 @@ use Rattle.cpa_fix.specs.declared.readings.Reading.{Reading}
 use Rattle.cpa_fix.specs.Readings.{reading_of}
 use Rattle.cpa_local.specs.Rising.{TasksOn}
 use Rattle.cpa_board.specs.Seats.{BoardId, SeatView}
-use Rattle.cpa_workers.specs.Words.{bound_at, least_words}
+use Rattle.cpa_workers.specs.BoardWords.{bound_at, least_words}
 
 -- a list of dirty resources
 abbrev pub AreDirty : SystemLists → List Bool → List ResId → Type 0
@@ -54,7 +54,7 @@ pub record IsWork (s : SystemLists) (board : BoardId) (dirty : List Bool) (start
   pub room : length s.tasks ≤ trail.room
 
 -- what comes of all workers: words between the start and the least solution, and readings that they stand for
-pub record IsOutcome (s : SystemLists) (dirty : List Bool) (starts : List Bound) (words : List ℕ) (found : List (Option Reading)) (trail : Marks) : Type 0 where
+pub record IsRoundResult (s : SystemLists) (dirty : List Bool) (starts : List Bound) (words : List ℕ) (found : List (Option Reading)) (trail : Marks) : Type 0 where
   pub long : length words ≡ length s.tasks
   pub low : (i : ℕ) → IsAtMost (bound_of starts i) (bound_at words i)
   pub high : (i : ℕ) → IsAtMost (bound_at words i) (bound_of (least_of s) i)

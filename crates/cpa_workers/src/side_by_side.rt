@@ -6,7 +6,7 @@ ghost use Rattle.cpa_local.specs.Solution.{IsVector};
 ghost use Rattle.cpa_workers.specs.Workers.{AreDirty, IsSeated, IsWork};
 
 use crate::gate::Gate;
-use crate::worker::{Handed, Job, work};
+use crate::worker::{WorkerResult, WorkerTask, work};
 use cpa_board::{Board, Seat};
 use cpa_model::System;
 use cpa_units::{NoMemory, ResId, ResSet, Vector};
@@ -19,14 +19,14 @@ fn merge(
     board: &Board,
     _starts: &Vector,
     _dirty: ResSet,
-    one: Handed,
-    other: Handed,
-) -> Handed
+    one: WorkerResult,
+    other: WorkerResult,
+) -> WorkerResult
     requires one { IsWork _system.now board.now _dirty _starts.now one.seat one.found one.trail }
     requires other { IsWork _system.now board.now _dirty _starts.now other.seat other.found other.trail }
     ensures { IsWork _system.now board.now _dirty _starts.now result.seat result.found result.trail }
 {
-    let Handed {
+    let WorkerResult {
         mut seat,
         mut found,
         mut trail,
@@ -34,7 +34,7 @@ fn merge(
     seat.join(board, other.seat);
     found.take_over(other.found);
     trail.join(&other.trail);
-    Handed { seat, found, trail }
+    WorkerResult { seat, found, trail }
 }
 
 /// So many workers, each with a seat of its own, and what they hand in together.
@@ -49,14 +49,14 @@ pub fn work_together<G: Gate, H: Threads + Sync>(
     dirty: ResSet,
     list: &[ResId],
     gate: &G,
-) -> Result<Handed, NoMemory>
+) -> Result<WorkerResult, NoMemory>
     requires list { AreDirty system.now dirty list.now }
     requires vector { IsVector system.now starts.now }
     requires seated { IsSeated system.now board.now starts.now seat }
     ensures { IfOk result (λ h. IsWork system.now board.now dirty starts.now h.seat h.found h.trail) }
 {
     if workers <= 1 {
-        let job = Job {
+        let job = WorkerTask {
             system,
             board,
             starts,
@@ -70,7 +70,7 @@ pub fn work_together<G: Gate, H: Threads + Sync>(
     let second = seat.split(board)?;
     let (one, other) = join(
         rt,
-        move || -> Result<Handed, NoMemory>
+        move || -> Result<WorkerResult, NoMemory>
             requires sync { IsSync H.row }
             requires list { AreDirty system.now dirty list.now }
             requires vector { IsVector system.now starts.now }
@@ -81,7 +81,7 @@ pub fn work_together<G: Gate, H: Threads + Sync>(
                 rt, alloc, half, system, board, second, starts, dirty, list, gate,
             )
         },
-        move || -> Result<Handed, NoMemory>
+        move || -> Result<WorkerResult, NoMemory>
             requires sync { IsSync H.row }
             requires list { AreDirty system.now dirty list.now }
             requires vector { IsVector system.now starts.now }

@@ -6,11 +6,11 @@ ghost use Rattle.cpa_units.specs.Bounds.{IsAtMost, IsNowhereAbove, bound_of};
 ghost use Rattle.cpa_units.specs.Sets.{Members};
 ghost use Rattle.cpa_model.specs.SystemLists.{task_at};
 ghost use Rattle.cpa_local.specs.Solution.{IsVector, least_of};
-ghost use Rattle.cpa_workers.specs.Words.{bound_at, IsNoLower};
+ghost use Rattle.cpa_workers.specs.BoardWords.{bound_at, IsNoLower};
 ghost use Rattle.cpa_workers.specs.Workers.{AreDirty, IsSeated, IsLook, IsWork};
 
+use crate::board_words::read_word;
 use crate::gate::Gate;
-use crate::words::read_word;
 use cpa_board::{Board, Seat};
 use cpa_depend::reads;
 use cpa_fix::{Readings, analyse};
@@ -22,7 +22,7 @@ use std::alloc::Global;
 /// What all workers of a round share: the system, the board, the bounds at the start, and the dirty
 /// resources, also as a list of places to claim.
 #[derive(Clone, Copy)]
-pub struct Job<'a> {
+pub struct WorkerTask<'a> {
     pub system: &'a System,
     pub board: &'a Board,
     pub starts: &'a Vector,
@@ -32,14 +32,14 @@ pub struct Job<'a> {
 
 /// What a worker hands in.
 #[derive(Drop)]
-pub struct Handed {
+pub struct WorkerResult {
     pub seat: Seat,
     pub found: Readings,
     pub trail: Trail,
 }
 
 /// Takes the bounds on a dirty resource as the board has them now.
-fn look_on(job: &Job, seat: &mut Seat, res: ResId, x: &mut Vector)
+fn look_on(job: &WorkerTask, seat: &mut Seat, res: ResId, x: &mut Vector)
     requires in_range { res.0 < length job.now.system.now.resources }
     requires dirty { Members job.now.dirty res.0 }
     requires vector { IsVector job.now.system.now job.now.starts.now }
@@ -57,7 +57,7 @@ fn look_on(job: &Job, seat: &mut Seat, res: ResId, x: &mut Vector)
 
 /// The bounds at the start, with those on dirty resources that a resource reads as the board has them
 /// now.
-fn look(alloc: Global, job: &Job, seat: &mut Seat, res: ResId) -> Result<Vector, NoMemory>
+fn look(alloc: Global, job: &WorkerTask, seat: &mut Seat, res: ResId) -> Result<Vector, NoMemory>
     requires in_range { res.0 < length job.now.system.now.resources }
     requires vector { IsVector job.now.system.now job.now.starts.now }
     requires seated { IsSeated job.now.system.now job.now.board.now job.now.starts.now seat.old }
@@ -77,7 +77,7 @@ fn look(alloc: Global, job: &Job, seat: &mut Seat, res: ResId) -> Result<Vector,
 }
 
 /// Raises the words of the tasks on a resource to their bounds.
-fn announce(job: &Job, seat: &mut Seat, res: ResId, x: &Vector)
+fn announce(job: &WorkerTask, seat: &mut Seat, res: ResId, x: &Vector)
     requires in_range { res.0 < length job.now.system.now.resources }
     requires vector { IsVector job.now.system.now x.now }
     requires below { IsNowhereAbove x.now (least_of job.now.system.now) }
@@ -91,10 +91,10 @@ fn announce(job: &Job, seat: &mut Seat, res: ResId, x: &Vector)
     }
 }
 
-/// Analyses a dirty resource at what the board has, and tells the board what comes of it.
+/// Analyses a dirty resource at what the board has, and gives its result to the board.
 fn visit(
     alloc: Global,
-    job: &Job,
+    job: &WorkerTask,
     seat: &mut Seat,
     res: ResId,
     found: &mut Readings,
@@ -114,7 +114,12 @@ fn visit(
 }
 
 /// Claims places of the list, and analyses the resource at each.
-pub fn work<G: Gate>(alloc: Global, job: &Job, mut seat: Seat, gate: &G) -> Result<Handed, NoMemory>
+pub fn work<G: Gate>(
+    alloc: Global,
+    job: &WorkerTask,
+    mut seat: Seat,
+    gate: &G,
+) -> Result<WorkerResult, NoMemory>
     requires list { AreDirty job.now.system.now job.now.dirty job.now.list.now }
     requires vector { IsVector job.now.system.now job.now.starts.now }
     requires seated { IsSeated job.now.system.now job.now.board.now job.now.starts.now seat }
@@ -132,5 +137,5 @@ pub fn work<G: Gate>(alloc: Global, job: &Job, mut seat: Seat, gate: &G) -> Resu
         gate.enter(res);
         visit(alloc, job, &mut seat, res, &mut found, &mut trail)?;
     }
-    Ok(Handed { seat, found, trail })
+    Ok(WorkerResult { seat, found, trail })
 }

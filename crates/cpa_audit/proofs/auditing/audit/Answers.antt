@@ -1,7 +1,7 @@
 use Rattle.std.proofs.Common.{◌≡◌, ◌∙◌, length, nat_lt, true, false, sym, ap, subst, arith}
 use Rattle.cpa_sim.specs.Outcome.{end_of}
 use Rattle.cpa_sim.specs.Replays.{FollowedRun}
-use Rattle.cpa_sim.proofs.CourseLaws.{ended, end-within}
+use Rattle.cpa_sim.proofs.SimulatorLaws.{ended, end-within}
 use Rattle.cpa_audit.specs.Segments.{segments}
 use Rattle.cpa_audit.specs.Compared.{IsFollowed}
 use Rattle.cpa_audit.specs.Auditing.{is_settled}

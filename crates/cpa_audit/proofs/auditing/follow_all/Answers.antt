@@ -1,7 +1,7 @@
 use Rattle.std.proofs.Common.{◌≡◌, ◌∙◌, ◌<◌, ◌≤◌, ℕ, length, sym, ap, subst, inl, inr, arith}
 use Rattle.std.proofs.lemmas.Bool.{cases_lt}
 use Rattle.cpa_sim.specs.Served.{served_at}
-use Rattle.cpa_sim.proofs.CourseLaws.{end-within}
+use Rattle.cpa_sim.proofs.SimulatorLaws.{end-within}
 use Rattle.cpa_audit.proofs.RunLaws.{followed-first, followed-more, followed-all, partly-few}
 use Rattle.cpa_audit.specs.Compared.{IsFollowed}
 use Rattle.cpa_audit.proofs.auditing.follow_all.Goals as goal

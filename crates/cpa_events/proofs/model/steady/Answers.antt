@@ -6,4 +6,4 @@ pub loop-stream-preserved : goal.loop-stream-preserved
 loop-stream-preserved c w later sooner =
     steady_more c.args.streams.now c.loop-stream.stream-index _ c.args.delta w c.loop-stream-test.true
     (c.loop-stream.invariant w later (omega (arith, c.min-until.ensures)))
-    (let same = c.steady_until.ensures w later (omega (arith, c.min-until.ensures)) in rw (c.stream.ensures, c.stream-item.is) at same)
+    (let same = c.constant_until.ensures w later (omega (arith, c.min-until.ensures)) in rw (c.stream.ensures, c.stream-item.is) at same)

@@ -10,7 +10,7 @@ returns-in_ok-reading-2-clause-sound c =
     (λ i off. sym (raised.others i off)) record { vector = c.requires.start.vector; below = raised.risen.up; answered = raised.answered })
 
 pub raise-requires-clause-apart : goal.raise-requires-clause-apart
-raise-requires-clause-apart c = inputs-apart c.args.system.now c.args.res.0 c.leads_back-back.result c.leads_back-back.ensures
+raise-requires-clause-apart c = inputs-apart c.args.system.now c.args.res.0 c.has_cyclic_chain-back.result c.has_cyclic_chain-back.ensures
 
 pub raise-requires-else-has_feedback-clause-apart : goal.raise-requires-else-has_feedback-clause-apart
-raise-requires-else-has_feedback-clause-apart c = inputs-apart c.args.system.now c.args.res.0 c.leads_back-back.result c.leads_back-back.ensures
+raise-requires-else-has_feedback-clause-apart c = inputs-apart c.args.system.now c.args.res.0 c.has_cyclic_chain-back.result c.has_cyclic_chain-back.ensures

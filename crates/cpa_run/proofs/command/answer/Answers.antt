@@ -1,6 +1,6 @@
 use Rattle.std.proofs.Common.{◌≡◌, ◌∙◌, ap, map, string_bytes, inl, inr, subst, IfOk}
 use Rattle.std.proofs.lemmas.Result.{IfOk-weaker, on_err_weaker}
-use Rattle.cpa_call.specs.declared.ended.Reply.{Reply}
+use Rattle.cpa_call.specs.declared.errors.Reply.{Reply}
 use Rattle.cpa_call.specs.Lines.{cannot_read}
 use Rattle.cpa_call.proofs.SendLaws.{sends-by, unread-text, unread-part, unread-sent}
 use Rattle.cpa_run.specs.Output.{IsOutput, IsUnread}

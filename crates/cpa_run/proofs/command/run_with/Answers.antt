@@ -1,14 +1,12 @@
-use Rattle.std.proofs.Common.{inl, inr}
+use Rattle.std.proofs.Common.{Err, ap}
+use Rattle.cpa_call.proofs.CallLaws.{meets-sent, meets-fault, meets-wanting}
 use Rattle.cpa_run.proofs.command.run_with.Goals as goal
 
-pub returns-in-Ok-clause-answered : goal.returns-in-Ok-clause-answered
-returns-in-Ok-clause-answered g c = λ told output. c.in-Ok.ensures.answered told output.0
+pub returns-in-Ok : goal.returns-in-Ok
+returns-in-Ok g c = meets-sent _ _ _ _ _ _ c.in-Ok.ensures.answered c.in-Ok.ensures.status c.in-Ok.ensures.unread (λ u. u.rose) c.in-Ok.ensures.unread_line
 
-pub returns-in-Ok-clause-complete : goal.returns-in-Ok-clause-complete
-returns-in-Ok-clause-complete g c = λ told read sunk enough. c.in-Ok.ensures.answered told (λ is. absurd (read (c.in-Ok.ensures.unread is).rose))
+pub returns-in-Err-Sink : goal.returns-in-Err-Sink
+returns-in-Err-Sink g c = meets-fault _ _ _ _ _ (c.in-Err-Sink.ensures.failed (ap Err c.in-Err-Sink.field-0-is)) c.in-Err-Sink.ensures.part
 
-pub returns-in-Ok-clause-unsent : goal.returns-in-Ok-clause-unsent
-returns-in-Ok-clause-unsent g c = λ is. absurd (c.in-Ok.ensures.status.0 is)
-
-pub returns-in-Ok-clause-part : goal.returns-in-Ok-clause-part
-returns-in-Ok-clause-part g c = λ told either. elim either [ inl is ↦ absurd (c.in-Ok.ensures.status.0 is) | inr is ↦ absurd (c.in-Ok.ensures.status.1 is) ]
+pub returns-in-Err-Memory : goal.returns-in-Err-Memory
+returns-in-Err-Memory g c = meets-wanting _ _ _ _ _ c.in-Err-Memory.ensures.part

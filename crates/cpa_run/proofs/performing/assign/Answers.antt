@@ -1,5 +1,5 @@
 use Rattle.std.proofs.lemmas.Result.{on_err_weaker}
-use Rattle.cpa_run.specs.Work.{IsAssigned}
+use Rattle.cpa_run.specs.Request.{IsAssigned}
 use Rattle.cpa_call.proofs.SendLaws.{nothing-sent, on-err-any, sends-by, part-reply}
 use Rattle.cpa_run.proofs.GrowthLaws.{some-assigned, assigned-at}
 use Rattle.cpa_run.proofs.performing.assign.Goals as goal

@@ -1,6 +1,6 @@
 use Rattle.std.proofs.Common.{◌≡◌, refl}
 use Rattle.std.proofs.lemmas.Result.{on_err_weaker}
-use Rattle.cpa_run.specs.Work.{audited}
+use Rattle.cpa_run.specs.Request.{audited}
 use Rattle.cpa_call.proofs.SendLaws.{nothing-sent, on-err-any, sends-by, part-reply}
 use Rattle.cpa_run.proofs.performing.audit.Goals as goal
 

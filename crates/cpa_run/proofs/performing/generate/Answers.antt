@@ -2,7 +2,7 @@ use Rattle.std.proofs.Common.{◌∙◌, ap, refl, inr}
 use Rattle.std.proofs.lemmas.Result.{on_err_weaker}
 use Rattle.cpa_file.specs.Reading.{Accepted, reading_of}
 use Rattle.cpa_gen.specs.MadeSystems.{made_system}
-use Rattle.cpa_run.specs.Work.{IsFileOf}
+use Rattle.cpa_run.specs.Request.{IsFileOf}
 use Rattle.cpa_call.proofs.SendLaws.{sends-by, part-reply}
 use Rattle.cpa_run.proofs.performing.generate.Goals as goal
 

@@ -1,5 +1,5 @@
 use Rattle.std.proofs.lemmas.Result.{on_err_weaker}
-use Rattle.cpa_run.specs.Work.{IsHammered}
+use Rattle.cpa_run.specs.Request.{IsHammered}
 use Rattle.cpa_call.proofs.SendLaws.{nothing-sent, on-err-any, sends-by, part-reply}
 use Rattle.cpa_run.proofs.MadeLaws.{some-hammered, hammered-at}
 use Rattle.cpa_run.proofs.performing.hammer.Goals as goal
@@ -20,7 +20,7 @@ pub returns-clause-sends : goal.returns-clause-sends
 returns-clause-sends g c =
     sends-by (IsHammered c.args.system.now c.args.number c.args.traces) 0 c.as_slice.result.now (g.K.Sink.sent c.args.sink.now) (g.K.Sink.sent c.send.new.sink) c.send.result
     (rw (c.as_slice.ensures.value, c.in_ok-text.ensures, c.in_ok-seen.ensures.value)
-    (hammered-at c.args.system.now c.args.number c.args.traces c.in_ok-bounds.bounds c.has_rules.ensures c.in_ok-bounds.ensures))
+    (hammered-at c.args.system.now c.args.number c.args.traces c.in_ok-bounds.bounds c.has_rules.ensures c.in_ok-bounds.ensures.least))
     c.send.ensures.sent c.send.ensures.status
 
 pub returns-clause-part : goal.returns-clause-part
@@ -28,5 +28,5 @@ returns-clause-part g c =
     on_err_weaker c.send.result
     (λ part. part-reply (IsHammered c.args.system.now c.args.number c.args.traces) 0 c.as_slice.result.now (g.K.Sink.sent c.args.sink.now) (g.K.Sink.sent c.send.new.sink)
     (rw (c.as_slice.ensures.value, c.in_ok-text.ensures, c.in_ok-seen.ensures.value)
-    (hammered-at c.args.system.now c.args.number c.args.traces c.in_ok-bounds.bounds c.has_rules.ensures c.in_ok-bounds.ensures)) part)
+    (hammered-at c.args.system.now c.args.number c.args.traces c.in_ok-bounds.bounds c.has_rules.ensures c.in_ok-bounds.ensures.least)) part)
     c.send.ensures.part

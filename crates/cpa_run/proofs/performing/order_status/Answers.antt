@@ -1,5 +1,5 @@
 use Rattle.std.proofs.Common.{ap, sym}
-use Rattle.cpa_run.specs.Work.{order_status}
+use Rattle.cpa_run.specs.Request.{order_status}
 use Rattle.cpa_run.proofs.performing.order_status.Goals as goal
 
 pub returns-in-Some : goal.returns-in-Some

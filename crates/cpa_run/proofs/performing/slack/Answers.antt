@@ -1,5 +1,5 @@
 use Rattle.std.proofs.lemmas.Result.{on_err_weaker}
-use Rattle.cpa_run.specs.Work.{IsGrowth}
+use Rattle.cpa_run.specs.Request.{IsGrowth}
 use Rattle.cpa_call.proofs.SendLaws.{nothing-sent, on-err-any, sends-by, part-reply}
 use Rattle.cpa_run.proofs.GrowthLaws.{some-growth, growth-at}
 use Rattle.cpa_run.proofs.performing.slack.Goals as goal

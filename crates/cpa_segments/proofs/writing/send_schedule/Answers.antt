@@ -1,10 +1,10 @@
 use Rattle.std.proofs.Common.{◌≡◌, ◌∙◌, ◌<◌, [], nat_lt, sym, ap, subst, arith}
 use Rattle.cpa_sim.specs.Outcome.{end_of}
 use Rattle.cpa_sim.specs.Replays.{FollowedRun}
-use Rattle.cpa_sim.proofs.CourseLaws.{ended, end-within}
+use Rattle.cpa_sim.proofs.SimulatorLaws.{ended, end-within}
 use Rattle.cpa_audit.specs.Segments.{starting, started, segments}
 use Rattle.cpa_call.proofs.SendLaws.{on-err-any}
-use Rattle.cpa_segments.specs.Following.{AreFollowing}
+use Rattle.cpa_segments.specs.Tracking.{AreTracking}
 use Rattle.cpa_segments.specs.Rows.{schedule_text}
 use Rattle.cpa_segments.proofs.WrittenLaws.{written-kept, written-more, part-written, part-last, sent-written}
 use Rattle.cpa_segments.proofs.RowLaws.{rows-zero, rows-next, rows-part, rows-all}
@@ -20,7 +20,7 @@ moments-init g c =
       trace = ap (λ (p : FollowedRun). p.trace) c.in_ok-replay.ensures;
       within = omega (arith, zero);
       long = c.in_ok-writing.ensures.long;
-      following = subst (λ t. AreFollowing s tr 0 t t c.in_ok-writing.writing.followers.items) (sym zero) c.in_ok-writing.ensures.following;
+      tracking = subst (λ t. AreTracking s tr 0 t t c.in_ok-writing.writing.trackers.items) (sym zero) c.in_ok-writing.ensures.tracking;
       written = written-kept (g.K.Sink.sent c.args.sink.now) [] c.in_ok-writing.writing.unsent.items (schedule_text s (started s tr c.in_ok-replay.replay.time))
           (c.in_ok-writing.ensures.unsent ∙ sym (ap (λ t. schedule_text s (started s tr t)) zero ∙ rows-zero s tr));
       rises = omega arith;
@@ -32,13 +32,13 @@ write_moment-requires-clause-within g c =
     let same : end_of run.system run.trace ≡ end_of c.args.system.now run.trace = ap (λ x. end_of x run.trace) (c.advance.ensures.system ∙ c.moments.invariant.system) in
     omega (arith, same, c.advance.ensures.within)
 
-pub write_moment-requires-clause-following : goal.write_moment-requires-clause-following
-write_moment-requires-clause-following g c =
+pub write_moment-requires-clause-tracking : goal.write_moment-requires-clause-tracking
+write_moment-requires-clause-tracking g c =
     let s = c.args.system.now in
     let inv = c.moments.invariant in
-    let fs = c.moments.writing.followers.items in
-    subst (λ t. AreFollowing s c.advance.new.self.trace 0 t t fs) (sym c.time-time.ensures)
-    (subst (λ x. AreFollowing s x 0 c.moments.replay.time c.moments.replay.time fs) (sym (c.advance.ensures.trace ∙ inv.trace)) inv.following)
+    let fs = c.moments.writing.trackers.items in
+    subst (λ t. AreTracking s c.advance.new.self.trace 0 t t fs) (sym c.time-time.ensures)
+    (subst (λ x. AreTracking s x 0 c.moments.replay.time c.moments.replay.time fs) (sym (c.advance.ensures.trace ∙ inv.trace)) inv.tracking)
 
 pub moments-smaller : goal.moments-smaller
 moments-smaller g c = omega (arith, end-within c.advance.new.self.system c.advance.new.self.trace, c.advance.ensures.later, c.advance.ensures.within)
@@ -59,7 +59,7 @@ moments-preserved g c =
       trace = trace;
       within = omega (arith, same, c.advance.ensures.within);
       long = c.in_ok-write_moment.ensures.long;
-      following = subst (λ x. AreFollowing s x 0 run.time run.time c.write_moment.new.self.followers.items) trace c.in_ok-write_moment.ensures.following;
+      tracking = subst (λ x. AreTracking s x 0 run.time run.time c.write_moment.new.self.trackers.items) trace c.in_ok-write_moment.ensures.tracking;
       written = rw (rows-next s tr t run.time next) (written-more (g.K.Sink.sent c.args.sink.now) (g.K.Sink.sent c.moments.sink) (g.K.Sink.sent c.write_moment.new.sink) [] c.moments.writing.unsent.items c.write_moment.new.self.unsent.items
           (schedule_text s (started s tr t)) (schedule_text s (starting s tr t)) inv.written more);
       rises = omega (arith, inv.rises, c.write_moment.ensures.rises);

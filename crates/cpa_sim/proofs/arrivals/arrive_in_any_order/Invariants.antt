@@ -8,7 +8,7 @@ use Rattle.cpa_sim.proofs.arrivals.arrive_in_any_order.Given as goal
 abbrev pub invariant-resources : goal.invariant-resources
 invariant-resources l = record {
   there : (res : ResId) → l.place ≡ Some res → res.0 < length l.initial.dispatches.items;
-  given : AreGiven l.system l.places.items l.now (λ i. ended_below l.system l.initial.lines.items l.initial.dispatches.items i (upto_resource (length l.initial.dispatches.items) l.place)) l.initial.lines.items l.initial.dispatches.items l.lines.items l.dispatches.items;
+  given : AreGiven l.system l.places.items l.now (λ i. ended_below l.system l.initial.queues.items l.initial.dispatches.items i (upto_resource (length l.initial.dispatches.items) l.place)) l.initial.queues.items l.initial.dispatches.items l.queues.items l.dispatches.items;
 }
 
 abbrev pub decreases-resources : goal.decreases-resources

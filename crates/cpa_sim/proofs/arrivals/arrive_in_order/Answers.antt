@@ -2,11 +2,11 @@ use Rattle.std.proofs.Common.{◌≡◌, ◌∙◌, ◌+◌, ◌++◌, ◌<◌, 
 use Rattle.cpa_units.proofs.PlaceLaws.{flat_map-places_more}
 use Rattle.cpa_model.specs.SystemLists.{place_of}
 use Rattle.cpa_sim.specs.Run.{by_task, by_tasks}
-use Rattle.cpa_sim.specs.Lines.{LineCounts}
-use Rattle.cpa_sim.specs.Simulation.{line_at, dispatch_at, runner, ends_of}
+use Rattle.cpa_sim.specs.JobQueues.{QueueCounts}
+use Rattle.cpa_sim.specs.Simulation.{queue_at, dispatch_at, runner, ends_of}
 use Rattle.cpa_sim.specs.Arrivals.{AreGiven, ended_of, by_last}
 use Rattle.cpa_sim.proofs.RangeLaws.{part-le}
-use Rattle.cpa_sim.proofs.FollowerLaws.{placed}
+use Rattle.cpa_sim.proofs.SuccessorLaws.{placed}
 use Rattle.cpa_sim.proofs.DispatchLaws.{ends-unchanged, ending-unchanged}
 use Rattle.cpa_sim.proofs.ArrivalLaws.{given-none, given-same, given-then, upto, upto-none, started_below, quiet-before, started-one}
 use Rattle.cpa_sim.proofs.SingleLaws.{by-last-is}
@@ -18,7 +18,7 @@ next_end-next-requires-clause-runs c = λ r j there e. c.requires.runs r j there
 pub ends-init : goal.ends-init
 ends-init c =
     let s = c.args.system.now in
-    let l0 = c.args.lines.now.items in
+    let l0 = c.args.queues.now.items in
     let d0 = c.args.dispatches.now.items in
     let next = option_map place_of c.next_end-next.result in
     let first = c.next_end-next.ensures in
@@ -26,7 +26,7 @@ ends-init c =
     record {
       there = first.there;
       ends = λ j e. ap (λ ds. ends_of s ds j) (sym same) ∙ first.ends j e;
-      given = given-same s c.args.places.now.items c.args.now (λ i. []) (λ i. started_below s l0 d0 i (upto (length s.tasks) next)) l0 d0 l0 d0 (given-none s c.args.places.now.items c.args.now l0 d0 c.requires.lines c.requires.dispatches)
+      given = given-same s c.args.places.now.items c.args.now (λ i. []) (λ i. started_below s l0 d0 i (upto (length s.tasks) next)) l0 d0 l0 d0 (given-none s c.args.places.now.items c.args.now l0 d0 c.requires.queues c.requires.dispatches)
           (λ i less. quiet-before s l0 d0 i 0 next (omega arith) (λ j low there before. ap (λ ds. ends_of s ds j) (sym same) ∙ first.none j low there before) first.from_on first.there);
     }
 
@@ -38,13 +38,13 @@ pub arrive_by_last-requires-clause-few : goal.arrive_by_last-requires-clause-few
 arrive_by_last-requires-clause-few c = λ i less activates.
     let s = c.args.system.now in
     let t = c.in-Some.task.0 in
-    let l0 = c.args.lines.now.items in
+    let l0 = c.args.queues.now.items in
     let d0 = c.args.dispatches.now.items in
     let inv = c.ends.invariant in
     let there = inv.there t (ap (option_map place_of) c.in-Some.is) in
-    let here : AreGiven s c.args.places.now.items c.args.now (λ i. started_below s l0 d0 i t) l0 d0 c.ends.lines.items c.ends.dispatches.items =
-    subst (λ (o : Option ℕ). AreGiven s c.args.places.now.items c.args.now (λ i. started_below s l0 d0 i (upto (length s.tasks) o)) l0 d0 c.ends.lines.items c.ends.dispatches.items) (ap (option_map place_of) c.in-Some.is) inv.given in
-    let so_far = ap (λ (l : LineCounts). l.count) (here.arrived i less) in
+    let here : AreGiven s c.args.places.now.items c.args.now (λ i. started_below s l0 d0 i t) l0 d0 c.ends.queues.items c.ends.dispatches.items =
+    subst (λ (o : Option ℕ). AreGiven s c.args.places.now.items c.args.now (λ i. started_below s l0 d0 i (upto (length s.tasks) o)) l0 d0 c.ends.queues.items c.ends.dispatches.items) (ap (option_map place_of) c.in-Some.is) inv.given in
+    let so_far = ap (λ (l : QueueCounts). l.count) (here.arrived i less) in
     let one = started-one s l0 d0 i t (inv.ends t (ap (option_map place_of) c.in-Some.is)) activates in
     omega (arith, so_far, one, part-le (λ j. by_task s (ended_of s l0 d0) j i) t (length s.tasks) there, c.requires.few i less)
 
@@ -67,18 +67,18 @@ ends-preserved c =
     let s = c.args.system.now in
     let time = c.args.now in
     let t = c.in-Some.task.0 in
-    let l0 = c.args.lines.now.items in
+    let l0 = c.args.queues.now.items in
     let d0 = c.args.dispatches.now.items in
-    let l1 = c.ends.lines.items in
+    let l1 = c.ends.queues.items in
     let d1 = c.ends.dispatches.items in
-    let l2 = c.arrive_by_last.new.lines.items in
+    let l2 = c.arrive_by_last.new.queues.items in
     let d2 = c.arrive_by_last.new.dispatches.items in
     let inv = c.ends.invariant in
     let there = inv.there t (ap (option_map place_of) c.in-Some.is) in
     let one = inv.ends t (ap (option_map place_of) c.in-Some.is) in
     let here : AreGiven s c.args.places.now.items time (λ i. started_below s l0 d0 i t) l0 d0 l1 d1 =
     subst (λ (o : Option ℕ). AreGiven s c.args.places.now.items time (λ i. started_below s l0 d0 i (upto (length s.tasks) o)) l0 d0 l1 d1) (ap (option_map place_of) c.in-Some.is) inv.given in
-    let done : (line_at l1 t).done ≡ (line_at l0 t).done = ap (λ (l : LineCounts). l.done) (here.arrived t there) in
+    let done : (queue_at l1 t).done ≡ (queue_at l0 t).done = ap (λ (l : QueueCounts). l.done) (here.arrived t there) in
     let both = given-then s c.args.places.now.items time (placed s c.has_rules.ensures) (λ i. started_below s l0 d0 i t) (by_last s l1 t) l0 d0 l1 d1 l2 d2 here c.in_ok-arrive_by_last.ensures.given in
     let next = option_map place_of c.next_end-next-in-Some.result in
     let found = c.next_end-next-in-Some.ensures in
@@ -98,8 +98,8 @@ ends-preserved c =
 pub returns-clause-given : goal.returns-clause-given
 returns-clause-given c =
     let s = c.args.system.now in
-    let l0 = c.args.lines.now.items in
+    let l0 = c.args.queues.now.items in
     let d0 = c.args.dispatches.now.items in
     let next = option_map place_of c.ends.next in
-    given-same s c.args.places.now.items c.args.now (λ i. started_below s l0 d0 i (upto (length s.tasks) next)) (by_tasks s (ended_of s l0 d0)) l0 d0 c.ends.lines.items c.ends.dispatches.items c.ends.invariant.given
+    given-same s c.args.places.now.items c.args.now (λ i. started_below s l0 d0 i (upto (length s.tasks) next)) (by_tasks s (ended_of s l0 d0)) l0 d0 c.ends.queues.items c.ends.dispatches.items c.ends.invariant.given
     (λ i less. ap (started_below s l0 d0 i) (upto-none (length s.tasks) c.ends.next c.in_default.not-Some))

@@ -9,7 +9,7 @@ abbrev pub invariant-ends : goal.invariant-ends
 invariant-ends l = record {
   there : (j : ℕ) → option_map place_of l.next ≡ Some j → j < length l.system.tasks;
   ends : (j : ℕ) → option_map place_of l.next ≡ Some j → ends_of l.system l.initial.dispatches.items j ≡ 1;
-  given : AreGiven l.system l.places.items l.now (λ i. started_below l.system l.initial.lines.items l.initial.dispatches.items i (upto (length l.system.tasks) (option_map place_of l.next))) l.initial.lines.items l.initial.dispatches.items l.lines.items l.dispatches.items;
+  given : AreGiven l.system l.places.items l.now (λ i. started_below l.system l.initial.queues.items l.initial.dispatches.items i (upto (length l.system.tasks) (option_map place_of l.next))) l.initial.queues.items l.initial.dispatches.items l.queues.items l.dispatches.items;
 }
 
 abbrev pub decreases-ends : goal.decreases-ends

@@ -4,7 +4,7 @@ use Rattle.cpa_units.specs.declared.places.ResId.{ResId}
 use Rattle.cpa_model.specs.SystemLists.{place_of}
 use Rattle.cpa_sim.specs.Simulation.{no_dispatch, ends_at}
 use Rattle.cpa_sim.specs.Arrivals.{first_of}
-use Rattle.cpa_sim.proofs.FollowerLaws.{placed}
+use Rattle.cpa_sim.proofs.SuccessorLaws.{placed}
 use Rattle.cpa_sim.proofs.ArrivalLaws.{IsFirstEnd, upto_resource, upto-all, first-start, first-more, first-upto, first-all, next-there}
 use Rattle.cpa_sim.proofs.arrivals.next_end.Goals as goal
 

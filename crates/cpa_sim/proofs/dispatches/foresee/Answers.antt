@@ -14,7 +14,7 @@ pub returns-then-not-is_busy-clause-foresees : goal.returns-then-not-is_busy-cla
 returns-then-not-is_busy-clause-foresees c = λ n less.
     let s = c.args.system.now in
     let r = c.args.ranking.now.res.0 in
-    let w = waiting c.args.lines.now in
+    let w = waiting c.args.queues.now in
     let phase = phase_of c.args.trace.now r in
     let st = state_now (kind_of s r) c.args.dispatch.now in
     let idle : is_busy s r w ≡ false = ap (list_any w) (sym c.tasks_on.ensures.places) ∙ (sym c.is_busy.ensures ∙ c.if-not-is_busy.true) in
@@ -25,7 +25,7 @@ pub returns-clause-foresees : goal.returns-clause-foresees
 returns-clause-foresees c = λ n less.
     let s = c.args.system.now in
     let r = c.args.ranking.now.res.0 in
-    let w = waiting c.args.lines.now in
+    let w = waiting c.args.queues.now in
     let phase = phase_of c.args.trace.now r in
     let o = option_map place_of c.begin_now-stretch.result.task in
     let m = c.refresh.new.dispatch.gone + n in

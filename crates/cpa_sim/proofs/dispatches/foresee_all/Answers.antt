@@ -1,6 +1,6 @@
 use Rattle.std.proofs.Common.{◌∙◌, ◌+◌, ◌<◌, ◌≤◌, ℕ, List, length, map, sym, ap, subst, arith}
 use Rattle.cpa_model.specs.SystemLists.{places_of}
-use Rattle.cpa_sched.specs.Reaches.{HasReach}
+use Rattle.cpa_sched.specs.WaitingRanges.{HasWaitingRange}
 use Rattle.cpa_sched.specs.States.{Belongs, FrameWaits}
 use Rattle.cpa_sim.specs.Arrivals.{listed}
 use Rattle.cpa_trace.specs.Trace.{phase_of}
@@ -26,12 +26,12 @@ overflow_cast-res c =
     let count = ap length c.deref_mut-dispatch-items.ensures.value ∙ c.requires.dispatches in
     omega (arith, c.loop-k-test.true, count, c.has_rules.ensures.few_resources)
 
-pub foresee_more-requires-clause-reach : goal.foresee_more-requires-clause-reach
-foresee_more-requires-clause-reach c =
+pub foresee_more-requires-clause-waiters : goal.foresee_more-requires-clause-waiters
+foresee_more-requires-clause-waiters c =
     let k = c.loop-k.k in
     let count = ap length c.deref_mut-dispatch-items.ensures.value ∙ c.requires.dispatches in
     let less : k < length c.args.system.now.resources = omega (arith, c.loop-k-test.true, count) in
-    subst (λ (x : Dispatch). HasReach (places_of (listed (map (λ v. v.items) c.args.orders.now.items) k)) (waiting c.args.lines.now) x.reach) (sym (c.loop-k.invariant.same k (omega arith))) (c.requires.reached k less)
+    subst (λ (x : Dispatch). HasWaitingRange (places_of (listed (map (λ v. v.items) c.args.orders.now.items) k)) (waiting c.args.queues.now) x.waiters) (sym (c.loop-k.invariant.same k (omega arith))) (c.requires.reached k less)
 
 pub foresee_more-requires-clause-belongs : goal.foresee_more-requires-clause-belongs
 foresee_more-requires-clause-belongs c =
@@ -47,7 +47,7 @@ foresee_more-requires-clause-frame c =
     let k = c.loop-k.k in
     let count = ap length c.deref_mut-dispatch-items.ensures.value ∙ c.requires.dispatches in
     let less : k < length s.resources = omega (arith, c.loop-k-test.true, count) in
-    subst (λ (x : Dispatch). FrameWaits (kind_of s k) (state_now (kind_of s k) x) (waiting c.args.lines.now)) (sym (c.loop-k.invariant.same k (omega arith))) (c.requires.frames k less)
+    subst (λ (x : Dispatch). FrameWaits (kind_of s k) (state_now (kind_of s k) x) (waiting c.args.queues.now)) (sym (c.loop-k.invariant.same k (omega arith))) (c.requires.frames k less)
 
 pub foresee_more-requires-clause-foresees : goal.foresee_more-requires-clause-foresees
 foresee_more-requires-clause-foresees c =
@@ -55,14 +55,14 @@ foresee_more-requires-clause-foresees c =
     let k = c.loop-k.k in
     let count = ap length c.deref_mut-dispatch-items.ensures.value ∙ c.requires.dispatches in
     let less : k < length s.resources = omega (arith, c.loop-k-test.true, count) in
-    subst (λ (x : Dispatch). Foresees s k (state_now (kind_of s k) x) (waiting c.args.lines.now) c.args.now (phase_of c.args.trace.now k) x) (sym (c.loop-k.invariant.same k (omega arith))) (c.requires.foresees k less)
+    subst (λ (x : Dispatch). Foresees s k (state_now (kind_of s k) x) (waiting c.args.queues.now) c.args.now (phase_of c.args.trace.now k) x) (sym (c.loop-k.invariant.same k (omega arith))) (c.requires.foresees k less)
 
 pub foresee_more-requires-clause-enough : goal.foresee_more-requires-clause-enough
 foresee_more-requires-clause-enough c =
     let k = c.loop-k.k in
     let count = ap length c.deref_mut-dispatch-items.ensures.value ∙ c.requires.dispatches in
     let less : k < length c.args.system.now.resources = omega (arith, c.loop-k-test.true, count) in
-    subst (λ (x : Dispatch). HasEnough c.args.lines.now x) (sym (c.loop-k.invariant.same k (omega arith))) (c.requires.enough k less)
+    subst (λ (x : Dispatch). HasEnough c.args.queues.now x) (sym (c.loop-k.invariant.same k (omega arith))) (c.requires.enough k less)
 
 pub loop-k-preserved : goal.loop-k-preserved
 loop-k-preserved c =
@@ -76,10 +76,10 @@ loop-k-preserved c =
     record {
       some = omega (arith, c.loop-k.invariant.some, c.foresee_more.ensures.some, c.min-ticks.ensures);
       most = omega (arith, c.loop-k.invariant.most, c.min-ticks.ensures);
-      foresees = below-more (λ r (x : Dispatch). Foresees s r (state_now (kind_of s r) (dispatch_at old r)) (waiting c.args.lines.now) c.args.now (phase_of c.args.trace.now r) x) dispatches k dispatch no_dispatch there c.loop-k.invariant.foresees
-          (subst (λ (x : Dispatch). Foresees s k (state_now (kind_of s k) x) (waiting c.args.lines.now) c.args.now (phase_of c.args.trace.now k) dispatch) here c.foresee_more.ensures.foresees);
-      enough = below-more (λ r (x : Dispatch). HasEnough c.args.lines.now x) dispatches k dispatch no_dispatch there c.loop-k.invariant.enough c.foresee_more.ensures.enough;
-      reached = below-more (λ r (x : Dispatch). HasReach (places_of (listed (map (λ v. v.items) c.args.orders.now.items) r)) (waiting c.args.lines.now) x.reach) dispatches k dispatch no_dispatch there c.loop-k.invariant.reached c.foresee_more.ensures.reach;
+      foresees = below-more (λ r (x : Dispatch). Foresees s r (state_now (kind_of s r) (dispatch_at old r)) (waiting c.args.queues.now) c.args.now (phase_of c.args.trace.now r) x) dispatches k dispatch no_dispatch there c.loop-k.invariant.foresees
+          (subst (λ (x : Dispatch). Foresees s k (state_now (kind_of s k) x) (waiting c.args.queues.now) c.args.now (phase_of c.args.trace.now k) dispatch) here c.foresee_more.ensures.foresees);
+      enough = below-more (λ r (x : Dispatch). HasEnough c.args.queues.now x) dispatches k dispatch no_dispatch there c.loop-k.invariant.enough c.foresee_more.ensures.enough;
+      reached = below-more (λ r (x : Dispatch). HasWaitingRange (places_of (listed (map (λ v. v.items) c.args.orders.now.items) r)) (waiting c.args.queues.now) x.waiters) dispatches k dispatch no_dispatch there c.loop-k.invariant.reached c.foresee_more.ensures.waiters;
       fits = below-more (λ r (x : Dispatch). x.gone + c.min-ticks.result ≤ x.ticks) dispatches k dispatch no_dispatch there (λ r less. omega (arith, c.loop-k.invariant.fits r less, c.min-ticks.ensures)) (omega (arith, c.min-ticks.ensures, c.foresee_more.ensures.some));
       same = above-same old dispatches k dispatch no_dispatch c.loop-k.invariant.same;
     }

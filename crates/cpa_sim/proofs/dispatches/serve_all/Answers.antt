@@ -6,15 +6,15 @@ use Rattle.cpa_sched.specs.States.{Belongs, IsWaiting, seen}
 use Rattle.cpa_sched.specs.Steps.{kind_of}
 use Rattle.cpa_sim.specs.declared.dispatches.Dispatch.{Dispatch}
 use Rattle.cpa_trace.specs.Trace.{need}
-use Rattle.cpa_sim.specs.Lines.{LineCounts, has_pending, served_line}
-use Rattle.cpa_sim.specs.Simulation.{line_at, dispatch_at, no_dispatch, runner, runs_at, waiting, state_by, IsServed}
+use Rattle.cpa_sim.specs.JobQueues.{QueueCounts, has_pending, served_queue}
+use Rattle.cpa_sim.specs.Simulation.{queue_at, dispatch_at, no_dispatch, runner, runs_at, waiting, state_by, IsServed}
 use Rattle.cpa_sim.proofs.PlaceLaws.{below-more, above-same, came-back}
 use Rattle.cpa_sim.proofs.DispatchLaws.{runs-elsewhere, with-this, with-other}
 use Rattle.cpa_sim.proofs.dispatches.serve_all.Goals as goal
 
 pub loop-k-init : goal.loop-k-init
 loop-k-init c = record {
-  count = c.requires.lines;
+  count = c.requires.queues;
   ran = λ i task less. absurd (omega arith);
   still = λ i task more. refl;
   served = λ r less. absurd (omega arith);
@@ -61,9 +61,9 @@ loop-k-preserved c =
     let tr = c.args.trace.now in
     let k = c.loop-k.k in
     let dispatches = c.loop-k.dispatch-items in
-    let lines = c.loop-k.lines.items in
+    let queues = c.loop-k.queues.items in
     let old = c.args.dispatches.now.items in
-    let first = c.args.lines.now.items in
+    let first = c.args.queues.now.items in
     let inv = c.loop-k.invariant in
     let dispatch = c.serve-ends.new.dispatch in
     let count = ap length c.deref_mut-dispatch-items.ensures.value ∙ c.requires.dispatches in
@@ -72,8 +72,8 @@ loop-k-preserved c =
     let here = inv.same k (omega arith) in
     let more = c.with_if-ended.ensures in
     let waits : (i : ℕ) → runner (dispatch_at old k) ≡ Some i → IsWaiting s k (waiting first) i = λ i e. c.requires.waits k i low e in
-    let line : (i : ℕ) → line_at c.serve-ends.new.lines.items i ≡ served_line (need s tr i) (runs_at (dispatch_at old k) i) c.args.ticks c.args.now (line_at lines i) = λ i. subst (λ (x : Dispatch). line_at c.serve-ends.new.lines.items i ≡ served_line (need s tr i) (runs_at x i) c.args.ticks c.args.now (line_at lines i)) here (c.serve-ends.ensures.lines i) in
-    let elsewhere : (i : ℕ) → (task_at s i).res.0 ≢ k → line_at c.serve-ends.new.lines.items i ≡ line_at lines i = λ i differs. line i ∙ ap (λ b. served_line (need s tr i) b c.args.ticks c.args.now (line_at lines i)) (runs-elsewhere s k i (waiting first) (dispatch_at old k) waits differs) in
+    let queue : (i : ℕ) → queue_at c.serve-ends.new.queues.items i ≡ served_queue (need s tr i) (runs_at (dispatch_at old k) i) c.args.ticks c.args.now (queue_at queues i) = λ i. subst (λ (x : Dispatch). queue_at c.serve-ends.new.queues.items i ≡ served_queue (need s tr i) (runs_at x i) c.args.ticks c.args.now (queue_at queues i)) here (c.serve-ends.ensures.queues i) in
+    let elsewhere : (i : ℕ) → (task_at s i).res.0 ≢ k → queue_at c.serve-ends.new.queues.items i ≡ queue_at queues i = λ i differs. queue i ∙ ap (λ b. served_queue (need s tr i) b c.args.ticks c.args.now (queue_at queues i)) (runs-elsewhere s k i (waiting first) (dispatch_at old k) waits differs) in
     record {
       count = c.serve-ends.ensures.count;
       ran = λ i task less.
@@ -81,22 +81,22 @@ loop-k-preserved c =
             | inl before ↦ elsewhere i (λ e. absurd (omega arith)) ∙ inv.ran i task before
             | inr after ↦
                 let on : k ≡ (task_at s i).res.0 = omega arith in
-                line i
-                ∙ (ap (λ r. served_line (need s tr i) (runs_at (dispatch_at old r) i) c.args.ticks c.args.now (line_at lines i)) on
-                ∙ ap (served_line (need s tr i) (runs_at (dispatch_at old (task_at s i).res.0) i) c.args.ticks c.args.now) (inv.still i task after))
+                queue i
+                ∙ (ap (λ r. served_queue (need s tr i) (runs_at (dispatch_at old r) i) c.args.ticks c.args.now (queue_at queues i)) on
+                ∙ ap (served_queue (need s tr i) (runs_at (dispatch_at old (task_at s i).res.0) i) c.args.ticks c.args.now) (inv.still i task after))
           ];
       still = λ i task more. elsewhere i (λ e. absurd (omega arith)) ∙ inv.still i task (omega arith);
       served = below-more (λ r (x : Dispatch). IsServed s r first c.args.ticks (dispatch_at old r) x) dispatches k dispatch no_dispatch there inv.served
-          (let h = subst (λ (x : Dispatch). IsServed s k lines c.args.ticks x dispatch) here c.serve-ends.ensures.served in
+          (let h = subst (λ (x : Dispatch). IsServed s k queues c.args.ticks x dispatch) here c.serve-ends.ensures.served in
           record {
             running = h.running;
             ends = λ i e.
                 let p = waits i e in
                 let on : (task_at s i).res.0 ≡ k = eqb-true (task_at s i).res.0 k p.on.here in
-                h.ends i e ∙ ap (λ (l : LineCounts). nat_le l.left c.args.ticks) (inv.still i p.on.task (omega (arith, on)));
+                h.ends i e ∙ ap (λ (l : QueueCounts). nat_le l.left c.args.ticks) (inv.still i p.on.task (omega (arith, on)));
             state = h.state;
             unchanged = h.unchanged;
-            reach = h.reach;
+            waiters = h.waiters;
           });
       ended = below-more (λ r (x : Dispatch). holds c.with_if-ended.result r ≡ x.ends) dispatches k dispatch no_dispatch there (λ r less. more r ∙ (with-other k r c.serve-ends.result (holds c.loop-k.ended r) (λ e. absurd (omega (arith, e, less))) ∙ inv.ended r less))
           (more k ∙ (with-this k c.serve-ends.result (holds c.loop-k.ended k) (inv.past k (omega arith)) ∙ c.serve-ends.ensures.ends));

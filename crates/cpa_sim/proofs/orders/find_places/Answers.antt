@@ -5,7 +5,7 @@ use Rattle.cpa_model.specs.SystemLists.{task_at, places_of}
 use Rattle.cpa_sim.specs.Arrivals.{listed}
 use Rattle.cpa_sim.specs.Orders.{IsPlace}
 use Rattle.cpa_sim.proofs.ArrivalLaws.{listed-read}
-use Rattle.cpa_sim.proofs.FollowerLaws.{placed}
+use Rattle.cpa_sim.proofs.SuccessorLaws.{placed}
 use Rattle.cpa_sim.proofs.PlaceLaws.{push-more}
 use Rattle.cpa_sim.proofs.orders.find_places.Goals as goal
 

@@ -10,7 +10,7 @@ loop-k-preserved c =
     let s = c.args.system.now in
     let k = c.loop-k.k in
     let dispatches = c.loop-k.dispatches.items in
-    let dispatch : Dispatch = record { state = c.first_state-state.result; running = None; ticks = 0; gone = 0; ends = false; reach = c.none.result } in
+    let dispatch : Dispatch = record { state = c.first_state-state.result; running = None; ticks = 0; gone = 0; ends = false; waiters = c.none.result } in
     let e = c.in_ok-push.ensures.items in
     let first : IsFirst s k dispatch = record { state = c.first_state-state.ensures.state; gone = refl; ticks = refl; idle = refl } in
     record {

@@ -24,16 +24,16 @@ overflow_add-cycle c =
     let few : length c.tasks_on-task-items.result.now ≤ length c.args.self.now.tasks =
     task_list-few (is_on c.args.self.now c.args.res.0) (length c.args.self.now.tasks) c.tasks_on-task-items.result.now c.tasks_on-task-items.ensures.places in
     let small = slot-small _ c.task.result.now.turn c.task.ensures.rules.turn_fits in
-    omega (arith, rules.few_tasks, c.loop-task.invariant.small, c.slot_of-cycle.ensures)
+    omega (arith, rules.few_tasks, c.loop-task.invariant.small, c.slot-cycle.ensures)
 
 pub loop-task-preserved : goal.loop-task-preserved
 loop-task-preserved c =
     let f = λ (t : TaskId). slot_of (task_at c.args.self.now t.0).turn in
-    let slot = c.slot_of-cycle.ensures ∙ ap (λ (t : Task). slot_of t.turn) c.task.ensures.value in
+    let slot = c.slot-cycle.ensures ∙ ap (λ (t : Task). slot_of t.turn) c.task.ensures.value in
     let small = slot-small _ c.task.result.now.turn c.task.ensures.rules.turn_fits in
     record {
-      sum = slots-next f c.tasks_on-task-items.result.now c.loop-task.task-index c.loop-task.cycle c.slot_of-cycle.result (gap_of (resource_at c.args.self.now c.args.res.0).kind) (record { 0 = 0 }) c.loop-task-test.true c.loop-task.invariant.sum slot;
-      small = omega (arith, c.loop-task.invariant.small, c.slot_of-cycle.ensures);
+      sum = slots-next f c.tasks_on-task-items.result.now c.loop-task.task-index c.loop-task.cycle c.slot-cycle.result (gap_of (resource_at c.args.self.now c.args.res.0).kind) (record { 0 = 0 }) c.loop-task-test.true c.loop-task.invariant.sum slot;
+      small = omega (arith, c.loop-task.invariant.small, c.slot-cycle.ensures);
     }
 
 pub returns : goal.returns

@@ -11,7 +11,7 @@ use Rattle.cpa_segments.specs.Rows.{schedule_text}
 use Rattle.cpa_segments.specs.Written.{IsWritten}
 use Rattle.cpa_segments.proofs.WrittenLaws.{written-none, written-more, part-written}
 use Rattle.cpa_segments.proofs.RowLaws.{rows_below, below-none, below-more, below-all, below-part, started-next}
-use Rattle.cpa_segments.proofs.FollowingLaws.{all-first, all-at, all-more, all-all, following-there, following-back, starts-here}
+use Rattle.cpa_segments.proofs.TrackingLaws.{all-first, all-at, all-more, all-all, tracking-there, tracking-back, starts-here}
 use Rattle.cpa_segments.proofs.writing.Writing.write_moment.Goals as goal
 
 pub loop-k-init : goal.loop-k-init
@@ -20,29 +20,29 @@ loop-k-init g c =
     let tr = c.args.replay.now.trace in
     record {
       long = c.requires.long;
-      following = all-first s tr c.args.time c.args.replay.now.time c.args.self.now.followers.items c.requires.following;
+      tracking = all-first s tr c.args.time c.args.replay.now.time c.args.self.now.trackers.items c.requires.tracking;
       same = λ r u below low high. absurd (omega (arith, below));
       written = rw (below-none s tr c.args.time) (written-none (g.K.Sink.sent c.args.sink.now) c.args.self.now.unsent.items);
       rises = omega arith;
     }
 
-pub follow-segment-requires-clause-following : goal.follow-segment-requires-clause-following
-follow-segment-requires-clause-following g c =
+pub follow-segment-requires-clause-tracking : goal.follow-segment-requires-clause-tracking
+follow-segment-requires-clause-tracking g c =
     let s = c.args.system.now in
     let tr = c.args.replay.now.trace in
-    let fs = c.loop-k.self.followers.items in
+    let fs = c.loop-k.self.trackers.items in
     let f = c.index_mut.result.now in
     let at = slice_get_read fs (length fs) c.loop-k.k f refl (omega (arith, c.loop-k.invariant.long, c.loop-k-test.true, c.resources-k-end.ensures.count)) c.index_mut.ensures.value in
-    following-there s tr c.loop-k.k c.args.time f (all-at s tr c.loop-k.k c.args.time c.args.replay.now.time fs f c.loop-k.invariant.following at)
+    tracking-there s tr c.loop-k.k c.args.time f (all-at s tr c.loop-k.k c.args.time c.args.replay.now.time fs f c.loop-k.invariant.tracking at)
 
 pub put_segment-requires : goal.put_segment-requires
 put_segment-requires g c =
     let s = c.args.system.now in
     let tr = c.args.replay.now.trace in
-    let fs = c.loop-k.self.followers.items in
+    let fs = c.loop-k.self.trackers.items in
     let f = c.index_mut.result.now in
     let at = slice_get_read fs (length fs) c.loop-k.k f refl (omega (arith, c.loop-k.invariant.long, c.loop-k-test.true, c.resources-k-end.ensures.count)) c.index_mut.ensures.value in
-    let h = all-at s tr c.loop-k.k c.args.time c.args.replay.now.time fs f c.loop-k.invariant.following at in
+    let h = all-at s tr c.loop-k.k c.args.time c.args.replay.now.time fs f c.loop-k.invariant.tracking at in
     subst (λ (x : SystemLists). (seg : Segment) → c.follow-segment.result ≡ Some seg → seg.task.0 < length x.tasks) h.ahead.system c.follow-segment.ensures.task
 
 pub returns-in_err-put_segment-clause-part : goal.returns-in_err-put_segment-clause-part
@@ -51,11 +51,11 @@ returns-in_err-put_segment-clause-part g c =
     let tr = c.args.replay.now.trace in
     let t = c.args.time in
     let k = c.loop-k.k in
-    let fs = c.loop-k.self.followers.items in
+    let fs = c.loop-k.self.trackers.items in
     let f = c.index_mut.result.now in
     let there : c.loop-k.k < length c.args.system.now.resources = omega (arith, c.loop-k-test.true, c.resources-k-end.ensures.count) in
     let at = slice_get_read fs (length fs) k f refl (omega (arith, c.loop-k.invariant.long, there)) c.index_mut.ensures.value in
-    let h = all-at s tr k t c.args.replay.now.time fs f c.loop-k.invariant.following at in
+    let h = all-at s tr k t c.args.replay.now.time fs f c.loop-k.invariant.tracking at in
     let starts = starts-here s tr k t f c.follow-segment.result h c.follow-segment.ensures.starts in
     let part = below-part s tr t k there in
     on-err-any _ _
@@ -69,20 +69,20 @@ loop-k-preserved g c =
     let tr = c.args.replay.now.trace in
     let t = c.args.time in
     let k = c.loop-k.k in
-    let fs = c.loop-k.self.followers.items in
+    let fs = c.loop-k.self.trackers.items in
     let f = c.index_mut.result.now in
     let ran = c.ran-ran.ensures in
     let there : c.loop-k.k < length c.args.system.now.resources = omega (arith, c.loop-k-test.true, c.resources-k-end.ensures.count) in
     let at = slice_get_read fs (length fs) k f refl (omega (arith, c.loop-k.invariant.long, there)) c.index_mut.ensures.value in
-    let h = all-at s tr k t c.args.replay.now.time fs f c.loop-k.invariant.following at in
+    let h = all-at s tr k t c.args.replay.now.time fs f c.loop-k.invariant.tracking at in
     let starts = starts-here s tr k t f c.follow-segment.result h c.follow-segment.ensures.starts in
-    let follows = following-back s tr k t f c.follow-segment.new.follower h c.follow-segment.ensures.following in
+    let follows = tracking-back s tr k t f c.follow-segment.new.tracker h c.follow-segment.ensures.tracking in
     let ran' = rw (c.requires.system, c.requires.since) at ran in
     let same : (u : ℕ) → c.args.time ≤ u → u < c.args.replay.now.time → served_at c.args.system.now c.args.replay.now.trace u c.loop-k.k ≡ served_at c.args.system.now c.args.replay.now.trace c.args.time c.loop-k.k =
     λ u low high. ran' u low high ∙ sym (ran' t (omega arith) c.requires.later) in
     record {
-      long = length-set fs k c.follow-segment.new.follower ∙ c.loop-k.invariant.long;
-      following = all-more s tr k t c.args.replay.now.time fs _ c.follow-segment.new.follower c.loop-k.invariant.following refl follows c.requires.later
+      long = length-set fs k c.follow-segment.new.tracker ∙ c.loop-k.invariant.long;
+      tracking = all-more s tr k t c.args.replay.now.time fs _ c.follow-segment.new.tracker c.loop-k.invariant.tracking refl follows c.requires.later
           same;
       same = λ r u below low high. elim (cases_lt r k) [
         | inl less ↦ c.loop-k.invariant.same r u less low high
@@ -95,10 +95,10 @@ loop-k-preserved g c =
       rises = omega (arith, c.loop-k.invariant.rises, c.put_segment.ensures.rises);
     }
 
-pub returns-clause-following : goal.returns-clause-following
-returns-clause-following g c =
-    all-all c.args.system.now c.args.replay.now.trace c.loop-k.k c.args.time c.args.replay.now.time c.loop-k.self.followers.items
-    (omega (arith, c.loop-k.invariant.long, c.loop-k-test.false, c.resources-k-end.ensures.count)) c.loop-k.invariant.following
+pub returns-clause-tracking : goal.returns-clause-tracking
+returns-clause-tracking g c =
+    all-all c.args.system.now c.args.replay.now.trace c.loop-k.k c.args.time c.args.replay.now.time c.loop-k.self.trackers.items
+    (omega (arith, c.loop-k.invariant.long, c.loop-k-test.false, c.resources-k-end.ensures.count)) c.loop-k.invariant.tracking
 
 pub returns-clause-started : goal.returns-clause-started
 returns-clause-started g c =

@@ -6,10 +6,10 @@ use Rattle.cpa_sim.proofs.replays.Replay.ran.Goals as goal
 pub ran-requires-clause-there : goal.ran-requires-clause-there
 ran-requires-clause-there c =
     let there : c.args.res.0 < length c.self.inside.system.now.resources = subst (λ (p : FollowedRun). c.args.res.0 < length p.system.resources) (sym c.self.view_is) c.requires in
-    omega (arith, there, c.self.invariant.course.at.count_dispatches)
+    omega (arith, there, c.self.invariant.simulator.at.count_dispatches)
 
 pub ran-requires-clause-within : goal.ran-requires-clause-within
-ran-requires-clause-within c = c.self.invariant.course.ran
+ran-requires-clause-within c = c.self.invariant.simulator.ran
 
 pub returns : goal.returns
 returns c =

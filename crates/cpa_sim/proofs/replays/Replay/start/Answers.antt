@@ -3,7 +3,7 @@ use Rattle.cpa_sim.proofs.replays.Replay.start.Goals as goal
 
 pub invariant_of-result : goal.invariant_of-result
 invariant_of-result c = record {
-  course = c.in_ok-course.ensures.run;
-  keeps = c.in_ok-course.ensures.keeps;
-  ran = λ r u less from before. absurd (omega (arith, before, c.in_ok-course.ensures.time));
+  simulator = c.in_ok-simulator.ensures.run;
+  keeps = c.in_ok-simulator.ensures.keeps;
+  ran = λ r u less from before. absurd (omega (arith, before, c.in_ok-simulator.ensures.time));
 }

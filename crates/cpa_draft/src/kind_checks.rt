@@ -1,0 +1,125 @@
+//! Whether what the entries of a draft have fits the kinds of their resources.
+
+ghost use Rattle.std.specs.Prelude.{◌≡◌, ◌<◌, ◌-◌, ◌^◌, IfSome};
+ghost use Rattle.cpa_draft.specs.First.{first_place};
+ghost use Rattle.cpa_draft.specs.Names.{AreTables, kind_of};
+ghost use Rattle.cpa_draft.specs.Refusals.{◌or_else◌, is_tdma, is_can, resource_misfits, turn_misfits, task_misfits, is_crossed, misfit, crossed};
+
+use crate::draft::{Draft, DraftResource, DraftTask, KindWord};
+use crate::entry_checks::{refuse, refuse_at};
+use crate::numbers::natural_or;
+use crate::ranks::is_by_priority;
+use crate::refusal::{Part, Refusal};
+use crate::tables::Tables;
+
+fn is_tdma(kind: KindWord) -> bool
+    ensures { result ≡ is_tdma kind }
+{
+    match kind {
+        KindWord::Tdma => true,
+        _ => false,
+    }
+}
+
+fn is_can(kind: KindWord) -> bool
+    ensures { result ≡ is_can kind }
+{
+    match kind {
+        KindWord::Can => true,
+        _ => false,
+    }
+}
+
+fn misfits_resource(entry: &DraftResource) -> bool
+    ensures { result ≡ resource_misfits entry.now }
+{
+    (entry.gap.is_some() && !is_tdma(entry.kind)) || (entry.bit.is_some() && !is_can(entry.kind))
+}
+
+fn first_misfit_resource(entries: &[DraftResource]) -> Option<usize>
+    ensures place { result ≡ first_place (λ k r. resource_misfits r) entries.now }
+    ensures within { IfSome result (λ k. k < 2 ^ 64 - 1) }
+{
+    entries
+        .iter()
+        .enumerate()
+        .position(|(_, entry)| misfits_resource(entry))
+}
+
+fn has_wrong_turn(by_priority: bool, task: &DraftTask) -> bool
+    ensures { result ≡ turn_misfits by_priority task.now }
+{
+    if by_priority {
+        task.priority.is_none() || task.slot.is_some()
+    } else {
+        task.priority.is_some() || task.slot.is_none()
+    }
+}
+
+fn misfits_kind(kind: Option<KindWord>, task: &DraftTask) -> bool
+    ensures { result ≡ task_misfits kind task.now }
+{
+    has_wrong_turn(is_by_priority(kind), task)
+        || (task.payload.is_some() && !is_can(kind.unwrap_or(KindWord::Preemptive)))
+}
+
+fn misfits_task(draft: &Draft, tables: &Tables, task: &DraftTask) -> bool
+    requires { AreTables draft.now tables.now.resources tables.now.activities }
+    ensures { result ≡ task_misfits (kind_of draft.now task.now.on) task.now }
+{
+    misfits_kind(tables.kind(draft, task.on.bytes()), task)
+}
+
+fn first_misfit_task(draft: &Draft, tables: &Tables, tasks: &[DraftTask]) -> Option<usize>
+    requires { AreTables draft.now tables.now.resources tables.now.activities }
+    ensures place { result ≡ first_place (λ k t. task_misfits (kind_of draft.now t.on) t) tasks.now }
+    ensures within { IfSome result (λ k. k < 2 ^ 64 - 1) }
+{
+    tasks
+        .iter()
+        .enumerate()
+        .position(|(_, task)| misfits_task(draft, tables, task))
+}
+
+/// Reason 9.
+#[tactic(auto, unfolding(crate::specs::Refusals::misfit))]
+pub(crate) fn refuse_misfit(draft: &Draft, tables: &Tables) -> Option<Refusal>
+    requires { AreTables draft.now tables.now.resources tables.now.activities }
+    ensures { result ≡ misfit draft.now }
+{
+    match first_misfit_resource(draft.resource_entries()) {
+        Some(place) => refuse(9, Part::Resource, place),
+        None => refuse_at(
+            9,
+            Part::Task,
+            first_misfit_task(draft, tables, draft.task_entries()),
+        ),
+    }
+}
+
+/// Whether the least execution is above the greatest.
+fn is_crossed(task: &DraftTask) -> bool
+    ensures { result ≡ is_crossed task.now }
+{
+    task.best.is_some()
+        && task.worst.is_some()
+        && natural_or(0, task.worst) < natural_or(0, task.best)
+}
+
+fn first_crossed(tasks: &[DraftTask]) -> Option<usize>
+    ensures place { result ≡ first_place (λ k t. is_crossed t) tasks.now }
+    ensures within { IfSome result (λ k. k < 2 ^ 64 - 1) }
+{
+    tasks
+        .iter()
+        .enumerate()
+        .position(|(_, task)| is_crossed(task))
+}
+
+/// Reason 10.
+#[tactic(auto, unfolding(crate::specs::Refusals::crossed))]
+pub(crate) fn refuse_crossed(draft: &Draft) -> Option<Refusal>
+    ensures { result ≡ crossed draft.now }
+{
+    refuse_at(10, Part::Task, first_crossed(draft.task_entries()))
+}

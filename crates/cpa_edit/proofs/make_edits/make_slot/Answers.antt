@@ -1,0 +1,15 @@
+use Rattle.std.proofs.Common.{refl}
+use Rattle.cpa_edit.specs.Edited.{change}
+use Rattle.cpa_edit.proofs.AllowedLaws.{named-slot}
+use Rattle.cpa_edit.proofs.make_edits.make_slot.Goals as goal
+
+pub task_named-id-requires : goal.task_named-id-requires
+task_named-id-requires c = named-slot c.args.system.now c.args.task.now c.args.ticks c.requires.allowed
+
+pub set_turn-requires-clause-rules : goal.set_turn-requires-clause-rules
+unfolding change
+set_turn-requires-clause-rules c = rw (c.task_named-id.ensures.value) c.requires.rules
+
+pub returns : goal.returns
+unfolding change
+returns c = rw (c.set_turn.ensures, c.task_named-id.ensures.value) refl
