@@ -11,10 +11,10 @@ takes the present build. The same program and file give the same count, whatever
 """
 import os
 import subprocess
-import sys
 import tempfile
 
 from time_analyse import PROGRAM, systems
+from timing import NEEDS_PROGRAM, reader_of
 
 # of cpa_run, and of cpa_cli in builds from before the two were parted
 ANALYSIS = "::analysis::least_bounds"
@@ -52,7 +52,9 @@ def measure(program, whole, part, folder):
 
 
 def main():
-    programs = sys.argv[1:] or [PROGRAM]
+    reader = reader_of(__doc__, "python3 bench/count_instructions.py", f"valgrind, and {NEEDS_PROGRAM}")
+    reader.add_argument("programs", metavar="PROGRAM", nargs="*", help="builds of several commits; the present one if absent")
+    programs = reader.parse_args().programs or [PROGRAM]
     with tempfile.TemporaryDirectory() as folder:
         for name, make in systems().items():
             if "climb" in name:

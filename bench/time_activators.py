@@ -25,7 +25,7 @@ import os
 import sys
 import tempfile
 
-from calls import TOP, spent
+from timing import TOP, spent
 from time_analyse import KINDS, place_in_cycles
 
 PROGRAM = os.path.join(TOP, "crates/cpa_cli/out/cpa_cli")

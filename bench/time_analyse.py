@@ -11,11 +11,11 @@ car network of examples/. Prints a line a system: the least time of some calls, 
 """
 import os
 import subprocess
-import sys
 import tempfile
 import time
 
-TOP = os.path.join(os.path.dirname(os.path.abspath(__file__)), "..")
+from timing import TOP, names_of
+
 PROGRAM = os.path.join(TOP, "crates/cpa_cli/out/cpa_cli")
 KINDS = {"preemptive": "preemptive", "round-robin": "round-robin", "tdma": "tdma", "can": "can"}
 
@@ -108,7 +108,7 @@ def call(path):
 
 def main():
     made = systems()
-    names = sys.argv[1:] or list(made)
+    names = names_of(__doc__, "time_analyse.py", list(made))
     subprocess.run([os.path.join(TOP, "lokwurmi"), "analyse", os.path.join(TOP, "examples", "two_tasks.toml")], capture_output=True, check=False)
     print(f"processors: {os.cpu_count()}")
     with tempfile.TemporaryDirectory() as folder:

@@ -12,7 +12,7 @@ import os
 import subprocess
 import time
 
-from calls import TOP, tool
+from timing import TOP, tool
 
 
 def seconds(places, command):

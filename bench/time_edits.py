@@ -9,10 +9,8 @@ the least time of five calls, and the peak memory of a call.
     python3 bench/time_edits.py [FOLDER for the files]
 """
 import os
-import sys
-import tempfile
 
-from calls import TOP, built, show
+from timing import TOP, built, folder_of, show
 
 MOST = 1_048_576
 EDITS = 10_000
@@ -70,7 +68,7 @@ def edits(sort):
 
 
 def main():
-    folder = sys.argv[1] if len(sys.argv) > 1 else tempfile.mkdtemp()
+    folder = folder_of(__doc__, "time_edits.py")
     bench = built("cpa_bench")
     large = os.path.join(folder, "large.toml")
     with open(large, "w") as file:

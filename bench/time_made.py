@@ -1,17 +1,17 @@
 #!/usr/bin/env python3
-"""Measures how long the commands on made systems and made traces take, and what starting the program costs.
+"""Measures how long the commands on generated systems and generated traces take, and what starting the program costs.
 
 Prints a line a case: the least time of some calls, the peak memory of one, the last line.
 
 - start: words that are refused before `clap` is asked, words that are refused after it, and /bin/true beside them;
-- load and generate of the largest made system;
-- hammer: the network of a car under 1,000 and 10,000 made traces, on two processors and on one.
+- load and generate of the largest generated system;
+- hammer: the network of a car under 1,000 and 10,000 generated traces, on two processors and on one.
 
     python3 bench/time_made.py
 """
 import os
 
-from calls import least
+from timing import least
 
 TOP = os.path.join(os.path.dirname(os.path.abspath(__file__)), "..")
 PROGRAM = os.path.join(TOP, "crates/cpa_cli/out/cpa_cli")

@@ -14,10 +14,9 @@ Prints the least seconds of some whole calls, the peak memory, and the last line
 import os
 import re
 import subprocess
-import sys
 import tempfile
 
-from calls import TOP, built, least
+from timing import TOP, built, least, names_of
 
 PROGRAM = built("cpa_cli")
 
@@ -46,6 +45,14 @@ def bounds(folder, kind, count):
     return {int(k): int(bound) for k, bound in re.findall(r"^task t(\d+) .* worst (\d+)$", told, re.M)}
 
 
+FORMS = [
+    f"{kind}-{count}-{form}"
+    for kind in ("preemptive", "can")
+    for count in (64, 512)
+    for form in ("last-in-time", "first-in-time", "none")
+] + ["preemptive-512-overloaded", "preemptive-512-overloaded-long"]
+
+
 def forms(folder):
     made = {}
     for kind in ("preemptive", "can"):
@@ -63,11 +70,12 @@ def forms(folder):
 
 
 def main():
+    names = names_of(__doc__, "time_orders.py", FORMS)
     with tempfile.TemporaryDirectory() as folder:
         path = os.path.join(folder, "system")
-        for name, text in forms(folder).items():
-            if sys.argv[1:] and name not in sys.argv[1:]:
-                continue
+        made = forms(folder)
+        for name in names:
+            text = made[name]
             with open(path, "w", encoding="utf-8") as file:
                 file.write(text)
             seconds, peak, last = least([PROGRAM, "assign", path, "r"], 5 if "64" in name else 1 if "long" in name else 2)

@@ -9,10 +9,8 @@ time of five calls, and the peak memory of a call.
     python3 bench/time_reading.py [FOLDER for the files]
 """
 import os
-import sys
-import tempfile
 
-from calls import built, show
+from timing import built, folder_of, show
 
 MOST = 1_048_576
 
@@ -69,7 +67,7 @@ def many():
 
 
 def main():
-    folder = sys.argv[1] if len(sys.argv) > 1 else tempfile.mkdtemp()
+    folder = folder_of(__doc__, "time_reading.py")
     reader, program = built("cpa_bench"), built("cpa_cli")
     print(f"processors: {os.cpu_count()}")
     for make in (comments, largest, many):

@@ -14,7 +14,7 @@ Prints a line a case, from the least time of 5 to 200 calls: the peak memory, th
 """
 import os
 
-from calls import least_over
+from timing import least_over
 
 TOP = os.path.join(os.path.dirname(os.path.abspath(__file__)), "..")
 PROGRAM = os.path.join(TOP, "crates/cpa_cli/out/cpa_cli")

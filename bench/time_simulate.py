@@ -20,13 +20,11 @@ time grows with the number of resources. These lines tell the seconds of a proce
     python3 bench/time_simulate.py [NAME ..]
 """
 import os
-import sys
 import tomllib
 
-from calls import built, least_over, spent_over
+from timing import NEEDS_PROGRAMS, TOP, built, least_over, names_of, spent_over
 from check_runs import Run
 
-TOP = os.path.join(os.path.dirname(os.path.abspath(__file__)), "..")
 PROGRAM = os.path.join(TOP, "crates/cpa_cli/out/cpa_cli")
 SCHEDULE = built("cpa_schedule")
 
@@ -121,7 +119,7 @@ def show(what, seconds, peak, last):
 
 
 def main():
-    wanted = sys.argv[1:] or [*CASES, "apart"]
+    wanted = names_of(__doc__, "time_simulate.py", [*CASES, "apart"], NEEDS_PROGRAMS)
     for name in wanted:
         for command in ("simulate", "buffers") if name in CASES else ():
             show(f"{command} {name}", *least_over([PROGRAM, command], CASES[name](), 5))

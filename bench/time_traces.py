@@ -9,10 +9,8 @@ reads it, and judges it once or a hundred times. Prints a line a file and way: t
     python3 bench/time_traces.py [FOLDER for the files]
 """
 import os
-import sys
-import tempfile
 
-from calls import built, show
+from timing import built, folder_of, show
 
 MOST = 16_777_216
 ROWS = 200_000
@@ -61,7 +59,7 @@ def events(count, last):
 
 
 def main():
-    folder = sys.argv[1] if len(sys.argv) > 1 else tempfile.mkdtemp()
+    folder = folder_of(__doc__, "time_traces.py")
     reader = built("cpa_bench")
     described = os.path.join(folder, "system.toml")
     with open(described, "w") as file:

@@ -17,10 +17,10 @@ worker, and by two on the busier and on the other thread.
 import os
 import re
 import subprocess
-import sys
 import tempfile
 
 from time_analyse import TOP, place_in_cycles, systems
+from timing import reader_of
 
 PROGRAM = os.path.join(TOP, "crates/cpa_bench/out/cpa_bench")
 WORKERS = (0, 1, 2, 4)
@@ -95,14 +95,19 @@ def count_search(path, folder):
 
 
 def main():
-    names = sys.argv[1:]
+    systems_made = made()
+    known = ", ".join(systems_made)
+    reader = reader_of(__doc__, "python3 bench/time_workers.py count", "the program cpa_bench, and for count valgrind")
+    says = f"a system, all if absent: {known}; or before them count, which counts instructions"
+    reader.add_argument("names", metavar="NAME", nargs="*", help=says)
+    names = reader.parse_args().names
     counting = bool(names) and names[0] == "count"
     names = names[1:] if counting else names
     subprocess.run(["rt", "run"], cwd=os.path.join(TOP, "crates/cpa_bench"), capture_output=True, check=False)
     print(f"processors: {os.cpu_count()}")
     with tempfile.TemporaryDirectory() as folder:
         path = os.path.join(folder, "sys")
-        for name, make in made().items():
+        for name, make in systems_made.items():
             if names and name not in names:
                 continue
             with open(path, "w") as file:

@@ -1,0 +1,192 @@
+#!/usr/bin/env python3
+"""Checks what comes from the one table of commands, python/src/lokwurmi_tools/launcher/table.py, and --write writes
+it anew.
+
+The tables of commands in README.md and docs/FILES.md stand between two marks each. The script `lokwurmi`, help,
+completion, the man page and the refusals in words have to have the same commands, words and files; each example
+has to name files that are there, in words that are accepted. docs/MAP.md has to have the seconds of
+docs/times.csv. Outside the gate; takes a second.
+"""
+from __future__ import annotations
+
+import argparse
+import csv
+import re
+import shlex
+import sys
+from collections.abc import Callable
+from pathlib import Path
+
+TOP = Path(__file__).resolve().parent.parent
+sys.path.insert(0, str(TOP / "python" / "src"))
+from lokwurmi_tools import commands  # noqa: E402
+from lokwurmi_tools.launcher import completing, helping, manual  # noqa: E402
+from lokwurmi_tools.launcher.graph import listed  # noqa: E402
+from lokwurmi_tools.launcher.table import BY_NAME, COMMANDS, OWN, PROGRAMS, WORDS, Command  # noqa: E402
+from lokwurmi_tools.launcher.words import first_fault, operands_of  # noqa: E402
+from lokwurmi_tools.refusals import front  # noqa: E402
+
+SORTS = {"SCRIPT": "script", "TRACE": "trace", "SCHEDULE": "schedule", "CHAINS": "file of chains"}
+
+
+def rows(*found: tuple[str, ...]) -> str:
+    return "".join(f"| {' | '.join(it)} |\n" for it in found)
+
+
+def calls_table() -> str:
+    lines = [(f"`{it.called}`", it.writes) for it in COMMANDS]
+    return rows(("`./lokwurmi` ..", "writes"), ("---", "---"), *lines)
+
+
+def tools_table() -> str:
+    lines = [(f"`{it.name}`", it.does, f"`{it.example}`") for it in commands.COMMANDS]
+    return rows(("`./lokwurmi` ..", "", "as in"), ("---", "---", "---"), *lines)
+
+
+def words_table() -> str:
+    lines = [(f"`{it.usage}`", it.writes) for it in COMMANDS]
+    return rows(("Command", "What it writes"), ("---", "---"), *lines)
+
+
+def ranges_table() -> str:
+    scopes: dict[str, list[str]] = {}
+    for name, it in WORDS.items():
+        if it.scope:
+            scopes.setdefault(it.scope, []).append("N, the workers" if name == "N" else name)
+    return rows(("Word", "Range"), ("---", "---"), *((", ".join(names), scope) for scope, names in scopes.items()))
+
+
+def own_table() -> str:
+    lines = [(f"`{it.usage}`", f"{it.brief}. {it.more}".strip()) for it in OWN]
+    return rows(("`./lokwurmi` ..", ""), ("---", "---"), *lines)
+
+
+# each table, by its mark, and where it stands
+TABLES: dict[str, tuple[str, Callable[[], str]]] = {
+    "proved commands": ("README.md", calls_table),
+    "tools": ("README.md", tools_table),
+    "words": ("docs/FILES.md", words_table),
+    "ranges": ("docs/FILES.md", ranges_table),
+    "the launcher": ("docs/FILES.md", own_table),
+}
+
+
+class Faults:
+    """What is wrong, and how much was looked at."""
+
+    def __init__(self) -> None:
+        self.looked = 0
+        self.wrong: list[str] = []
+
+    def hold(self, good: bool, what: str) -> None:
+        self.looked += 1
+        if not good:
+            self.wrong.append(what)
+            print(f"WRONG  {what}")
+
+
+def with_table(text: str, mark: str, table: str) -> str | None:
+    """A page with the table between its marks; None where they aren't there."""
+    head, tail = f"<!-- {mark}: by tests/check_commands.py --write -->\n", f"<!-- end of {mark} -->\n"
+    if text.count(head) != 1 or text.count(tail) != 1:
+        return None
+    before, rest = text.split(head)
+    return f"{before}{head}\n{table}\n{tail}{rest.split(tail)[1]}"
+
+
+def check_tables(faults: Faults, write: bool) -> None:
+    for mark, (name, table) in TABLES.items():
+        page = TOP / name
+        text = page.read_text(encoding="utf-8")
+        wanted = with_table(text, mark, table())
+        faults.hold(wanted is not None, f'{name}: no marks of the table "{mark}"')
+        if wanted is None or wanted == text:
+            continue
+        if write:
+            page.write_text(wanted, encoding="utf-8")
+            print(f'{name}: the table "{mark}" is written')
+        else:
+            faults.hold(False, f'{name}: the table "{mark}" differs: python3 tests/check_commands.py --write')
+
+
+def check_script(faults: Faults) -> None:
+    """The fast path has each command, with the crate of its program."""
+    text = (TOP / "lokwurmi").read_text(encoding="utf-8")
+    found = {
+        name: crate
+        for names, crate in re.findall(r"^([a-z |]+)\)\n  top=(\w+)$", text, re.MULTILINE)
+        for name in names.split(" | ")
+    }
+    faults.hold(found == {it.name: it.crate for it in COMMANDS}, f"lokwurmi has {found}")
+    faults.hold(set(PROGRAMS) == {it.crate for it in COMMANDS}, "each program has words that it is first run with")
+
+
+def check_examples(faults: Faults) -> None:
+    for it in COMMANDS:
+        words = shlex.split(it.example)
+        accepted = operands_of(it, words) is not None and not first_fault(it, words)
+        faults.hold(accepted, f"the example of {it.name} is accepted")
+        files = [word for word in words if "/" in word]
+        faults.hold(all((TOP / word).is_file() for word in files), f"the files of the example of {it.name}")
+    for tool in commands.COMMANDS:
+        files = [word for word in shlex.split(tool.example) if word.startswith("examples/")]
+        faults.hold(all((TOP / word).is_file() for word in files), f"the files of the example of {tool.name}")
+
+
+def check_texts(faults: Faults) -> None:
+    """Help, completion and the man page name all of it."""
+    text, page, completion = helping.help_text(), manual.man_text(), completing.completion_text()
+    for name in [*BY_NAME, *(it.name for it in commands.COMMANDS)]:
+        faults.hold(f"\n  {name} " in text, f"help has {name}")
+        faults.hold(f"\n.B {manual.escaped(name)}" in page, f"the man page has {name}")
+        faults.hold(f"[{name.split()[0]}]=" in completion, f"completion has {name}")
+    lines = text.splitlines()
+    faults.hold(all(len(it) <= 80 for it in lines[:-1]), "help has lines of up to 80 letters")
+
+
+def check_refusals(faults: Faults) -> None:
+    """What the refusals in words know of a command's files."""
+    wanted = {it.name: files_of(it) for it in COMMANDS if files_of(it)}
+    faults.hold(wanted == front.OTHERS, f"lokwurmi_tools/refusals/front.py has {front.OTHERS}")
+
+
+def files_of(command: Command) -> tuple[str, ...]:
+    return tuple(SORTS[it] for it in command.words if it in SORTS)
+
+
+def check_times(faults: Faults) -> None:
+    """docs/MAP.md has the seconds of docs/times.csv, and that has each crate."""
+    text = (TOP / "docs" / "MAP.md").read_text(encoding="utf-8").partition("## Times")[2]
+    shown = {it[0]: it[1:] for it in re.findall(r"^\| `(\w+)` \| (\S+) \| (\S+) \| (.+) \|$", text, re.MULTILINE)}
+    with open(TOP / "docs" / "times.csv", encoding="utf-8", newline="") as it:
+        kept = {row["crate"]: row for row in csv.DictReader(it)}
+    faults.hold(
+        set(shown) == set(kept), f"crates of docs/times.csv alone or of docs/MAP.md alone: {set(shown) ^ set(kept)}"
+    )
+    for name, row in kept.items():
+        edits = f"{row['edits']} ({row['edit_count']})" if row["edits"] else "none"
+        wanted = (row["proofs"] or "none", row["tests"] or "none", edits)
+        faults.hold(shown.get(name) == wanted, f"docs/MAP.md: {name} takes {wanted} by docs/times.csv")
+    missing = set(listed()) - set(kept)
+    if missing:
+        print(f"docs/times.csv tells nothing of {', '.join(sorted(missing))}: a build counts a minute for each")
+
+
+def main() -> None:
+    reader = argparse.ArgumentParser(
+        description=__doc__,
+        epilog="python3 tests/check_commands.py --write",
+        formatter_class=argparse.RawDescriptionHelpFormatter,
+    )
+    reader.add_argument("--write", action="store_true", help="write the tables of README.md and docs/FILES.md")
+    words = reader.parse_args()
+    faults = Faults()
+    check_tables(faults, words.write)
+    for check in (check_script, check_examples, check_texts, check_refusals, check_times):
+        check(faults)
+    print(f"{faults.looked} looked at, {len(faults.wrong)} wrong")
+    sys.exit(1 if faults.wrong else 0)
+
+
+if __name__ == "__main__":
+    main()

@@ -1,0 +1,261 @@
+#!/usr/bin/env python3
+"""Compares the reports of `lokwurmi analyse` with those of the rules written down plainly, over random systems.
+
+The rules stand in docs/DEFINITIONS.md; here they are followed word for word, one analysis of every task in each round, with
+no thought of speed. Systems have all four kinds, chains that come back to a resource, jitter of several periods, and paths;
+in every other one tasks have up to three activators.
+Prints the first file whose report or status differs, else how many were alike.
+
+    python3 tests/check_reports.py [NUMBER of systems, 1000 if absent] [NUMBER to begin with, 0 if absent]
+"""
+import math
+import os
+import random
+import subprocess
+import sys
+import tempfile
+import tomllib
+
+from calls import TOP, range_of
+
+PROGRAM = os.path.join(TOP, "crates/cpa_cli/out/cpa_cli")
+OVERLOAD = math.inf
+
+
+def ceiling(number, divisor):
+    return -(-number // divisor)
+
+
+def most_events(model, window):
+    """The most events of the streams of a model in a window whose end doesn't count; none means an unbounded input."""
+    if window == 0:
+        return 0
+    if model is None:
+        return OVERLOAD
+    most = 0
+    for period, jitter, distance in model:
+        by_period = ceiling(window + jitter, period)
+        most += min(by_period, ceiling(window, distance)) if distance else by_period
+    return most
+
+
+def least_time(model, events):
+    """The least time from the first to the last of so many events."""
+    if events < 2:
+        return 0
+    # the least window that has room for them once it is a tick longer, by halving: most_events rises with the window
+    low, high = 0, max(max((events - 1) * distance, (events - 1) * period - jitter, 0) for period, jitter, distance in model)
+    while low < high:
+        middle = (low + high) // 2
+        low, high = (low, middle) if most_events(model, middle + 1) >= events else (middle + 1, high)
+    return low
+
+
+def least_window(demand, first, limit):
+    """The least window from `first` on that has room for its demand; overload past the limit."""
+    window = first
+    while window <= limit:
+        asked = demand(window)
+        if asked <= window:
+            return window
+        window = max(window + 1, asked)
+    return OVERLOAD
+
+
+class System:
+    def __init__(self, text):
+        read = tomllib.loads(text)
+        self.resources = {r["name"]: r for r in read.get("resource", [])}
+        self.sources = {s["name"]: (s["period"], s.get("jitter", 0), s.get("distance", 0)) for s in read.get("source", [])}
+        self.tasks = {t["name"]: t for t in read.get("task", [])}
+        self.paths = read.get("path", [])
+        for task in self.tasks.values():
+            if "payload" in task:
+                bit = self.resources[task["on"]].get("bit", 1)
+                least, greatest = (67, 80) if task.get("extended") else (47, 55)
+                task["best"] = (least + 8 * task["payload"]) * bit
+                task["worst"] = (greatest + 10 * task["payload"]) * bit
+
+    def sources_of(self, name):
+        """The sources of the task's streams."""
+        return [source for after in self.activators_of(name) for source in ([after] if after in self.sources else self.sources_of(after))]
+
+    def activators_of(self, name):
+        after = self.tasks[name]["after"]
+        return [after] if isinstance(after, str) else after
+
+    def sent_by(self, after, bounds):
+        """The streams that a source or a task sends; none where one is unbounded."""
+        if after in self.sources:
+            return [self.sources[after]]
+        model = self.input_of(after, bounds)
+        if model is None or bounds[after] == OVERLOAD:
+            return None
+        least = self.tasks[after]["best"]
+        varies = bounds[after] - least
+        return [(period, jitter + varies, max(distance - varies, least)) for period, jitter, distance in model]
+
+    def input_of(self, name, bounds):
+        models = [self.sent_by(after, bounds) for after in self.activators_of(name)]
+        return None if None in models else [stream for model in models for stream in model]
+
+    def work(self, names, bounds, window):
+        """The work that tasks bring in a window."""
+        return sum(most_events(self.input_of(n, bounds), window) * self.tasks[n]["worst"] for n in names)
+
+    def bound_of(self, name, bounds):
+        task = self.tasks[name]
+        resource = self.resources[task["on"]]
+        model = self.input_of(name, bounds)
+        if model is None:
+            return OVERLOAD
+        mates = [n for n, t in self.tasks.items() if t["on"] == task["on"]]
+        analyse = {"preemptive": self.preemptive, "round-robin": self.round_robin, "tdma": self.tdma, "can": self.can}
+        return analyse[resource["kind"]](name, task, resource, model, mates, bounds)
+
+    def busy_window(self, model, limit, demand):
+        greatest, jobs = 0, 1
+        while True:
+            window = least_window(lambda w: demand(jobs, w), 0, limit)
+            if window == OVERLOAD:
+                return OVERLOAD
+            greatest = max(greatest, window - least_time(model, jobs))
+            if window <= least_time(model, jobs + 1):
+                return greatest
+            jobs += 1
+
+    def preemptive(self, name, task, resource, model, mates, bounds):
+        higher = [n for n in mates if self.tasks[n]["priority"] < task["priority"]]
+        return self.busy_window(model, resource.get("limit", 1000000), lambda q, w: q * task["worst"] + self.work(higher, bounds, w))
+
+    def round_robin(self, name, task, resource, model, mates, bounds):
+        def share(other, rounds, window):
+            slots = rounds * self.tasks[other]["slot"]
+            received = self.input_of(other, bounds)
+            if received is None or bounds[other] == OVERLOAD:
+                return slots
+            return min(slots, most_events(received, window + bounds[other]) * self.tasks[other]["worst"])
+
+        def demand(jobs, window):
+            own = jobs * task["worst"]
+            return own + sum(share(n, ceiling(own, task["slot"]), window) for n in mates if n != name)
+
+        return self.busy_window(model, resource.get("limit", 1000000), demand)
+
+    def tdma(self, name, task, resource, model, mates, bounds):
+        cycle = sum(self.tasks[n]["slot"] for n in mates) + resource.get("gap", 0)
+
+        def demand(jobs, window):
+            own = jobs * task["worst"]
+            return own + ceiling(own, task["slot"]) * (cycle - task["slot"])
+
+        return self.busy_window(model, resource.get("limit", 1000000), demand)
+
+    def can(self, name, task, resource, model, mates, bounds):
+        limit, bit, own = resource.get("limit", 1000000), resource.get("bit", 1), task["worst"]
+        higher = [n for n in mates if self.tasks[n]["priority"] < task["priority"]]
+        blocking = max((self.tasks[n]["worst"] for n in mates if self.tasks[n]["priority"] > task["priority"]), default=0)
+        busy = least_window(lambda w: blocking + self.work(higher + [name], bounds, w), 1, limit)
+        if busy == OVERLOAD:
+            return OVERLOAD
+        greatest = 0
+        for frame in range(1, most_events(model, busy) + 1):
+            start = least_window(lambda w: blocking + (frame - 1) * own + self.work(higher, bounds, w + bit), 0, limit)
+            if start + own > limit:
+                return OVERLOAD
+            greatest = max(greatest, start + own - least_time(model, frame))
+        return greatest
+
+    def least_solution(self):
+        bounds = {name: task["best"] for name, task in self.tasks.items()}
+        while True:
+            raised = {name: max(bounds[name], self.bound_of(name, bounds)) for name in self.tasks}
+            if raised == bounds:
+                return bounds
+            bounds = raised
+
+    def report(self):
+        """The report's text, and the status."""
+        bounds = self.least_solution()
+        lines, missed = [], 0
+        for name, task in self.tasks.items():
+            model = self.input_of(name, bounds)
+            first, *more = self.sources_of(name)
+            jitter, distance = ("overload", "overload") if model is None else model[0][1:]
+            received = f"streams {1 + len(more)}" if more else f"period {self.sources[first][0]} jitter {jitter} distance {distance}"
+            lines.append(f"task {name} {task['on']} {received} best {task['best']} worst {said(bounds[name])}")
+        for path in self.paths:
+            best = sum(self.tasks[n]["best"] for n in path["tasks"])
+            worst = sum(bounds[n] for n in path["tasks"])
+            deadline = path.get("deadline")
+            word = "none" if deadline is None else "unknown" if worst == OVERLOAD else "met" if worst <= deadline else "missed"
+            missed += word == "missed"
+            lines.append(f"path {path['name']} best {best} worst {said(worst)} deadline {'-' if deadline is None else deadline} {word}")
+        overloaded = sum(bound == OVERLOAD for bound in bounds.values())
+        lines.append(f"summary tasks {len(self.tasks)} overload {overloaded} missed {missed}")
+        return "\n".join(lines) + "\n", 2 if overloaded else 1 if missed else 0
+
+
+def said(bound):
+    return "overload" if bound == OVERLOAD else str(bound)
+
+
+def made_system(number):
+    """A random system: its size grows with the number."""
+    pick = random.Random(number)
+    kinds = ["preemptive", "round-robin", "tdma", "can"]
+    resources, tasks = pick.randint(1, 2 + number % 7), pick.randint(1, 3 + number % 25)
+    lines, on_kind, chains, streams = [f"format = {1 + number % 2}"], [], [], []
+    for r in range(resources):
+        kind = pick.choice(kinds)
+        on_kind.append(kind)
+        extra = {"tdma": f", gap = {pick.randint(0, 20)}", "can": f", bit = {pick.randint(1, 4)}"}.get(kind, "")
+        lines.append(f'[[resource]]\nname = "r{r}"\nkind = "{kind}"\nlimit = {pick.choice([60, 300, 2000, 20000])}{extra.replace(", ", chr(10))}')
+    for s in range(3):
+        period = pick.randint(10, 400) * (1 + tasks // 6)
+        lines.append(f'[[source]]\nname = "s{s}"\nperiod = {period}\njitter = {pick.choice([0, 0, period // 3, 3 * period])}\ndistance = {pick.choice([0, 0, period // 4])}')
+    for t in range(tasks):
+        r = pick.randrange(resources)
+        after = [pick.randrange(t) if t and pick.random() < 0.6 else -1 - pick.randrange(3) for _ in range(pick.choice((1, 1, 2, 3)) if number % 2 else 1)]
+        after = list(dict.fromkeys(after))
+        depth = 1 + max(chains[k] if k >= 0 else 0 for k in after)
+        several = sum(streams[k] if k >= 0 else 1 for k in after)
+        if depth > 32 or several > 32:
+            after, depth, several = [-1], 1, 1
+        chains.append(depth)
+        streams.append(several)
+        worst = pick.randint(1, 30)
+        turn = f"slot = {pick.randint(1, 20)}" if on_kind[r] in ("round-robin", "tdma") else f"priority = {pick.randint(0, 9) * 100 + t}"
+        names = [f'"s{-1 - k}"' if k < 0 else f'"t{k}"' for k in after]
+        name = names[0] if len(names) == 1 else "[" + ", ".join(names) + "]"
+        lines.append(f'[[task]]\nname = "t{t}"\non = "r{r}"\nafter = {name}\nbest = {pick.randint(1, worst)}\nworst = {worst}\n{turn}')
+    for task in tomllib.loads("\n".join(lines))["task"]:
+        earlier = [it for it in ([task["after"]] if isinstance(task["after"], str) else task["after"]) if it.startswith("t")]
+        if earlier and pick.random() < 0.4:
+            first, second = pick.choice(earlier)[1:], task["name"][1:]
+            deadline = pick.choice(["", f"\ndeadline = {pick.randint(1, 300)}"])
+            lines.append(f'[[path]]\nname = "p{second}"\ntasks = ["t{first}", "t{second}"]{deadline}')
+    return "\n".join(lines) + "\n"
+
+
+def main():
+    numbers = range_of(__doc__, "check_reports.py", 1000)
+    subprocess.run([os.path.join(TOP, "lokwurmi"), "analyse", os.path.join(TOP, "examples", "two_tasks.toml")], capture_output=True, check=False)
+    statuses = [0, 0, 0]
+    with tempfile.TemporaryDirectory() as folder:
+        path = os.path.join(folder, "system.toml")
+        for number in numbers:
+            text = made_system(number)
+            with open(path, "w") as file:
+                file.write(text)
+            report, status = System(text).report()
+            done = subprocess.run([PROGRAM, "analyse", path], capture_output=True, check=False)
+            if (done.stdout.decode(), done.returncode) != (report, status):
+                print(f"system {number} differs:\n{text}\nby the rules, status {status}:\n{report}\nby the program, status {done.returncode}:\n{done.stdout.decode()}")
+                sys.exit(1)
+            statuses[status] += 1
+    print(f"{len(numbers)} reports alike, with status 0, 1, 2: {statuses}")
+
+
+if __name__ == "__main__":
+    main()

@@ -1,0 +1,128 @@
+"""Databases and systems that the checks of imports make, and what the tools say of them."""
+import os
+import random
+import subprocess
+import sys
+import tomllib
+from collections.abc import Iterable, Mapping, Sequence
+from typing import Any
+
+from calls import TOP, built, hold, python_with, run
+
+PYTHON = python_with("canmatrix", "lxml", "can", "tomlkit", "xlrd", "xlwt", "xlsxwriter")
+if PYTHON is None:
+    packages = "python3-canmatrix python3-lxml python3-can python3-tomlkit python3-xlrd python3-xlwt python3-xlsxwriter"
+    sys.exit(f"a package isn't here: apt-get install {packages}")
+if PYTHON != sys.executable:
+    os.execv(PYTHON, [PYTHON, *sys.argv])
+
+os.chdir(TOP)
+from lokwurmi_tools.databases import canmatrix
+
+PROGRAM = os.path.abspath(built("cpa_cli"))
+# a name, an identifier, whether it has 29 bits, bytes, a cycle in milliseconds, and attributes
+Frame = tuple[str, int, bool, int, int, Mapping[str, float]]
+
+
+def least_and_greatest(size: int, extended: bool) -> tuple[int, int]:
+    """The bits of a classical frame and the three after it: 34 or 54 of them, and the payload, may get stuff bits."""
+    stuffed = (54 if extended else 34) + 8 * size
+    return stuffed + 13, stuffed + 13 + (stuffed - 1) // 4
+
+
+def called(name: str, *words: object) -> subprocess.CompletedProcess[str]:
+    """A call of a tool, by the Python that has what it needs."""
+    return run(name, *words, python=PYTHON)
+
+
+def said_by(name: str, *words: object) -> str:
+    """What a call says where it is refused, with status 1 or 2 and nothing of the inside of Python."""
+    done = called(name, *words)
+    hold(
+        done.returncode in (1, 2) and done.stdout == "" and "Traceback" not in done.stderr,
+        f"{name} {words}: {done.returncode} {done.stderr}",
+    )
+    return done.stderr
+
+
+def analysed(file: str) -> tuple[int, str]:
+    done = subprocess.run([PROGRAM, "analyse", file], capture_output=True, text=True, check=False)
+    return done.returncode, done.stdout
+
+
+def system_of(text: str) -> dict[str, Any]:
+    return tomllib.loads(text)
+
+
+def matrix_of(frames: Iterable[Frame]) -> "canmatrix.CanMatrix":
+    """A bus of frames, each a name, an identifier, whether it has 29 bits, bytes, a cycle in milliseconds, and
+    attributes."""
+    matrix = canmatrix.CanMatrix()
+    for key, define in (
+        ("GenMsgCycleTime", "INT 0 3600000"),
+        ("GenMsgDelayTime", "INT 0 3600000"),
+        ("JitterMs", "FLOAT 0 100000"),
+        ("DeadlineMs", "FLOAT 0 100000"),
+    ):
+        matrix.add_frame_defines(key, define)
+        matrix.add_define_default(key, "0")
+    matrix.add_frame_defines("GenMsgSendType", 'ENUM "Cyclic","Spontaneous","CyclicAndSpontaneous"')
+    matrix.add_define_default("GenMsgSendType", '"Cyclic"')
+    for name, identifier, extended, size, cycle, attributes in frames:
+        frame = canmatrix.Frame(
+            name, arbitration_id=canmatrix.ArbitrationId(identifier, extended=extended), size=size, cycle_time=cycle
+        )
+        for key, value in attributes.items():
+            frame.add_attribute(key, str(value))
+        if size:
+            frame.add_signal(canmatrix.Signal(f"v_{name}", start_bit=0, size=8 * size, is_signed=False))
+        matrix.add_frame(frame)
+    return matrix
+
+
+def dumped(room: str, name: str, matrices: "canmatrix.CanMatrix | dict[str, canmatrix.CanMatrix]") -> str:
+    file = os.path.join(room, name)
+    canmatrix.formats.dumpp(matrices if isinstance(matrices, dict) else {"": matrices}, file)
+    return file
+
+
+def imported(*words: object) -> tuple[dict[str, Any], str, str]:
+    """The system of some databases, and what is told of it."""
+    done = called("import network", *words)
+    hold(done.returncode == 0, f"import network {words}: {done.stderr}")
+    return (system_of(done.stdout) if done.returncode == 0 else {}), done.stderr, done.stdout
+
+
+def random_frames(draw: random.Random, kinds: Sequence[bool]) -> list[Frame]:
+    frames: list[Frame] = []
+    taken: set[tuple[int, bool]] = set()
+    for place in range(draw.randint(1, 30)):
+        extended = draw.choice(kinds)
+        identifier = (
+            draw.choice((draw.randrange(1 << 29), draw.randrange(40) << 18 | draw.choice((0, draw.randrange(3)))))
+            if extended
+            else draw.choice((draw.randrange(1 << 11), draw.randrange(40)))
+        )
+        if (identifier, extended) not in taken:
+            taken.add((identifier, extended))
+            frames.append(
+                (
+                    f"f{place}",
+                    identifier,
+                    extended,
+                    draw.randint(0, 8),
+                    draw.choice((5, 10, 20, 25, 50, 100, 1000)),
+                    {"JitterMs": draw.choice((0, 0.1, 2.5, 30, 400))},
+                )
+            )
+    return frames
+
+
+def obeys(times: Sequence[int], period: int, jitter: int, distance: int) -> bool:
+    """By each pair."""
+    return all(
+        b - a >= max(0, (k - i) * distance, (k - i) * period - jitter)
+        for i, a in enumerate(times)
+        for k, b in enumerate(times)
+        if i < k
+    )
