@@ -8,7 +8,9 @@ from pathlib import Path
 
 from engine_for_tests import need_engine
 from lokwurmi import NoTick, RoundingWarning, System, Time, UnitsRefused, ms, ns, s, us
-from lokwurmi.units import UP, Converter, frame_bits, tick_of
+from lokwurmi.entries import keys_of
+from lokwurmi.frames import classical, error, ethernet, execution, flexible, frame_bits, padded
+from lokwurmi.units import UP, Converter, bit_of, tick_of
 
 TOP = Path(__file__).resolve().parents[2]
 
@@ -77,6 +79,22 @@ class Times(unittest.TestCase):
         self.assertEqual(
             [frame_bits(0, False), frame_bits(8, False), frame_bits(8, True)], [(47, 55), (111, 135), (131, 160)]
         )
+
+    def test_frames(self) -> None:
+        """The examples of docs/NETWORKS.md, and that a system has the execution of its file's entries."""
+        slow, fast = bit_of(500_000), bit_of(2_000_000)
+        self.assertEqual([it.time(slow, fast) for it in flexible(64, False)], [333_000, 407_500])
+        self.assertEqual([it.time(bit_of(100_000_000)) for it in ethernet(1500, True)], [123_360, 123_360])
+        self.assertEqual([it.nominal for it in ethernet(0, True)], [672, 704])
+        self.assertEqual([it.nominal for it in classical(8, True)], [131, 160])
+        self.assertEqual([it.nominal for it in error(classical(8, False)[1])], [17, 166])
+        self.assertEqual([padded(it) for it in (0, 8, 9, 33, 64)], [0, 8, 12, 48, 64])
+        system = System()
+        bus, source = system.can("bus", bit=2), system.source("s", 1000)
+        for size, extended in ((8, None), (3, True)):
+            frame = system.task(f"f{size}", on=bus, after=source, payload=size, extended=extended, priority=size)
+            self.assertEqual(system.execution(frame), execution(keys_of(frame), keys_of(bus)))
+            self.assertEqual(system.execution(frame), tuple(2 * it for it in frame_bits(size, bool(extended))))
 
 
 class Rounded(unittest.TestCase):

@@ -11,6 +11,7 @@ from dataclasses import dataclass
 from typing import Any, ClassVar
 
 from . import html, lines
+from .documents import Document
 from .errors import LokwurmiError, NoTick, Unreadable
 from .reports import Timed, Verdict, worst_of
 from .toml import entry_text
@@ -177,7 +178,7 @@ def fault_in(entry: object, tasks: Collection[str]) -> str | None:
 def chains_in(text: str, tasks: Collection[str]) -> list[Chain]:
     """The chains of a file, in order, of a system that has such tasks; an error says what is wrong with it."""
     try:
-        read = tomllib.loads(text)
+        read = Document(text, ("chain",)).values
     except tomllib.TOMLDecodeError as fault:
         raise LokwurmiError(f"it isn't TOML: {fault}") from None
     form, entries = read.get("format"), read.get("chain", [])

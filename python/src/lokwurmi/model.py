@@ -12,12 +12,14 @@ from typing import TYPE_CHECKING, Any, TypeVar, overload
 
 from . import chains as chain_results
 from . import html, reports
+from .documents import Document
 from .engines import WHILE_RUNNING, Engine, answer, keep
 from .entries import (KINDS, Entry, Kind, Path, Resource, Source, Task, Ticks, check_no_time, entry_of, keys_of,
                       kind_name, text_in_ticks)
 from .errors import ChainsRefused, LokwurmiError, SystemRefused, UnitsRefused
+from .frames import execution
 from .toml import entry_text
-from .units import Converter, Rounding, Time, frame_bits, text_of, tick_of, warn, whole_ticks
+from .units import Converter, Rounding, Time, text_of, tick_of, warn, whole_ticks
 
 if TYPE_CHECKING:
     from .live import Session
@@ -186,11 +188,8 @@ class System:
         """The least and the greatest execution of a task in ticks; those of a frame by its payload."""
         entry = keys_of(self.tasks[_name(task)])
         self._convert("task", entry)
-        if "payload" not in entry:
-            return entry["best"], entry["worst"]
-        least, greatest = frame_bits(entry["payload"], entry.get("extended", False))
-        bit = self.ticks(self.resources[entry["on"]], "bit")
-        return least * (bit or 1), greatest * (bit or 1)
+        bit = self.ticks(self.resources[entry["on"]], "bit") if "payload" in entry else None
+        return execution(entry, {} if bit is None else {"bit": bit})
 
     # ---- files
 
@@ -248,7 +247,7 @@ class System:
         """The system of a system file. Keys that no entry has are no part of a system, and raise an error, as a text
         that isn't TOML. With a tick, times may have units: texts as "250 us", and `bitrate` of a bus."""
         try:
-            read = tomllib.loads(text)
+            read = Document(text).values
         except tomllib.TOMLDecodeError as fault:
             raise LokwurmiError(f"the text isn't TOML: {fault}") from fault
         system = cls(tick)

@@ -27,6 +27,7 @@ from numbers import Rational
 from typing import Any
 
 from .errors import NoTick, UnitsRefused
+from .frames import frame_bits
 
 UNITS = {"ns": 1, "us": 1_000, "ms": 1_000_000, "s": 1_000_000_000}
 """How many nanoseconds each unit has."""
@@ -236,14 +237,13 @@ def tick_of(tick: "Time | str") -> Time:
     return time
 
 
-def frame_bits(size: int, extended: bool) -> tuple[int, int]:
-    """How many bits a CAN frame with so many bytes takes, with the three bits after it: without a stuff bit, and with
-    as many as there can be.
+def bit_of(rate: int) -> Fraction:
+    """The time of a bit in nanoseconds, of so many bits per second.
 
-    >>> frame_bits(8, extended=False)
-    (111, 135)
+    >>> bit_of(500_000)
+    Fraction(2000, 1)
     """
-    return (67 + 8 * size, 80 + 10 * size) if extended else (47 + 8 * size, 55 + 10 * size)
+    return Fraction(UNITS["s"], rate)
 
 
 def whole_ticks(time: Time, tick: Time | None, what: str) -> int:
@@ -395,7 +395,7 @@ class Converter:
                 )
             if told is not None:
                 raise UnitsRefused(f"resource {name}: it has bit and bitrate: leave one out")
-            bit = Fraction(UNITS["s"], int(rate))
+            bit = bit_of(rate)
             del item["bitrate"]
         elif isinstance(told, (str, Time)):
             bit = self.nanoseconds(f"resource {name}", "bit", told, None)

@@ -3,9 +3,9 @@ it."""
 import sys
 from typing import Any, NoReturn
 
+from lokwurmi.documents import Document
 from lokwurmi_tools.faults import Fault, Told
 from lokwurmi_tools.program import LAUNCHER, call, is_built
-from lokwurmi_tools.refusals.document import Document
 from lokwurmi_tools.refusals.front import NO_SYSTEM, NO_TOML, UNREADABLE, Call, is_regular, look_for
 from lokwurmi_tools.refusals.judge import first_refusal
 from lokwurmi_tools.refusals.remark import File, decoded, printable

@@ -1,5 +1,6 @@
 """Draws the latest reaction of a chain and its oldest data into a Gantt chart, for lokwurmi gantt: the jobs of both,
 and an arrow from the end of each, which writes, to when the next one reads."""
+from collections.abc import Sequence
 from typing import Any, NamedTuple
 
 from lokwurmi_tools.plotting import Rectangle
@@ -87,7 +88,9 @@ def draw_whole(axes: Any, places: dict[str, int], it: Marked, y: float, scale: S
     axes.text((since + until) / 2, y, text, fontsize=7, color=colour, zorder=7, bbox=look, **middle)
 
 
-def draw_marked(axes: Any, places: dict[str, int], run: Run, marked: list[Marked], below: float, scale: Scale) -> None:
+def draw_marked(
+    axes: Any, places: dict[str, int], run: Run, marked: Sequence[Marked], below: float, scale: Scale
+) -> None:
     """All that is marked, with a line for each from `below` on."""
     for row, it in enumerate(marked):
         draw_frames(axes, places, run, it)

@@ -6,9 +6,10 @@ input has no bound. It is no part of what is proved, and tells of each such task
 from collections.abc import Collection
 from fractions import Fraction
 
+from lokwurmi.frames import execution
 from lokwurmi_tools.kinds import Found, Values
 from lokwurmi_tools.sharing import LIMIT, Sharing
-from lokwurmi_tools.system import activators, execution, sources_of
+from lokwurmi_tools.system import activators, sources_of
 
 # how a task comes to have no bound, and because of which others
 Edge = tuple[str, list[str]]

@@ -101,7 +101,7 @@ def main(arguments: list[str] | None = None) -> int | None:
     tasks, paths = read_report(words.report)
     picture = words.to or os.path.splitext(words.report)[0] + ".svg"
     check_name(picture)
-    parts = [(draw_paths, paths)] if paths else []
+    parts: list[tuple[Callable[[Any, Found, Scale], None], Found]] = [(draw_paths, paths)] if paths else []
     if tasks and not words.paths:
         parts.append((draw_tasks, tasks))
     if not parts:

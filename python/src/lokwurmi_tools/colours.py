@@ -1,5 +1,6 @@
 """The colours of paths and tasks, for the tools beside it."""
 from lokwurmi_tools.kinds import Values
+from lokwurmi_tools.system import activators
 
 # those of paths, and paler ones for what is on none
 HUES = [
@@ -64,8 +65,7 @@ def hues_of_sources(system: Values) -> dict[str, str]:
     tasks = {it["name"]: it for it in system.get("task", [])}
     found: dict[str, str] = {}
     for place, path in enumerate(system.get("path", [])):
-        after = tasks[path["tasks"][0]]["after"]
-        for before in [after] if isinstance(after, str) else after:
+        for before in activators(tasks[path["tasks"][0]]):
             found.setdefault(before, HUES[place % len(HUES)])
     others = [it["name"] for it in system.get("source", []) if it["name"] not in found]
     return found | {name: PALE[place % len(PALE)] for place, name in enumerate(others)}

@@ -93,7 +93,8 @@ def main(arguments: list[str] | None = None) -> int | None:
     streams = input_of(system, {name: it["worst"] for name, it in tasks.items()}, words.task)
     if streams is None:
         raise Fault(f"{words.task}: what starts it has no bound")
-    beside = tuple(words.beside) if words.beside else None
-    window = words.window or 2 * max(period for period, _, _ in [*streams, *([beside] if beside else [])])
+    period, jitter, distance = words.beside or (0, 0, 0)
+    beside = (period, jitter, distance) if words.beside else None
+    window = words.window or 2 * max(it[0] for it in [*streams, *([beside] if beside else [])])
     draw(streams, labels(system, words.task), beside, window, picture, f"Events that start {words.task}", words.tick)
     return 0

@@ -30,6 +30,7 @@ import sys
 from typing import Any
 
 from lokwurmi_tools.faults import Fault
+from lokwurmi_tools.packages import need
 from lokwurmi_tools.program import add_program
 from lokwurmi_tools.times import time_of, word_of
 from lokwurmi_tools.words import reader_of
@@ -84,6 +85,7 @@ def asked_for(arguments: list[str] | None) -> argparse.Namespace:
 def main(arguments: list[str] | None = None) -> int | None:
     words = asked_for(arguments)
     # these need python-can, and --help doesn't
+    need("can")
     from lokwurmi_tools.log_lines import Names, compare, made
     from lokwurmi_tools.logs import NOTES, read_log
 

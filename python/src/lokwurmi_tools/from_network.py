@@ -17,6 +17,7 @@ It needs canmatrix: apt-get install python3-canmatrix python3-lxml
 import argparse
 import re
 import sys
+from collections.abc import Callable
 from fractions import Fraction
 from typing import Any
 
@@ -103,7 +104,7 @@ def text_in(system: System, report: Report, tick: Fraction) -> str:
 def add_times(reader: argparse.ArgumentParser) -> None:
     """The words on rates and times."""
     rate, time, either = word_of(rate_of_bus), word_of(time_of), word_of(share_or_time)
-    for option, metavar, kind, help_text in (
+    times: tuple[tuple[str, str, Callable[[str], Any], str], ...] = (
         ("--tick", "TIME", time, "the time of a tick; 1us if absent"),
         (
             "--jitter",
@@ -140,7 +141,8 @@ def add_times(reader: argparse.ArgumentParser) -> None:
             word_of(errors_of),
             "counts errors on the bus: at most so many in any such time, as 2/100ms; none if absent",
         ),
-    ):
+    )
+    for option, metavar, kind, help_text in times:
         reader.add_argument(option, metavar=metavar, type=kind, help=help_text)
     rates: Any = {"metavar": "[BUS=]BITS", "type": rate, "action": "append", "default": []}
     reader.add_argument("--bitrate", help="bits per second, of all buses or of one; the database's if absent", **rates)

@@ -22,7 +22,7 @@ leads from the end of each, which writes, to where the next one reads, and a lin
 bound that `lokwurmi chain` tells. When jobs read isn't in a schedule: --reading says by which rule they are taken to.
 """
 import argparse
-from collections.abc import Sequence
+from collections.abc import Iterator, Sequence
 from typing import Any, NamedTuple
 
 from lokwurmi_tools.accepted import read_system
@@ -30,7 +30,7 @@ from lokwurmi_tools.arrows import Marked, draw_marked, marked_in
 from lokwurmi_tools.chains import bounds_by, read_chains, totals_of
 from lokwurmi_tools.colours import PALE, hues, letters_on, shades
 from lokwurmi_tools.faults import Fault
-from lokwurmi_tools.kinds import Bounds, Schedule, Times, Trace, Values
+from lokwurmi_tools.kinds import Bounds, Found, Jobs, Schedule, Times, Trace, Values
 from lokwurmi_tools.packages import need
 from lokwurmi_tools.plotting import Line2D, LineCollection, Patch, PatchCollection, Rectangle, begun, check_name, save
 from lokwurmi_tools.program import add_program, schedule_by
@@ -68,8 +68,21 @@ class Job(NamedTuple):
     came: int
     done: int | None
     last: int
-    after: int
+    after: int | None
     bound: int | None
+
+    def took(self) -> int:
+        """How long it took until it was done, or has taken by the end of the run."""
+        return self.last - self.came
+
+
+class Overdue(NamedTuple):
+    """A job that took longer than its bound, or that is pending at the end of the run though this is past: since
+    `past`."""
+
+    job: Job
+    bound: int
+    past: int
 
 
 class Longest(NamedTuple):
@@ -77,7 +90,7 @@ class Longest(NamedTuple):
     bound."""
 
     name: str
-    jobs: list
+    jobs: list[Job]
     came: int
     done: int
     bound: int | None
@@ -87,17 +100,17 @@ class Longest(NamedTuple):
 class Chart(NamedTuple):
     """What is drawn, in the time from `start` to `until`, and how its times are told."""
 
-    system: dict
-    rows: list
-    jobs: dict
-    late: list
-    phases: dict
-    bounds: dict
+    system: Values
+    rows: Schedule
+    jobs: Jobs
+    late: list[Overdue]
+    phases: dict[str, int]
     start: int
     until: int
     scale: Scale = Scale()
 
-    def lanes(self) -> list[str]:
+    def lanes(self) -> list[Values]:
+        """The resources that have tasks."""
         used = {it["on"] for it in self.system.get("task", [])}
         return [it for it in self.system.get("resource", []) if it["name"] in used]
 
@@ -108,14 +121,13 @@ class Chart(NamedTuple):
 
 
 def slots(
-    resource: Values, tasks: list[Values], phase: int, start: int | None, until: int | None
-) -> list[tuple[int, int, str]]:
+    resource: Values, tasks: list[Values], phase: int, start: int, until: int
+) -> Iterator[tuple[str | None, int, int]]:
     """The slots of a TDMA resource in this time, each with its task; the gap has None."""
-    turns = (
-        [(it["name"], it["slot"]) for it in tasks if it["on"] == resource["name"]] if resource["kind"] == "tdma" else []
-    )
-    if not turns:
+    own = [it for it in tasks if it["on"] == resource["name"]] if resource["kind"] == "tdma" else []
+    if not own:
         return
+    turns: list[tuple[str | None, int]] = [(it["name"], it["slot"]) for it in own]
     turns.append((None, resource.get("gap", 0)))
     time = start - (start + phase) % sum(ticks for _, ticks in turns)
     while time < until:
@@ -125,17 +137,19 @@ def slots(
             time += ticks
 
 
-def jobs_of(jobs: Any, name: str, bounds: Bounds | None, end: int) -> list[Job]:
-    """The jobs of a task."""
-    after = 0
+def jobs_of(jobs: Jobs, name: str, bounds: Bounds, end: int) -> Iterator[Job]:
+    """The jobs of a task in a run with this end."""
+    after: int | None = 0
     for came, done in jobs.get(name, ()):
         yield Job(name, came, done, end if done is None else done, after, bounds.get(name))
         after = done
 
 
-def is_late(job: Job) -> bool:
-    """Whether a job took longer than its bound, or is pending at the end of the run though this is past."""
-    return job.bound is not None and job.last > job.came + job.bound
+def overdue_in(jobs: Iterator[Job]) -> Iterator[Overdue]:
+    """The jobs that took longer than their bounds, or are pending at the end of the run though these are past."""
+    for it in jobs:
+        if it.bound is not None and it.took() > it.bound:
+            yield Overdue(it, it.bound, it.came + it.bound)
 
 
 def draw_slots(axes: Any, chart: Chart, colour: dict[str, str]) -> None:
@@ -201,13 +215,12 @@ def draw_jobs(axes: Any, chart: Chart, colour: dict[str, str]) -> None:
             )
 
 
-def draw_outline(axes: Any, chart: Chart, job: Job, colour: dict[str, str]) -> None:
+def draw_outline(axes: Any, chart: Chart, job: Job, colour: str) -> None:
     """A frame around the segments of a job: those of its task after the job before."""
     y = chart.place()[job.name]
     for name, start, end in chart.rows:
-        start, end = max(start, chart.start, job.came if job.after is None else job.after), min(
-            end, job.last, chart.until
-        )
+        start = max(start, chart.start, job.came if job.after is None else job.after)
+        end = min(end, job.last, chart.until)
         if name == job.name and start < end:
             axes.add_patch(
                 Rectangle(
@@ -218,8 +231,8 @@ def draw_outline(axes: Any, chart: Chart, job: Job, colour: dict[str, str]) -> N
 
 def draw_late(axes: Any, chart: Chart) -> None:
     place = chart.place()
-    for it in chart.late:
-        y, past = place[it.name], it.came + it.bound
+    for it, bound, past in chart.late:
+        y = place[it.name]
         axes.add_collection(
             LineCollection(
                 [[(max(past, chart.start), y + 0.26), (min(it.last, chart.until), y + 0.26)]],
@@ -230,11 +243,11 @@ def draw_late(axes: Any, chart: Chart) -> None:
         )
         axes.add_collection(LineCollection([[(past, y - 0.3), (past, y + 0.3)]], colors=LATE, linewidths=1.2, zorder=5))
         draw_outline(axes, chart, it, LATE)
-        took = "not done" if it.done is None else chart.scale.text(it.done - it.came)
+        took = "not done" if it.done is None else chart.scale.text(it.took())
         axes.text(
             min(it.last, chart.until),
             y + BELOW,
-            f"{it.name}: {took}, bound {chart.scale.text(it.bound)}",
+            f"{it.name}: {took}, bound {chart.scale.text(bound)}",
             ha="right",
             va="center",
             fontsize=6.5,
@@ -243,15 +256,16 @@ def draw_late(axes: Any, chart: Chart) -> None:
         )
 
 
-def longest_in(system: Values, jobs: Any, bounds: Bounds | None, events: Times, name: str) -> Longest | None:
+def longest_in(
+    system: Values, jobs: Jobs, of_tasks: Bounds, of_paths: Bounds, events: Times, name: str
+) -> Longest | None:
     """The job of a task, or the passage of a path, that took longest: the first of these."""
     ways = {it["name"]: it["tasks"] for it in system.get("path", [])}
     is_path = name.startswith("path:") or name not in jobs
-    of_tasks, of_paths = bounds
     if not is_path:
         several = [it for it in jobs_of(jobs, name, of_tasks, 0) if it.done is not None]
-        it = max(several, key=lambda it: it.done - it.came, default=None)
-        return it and Longest(name, [it], it.came, it.done, it.bound, False)
+        job = max(several, key=Job.took, default=None)
+        return job and Longest(name, [job], job.came, job.last, job.bound, False)
     name = name.removeprefix("path:")
     passage = max(passages_in(system, jobs, events, ways[name]), key=lambda it: it.took(), default=None)
     if passage is None or passage.done is None:
@@ -284,7 +298,7 @@ def draw_span(axes: Any, came: int, done: int, bound: int | None, y: float, text
         )
 
 
-def draw_longest(axes: Any, chart: Chart, longest: Longest | None, unit: float) -> None:
+def draw_longest(axes: Any, chart: Chart, longest: Longest, unit: float) -> None:
     """What took longest: each job is framed, with a line of its own, and of a path one more below all lanes for the
     whole."""
     told = chart.scale.text(longest.done - longest.came) + (
@@ -303,11 +317,11 @@ def draw_longest(axes: Any, chart: Chart, longest: Longest | None, unit: float) 
         return
     for job in longest.jobs:
         draw_outline(axes, chart, job, INK)
-        took = chart.scale.text(job.done - job.came)
+        took = chart.scale.text(job.took())
         names = (f"{job.name}: {took}", took)
         # a letter is about 4.4 points wide
-        text = next((it for it in names if (job.done - job.came) / unit > 4.4 * (len(it) + 2)), "")
-        draw_span(axes, job.came, job.done, None, chart.place()[job.name] + BELOW, text)
+        text = next((it for it in names if job.took() / unit > 4.4 * (len(it) + 2)), "")
+        draw_span(axes, job.came, job.last, None, chart.place()[job.name] + BELOW, text)
     for before, after in zip(longest.jobs, longest.jobs[1:]):
         ends = [chart.place()[it.name] + BELOW for it in (before, after)]
         axes.plot([after.came] * 2, ends, color=INK, linewidth=0.8, linestyle=(0, (2, 2)), zorder=1.5)
@@ -394,17 +408,17 @@ def chart_of(
     scale: Scale = Scale(),
 ) -> Chart:
     """What is drawn of a schedule, and of the jobs in it where there is a trace."""
-    jobs = jobs_in(system, schedule, trace) if trace else {}
+    jobs: Jobs = jobs_in(system, schedule, trace) if trace else {}
     last = max([end for _, _, end in schedule] + [came for several in jobs.values() for came, _ in several], default=1)
     start, until = start or 0, last if until is None else until
     rows = [row for row in schedule if row[1] < until and row[2] > start]
     late = [
         it
         for name in jobs
-        for it in jobs_of(jobs, name, bounds or {}, last)
-        if is_late(it) and it.came + it.bound < until and it.last > start
+        for it in overdue_in(jobs_of(jobs, name, bounds or {}, last))
+        if it.past < until and it.job.last > start
     ]
-    return Chart(system, rows, jobs, late, trace[2] if trace else {}, bounds or {}, start, until, scale)
+    return Chart(system, rows, jobs, late, trace[2] if trace else {}, start, until, scale)
 
 
 def drawn(
@@ -425,14 +439,9 @@ def drawn(
     draw_late(axes, chart)
     if longest:
         draw_longest(axes, chart, longest, unit)
-    draw_marked(
-        axes,
-        chart.place(),
-        run,
-        marked,
-        len(chart.lanes()) - 0.1 + (0.5 if longest and longest.is_path else 0.0),
-        chart.scale,
-    )
+    if run:
+        first = len(chart.lanes()) - 0.1 + (0.5 if longest and longest.is_path else 0.0)
+        draw_marked(axes, chart.place(), run, marked, first, chart.scale)
     draw_frame(axes, chart, below)
     draw_legend(axes, chart, colour, width)
     return figure
@@ -499,7 +508,7 @@ def check_longest(name: str, system: Values) -> None:
         raise Fault(f"{name}: the system has no task of this name, and no path; its paths are {there}")
 
 
-def chain_in(words: argparse.Namespace, system: Values) -> tuple[list[str], str]:
+def chain_in(words: argparse.Namespace, system: Values) -> list[str]:
     """The tasks of the chain that is asked for."""
     if words.chains:
         chains = {it.name: it.tasks for it in read_chains(words.chains, system)}
@@ -512,10 +521,8 @@ def chain_in(words: argparse.Namespace, system: Values) -> tuple[list[str], str]
     return tasks
 
 
-def marked_of(words: argparse.Namespace, system: Values, run: Run | None) -> list[Marked]:
-    """What is marked of the chain: nothing where none is asked for."""
-    if not words.chain:
-        return []
+def marked_of(words: argparse.Namespace, system: Values, run: Run) -> list[Marked]:
+    """What is marked of the chain that is asked for."""
     tasks = chain_in(words, system)
     bounds = bounds_by(words.program, words.file, tasks)
     marked = marked_in(run, tasks, words.reading, totals_of(bounds), READINGS[words.reading])
@@ -559,18 +566,18 @@ def main(arguments: list[str] | None = None) -> int | None:
         if text is None:
             raise Fault(f"{words.program}: it doesn't take `schedule FILE TRACE`: name a SCHEDULE")
         schedule = schedule_in(text, "lokwurmi schedule", system)
-    report = read_report(words.report) if words.report else ({}, {})
-    bounds = [{name: it["worst"] for name, it in part.items()} for part in report]
-    trace, longest, start, until = words.trace and read_trace(words.trace), None, words.start, words.until
-    if words.longest:
-        longest = longest_in(system, jobs_in(system, schedule, trace), bounds, trace[0], words.longest)
+    report: tuple[Found, Found] = read_report(words.report) if words.report else ({}, {})
+    of_tasks, of_paths = ({name: it["worst"] for name, it in part.items()} for part in report)
+    trace, longest, start, until = read_trace(words.trace) if words.trace else None, None, words.start, words.until
+    if words.longest and trace:
+        longest = longest_in(system, jobs_in(system, schedule, trace), of_tasks, of_paths, trace[0], words.longest)
         if longest is None:
             raise Fault(f"{words.longest}: no job of it is done")
         start, until = stretch(longest, start, until, max((end for _, _, end in schedule), default=1))
-    run = Run(system, schedule, trace) if words.chain else None
-    marked = marked_of(words, system, run)
+    run = Run(system, schedule, trace) if words.chain and trace else None
+    marked = marked_of(words, system, run) if run else []
     start, until = stretch_of_chain(marked, start, until, max((end for _, _, end in schedule), default=1))
-    chart = chart_of(system, schedule, trace, bounds[0], start, until, Scale(words.tick))
+    chart = chart_of(system, schedule, trace, of_tasks, start, until, Scale(words.tick))
     if len(chart.rows) > MOST_SEGMENTS:
         raise Fault(
             f"{words.schedule or words.trace}: there are {len(chart.rows)} segments in this time,"

@@ -6,6 +6,7 @@ from dataclasses import dataclass
 from itertools import pairwise
 from typing import Any, Iterable, Optional
 
+from lokwurmi.frames import execution
 from lokwurmi_tools.accepted import read_system
 from lokwurmi_tools.faults import Fault
 from lokwurmi_tools.logs import Key, Log, Seen, ahead, behind, first_breach, gaps_of, period_of, shown
@@ -13,7 +14,7 @@ from lokwurmi_tools.networks import BEHIND, ERRORS
 from lokwurmi_tools.program import written_by
 from lokwurmi_tools.progress import Progress
 from lokwurmi_tools.report import read_report, reports_in
-from lokwurmi_tools.system import execution, input_of
+from lokwurmi_tools.system import input_of
 
 MOST_PERIOD = 1_000_000_000
 

@@ -6,13 +6,11 @@ from fractions import Fraction
 from itertools import pairwise, repeat
 from typing import Callable, Iterable, Iterator, Optional, Sequence
 
+import can
+
 from lokwurmi_tools.faults import Fault
-from lokwurmi_tools.packages import need
 from lokwurmi_tools.progress import Progress
 from lokwurmi_tools.times import UNITS
-
-need("can")
-import can
 
 Key = tuple[int, bool]
 # a pause is a gap half as long again as the middle one, and so many times further from it than nine in ten gaps are

@@ -22,6 +22,7 @@ import time
 from collections.abc import Callable, Iterator
 from typing import Any
 
+from lokwurmi.frames import execution
 from lokwurmi_tools.accepted import read_system
 from lokwurmi_tools.explained import Explained
 from lokwurmi_tools.faults import Fault, OwnFault
@@ -29,7 +30,7 @@ from lokwurmi_tools.program import add_program, often, written_by
 from lokwurmi_tools.progress import Progress
 from lokwurmi_tools.report import reports_in
 from lokwurmi_tools.sharing import Sharing
-from lokwurmi_tools.system import execution, inputs_of, sources_of
+from lokwurmi_tools.system import inputs_of, sources_of
 from lokwurmi_tools.toml_text import toml_of
 from lokwurmi_tools.trials import Trial, reports_after
 from lokwurmi_tools.words import reader_of

@@ -22,7 +22,7 @@ python3-matplotlib
 import argparse
 import os
 import sys
-from typing import Any
+from typing import TYPE_CHECKING
 
 from lokwurmi_tools.entries import put
 from lokwurmi_tools.faults import Fault
@@ -35,15 +35,15 @@ from lokwurmi_tools.program import add_program
 from lokwurmi_tools.times import Scale, text_of
 from lokwurmi_tools.words import add_tick, reader_of
 
-try:
+if TYPE_CHECKING:
     import jinja2
-except ImportError:
-    # told by `need`, after words that ask for help
-    jinja2 = None
 
 
-def room_of(scale: Scale) -> Any:
+def room_of(scale: Scale) -> "jinja2.Environment":
     """Where the templates are, with how they show numbers of ticks: as a time, as a moment, and as a length."""
+    # not before `need` was asked for it, after words that ask for help
+    import jinja2
+
     room = jinja2.Environment(
         loader=jinja2.FileSystemLoader(os.path.join(os.path.dirname(os.path.abspath(__file__)), "templates")),
         autoescape=True,

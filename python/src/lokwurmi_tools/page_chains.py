@@ -4,7 +4,7 @@ from fractions import Fraction
 
 from lokwurmi_tools.chains import Chain, ChainReport, bounds_by, read_chains, verdicts_by
 from lokwurmi_tools.colours import letters_on
-from lokwurmi_tools.kinds import Values
+from lokwurmi_tools.kinds import Schedule, Trace, Values
 from lokwurmi_tools.page_system import System, percent
 from lokwurmi_tools.seen import Late, Run, gaps_in, seen_of
 
@@ -101,7 +101,8 @@ class ChainTable:
 def chains_of(words: argparse.Namespace, system: System, run: Values | None) -> dict:
     """The section of chains: its rows, and where a source of the run stays away."""
     table = ChainTable(words, system)
-    seen = Run(system.raw, *run["of"]) if run and run["of"] else None
+    recorded: tuple[Schedule, Trace] | None = run["of"] if run else None
+    seen = Run(system.raw, recorded[0], recorded[1]) if recorded else None
     rows = table.rows(seen)
     several = [bar for row in rows for bar in row["bars"]]
     counts = {it: sum(bar["verdict"] == it for bar in several) for it in ("met", "missed", "unknown")}
@@ -110,5 +111,5 @@ def chains_of(words: argparse.Namespace, system: System, run: Values | None) -> 
         "read": table.chains,
         "is_seen": seen is not None,
         "counts": counts,
-        "gaps": gaps_in(system.raw, run["of"][1][0]) if seen else [],
+        "gaps": gaps_in(system.raw, recorded[1][0]) if recorded else [],
     }

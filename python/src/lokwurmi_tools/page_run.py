@@ -86,6 +86,7 @@ def run_of(words: argparse.Namespace, system: System) -> tuple[Seen, Values]:
             )
             return seen, run
         schedule = schedule_in(text, "lokwurmi schedule", system.raw)
-    run["of"] = (schedule, read_trace(words.trace))
-    run["chart"] = picture_of_run(system, *run["of"], words.start, words.until)
+    trace = read_trace(words.trace)
+    run["of"] = (schedule, trace)
+    run["chart"] = picture_of_run(system, schedule, trace, words.start, words.until)
     return seen, run

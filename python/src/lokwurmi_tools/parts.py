@@ -8,8 +8,9 @@ no part of what is proved."""
 from collections.abc import Iterator
 from typing import NamedTuple
 
+from lokwurmi.frames import execution
 from lokwurmi_tools.sharing import Sharing
-from lokwurmi_tools.system import execution, inputs_of, least_time, most_events, ways_to
+from lokwurmi_tools.system import inputs_of, least_time, most_events, ways_to
 
 # a period, a jitter and a distance
 Stream = tuple[int, int, int]

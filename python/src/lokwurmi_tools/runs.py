@@ -3,8 +3,9 @@ from collections.abc import Iterable
 from typing import NamedTuple
 
 from lokwurmi import traces
-from lokwurmi_tools.kinds import Jobs, Schedule, Segment, Trace, Values
-from lokwurmi_tools.system import activators, execution
+from lokwurmi.frames import execution
+from lokwurmi_tools.kinds import Jobs, Schedule, Segment, Times, Trace, Values
+from lokwurmi_tools.system import activators
 
 
 def schedule_in(text: str, file: str, system: Values) -> Schedule:
@@ -23,7 +24,8 @@ def read_trace(file: str) -> Trace:
 def parts_in(segments: list[Segment], executions: list[int], greatest: int) -> list[tuple[list[Segment], bool]]:
     """What each job of a task ran, by its segments, each from when to before when, and whether it is done by them: each
     job takes its execution, and the one before goes first."""
-    jobs, left = [], 0
+    jobs: list[list[Segment]] = []
+    left = 0
     for start, end in segments:
         while start < end:
             if left == 0:
@@ -42,7 +44,7 @@ def ends_in(segments: list[Segment], executions: list[int], greatest: int) -> li
 
 def segments_of(schedule: Schedule, tasks: Iterable[str]) -> dict[str, list[Segment]]:
     """The segments of each task, in order."""
-    segments = {name: [] for name in tasks}
+    segments: dict[str, list[Segment]] = {name: [] for name in tasks}
     for name, start, end in schedule:
         segments[name].append((start, end))
     return {name: sorted(several) for name, several in segments.items()}
@@ -81,7 +83,7 @@ class Passage(NamedTuple):
         return -1 if self.done is None else self.done - self.came
 
 
-def causes_in(system: dict, jobs: dict, events: dict) -> dict:
+def causes_in(system: Values, jobs: Jobs, events: Times) -> dict[str, list[tuple[str, int]]]:
     """What has started each job of each task, in the order in which they came: the name of a source or a task, and the
     place of the event or the job there. What starts jobs at one time stands in the order of the tasks and then of the
     sources.
@@ -97,7 +99,7 @@ def causes_in(system: dict, jobs: dict, events: dict) -> dict:
     return found
 
 
-def passages_in(system: dict, jobs: dict, events: dict, way: list[str]) -> list[Passage]:
+def passages_in(system: Values, jobs: Jobs, events: Times, way: list[str]) -> list[Passage]:
     """The passages of a path, whose tasks are `way`, in the order in which their first jobs came."""
     causes = causes_in(system, jobs, events)
     place_of = {task: {cause: place for place, cause in enumerate(causes[task])} for task in way}

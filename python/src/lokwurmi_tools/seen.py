@@ -10,8 +10,10 @@ from bisect import bisect_left, bisect_right
 from collections.abc import Iterator
 from typing import NamedTuple
 
+from lokwurmi.frames import execution
+from lokwurmi_tools.kinds import Schedule, Segment, Trace, Values
 from lokwurmi_tools.runs import causes_in, jobs_in, parts_in, segments_of
-from lokwurmi_tools.system import activators, execution
+from lokwurmi_tools.system import activators
 
 READINGS = {
     "arrival": "as they come",
@@ -31,7 +33,7 @@ class Job(NamedTuple):
     the place among those of its task."""
 
     came: int
-    parts: list[tuple[int, int]]
+    parts: list[Segment]
     done: int | None
     cause: tuple[str, int]
     stream: int
@@ -63,7 +65,7 @@ class Seen(NamedTuple):
 class Run:
     """The jobs of a run, those of each task in the order in which they came."""
 
-    def __init__(self, system: dict, schedule: list, trace: tuple):
+    def __init__(self, system: Values, schedule: Schedule, trace: Trace):
         self.tasks = {it["name"]: it for it in system.get("task", [])}
         self.after = {name: activators(task) for name, task in self.tasks.items()}
         self.streams: dict[str, int] = {}
@@ -84,17 +86,17 @@ class Run:
             self.streams[name] = sum(self.count_streams(before) for before in self.after[name])
         return self.streams[name]
 
-    def parts_of(self, system: dict, schedule: list, trace: tuple) -> dict[str, list]:
+    def parts_of(self, system: Values, schedule: Schedule, trace: Trace) -> dict[str, list[list[Segment]]]:
         """The parts of each task's jobs that have begun."""
         resources = {it["name"]: it for it in system.get("resource", [])}
         segments = segments_of(schedule, self.tasks)
-        found: dict = {}
+        found: dict[str, list[list[Segment]]] = {}
         for name, task in self.tasks.items():
             greatest = execution(task, resources[task["on"]])[1]
             found[name] = [parts for parts, _ in parts_in(segments[name], trace[1].get(name, []), greatest)]
         return found
 
-    def jobs_of(self, name: str, jobs: list, parts: list) -> list[Job]:
+    def jobs_of(self, name: str, jobs: list[tuple[int, int | None]], parts: list[list[Segment]]) -> list[Job]:
         rows = zip(jobs, parts + [[]] * (len(jobs) - len(parts)), self.causes[name])
         return [Job(came, ran, done, cause, self.stream_of(name, cause)) for (came, done), ran, cause in rows]
 

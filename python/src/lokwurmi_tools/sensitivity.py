@@ -29,6 +29,7 @@ import time
 from collections.abc import Callable
 from typing import Any, NamedTuple
 
+from lokwurmi.frames import execution
 from lokwurmi_tools.accepted import read_system
 from lokwurmi_tools.faults import Fault
 from lokwurmi_tools.packages import need
@@ -37,7 +38,6 @@ from lokwurmi_tools.plotting import Patch, bare, begun, check_name, save
 from lokwurmi_tools.program import add_program, often, written_by
 from lokwurmi_tools.progress import Progress
 from lokwurmi_tools.report import reports_in
-from lokwurmi_tools.system import execution
 from lokwurmi_tools.times import TICKS, Scale
 from lokwurmi_tools.trials import Trial, reports_after
 from lokwurmi_tools.words import reader_of

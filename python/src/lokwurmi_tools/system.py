@@ -1,16 +1,8 @@
-"""What follows from the entries of a system: executions, activators, and the streams that start a task."""
+"""What follows from the entries of a system: activators, and the streams that start a task."""
 from typing import Any
 
+from lokwurmi.frames import execution
 from lokwurmi_tools.kinds import Bounds, Stream, Values
-
-
-def execution(task: Values, resource: Values) -> tuple[int, int]:
-    """What a task's execution is, in ticks; that of a frame by its payload."""
-    if "payload" not in task:
-        return task["best"], task["worst"]
-    least, greatest = (67, 80) if task.get("extended") else (47, 55)
-    bit = resource.get("bit", 1)
-    return (least + 8 * task["payload"]) * bit, (greatest + 10 * task["payload"]) * bit
 
 
 def activators(task: Values) -> list[str]:

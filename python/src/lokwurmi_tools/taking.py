@@ -7,8 +7,10 @@ from dataclasses import dataclass, field
 from fractions import Fraction
 from typing import Any, Optional
 
+from lokwurmi.frames import SIZES, Bits, classical, error, flexible, padded
+from lokwurmi.units import bit_of
 from lokwurmi_tools.faults import Fault
-from lokwurmi_tools.lengths import SIZES, Bits, bit_of, classical, error, flexible, padded, ticks
+from lokwurmi_tools.lengths import ticks
 from lokwurmi_tools.networks import ERRORS, QUEUED, Bus, Frame
 from lokwurmi_tools.times import UNITS, common, text_of
 

@@ -1,4 +1,5 @@
-"""Times with a unit, for the commands: those of lokwurmi.units, how they are shown on an axis, and how words are read."""
+"""Times with a unit, for the commands: those of lokwurmi.units, how they are shown on an axis, and how words are
+read."""
 import argparse
 from fractions import Fraction
 from typing import Any, Callable

@@ -86,7 +86,7 @@ def tell_late(judge: Judge, rows: list[str], targets: Iterable[Target], trace: s
     return True
 
 
-def ratio_of(seen: int, bound: int | None) -> str:
+def ratio_of(seen: int, bound: int) -> str:
     """In four digits, rounded down: 1.0000 only where the bound is reached."""
     return f"{seen * 10_000 // bound / 10_000:.4f}"
 
@@ -167,7 +167,7 @@ def say(text: str) -> None:
 def tell(search: Search, told: list[Target]) -> Shown:
     """A line for each target that is told, when it was looked for, and once more where another search saw more; what
     was seen."""
-    rows = {}
+    rows: Shown = {}
     for target in search.run():
         if target in told and target in search.best.found:
             rows[target] = search.best.found[target][0]
@@ -179,9 +179,9 @@ def tell(search: Search, told: list[Target]) -> Shown:
     return rows
 
 
-def tell_sum(rows: list[str], bounds: dict[Target, int | None]) -> None:
+def tell_sum(rows: Shown, bounds: dict[Target, int | None]) -> None:
     """What the table comes to."""
-    ratios = [seen / bounds[target] for target, seen in rows.items() if bounds[target]]
+    ratios = [seen / bound for target, seen in rows.items() if (bound := bounds[target])]
     if ratios:
         reached = sum(ratio == 1 for ratio in ratios)
         say(
@@ -190,12 +190,12 @@ def tell_sum(rows: list[str], bounds: dict[Target, int | None]) -> None:
         )
 
 
-def keep(options: argparse.Namespace, judge: Judge, best: Best, rows: list[str]) -> None:
+def keep(options: argparse.Namespace, judge: Judge, best: Best, rows: Shown) -> None:
     """Writes the traces that are asked for, and tells which jobs are late in them."""
     if options.keep:
         os.makedirs(options.keep, exist_ok=True)
         name, is_told = os.path.splitext(os.path.basename(options.file))[0], True
-        for number, (trace, shown) in enumerate(cover(judge, best, rows), 1):
+        for number, (trace, shown) in enumerate(cover(judge, best, list(rows)), 1):
             to = os.path.join(options.keep, f"{name}.worst{number}.csv")
             write(to, trace)
             is_told = is_told and tell_late(judge, trace, shown, to)

@@ -13,6 +13,7 @@ import time
 from dataclasses import dataclass, field
 from typing import NamedTuple
 
+from lokwurmi.frames import execution
 from lokwurmi.traces import write
 from lokwurmi_tools.accepted import read_system
 from lokwurmi_tools.chains import bounds_by, totals_of
@@ -21,7 +22,7 @@ from lokwurmi_tools.program import LAUNCHER, built, call
 from lokwurmi_tools.progress import Progress
 from lokwurmi_tools.runs import read_trace, schedule_in
 from lokwurmi_tools.seen import Late, Run, seen_of
-from lokwurmi_tools.system import execution, sources_of
+from lokwurmi_tools.system import sources_of
 
 MOST_EVENTS = 4000
 # of how many plans the next ones are made

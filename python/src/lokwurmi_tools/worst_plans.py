@@ -3,9 +3,10 @@ import itertools
 import random
 from collections.abc import Iterable, Mapping
 
+from lokwurmi.frames import execution
 from lokwurmi_tools.accepted import read_system
 from lokwurmi_tools.kinds import Bounds, Times
-from lokwurmi_tools.system import activators, execution
+from lokwurmi_tools.system import activators
 
 LATEST = 10_000_000
 MOST_ROWS = 20_000
@@ -27,7 +28,7 @@ class System:
 
     def streams(self, name: str) -> list[tuple[str, list[str]]]:
         """The ways to a task: a source each, and the tasks on the way to it, the task itself left out."""
-        found = []
+        found: list[tuple[str, list[str]]] = []
         for after in self.tasks[name]["after"]:
             if after in self.sources:
                 found.append((after, []))
@@ -99,7 +100,7 @@ def events_of(system: System, plan: Plan, span: int) -> Times:
         source = system.sources[name]
         period, distance = source["period"], source.get("distance", 0)
         used = min(plan.used.get(name, source.get("jitter", 0)), source.get("jitter", 0))
-        times = []
+        times: list[int] = []
         while len(times) < rows:
             k = len(times)
             at = start - first + max(0, k * period - used, k * distance)
@@ -163,8 +164,8 @@ def arriving(system: System, target: str, bounds: Bounds, higher: list[str]) -> 
                     at = -travel_of(system, bounds, way, which) - (shift if name != target else 0)
                     start[source] = min(start.get(source, at), at)
             ways = {one for name in (*higher, target) for _, way in system.streams(name) for one in way}
-            for long in ({}, {one: 1 for one in ways}, {one: 0 for one in ways} if which == "best" else {}):
-                plans.append(Plan(start, long=long))
+            long: list[dict[str, int]] = [{}, dict.fromkeys(ways, 1), dict.fromkeys(ways, 0) if which == "best" else {}]
+            plans += [Plan(start, long=it) for it in long]
     return plans
 
 

@@ -82,7 +82,7 @@ class Judge:
 class Best:
     """The latest that was seen of each task and path, and by which plan."""
 
-    def __init__(self):
+    def __init__(self) -> None:
         self.found: dict[Target, tuple[int, Plan, int]] = {}
 
     def take(self, plans: list[Plan], answers: list[Shown], span: int) -> None:

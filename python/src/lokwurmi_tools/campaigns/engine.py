@@ -181,7 +181,8 @@ class Engine:
         future.release()
         yield from (it for it in zip(units, answers) if it[1][0] < 10)
         if answers and answers[-1][0] >= 10:
-            raise Refused(*answers[-1], units[len(answers) - 1][2][2])
+            status, text = answers[-1]
+            raise Refused(status, text, units[len(answers) - 1][2][2])
         # what comes after a call that failed wasn't tried
         for place, unit in enumerate(units[len(answers) :]):
             if place == 0 or future.status == "error":

@@ -8,9 +8,9 @@ from collections.abc import Iterable, Sequence
 from typing import Any
 
 from lokwurmi.errors import Unreadable
+from lokwurmi.frames import execution
 from lokwurmi.lines import reports_in
 from lokwurmi_tools.campaigns.faults import Wrong
-from lokwurmi_tools.system import execution
 
 MOST_PRIORITY = 536_870_911
 

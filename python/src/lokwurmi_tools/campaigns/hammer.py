@@ -6,7 +6,7 @@ from collections.abc import Iterable
 
 from lokwurmi.errors import Unreadable
 from lokwurmi.reports import Hammered, hammered
-from lokwurmi_tools.campaigns.engine import run
+from lokwurmi_tools.campaigns.engine import Unit, run
 from lokwurmi_tools.campaigns.faults import Failed, Wrong, say
 from lokwurmi_tools.campaigns.kept import Kept
 from lokwurmi_tools.campaigns.worker import Answer
@@ -76,11 +76,11 @@ def hammer(words: argparse.Namespace, kept: Kept) -> int:
         raise Wrong(f"there would be {count} calls, and there may be {MOST_CALLS}: take a higher --call")
     if words.seed + count - 1 > MOST_NUMBER:
         raise Wrong(f"the numbers of the calls would go beyond {MOST_NUMBER}: take a lower --seed, or a higher --call")
-    units = []
+    units: list[Unit] = []
     for place, begin in enumerate(range(0, words.traces, words.call)):
         number, traces = words.seed + place, min(words.call, words.traces - begin)
         units.append((f"hammer {number} {traces}", traces, ("hammer", [str(number), str(traces)], None)))
-    found = []
+    found: list[str] = []
 
     def look(key: str, answer: Answer) -> bool:
         if sums(answer[1]).beyond:

@@ -62,15 +62,16 @@ class Kept:
         self.file.write(json.dumps(it).encode() + b"\n")
         self.file.flush()
 
-    def add(self, key: str, answer: list) -> None:
+    def add(self, key: str, answer: tuple[int, str]) -> None:
         self.answers[key] = zlib.compress(json.dumps(answer).encode())
         self.write({"key": key, "answer": answer})
 
     def __contains__(self, key: str) -> bool:
         return key in self.answers
 
-    def __getitem__(self, key: str) -> list:
-        return json.loads(zlib.decompress(self.answers[key]))
+    def __getitem__(self, key: str) -> tuple[int, str]:
+        status, text = json.loads(zlib.decompress(self.answers[key]))
+        return status, text
 
     def tell(self) -> None:
         """Says how to go on, where something is kept."""

@@ -37,18 +37,19 @@ class Variants:
 
     def rows(self) -> Iterator[dict[str, Any]]:
         for number, (chosen, key, script) in enumerate(zip(self.chosen, self.keys, self.scripts), 1):
-            verdict, refused, found = row_of(*self.kept[key], script)
-            cost = sum(entry.costs[place] for entry, place in zip(self.grid, chosen))
-            cost = f"{cost:.12g}" if isinstance(cost, float) else cost
-            own = {entry.label: entry.shown(place) for entry, place in zip(self.grid, chosen)}
+            status, text = self.kept[key]
+            verdict, refused, found = row_of(status, text, script)
             # the bounds of what an edit was kept from aren't those of the variant
+            bounds = {name: "" if verdict == "refused" else it for name, it in found.items()}
+            cost = sum(entry.costs[place] for entry, place in zip(self.grid, chosen))
+            own = {entry.label: entry.shown(place) for entry, place in zip(self.grid, chosen)}
             yield {
                 "variant": number,
                 **own,
                 "verdict": verdict,
                 "refused": refused,
-                "cost": cost,
-                **(found if verdict != "refused" else dict.fromkeys(found, "")),
+                "cost": f"{cost:.12g}" if isinstance(cost, float) else cost,
+                **bounds,
             }
 
 
@@ -63,10 +64,8 @@ def variants(words: argparse.Namespace, kept: Kept) -> int:
         )
     all_of = Variants(grid, system, kept)
     run(words, "variants", all_of.units(), kept, together=TOGETHER)
-    columns = {}
-    for row in all_of.rows():
-        columns |= dict.fromkeys(row)
-    marked = fronted(all_of.rows(), *front) if front else None
+    columns = dict.fromkeys(key for row in all_of.rows() for key in row)
+    marked = fronted(all_of.rows(), *front) if front else set()
     table = csv.DictWriter(sys.stdout, [*columns, *(["front"] if front else [])], restval="", lineterminator="\n")
     table.writeheader()
     for place, row in enumerate(all_of.rows()):

@@ -1,4 +1,5 @@
-"""What a campaign does on a worker. Dask sends this module there as it is: it has to do without the rest of this package."""
+"""What a campaign does on a worker. Dask sends this module there as it is: it has to do without the rest of this
+package."""
 import contextlib
 import os
 import shutil
@@ -16,7 +17,7 @@ import distributed
 WHOLE, PASSING = {"hammer": (0,), "session": (0, 1, 2)}, (11, 20, 30)
 # a command, its words after the file, and the text of its script, or None; and a status and a text
 Call = tuple[str, list[str], str | None]
-Answer = list
+Answer = tuple[int, str]
 
 
 def take_processor() -> tuple[int | None, contextlib.AbstractContextManager]:
@@ -118,7 +119,7 @@ def answers_of(sent: Sent, calls: list[Call], answers: list[Answer]) -> str | No
             status, text, errors = sent.call([program, command, system, *words])
             if fault := fault_of(command, status, text, errors):
                 return fault
-            answers.append([status, text])
+            answers.append((status, text))
             if status >= 10:
                 break
     return None

@@ -5,11 +5,13 @@ from __future__ import annotations
 from collections.abc import Callable, Iterator
 from dataclasses import dataclass
 
-from lokwurmi_tools.refusals.document import Document, Names
+from lokwurmi.documents import Document
+from lokwurmi.frames import execution
 from lokwurmi_tools.refusals.keys import KEYS, MOST_ENTRIES, MOST_IN_CHAIN
+from lokwurmi_tools.refusals.names import Names
 from lokwurmi_tools.refusals.remark import File, Remark, mean
 from lokwurmi_tools.refusals.script import Line, is_form, lines_in
-from lokwurmi_tools.system import activators, execution
+from lokwurmi_tools.system import activators
 
 MORE = "Edits that are refused"
 WITH_PRIORITIES = ("preemptive", "can")
@@ -39,7 +41,7 @@ class Bench:
         resources = {it["name"]: it for it in self.entries["resource"]}
         for task in self.entries["task"]:
             task["best"], task["worst"] = execution(task, resources[task["on"]])
-        self.names = Names(self)
+        self.names = Names(self.entries)
 
     def has_priorities(self, resource: str) -> bool:
         return self.names.resources[resource]["kind"] in WITH_PRIORITIES
@@ -47,11 +49,12 @@ class Bench:
     def take(self, line: Line) -> tuple[int, str, int, str] | None:
         """Makes an edit, or tells the rule that it breaks, why, which of its words is the one, and what helps."""
         keyword, *words = line.words
-        words = [int(it) if it.isdigit() and place in numbers_of(keyword) else it for place, it in enumerate(words)]
-        broken = min(FORMS[keyword].broken(self, *words), key=lambda it: it[0], default=None)
+        numbers = numbers_of(keyword)
+        operands = [int(it) if it.isdigit() and place in numbers else it for place, it in enumerate(words)]
+        broken = min(FORMS[keyword].broken(self, *operands), key=lambda it: it[0], default=None)
         if broken is None:
-            FORMS[keyword].change(self, *words)
-            self.names = Names(self)
+            FORMS[keyword].change(self, *operands)
+            self.names = Names(self.entries)
         return broken
 
     # ---- the rules that several edits have

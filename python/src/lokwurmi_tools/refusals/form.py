@@ -3,8 +3,9 @@ from __future__ import annotations
 
 import re
 
-from lokwurmi_tools.refusals.document import Document, Entry
+from lokwurmi.documents import Document, Entry
 from lokwurmi_tools.refusals.keys import KEYS, KINDS, OTHER_KEYS, OTHER_KINDS, PARTS, TOP_KEYS, bare, holds, is_integer
+from lokwurmi_tools.refusals.names import entry_name
 from lokwurmi_tools.refusals.remark import Note, Remark, listed, nearest
 
 FORM = "1: the form"
@@ -33,7 +34,7 @@ def other_format(document: Document) -> Remark | None:
     helps = "write `format = 1`, or `format = 2` so that a task's `after` may be a list"
     return Remark(
         f"the format {value} isn't known: it is 1 or 2",
-        document.root.items["format"].span,
+        document.root.values["format"].span,
         (),
         helps,
         "13: another format",
@@ -64,7 +65,7 @@ def unknown_top_key(document: Document, key: str) -> Remark:
 
 
 def no_array(document: Document, part: str) -> Remark:
-    place = document.root.items[part]
+    place = document.root.values[part]
     if isinstance(document.values[part], dict):
         return Remark(
             f"[{part}] begins one table, and the file wants a list of them",
@@ -94,7 +95,7 @@ def format_of(document: Document) -> Remark | None:
         ]
         notes = [
             Note(
-                f"here `format` stands below a heading, and so belongs to {document.called(*it)}",
+                f"here `format` stands below a heading, and so belongs to {entry_name(document, *it)}",
                 document.key_span(*it, "format"),
             )
             for it in inside[:1]
@@ -105,7 +106,7 @@ def format_of(document: Document) -> Remark | None:
     if not is_integer(value):
         return Remark(
             f"`format` is {kind_of(value)}, and has to be the whole number 1 or 2",
-            document.root.items["format"].span,
+            document.root.values["format"].span,
             (),
             helps,
             FORM,
@@ -143,7 +144,9 @@ def key_meant(part: str, key: str, value: Entry) -> str | None:
     """The key of an entry that was most likely meant, if the entry hasn't that as well."""
     left = [it for it in KEYS[part] if it not in value]
     meant = OTHER_KEYS.get(bare(key))
-    return meant if meant in left else next((it for it in left if it == bare(key)), None) or nearest(key, left)
+    if meant in left:
+        return meant
+    return bare(key) if bare(key) in left else nearest(key, left)
 
 
 def unknown_key(document: Document, part: str, at: int, key: str) -> Remark:
@@ -159,7 +162,7 @@ def unknown_key(document: Document, part: str, at: int, key: str) -> Remark:
     elif not near and (owners := [it for it in KEYS if key in KEYS[it]]):
         helps = f"`{key}` is a key of {AN[owners[0]]}; those of {AN[part]} are {listed(list(KEYS[part]))}"
     return Remark(
-        f"{document.called(part, at)}: the key `{key}` isn't known{guess}",
+        f"{entry_name(document, part, at)}: the key `{key}` isn't known{guess}",
         document.key_span(part, at, key),
         (),
         helps,
@@ -170,19 +173,19 @@ def unknown_key(document: Document, part: str, at: int, key: str) -> Remark:
 def wrong_type(document: Document, part: str, at: int, key: str) -> Remark:
     value, rule = document.entries[part][at][key], KEYS[part][key]
     span, wanted = document.value_span(part, at, key), TYPES[rule.holds]
-    says = f"{document.called(part, at)}: `{key}` is {kind_of(value)}, and has to be {wanted}"
+    says = f"{entry_name(document, part, at)}: `{key}` is {kind_of(value)}, and has to be {wanted}"
     if rule.holds == "after" and isinstance(value, list):
         return wrong_list(document, at, says)
     if rule.holds == "texts" and isinstance(value, list):
         item = next(it for it, text in enumerate(value) if not isinstance(text, str))
-        says = f"{document.called(part, at)}: `{key}` holds {kind_of(value[item])}, and has to be {wanted}"
+        says = f"{entry_name(document, part, at)}: `{key}` holds {kind_of(value[item])}, and has to be {wanted}"
         return Remark(says, document.item_span(part, at, key, item), (), "write each name in quotes", FORM)
     return Remark(says, span, (), remedy(rule.holds, value, key, document.text_of(span)), FORM)
 
 
 def wrong_list(document: Document, at: int, says: str) -> Remark:
     value, span = document.entries["task"][at]["after"], document.value_span("task", at, "after")
-    called = document.called("task", at)
+    called = entry_name(document, "task", at)
     if document.has_lists:
         item = next(it for it, text in enumerate(value) if not isinstance(text, str))
         return Remark(
@@ -192,7 +195,7 @@ def wrong_list(document: Document, at: int, says: str) -> Remark:
             "write each name in quotes",
             FORM,
         )
-    notes = [Note("the format of this file", document.root.items["format"].span)]
+    notes = [Note("the format of this file", document.root.values["format"].span)]
     helps = "write `format = 2`" if len(value) != 1 else f'write `format = 2`, or after = "{value[0]}"'
     return Remark(f"{called}: `after` is a list, which format 1 hasn't", span, notes, helps, FORM)
 
@@ -229,7 +232,7 @@ def unknown_kind(document: Document, at: int) -> Remark:
         or nearest(value, KINDS)
     )
     guess = f'; did you mean "{near}"?' if near else ""
-    says = f'{document.called("resource", at)}: the kind "{value}" isn\'t known{guess}'
+    says = f'{entry_name(document, "resource", at)}: the kind "{value}" isn\'t known{guess}'
     return Remark(
         says,
         document.value_span("resource", at, "kind"),
@@ -249,13 +252,13 @@ def missing_key(document: Document, part: str, at: int, key: str) -> Remark:
         "tasks": 'write tasks = ["..", ".."]: its tasks, from the first to the last',
     }[key]
     return Remark(
-        f"{document.called(part, at)}: the key `{key}` is missing", document.place(part, at).span, (), helps, FORM
+        f"{entry_name(document, part, at)}: the key `{key}` is missing", document.place(part, at).span, (), helps, FORM
     )
 
 
 def executions(document: Document, at: int) -> Remark | None:
     """A task has `best` and `worst`, or `payload` in place of both; `extended` goes with `payload`."""
-    value, called = document.entries["task"][at], document.called("task", at)
+    value, called = document.entries["task"][at], entry_name(document, "task", at)
     has = [it for it in ("best", "worst") if it in value]
     if "payload" in value and has:
         notes = [Note("the payload, of which its execution is worked out", document.key_span("task", at, "payload"))]

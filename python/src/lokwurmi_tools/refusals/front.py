@@ -10,12 +10,13 @@ import tomllib
 from collections.abc import Sequence
 from typing import TextIO
 
+from lokwurmi.documents import Document
 from lokwurmi_tools.refusals import chains, edits, lines, notices, schedule, script
-from lokwurmi_tools.refusals.document import Document
 from lokwurmi_tools.refusals.judge import Refusal, first_refusal
 from lokwurmi_tools.refusals.remark import File, Look, Remark, decoded, listed, nearest, page, printable
 from lokwurmi_tools.refusals.toml_faults import fault_in
 from lokwurmi_tools.refusals.trace import Trace
+from lokwurmi_tools.system import activators
 
 UNREADABLE, TOO_LONG, NO_TOML, NO_SYSTEM, SCRIPT, TRACE, DISOBEYS, WORD, SCHEDULE = 11, 12, 13, 14, 15, 16, 17, 18, 19
 MOST_BYTES = {
@@ -174,14 +175,14 @@ class Call:
         name, found = self.file("trace"), self.traced()
         if not found:
             return self.by_line(name) if name else None
-        return self.on(name, found[1].fault, self.line.removeprefix("trace refused "), found[0])
+        return self.on(found[0].name, found[1].fault, self.line.removeprefix("trace refused "), found[0])
 
     def disobeys(self) -> str | None:
         name, found = self.file("trace"), self.traced()
         if not found or found[1].fault or not self.line:
             return self.by_line(name) if name else None
         remark = found[1].disobeys(self.line.split()[2:])
-        return self.look.text(found[0], remark) if remark else self.by_line(name)
+        return self.look.text(found[0], remark) if remark else self.by_line(found[0].name)
 
     def schedule(self) -> str | None:
         name, document = self.file("schedule"), document_of(self.words[0])
@@ -363,8 +364,6 @@ def remark_on_word(document: Document, line: str, word: str) -> Remark | None:
 
 
 def behind_tasks(document: Document, resource: str, tasks: set[str], more: str) -> Remark | None:
-    from lokwurmi_tools.system import activators
-
     found = [
         (at, it)
         for at, it in enumerate(document.entries["task"])

@@ -5,8 +5,8 @@ from __future__ import annotations
 from collections.abc import Callable, Iterator
 from dataclasses import dataclass
 
+from lokwurmi.documents import Document, Entry
 from lokwurmi_tools.refusals import form
-from lokwurmi_tools.refusals.document import Document, Entry, Names
 from lokwurmi_tools.refusals.keys import (
     KEYS,
     MOST_ENTRIES,
@@ -17,6 +17,7 @@ from lokwurmi_tools.refusals.keys import (
     is_name,
     is_name_letter,
 )
+from lokwurmi_tools.refusals.names import Names, entry_name
 from lokwurmi_tools.refusals.remark import Note, Remark, listed, mean
 from lokwurmi_tools.system import activators
 
@@ -93,7 +94,7 @@ def out_of_range(document: Document) -> Found:
             yield part, at, beyond(document, part, at, key)
         if part == "source" and value.get("distance", 0) > value["period"]:
             notes = [Note(f"its period is {value['period']}", document.value_span(part, at, "period"))]
-            says = f"{document.called(part, at)}: the distance {value['distance']} is above the period"
+            says = f"{entry_name(document, part, at)}: the distance {value['distance']} is above the period"
             helps = (
                 f"`distance` is the least time between two events: 0 to {value['period']} here; how late they may be is"
                 " `jitter`"
@@ -109,7 +110,7 @@ def beyond(document: Document, part: str, at: int, key: str) -> Remark:
     if side == "above" and key not in MEANINGS:
         helps += " ticks: take a coarser tick for the whole file"
     return Remark(
-        f"{document.called(part, at)}: `{key}` is {number}, {side} {end}",
+        f"{entry_name(document, part, at)}: `{key}` is {number}, {side} {end}",
         document.value_span(part, at, key),
         (),
         helps,
@@ -180,7 +181,7 @@ def unknown_name(document: Document) -> Found:
                 (f"; it is a {part}" for part in ("source", "task") if task["on"] in every[part]),
                 mean(task["on"], resources),
             )
-            says = f'{document.called("task", at)}: no resource is called "{task["on"]}"{other}'
+            says = f'{entry_name(document, "task", at)}: no resource is called "{task["on"]}"{other}'
             helps = (
                 known_names("resource", resources)
                 if resources
@@ -198,7 +199,7 @@ def unknown_name(document: Document) -> Found:
 
 def no_activator(document: Document, at: int, item: int, resources: list[str], known: list[str]) -> Remark:
     name = activators(document.entries["task"][at])[item]
-    called = document.called("task", at)
+    called = entry_name(document, "task", at)
     span = document.item_span("task", at, "after", item)
     if name in resources:
         return Remark(
@@ -220,7 +221,7 @@ def no_activator(document: Document, at: int, item: int, resources: list[str], k
 
 def no_task(document: Document, at: int, item: int, sources: list[str], tasks: list[str]) -> Remark:
     name = document.entries["path"][at]["tasks"][item]
-    called, span = document.called("path", at), document.item_span("path", at, "tasks", item)
+    called, span = entry_name(document, "path", at), document.item_span("path", at, "tasks", item)
     if name in sources:
         return Remark(
             f'{called}: "{name}" in `tasks` is a source',
@@ -247,16 +248,16 @@ def known_names(part: str, names: list[str]) -> str:
 
 
 def endless(document: Document) -> Found:
-    names = Names(document)
+    names = Names(document.entries)
     chains = names.chains()
     for at, task in enumerate(document.entries["task"]):
-        if chains[task["name"]] is None:
+        if task["name"] not in chains:
             yield "task", at, in_ring(document, names, at)
 
 
 def in_ring(document: Document, names: Names, at: int) -> Remark:
     name = document.entries["task"][at]["name"]
-    ring, called = names.ring(name), document.called("task", at)
+    ring, called = names.ring(name), entry_name(document, "task", at)
     if name in ring:
         ring = ring[ring.index(name) :] + ring[: ring.index(name)]
     way = " -> ".join([ring[0], *ring[:0:-1], ring[0]])
@@ -268,7 +269,8 @@ def in_ring(document: Document, names: Names, at: int) -> Remark:
         span = ends_in(document, at, after[name])
     else:
         says = f"{called}: it comes behind a ring of tasks, {way}"
-        span = ends_in(document, at, names.way(ring[0], name)[-2])
+        there = names.way(ring[0], name) or [ring[0], name]
+        span = ends_in(document, at, there[-2])
     notes = [
         Note(f'task "{it}" comes after "{after[it]}"', ends_in(document, names.tasks[it], after[it]))
         for it in ring
@@ -289,7 +291,7 @@ def ends_in(document: Document, at: int, name: str) -> tuple[int, int]:
 
 
 def long_chain(document: Document) -> Found:
-    names = Names(document)
+    names = Names(document.entries)
     chains = names.chains()
     for at, task in enumerate(document.entries["task"]):
         length = chains[task["name"]]
@@ -297,7 +299,7 @@ def long_chain(document: Document) -> Found:
             way = names.longest_chain(task["name"])
             source = activators(names.task(way[0]))
             says = (
-                f"{document.called('task', at)}: it is the {ordinal(length)} task of a chain, and a chain has"
+                f"{entry_name(document, 'task', at)}: it is the {ordinal(length)} task of a chain, and a chain has"
                 f" {MOST_IN_CHAIN} at most"
             )
             helps = f"take some of them together; the chain: {' -> '.join([*source[:1], *way])}"
@@ -310,7 +312,7 @@ def ordinal(number: int) -> str:
 
 
 def known_priority(document: Document) -> Found:
-    names, taken = Names(document), {}
+    names, taken = Names(document.entries), {}
     for at, task in enumerate(document.entries["task"]):
         if names.kind(task) not in WITH_PRIORITIES or "priority" not in task:
             continue
@@ -323,8 +325,10 @@ def known_priority(document: Document) -> Found:
             number for number in range(task["priority"], task["priority"] + len(used) + 1) if number not in used
         )
         other = taken[rank]
-        notes = [Note(f"{document.called('task', other)} has it", document.value_span("task", other, "priority"))]
-        says = f'{document.called("task", at)}: the priority {task["priority"]} is taken on resource "{task["on"]}"'
+        notes = [Note(f"{entry_name(document, 'task', other)} has it", document.value_span("task", other, "priority"))]
+        says = (
+            f'{entry_name(document, "task", at)}: the priority {task["priority"]} is taken on resource "{task["on"]}"'
+        )
         helps = "the tasks of one resource have different priorities" + (
             f"; the next free one is {free}" if free <= KEYS["task"]["priority"].most else ""
         )
@@ -336,7 +340,7 @@ def misfit(document: Document) -> Found:
         for key, kind in (("gap", "tdma"), ("bit", "can")):
             if key in resource and resource["kind"] != kind:
                 says = (
-                    f'{document.called("resource", at)}: `{key}` is for the kind "{kind}", and its kind is'
+                    f'{entry_name(document, "resource", at)}: `{key}` is for the kind "{kind}", and its kind is'
                     f' "{resource["kind"]}"'
                 )
                 yield "resource", at, Remark(
@@ -346,11 +350,11 @@ def misfit(document: Document) -> Found:
                     f"leave `{key}` out, or change the kind",
                     SECTIONS[9],
                 )
-    names = Names(document)
+    names = Names(document.entries)
     for at, task in enumerate(document.entries["task"]):
         kind = names.kind(task)
         wanted, other = ("priority", "slot") if kind in WITH_PRIORITIES else ("slot", "priority")
-        called, where = document.called("task", at), f'resource "{task["on"]}" is {kind}'
+        called, where = entry_name(document, "task", at), f'resource "{task["on"]}" is {kind}'
         if other in task:
             how = f"beside its `{wanted}`" if wanted in task else f"in place of a `{wanted}`"
             yield "task", at, Remark(
@@ -390,7 +394,7 @@ def crossed(document: Document) -> Found:
     for at, task in enumerate(document.entries["task"]):
         if "best" in task and "worst" in task and task["best"] > task["worst"]:
             notes = [Note(f"its worst is {task['worst']}", document.value_span("task", at, "worst"))]
-            says = f"{document.called('task', at)}: `best` is {task['best']}, above `worst`"
+            says = f"{entry_name(document, 'task', at)}: `best` is {task['best']}, above `worst`"
             yield "task", at, Remark(
                 says,
                 document.value_span("task", at, "best"),
@@ -401,11 +405,11 @@ def crossed(document: Document) -> Found:
 
 
 def unlinked(document: Document) -> Found:
-    names = Names(document)
+    names = Names(document.entries)
     for at, path in enumerate(document.entries["path"]):
         if not path["tasks"]:
             yield "path", at, Remark(
-                f"{document.called('path', at)}: it has no task",
+                f"{entry_name(document, 'path', at)}: it has no task",
                 document.value_span("path", at, "tasks"),
                 (),
                 "a path has a task at least; leave the path out, or name its tasks from the first to the last",
@@ -419,7 +423,7 @@ def unlinked(document: Document) -> Found:
 def not_after(document: Document, names: Names, at: int, item: int) -> Remark:
     before, name = document.entries["path"][at]["tasks"][item - 1 : item + 1]
     after = activators(names.task(name))
-    says = f'{document.called("path", at)}: "{name}" doesn\'t come after "{before}"'
+    says = f'{entry_name(document, "path", at)}: "{name}" doesn\'t come after "{before}"'
     notes = [
         Note(
             (
@@ -448,8 +452,8 @@ def too_many(document: Document) -> Found:
         most, count = MOST_ENTRIES[part], len(document.entries[part])
         if count > most:
             says = (
-                f"{document.called(part, most)}: it is the {ordinal(most + 1)} {part} of {count}, and {most} are the"
-                " most"
+                f"{entry_name(document, part, most)}: it is the {ordinal(most + 1)} {part} of {count},"
+                f" and {most} are the most"
             )
             yield part, most, Remark(
                 says, document.place(part, most).span, (), "cut the system into parts", SECTIONS[12]
@@ -457,10 +461,10 @@ def too_many(document: Document) -> Found:
 
 
 def misfed(document: Document) -> Found:
-    names = Names(document)
+    names = Names(document.entries)
     streams = names.streams()
     for at, task in enumerate(document.entries["task"]):
-        after, called = activators(task), document.called("task", at)
+        after, called = activators(task), entry_name(document, "task", at)
         span = document.value_span("task", at, "after")
         if not after:
             yield "task", at, Remark(

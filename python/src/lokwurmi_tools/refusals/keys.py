@@ -4,11 +4,16 @@ from __future__ import annotations
 from collections.abc import Sequence
 from dataclasses import dataclass
 
-PARTS = ("resource", "source", "task", "path")
+from lokwurmi.chains import MOST_TASKS
+from lokwurmi.documents import PARTS
+from lokwurmi.entries import Kind
+from lokwurmi.frames import MOST_CLASSICAL
+from lokwurmi.units import MOST_BIT, TIMES
+
 TOP_KEYS = ("format", *PARTS)
-KINDS = ("preemptive", "round-robin", "tdma", "can")
+KINDS = tuple(it.value for it in Kind)
 MOST_ENTRIES = {"resource": 64, "source": 128, "task": 512, "path": 128}
-MOST_IN_CHAIN = 32
+MOST_IN_CHAIN = MOST_TASKS
 MOST_STREAMS = 32
 MOST_IN_NAME = 64
 # what one bus compares first, and the greatest identifier of 11 bits
@@ -28,35 +33,41 @@ class Key:
     is_required: bool = False
 
 
+def time(part: str, key: str, is_required: bool = False) -> Key:
+    """A number of ticks, in the range in which times of this key are."""
+    _, least, most = TIMES[part][key]
+    return Key("integer", least, most, is_required)
+
+
 KEYS: dict[str, dict[str, Key]] = {
     "resource": {
         "name": Key("text", is_required=True),
         "kind": Key("text", is_required=True),
-        "limit": Key("integer", 1, 10_000_000),
-        "gap": Key("integer", 0, 1_000_000),
-        "bit": Key("integer", 1, 1_000),
+        "limit": time("resource", "limit"),
+        "gap": time("resource", "gap"),
+        "bit": Key("integer", 1, MOST_BIT),
     },
     "source": {
         "name": Key("text", is_required=True),
-        "period": Key("integer", 1, 1_000_000_000, True),
-        "jitter": Key("integer", 0, 1_000_000_000),
-        "distance": Key("integer", 0, 1_000_000_000),
+        "period": time("source", "period", True),
+        "jitter": time("source", "jitter"),
+        "distance": time("source", "distance"),
     },
     "task": {
         "name": Key("text", is_required=True),
         "on": Key("text", is_required=True),
         "after": Key("after", is_required=True),
-        "best": Key("integer", 1, 1_000_000),
-        "worst": Key("integer", 1, 1_000_000),
-        "payload": Key("integer", 0, 8),
+        "best": time("task", "best"),
+        "worst": time("task", "worst"),
+        "payload": Key("integer", 0, MOST_CLASSICAL),
         "extended": Key("truth"),
         "priority": Key("integer", 0, 536_870_911),
-        "slot": Key("integer", 1, 1_000_000),
+        "slot": time("task", "slot"),
     },
     "path": {
         "name": Key("text", is_required=True),
         "tasks": Key("texts", is_required=True),
-        "deadline": Key("integer", 1, 1_000_000_000),
+        "deadline": time("path", "deadline"),
     },
 }
 

@@ -1,8 +1,9 @@
 """Notices: what a user would want to know of a file that the program accepts."""
 from __future__ import annotations
 
-from lokwurmi_tools.refusals.document import Document, Names
+from lokwurmi.documents import Document
 from lokwurmi_tools.refusals.keys import LOW_BITS, MOST_SHORT
+from lokwurmi_tools.refusals.names import Names, entry_name
 from lokwurmi_tools.refusals.remark import Note, Remark, listed
 from lokwurmi_tools.system import activators
 
@@ -22,7 +23,7 @@ def unused_sources(document: Document) -> list[Remark]:
         helps = f"no task has it in `after`: name it there, or leave it out{more}"
         remarks.append(
             Remark(
-                f"{document.called('source', at)} starts nobody",
+                f"{entry_name(document, 'source', at)} starts nobody",
                 document.value_span("source", at, "name"),
                 (),
                 helps,
@@ -35,7 +36,7 @@ def unused_sources(document: Document) -> list[Remark]:
 
 def long_identifiers(document: Document) -> list[Remark]:
     """One notice a bus."""
-    names, remarks = Names(document), []
+    names, remarks = Names(document.entries), []
     for resource in document.entries["resource"]:
         frames = [
             at
@@ -53,8 +54,8 @@ def long_identifiers(document: Document) -> list[Remark]:
             else ""
         )
         says = (
-            f"{document.called('task', at)} has a priority above {MOST_SHORT:#x}, the greatest identifier of 11 bits,"
-            f" without `extended = true`{others}"
+            f"{entry_name(document, 'task', at)} has a priority above {MOST_SHORT:#x}, the greatest identifier of"
+            f" 11 bits, without `extended = true`{others}"
         )
         way = (
             "write `extended = true`"
@@ -73,7 +74,7 @@ def long_identifiers(document: Document) -> list[Remark]:
 def mixed_identifiers(document: Document) -> list[Remark]:
     """One notice a bus with frames of both lengths, where the priorities look like identifiers, and these are compared
     on the bus in another order."""
-    names, remarks = Names(document), []
+    names, remarks = Names(document.entries), []
     for resource in document.entries["resource"]:
         if resource["kind"] != "can":
             continue
@@ -86,7 +87,7 @@ def mixed_identifiers(document: Document) -> list[Remark]:
         if pair:
             (at, first), (other, second) = pair
             says = (
-                f"{document.called('task', at)} has a priority like an identifier of 29 bits,"
+                f"{entry_name(document, 'task', at)} has a priority like an identifier of 29 bits,"
                 " and goes on the bus before"
                 f" {second['name']}, whose priority is smaller"
             )
@@ -104,7 +105,7 @@ def mixed_identifiers(document: Document) -> list[Remark]:
 
 def of_assign(document: Document, resource: str, is_order: bool) -> list[Remark]:
     """What an answer of `assign` counts: deadlines of paths of one task."""
-    names = Names(document)
+    names = Names(document.entries)
     tasks = [it["name"] for _, it in names.on(resource)]
     with_one = {it["tasks"][0] for it in document.entries["path"] if len(it["tasks"]) == 1 and "deadline" in it}
     count = sum(it in with_one for it in tasks)

@@ -1,7 +1,8 @@
 """Schedules in words: rows that are refused (status 19)."""
 from __future__ import annotations
 
-from lokwurmi_tools.refusals.document import Document, Names
+from lokwurmi.documents import Document
+from lokwurmi_tools.refusals.names import Names
 from lokwurmi_tools.refusals.remark import File, Remark, listed, mean
 from lokwurmi_tools.refusals.rows import MOST_ROWS, Row, is_number, rows_in
 from lokwurmi_tools.refusals.trace import no_number
@@ -13,7 +14,7 @@ MORE = "Status 19: the schedule is refused"
 
 def fault_in(document: Document, file: File) -> tuple[str, Remark] | None:
     """The program's words for the first fault of a schedule, and what to say."""
-    tasks = list(Names(document).tasks)
+    tasks = list(Names(document.entries).tasks)
     for row in rows_in(file):
         if row.number > MOST_ROWS:
             return "too many", Remark(

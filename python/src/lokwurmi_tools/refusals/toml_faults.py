@@ -4,7 +4,8 @@ from __future__ import annotations
 import re
 import tomllib
 
-from lokwurmi_tools.refusals.newer import older, open_mark
+from lokwurmi.documents import values_in
+from lokwurmi.newer import older, open_mark
 from lokwurmi_tools.refusals.remark import File, Note, Remark, Span
 
 MORE = "Statuses"
@@ -15,7 +16,7 @@ def fault_in(file: File) -> Remark | None:
     """What is wrong; None where it is TOML as far as tomllib knows."""
     try:
         file.text.encode("utf-8")
-        return too_large(file, tomllib.loads(older(file.text)))
+        return too_large(file, values_in(file.text))
     except UnicodeEncodeError as fault:
         byte = ord(file.text[fault.start]) - 0xDC00
         return Remark(
@@ -41,7 +42,7 @@ def too_large(file: File, value: object) -> Remark | None:
     digits = re.search("_?".join(str(abs(value))), file.text)
     return Remark(
         f"the number {value} has more than 64 bits",
-        digits and digits.span(),
+        digits.span() if digits else None,
         (),
         "write one in the range of its key",
         MORE,
@@ -79,7 +80,7 @@ def at_word(file: File, at: int, says: str, helps: str, notes: tuple[Note, ...] 
 
 
 def word_at(file: File, at: int) -> str:
-    return re.match(r"[^\s,\]}=#]*", file.text[at:])[0]
+    return re.split(r"[\s,\]}=#]", file.text[at:], maxsplit=1)[0]
 
 
 def line_start(file: File, at: int) -> int:
@@ -158,7 +159,7 @@ def no_value(file: File, at: int) -> Remark:
 def after_value(file: File, at: int) -> Remark:
     """Something follows a value or a heading on its line."""
     rest = file.text[at:].split("\n", 1)[0]
-    before = re.search(r"[\w.+-]*\Z", file.text[line_start(file, at) : at])[0]
+    before = re.split(r"[^\w.+-]", file.text[line_start(file, at) : at])[-1]
     start = at - len(before)
     word = before + word_at(file, at)
     number = re.search(r"(?<![\w.])[+-]?\d[\d_]*[ \t]*\Z", file.text[line_start(file, at) : at])

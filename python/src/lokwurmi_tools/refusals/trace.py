@@ -3,11 +3,13 @@ from __future__ import annotations
 
 from dataclasses import dataclass, field
 
-from lokwurmi_tools.refusals.document import Document, Names
+from lokwurmi.documents import Document
+from lokwurmi.frames import execution
 from lokwurmi_tools.refusals.keys import KEYS
+from lokwurmi_tools.refusals.names import Names
 from lokwurmi_tools.refusals.remark import File, Note, Remark, listed, mean, nearest
 from lokwurmi_tools.refusals.rows import MOST_ROWS, Row, is_number, rows_in
-from lokwurmi_tools.system import activators, execution
+from lokwurmi_tools.system import activators
 
 MOST_TIME = 10_000_000
 MOST_PHASE = 1_000_000_000
@@ -35,7 +37,7 @@ class Trace:
     """A trace of a system, read until a row is refused."""
 
     def __init__(self, document: Document, file: File):
-        self.names = Names(document)
+        self.names = Names(document.entries)
         self.file = file
         self.rows = Rows()
         self.fault = self.read()
@@ -187,7 +189,8 @@ class Trace:
 
     def out_of_range(self, row: Row) -> tuple[str, Remark] | None:
         word, name, number = row.fields[0], row.fields[1], int(row.fields[2])
-        span, notes = row.field_span(self.file, 2), ()
+        span = row.field_span(self.file, 2)
+        notes: tuple[Note, ...] = ()
         if word == "event" and number > MOST_TIME:
             says, helps = f"the time {number} is above {MOST_TIME}", "cut the trace, or take a coarser tick"
         elif word == "event" and number < self.rows.last_time(name):

@@ -1,63 +1,25 @@
-"""A system file that is TOML: its entries, where each key and value stands, and what its names name."""
+"""What the names of a system file name, and what follows from who comes after whom."""
 from __future__ import annotations
 
-import tomllib
-from collections.abc import Iterator
+from collections.abc import Iterator, Mapping
 
-from lokwurmi_tools.refusals.keys import PARTS
-from lokwurmi_tools.refusals.newer import older
-from lokwurmi_tools.refusals.places import Place, places_in
-from lokwurmi_tools.refusals.remark import Span
+from lokwurmi.documents import Document, Entry
+from lokwurmi_tools.refusals.remark import printable
 from lokwurmi_tools.system import activators
 
-Entry = dict[str, object]
 
-
-class Document:
-    """The values of a document and their places. The entries of a part are there where it is an array."""
-
-    def __init__(self, text: str):
-        self.text = text
-        self.values: Entry = tomllib.loads(older(text))
-        self.root: Place = places_in(older(text))
-        self.entries: dict[str, list] = {
-            part: self.values[part] if isinstance(self.values.get(part), list) else [] for part in PARTS
-        }
-
-    @property
-    def has_lists(self) -> bool:
-        return self.values.get("format") == 2
-
-    def text_of(self, span: Span) -> str:
-        return self.text[span[0] : span[1]]
-
-    def place(self, part: str, at: int) -> Place:
-        """The place of an entry, which counts from 0."""
-        return self.root.items[part].items[at]
-
-    def key_span(self, part: str, at: int, key: str) -> Span:
-        return self.place(part, at).keys[key]
-
-    def value_span(self, part: str, at: int, key: str) -> Span:
-        return self.place(part, at).items[key].span
-
-    def item_span(self, part: str, at: int, key: str, item: int) -> Span:
-        """Where one of the texts of a value stands, or the value where it is a text."""
-        place = self.place(part, at).items[key]
-        return place.items[item].span if isinstance(place.items, list) else place.span
-
-    def called(self, part: str, at: int) -> str:
-        """An entry in words: by its name where it has one, else by its place."""
-        entry = self.entries[part][at]
-        name = entry.get("name") if isinstance(entry, dict) else None
-        return f'{part} "{name}"' if isinstance(name, str) and name else f"{part} {at + 1} of the file"
+def entry_name(document: Document, part: str, at: int) -> str:
+    """An entry in words: by its name where it has one, else by its place."""
+    entry = document.entries[part][at]
+    name = entry.get("name") if isinstance(entry, dict) else None
+    return f'{part} "{printable(name)}"' if isinstance(name, str) and name else f"{part} {at + 1} of the file"
 
 
 class Names:
-    """What the names of a document name, where each entry has the form of one and the names of each set differ."""
+    """What the names of entries name, where each entry has the form of one and the names of each set differ."""
 
-    def __init__(self, document: Document):
-        self.entries = document.entries
+    def __init__(self, entries: Mapping[str, list[Entry]]):
+        self.entries = entries
         self.resources = {it["name"]: it for it in self.entries["resource"]}
         self.sources = {it["name"] for it in self.entries["source"]}
         self.tasks: dict[str, int] = {}
@@ -74,8 +36,9 @@ class Names:
         """The tasks of a resource, each with its place."""
         return ((at, it) for at, it in enumerate(self.entries["task"]) if it["on"] == resource)
 
-    def chains(self) -> dict[str, int | None]:
-        """How many tasks the longest chain up to each task has; None where activators can be followed without end."""
+    def chains(self) -> dict[str, int]:
+        """How many tasks the longest chain up to each task has. A task whose activators can be followed without end
+        isn't among them."""
         found: dict[str, int | None] = {}
         for first in self.tasks:
             stack, under_way = [first], set()
@@ -90,18 +53,18 @@ class Names:
                 stack.pop()
                 if name not in found:
                     self.end_chain(name, before, found)
-        return found
+        return {name: length for name, length in found.items() if length is not None}
 
     def end_chain(self, name: str, before: list[str], found: dict[str, int | None]) -> None:
         # what is under way still is further up its own chain
-        lengths = [found.get(it) for it in before]
-        found[name] = None if None in lengths else 1 + max(lengths, default=0)
+        lengths = [length for it in before if (length := found.get(it)) is not None]
+        found[name] = 1 + max(lengths, default=0) if len(lengths) == len(before) else None
 
     def ring(self, name: str) -> list[str]:
         """A ring of tasks to which activators lead from a task that has no end, each activated by the next."""
         chains, way = self.chains(), [name]
         while True:
-            after = next(it for it in activators(self.task(way[-1])) if it in self.tasks and chains[it] is None)
+            after = next(it for it in activators(self.task(way[-1])) if it in self.tasks and it not in chains)
             if after in way:
                 return way[way.index(after) :]
             way.append(after)

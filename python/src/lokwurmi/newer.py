@@ -1,8 +1,6 @@
 """TOML 1.1 for a reader of TOML 1.0. The program reads TOML 1.1, in which an inline table may go over several lines,
 have comments and end with a comma; Python's tomllib reads TOML 1.0. What is new is put out by blanks, so that all else
 stays in its place."""
-from __future__ import annotations
-
 import re
 
 TOKEN = re.compile(
@@ -19,7 +17,7 @@ NOTHING, KEY, EQUALS, VALUE = range(4)
 class Blanks:
     """Goes through a text and finds what stands in inline tables that TOML 1.0 doesn't know."""
 
-    def __init__(self, text: str):
+    def __init__(self, text: str) -> None:
         self.text = text
         # what is open, and how far its last key and value are
         self.opened: list[tuple[str, int]] = []

@@ -1,7 +1,6 @@
 """Where the keys and values of a TOML document stand in its text. The document is one that tomllib has accepted, so
 that this looks for ends alone and judges nothing."""
-from __future__ import annotations
-
+import tomllib
 from dataclasses import dataclass, field
 
 Span = tuple[int, int]
@@ -12,34 +11,35 @@ ENDS = ",]}#\n"
 
 @dataclass
 class Place:
-    """Where a value stands, what is in it, and of a table where each key stands. A section's place is its heading."""
+    """Where a value stands. A section's place is its heading."""
 
     start: int
     end: int
-    items: dict[str, "Place"] | list["Place"] | None = None
+    is_array: bool = False
+    items: list["Place"] = field(default_factory=list)
+    """What is in an array."""
+    values: dict[str, "Place"] = field(default_factory=dict)
+    """What is in a table, by its keys."""
     keys: dict[str, Span] = field(default_factory=dict)
+    """Where the keys of a table stand."""
 
     @property
     def span(self) -> Span:
         return self.start, self.end
 
-    def until(self, end: int) -> "Place":
-        self.end = end
-        return self
-
     def table(self, key: str, span: Span) -> "Place":
         """The table at a key: of an array the last one; a new one where there is none yet."""
-        if key not in self.items:
+        if key not in self.values:
             self.keys[key] = span
-            self.items[key] = Place(*span, {})
-        found = self.items[key]
-        return found.items[-1] if isinstance(found.items, list) else found
+            self.values[key] = Place(*span)
+        found = self.values[key]
+        return found.items[-1] if found.is_array else found
 
 
 class Scanner:
     """Goes through a document from its beginning to its end."""
 
-    def __init__(self, text: str):
+    def __init__(self, text: str) -> None:
         self.text = text
         self.at = 0
 
@@ -55,7 +55,7 @@ class Scanner:
                 return
 
     def document(self) -> Place:
-        root = table = Place(0, 0, {})
+        root = table = Place(0, 0)
         self.skip(BLANKS + "\n")
         while self.at < len(self.text):
             if self.text[self.at] == "[":
@@ -80,8 +80,8 @@ class Scanner:
             found.start, found.end = start, self.at
             return found
         table.keys.setdefault(key, span)
-        every = table.items.setdefault(key, Place(start, self.at, []))
-        every.items.append(Place(start, self.at, {}))
+        every = table.values.setdefault(key, Place(start, self.at, is_array=True))
+        every.items.append(Place(start, self.at))
         return every.items[-1]
 
     def pair(self, table: Place) -> None:
@@ -93,7 +93,7 @@ class Scanner:
             table = table.table(key, span)
         key, span = keys[-1]
         table.keys[key] = span
-        table.items[key] = self.value()
+        table.values[key] = self.value()
 
     def keys(self) -> list[tuple[str, Span]]:
         """The parts of a key, and what stands behind them is next."""
@@ -119,11 +119,13 @@ class Scanner:
         if first in "\"'":
             self.string()
         elif first == "[":
-            return Place(start, 0, self.array()).until(self.at)
+            items = self.array()
+            return Place(start, self.at, True, items)
         elif first == "{":
-            found = Place(start, 0, {})
+            found = Place(start, start)
             self.inline(found)
-            return found.until(self.at)
+            found.end = self.at
+            return found
         else:
             while self.at < len(self.text) and self.text[self.at] not in ENDS:
                 self.at += 1
@@ -173,9 +175,7 @@ class Scanner:
 
 def unquoted(word: str) -> str:
     """What a quoted key is, whose escapes tomllib reads."""
-    import tomllib
-
-    return tomllib.loads("it = " + word)["it"]
+    return str(tomllib.loads("it = " + word)["it"])
 
 
 def places_in(text: str) -> Place:
