@@ -26,7 +26,7 @@ use denote.RawPtr.{block_ptr}
 use denote.Signature.{plain}
 use denote.Steps.{heard, nothing, only}
 use denote.Triple.Call.{calls_at_last}
-use denote.Triple.Clauses.{InputError, Clauses}
+use denote.Triple.Clauses.{Ended, Clauses}
 use denote.Triple.Spec.{triple_of}
 use denote.Triple.Statement.{Triple, Contract}
 use denote.Triple.Table.{entered}
@@ -51,7 +51,7 @@ module _ (E : Bx) where
   abbrev fn' : Fn
   fn' = inst_fn (args E) code.function
 
-  abbrev ended : InputError
+  abbrev ended : Ended
   ended = F.ended E.row E.al.row E.al.g E.al.d E.al.drops
 
   abbrev From : RattleType

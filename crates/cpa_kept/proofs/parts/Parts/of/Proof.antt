@@ -28,7 +28,7 @@ use denote.Signature.{plain}
 use denote.Steps.{heard, nothing, only}
 use denote.Struct.Tuple.{Tuple}
 use denote.Triple.Call.{calls_at}
-use denote.Triple.Clauses.{InputError, Clauses}
+use denote.Triple.Clauses.{Ended, Clauses}
 use denote.Triple.Spec.{triple_of}
 use denote.Triple.Statement.{Triple, Contract}
 use denote.Triple.Table.{entered}
@@ -53,7 +53,7 @@ module _ (E : Bx) (dx : Dict) where
   abbrev fn' : Fn
   fn' = inst_fn args code.function
 
-  abbrev ended : InputError
+  abbrev ended : Ended
   ended = F.ended E.row E.al.row E.al.g E.al.d E.al.drops dx
 
   abbrev stayed : Stays ended.signature.params ended.kept
