@@ -19,7 +19,7 @@ last_too a Overload next next' h k e = inl refl
 last_too (Within a) (Within b) next next' h k e = inr (le-leb a next (let short = leb-true b next' e in omega arith))
 last_too Overload (Within b) next next' h k e = absurd h
 
-module _ (windows windows' : ℕ → Bound) (earliest earliest' : ℕ → ℕ) (limit : ℕ) (longer : (q : ℕ) → IsAtMost (windows q) (windows' q)) (sooner : (q : ℕ) → earliest' q ≤ earliest q) where
+module _ (windows windows' : ℕ → Bound) (earliest earliest' : ℕ → ℕ) (limit : ℕ) (longer : (q : ℕ) → 0 < q → IsAtMost (windows q) (windows' q)) (sooner : (q : ℕ) → earliest' q ≤ earliest q) where
   jobs : ℕ
   jobs = jobs_in_busy_window windows earliest limit
 
@@ -50,7 +50,7 @@ module _ (windows windows' : ℕ → Bound) (earliest earliest' : ℕ → ℕ) (
   unfolding response'
   overloads h =
       let within : jobs' ≤ limit = omega (arith, jobs-le) in
-      elim (last_too (windows jobs') (windows' jobs') (earliest (jobs' + 1)) (earliest' (jobs' + 1)) (longer jobs') (sooner (jobs' + 1)) (jobs'-last within)) [
+      elim (last_too (windows jobs') (windows' jobs') (earliest (jobs' + 1)) (earliest' (jobs' + 1)) (longer jobs' jobs'-ge) (sooner (jobs' + 1)) (jobs'-last within)) [
         | inl past ↦
             let here : response' jobs' ≡ Overload = rw past refl in
             subst (λ b. IsAtMost b (greatest_of response' jobs')) here (le-greatest_of response' jobs' jobs' jobs'-ge (omega arith))
@@ -64,7 +64,7 @@ module _ (windows windows' : ℕ → Bound) (earliest earliest' : ℕ → ℕ) (
         | inl fewer ↦ IsAtMost_trans (greatest_of (λ q. bound_minus (windows q) (earliest q)) jobs) Overload (greatest_of response' jobs') tt (overloads fewer)
         | inr more ↦
             greatest_of-mono (λ q. bound_minus (windows q) (earliest q)) response' jobs jobs' more
-            (λ q one le. bound_minus-mono (windows q) (windows' q) (earliest q) (earliest' q) (longer q) (sooner q))
+            (λ q one le. bound_minus-mono (windows q) (windows' q) (earliest q) (earliest' q) (longer q one) (sooner q))
       ]
 
 -- ---- what code that walks through the jobs of a busy window knows
@@ -192,7 +192,7 @@ busy_window_bound-overload windows earliest limit e =
 -- of two demands the one that asks for no less has no smaller a bound, where its jobs come no later
 pub busy_window_bound-grows : (demand demand' : ℕ → ℕ → Bound) (earliest earliest' : ℕ → ℕ) (limit : ℕ) → ((q w : ℕ) → IsAtMost (demand q w) (demand' q w)) → ((q : ℕ) → earliest' q ≤ earliest q) → IsAtMost (busy_window_bound (windows_of demand limit) earliest limit) (busy_window_bound (windows_of demand' limit) earliest' limit)
 busy_window_bound-grows demand demand' earliest earliest' limit more sooner =
-    busy_window_bound-mono (windows_of demand limit) (windows_of demand' limit) earliest earliest' limit (λ q. window-mono (demand q) (demand' q) 0 limit (more q)) sooner
+    busy_window_bound-mono (windows_of demand limit) (windows_of demand' limit) earliest earliest' limit (λ q one. window-mono (demand q) (demand' q) 0 limit (more q)) sooner
 
 -- the bound is at least what the first job asks for
 pub busy_window_bound-low : (demand : ℕ → ℕ → Bound) (own : Model) (limit least : ℕ) → ((w : ℕ) → IsAtMost (Within least) (demand 1 w)) → IsAtMost (Within least) (busy_window_bound (windows_of demand limit) (delta_minus own) limit)

@@ -26,7 +26,7 @@ LastJobExists =
 -- longer windows of jobs that come sooner leave no smaller a bound
 abbrev pub BusyWindowsGrow : Type 0
 BusyWindowsGrow =
-    (windows windows' : ℕ → Bound) (earliest earliest' : ℕ → ℕ) (limit : ℕ) → ((q : ℕ) → IsAtMost (windows q) (windows' q)) →
+    (windows windows' : ℕ → Bound) (earliest earliest' : ℕ → ℕ) (limit : ℕ) → ((q : ℕ) → 0 < q → IsAtMost (windows q) (windows' q)) →
     ((q : ℕ) → earliest' q ≤ earliest q) → IsAtMost (busy_window_bound windows earliest limit) (busy_window_bound windows' earliest' limit)
 
 -- where each job asks for so much at least, the search for the window of a job more may go on from the end of the last one
