@@ -8,20 +8,20 @@ use Rattle.cpa_window.specs.declared.rivals.Rival.{Rival}
 use Rattle.cpa_window.specs.Rivals.{work_in, AreNoHeavier}
 use Rattle.cpa_spp.specs.Preemptive.{preemptive_bound}
 
--- a denser input, a longer execution and heavier rivals leave no smaller a bound
+-- a denser input, a longer execution, more blocking and heavier rivals leave no smaller a bound
 abbrev pub PreemptiveBoundsGrow : Type 0
 PreemptiveBoundsGrow =
-    (own own' : Model) (worst worst' : ℕ) (rivals rivals' : List Rival) (limit : ℕ) → IsNoDenser own own' → worst ≤ worst' → AreNoHeavier rivals rivals' →
-    IsAtMost (preemptive_bound own worst rivals limit) (preemptive_bound own' worst' rivals' limit)
+    (own own' : Model) (worst worst' blocking blocking' : ℕ) (rivals rivals' : List Rival) (limit : ℕ) → IsNoDenser own own' → worst ≤ worst' → blocking ≤ blocking' → AreNoHeavier rivals rivals' →
+    IsAtMost (preemptive_bound own worst blocking rivals limit) (preemptive_bound own' worst' blocking' rivals' limit)
 
 -- a bound is at least the execution, and a number among bounds is within the limit
 abbrev pub PreemptiveBoundsAreInRange : Type 0
 PreemptiveBoundsAreInRange =
-    (own : Model) (worst : ℕ) (rivals : List Rival) (limit : ℕ) →
-    IsAtMost (Within worst) (preemptive_bound own worst rivals limit) × RespectsLimit limit (preemptive_bound own worst rivals limit)
+    (own : Model) (worst blocking : ℕ) (rivals : List Rival) (limit : ℕ) →
+    IsAtMost (Within worst) (preemptive_bound own worst blocking rivals limit) × RespectsLimit limit (preemptive_bound own worst blocking rivals limit)
 
 -- rivals that bring the same work leave the same bound: neither their slots nor their own bounds count
 abbrev pub PreemptiveBoundsGoByWork : Type 0
 PreemptiveBoundsGoByWork =
-    (own : Model) (worst : ℕ) (rivals rivals' : List Rival) (limit : ℕ) → ((w : ℕ) → work_in rivals w ≡ work_in rivals' w) →
-    preemptive_bound own worst rivals limit ≡ preemptive_bound own worst rivals' limit
+    (own : Model) (worst blocking : ℕ) (rivals rivals' : List Rival) (limit : ℕ) → ((w : ℕ) → work_in rivals w ≡ work_in rivals' w) →
+    preemptive_bound own worst blocking rivals limit ≡ preemptive_bound own worst blocking rivals' limit
