@@ -18,7 +18,7 @@ abbrev pub no_resource : DraftResource
 no_resource = record { name = []; kind = word.Preemptive; limit = None; gap = None; bit = None }
 
 abbrev pub no_task : DraftTask
-no_task = record { name = []; on = []; after = []; best = None; worst = None; payload = None; extended = None; priority = None; slot = None }
+no_task = record { name = []; on = []; after = []; best = None; worst = None; payload = None; extended = None; priority = None; slot = None; region = None }
 
 -- the entries by place
 abbrev pub resource_at : DraftLists → ℕ → DraftResource

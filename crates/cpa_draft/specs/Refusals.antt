@@ -48,7 +48,8 @@ source_fits r = is_within 1 MAX_PERIOD r.period && may_be_within 0 MAX_JITTER r.
 abbrev pub task_fits : DraftTask → Bool
 task_fits t =
     (may_be_within 1 MAX_EXECUTION t.best && may_be_within 1 MAX_EXECUTION t.worst)
-    && may_be_within 0 MAX_PAYLOAD t.payload && may_be_within 0 MAX_PRIORITY t.priority && may_be_within 1 MAX_EXECUTION t.slot
+    && may_be_within 0 MAX_PAYLOAD t.payload && may_be_within 0 MAX_PRIORITY t.priority
+    && may_be_within 1 MAX_EXECUTION t.slot && may_be_within 1 MAX_EXECUTION t.region
 
 abbrev pub path_fits : DraftPath → Bool
 path_fits p = may_be_within 1 MAX_PERIOD p.deadline
@@ -121,6 +122,10 @@ is_taken (Some rank) ranks = list_any (same_rank rank) ranks
 unfoldable pub known_priority : DraftLists → Option Refusal
 known_priority d = first_marked 8 Task (λ k t. is_taken (rank_of d t) (filter_map (rank_of d) (take k d.tasks))) d.tasks
 
+abbrev pub is_preemptive : KindWord → Bool
+is_preemptive word.Preemptive = true
+is_preemptive _ = false
+
 abbrev pub is_tdma : KindWord → Bool
 is_tdma word.Tdma = true
 is_tdma _ = false
@@ -138,9 +143,12 @@ abbrev pub turn_misfits : Bool → DraftTask → Bool
 turn_misfits true t = is_none t.priority || is_some t.slot
 turn_misfits false t = is_some t.priority || is_none t.slot
 
--- that, or a payload where the kind isn't can
+-- that, or a payload where the kind isn't can, or a region where it isn't preemptive
 abbrev pub task_misfits : Option KindWord → DraftTask → Bool
-task_misfits kind t = turn_misfits (by_priority kind) t || (is_some t.payload && not (is_can (unwrap_or kind word.Preemptive)))
+task_misfits kind t =
+    turn_misfits (by_priority kind) t
+    || (is_some t.payload && not (is_can (unwrap_or kind word.Preemptive)))
+    || (is_some t.region && not (is_preemptive (unwrap_or kind word.Preemptive)))
 
 -- 9: what an entry has doesn't fit the kind
 unfoldable pub misfit : DraftLists → Option Refusal

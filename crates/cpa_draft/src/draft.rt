@@ -134,6 +134,7 @@ pub struct DraftTask {
     pub extended: Option<bool>,
     pub priority: Option<i64>,
     pub slot: Option<i64>,
+    pub region: Option<i64>,
 }
 
 /// A path as it was read.

@@ -94,6 +94,7 @@ impl Entry for DraftTask {
             && may_be_within(0, MAX_PAYLOAD, self.payload)
             && may_be_within(0, MAX_PRIORITY, self.priority)
             && may_be_within(1, MAX_EXECUTION, self.slot)
+            && may_be_within(1, MAX_EXECUTION, self.region)
     }
 }
 

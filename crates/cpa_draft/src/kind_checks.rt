@@ -3,7 +3,7 @@
 ghost use Rattle.std.specs.Prelude.{◌≡◌, ◌<◌, ◌-◌, ◌^◌, IfSome};
 ghost use Rattle.cpa_draft.specs.First.{first_place};
 ghost use Rattle.cpa_draft.specs.Names.{AreTables, kind_of};
-ghost use Rattle.cpa_draft.specs.Refusals.{◌or_else◌, is_tdma, is_can, resource_misfits, turn_misfits, task_misfits, is_crossed, misfit, crossed};
+ghost use Rattle.cpa_draft.specs.Refusals.{◌or_else◌, is_preemptive, is_tdma, is_can, resource_misfits, turn_misfits, task_misfits, is_crossed, misfit, crossed};
 
 use crate::draft::{Draft, DraftResource, DraftTask, KindWord};
 use crate::entry_checks::{refuse, refuse_at};
@@ -11,6 +11,15 @@ use crate::numbers::natural_or;
 use crate::ranks::is_by_priority;
 use crate::refusal::{Part, Refusal};
 use crate::tables::Tables;
+
+fn is_preemptive(kind: KindWord) -> bool
+    ensures { result ≡ is_preemptive kind }
+{
+    match kind {
+        KindWord::Preemptive => true,
+        _ => false,
+    }
+}
 
 fn is_tdma(kind: KindWord) -> bool
     ensures { result ≡ is_tdma kind }
@@ -59,8 +68,10 @@ fn has_wrong_turn(by_priority: bool, task: &DraftTask) -> bool
 fn misfits_kind(kind: Option<KindWord>, task: &DraftTask) -> bool
     ensures { result ≡ task_misfits kind task.now }
 {
+    let word = kind.unwrap_or(KindWord::Preemptive);
     has_wrong_turn(is_by_priority(kind), task)
-        || (task.payload.is_some() && !is_can(kind.unwrap_or(KindWord::Preemptive)))
+        || (task.payload.is_some() && !is_can(word))
+        || (task.region.is_some() && !is_preemptive(word))
 }
 
 fn misfits_task(draft: &Draft, tables: &Tables, task: &DraftTask) -> bool
