@@ -100,6 +100,7 @@ pub(crate) fn make_addition(
         best: numbers.best,
         worst: numbers.worst,
         turn,
+        region: 1,
     };
     system.push_task(task)?;
     Ok(())

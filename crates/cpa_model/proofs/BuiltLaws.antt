@@ -1,5 +1,5 @@
 -- The system that a draft stands for keeps the rules, where no reason applies to the draft.
-use Rattle.std.proofs.Common.{◌≡◌, ◌≢◌, is_some, ℕ, ℤ, zero, suc, ◌+◌, ◌-◌, ◌<◌, ◌≤◌, Bool, true, false, not, nat_le, nat_lt, cond, List, [], ◌∷◌, map, length, take, get_or, slice_index_or, All, Option, Some, None, IsSome, is_none, option_map, unwrap_or, refl, sym, ap, ◌∙◌, arith, inl, inr, eq-eqb, lit≤, length-append, length-take}
+use Rattle.std.proofs.Common.{◌≡◌, ◌≢◌, is_some, ℕ, ℤ, zero, suc, ◌+◌, ◌-◌, ◌<◌, ◌≤◌, Bool, true, false, not, ◌&&◌, nat_le, nat_lt, cond, List, [], ◌∷◌, map, length, take, get_or, slice_index_or, All, Option, Some, None, IsSome, is_none, option_map, unwrap_or, refl, sym, ap, ◌∙◌, arith, inl, inr, eq-eqb, lit≤, length-append, length-take}
 use Rattle.std.specs.Option.{ForSome}
 use Rattle.std.specs.List.{list_all, list_any, filter_map, cons_option, range_with_len, fold, flat_map, sum, sum_by, AllPairs}
 use Rattle.std.proofs.lemmas.List.Concat.{length-flat_map}
@@ -20,11 +20,12 @@ use Rattle.cpa_draft.specs.Numbers.{nat_of, nat_or, may_be_within}
 use Rattle.cpa_draft.specs.DraftLists.{DraftLists, resource_at as draft_resource_at, task_at as draft_task_at, no_resource as no_draft_resource, no_task as no_draft_task}
 use Rattle.cpa_draft.specs.Names.{resource_names, source_names, task_names, activity_names as draft_names, place_of, kind_of, link_at, link_of, links_of, is_nothing, is_task, is_after}
 use Rattle.cpa_draft.specs.Chains.{link_step, longer, links_step, chain_within, first_longer, count_step, stream_count_within}
-use Rattle.cpa_draft.specs.Refusals.{by_priority, turn_misfits, rank_of, same_rank, is_taken, is_linked, task_fits, is_misfed, has_double}
+use Rattle.cpa_draft.specs.Refusals.{by_priority, is_preemptive, turn_misfits, task_misfits, rank_of, same_rank, is_taken, is_linked, task_fits, is_misfed, has_double}
 use Rattle.cpa_draft.specs.declared.draft.DraftResource.{DraftResource}
 use Rattle.cpa_draft.specs.declared.draft.DraftSource.{DraftSource}
 use Rattle.cpa_draft.specs.declared.draft.DraftTask.{DraftTask}
 use Rattle.cpa_draft.specs.declared.draft.DraftPath.{DraftPath}
+use Rattle.cpa_draft.specs.declared.draft.KindWord.TheVariants as word
 use Rattle.cpa_draft.specs.declared.links.Link.{Link}
 use Rattle.cpa_draft.specs.declared.links.Link.TheVariants as link
 use Rattle.cpa_draft.proofs.FirstLemmas.{none_marked}
@@ -41,10 +42,10 @@ use Rattle.cpa_model.specs.declared.entries.Activator.{Activator}
 use Rattle.cpa_model.specs.declared.entries.Activator.TheVariants as activator
 use Rattle.cpa_model.specs.Chains.{chain_step, depth_within, activators, streams_step, streams_within}
 use Rattle.cpa_model.specs.SystemLists.{SystemLists, task_at, streams_of, is_task as is_the_task, no_resource, no_task}
-use Rattle.cpa_model.specs.Rules.{IsSystem, IsResource, IsSource, IsTask, IsActivator, IsPath, IsLinked, AllDiffer, HaveOwnPriorities, TurnFits, activity_names}
+use Rattle.cpa_model.specs.Rules.{IsSystem, IsResource, IsSource, IsTask, IsActivator, IsPath, IsLinked, AllDiffer, HaveOwnPriorities, TurnFits, RegionFits, activity_names}
 use Rattle.cpa_model.specs.Built.{built_kind, built_resource, built_source, built_task, built_path, built_turn, built_activator, activator_at, resource_place, activity_place, bit_time, task_named, has_executions, TaskFitsTypes, PathFitsTypes, system_of}
 use Rattle.cpa_model.proofs.SystemLaws.{path-short, activators-few}
-use Rattle.cpa_model.proofs.EntryLaws.{may-range, range, resource-kept, source-kept, place-kept, nothing-none, link-kept, task-kept, turn-kept, executions-kept}
+use Rattle.cpa_model.proofs.EntryLaws.{may-range, range, resource-kept, source-kept, place-kept, nothing-none, link-kept, task-kept, turn-kept, region-kept, executions-kept}
 
 -- chains
 
@@ -226,22 +227,29 @@ activators-differ d names differ know =
     (nothing-none (length d.sources) _ (know i e (omega arith))) (nothing-none (length d.sources) _ (know j e less))
     (at-same (length d.sources) (activity_place d (get_or names i e)) (activity_place d (get_or names j e)) same)))
 
+-- a task that suits the kind of its resource has a turn of the right sort
+turn-suits : (d : DraftLists) (t : DraftTask) → task_misfits (kind_of d t.on) t ≡ false → turn_misfits (by_priority (kind_of d t.on)) t ≡ false
+turn-suits d t suit = (or_parts _ _ (or_parts _ _ suit).0).0
+
 task-kept-at : (d : DraftLists) → IsUnrefused d → All (λ t. has_executions t ≡ true) d.tasks → (i : ℕ) (t : DraftTask) → i < length d.tasks → IsTask (system_of d) (built_task d (get_or d.tasks i t))
 unfolding system_of built_task
 task-kept-at d u given i e less =
     let t = get_or d.tasks i e in
     let know : (is_none (place_of (resource_names d) t.on) ≡ false) × (list_any (λ name. is_nothing (link_of d name)) t.after ≡ false) = or_parts _ _ (u.tasks_know i e less) in
     let below : resource_place d t.on < length d.resources = omega (arith, place-kept (resource_names d) t.on know.0, length-map d.resources (λ (r : DraftResource). r.name)) in
-    let fit = and_parts _ _ (u.tasks_fit i e less) in
+    let fit-region = and_parts _ _ (u.tasks_fit i e less) in
+    let fit = and_parts _ _ fit-region.0 in
     let fit-priority = and_parts _ _ fit.0 in
     let fit-payload = and_parts _ _ fit-priority.0 in
     let fit-executions = and_parts _ _ fit-payload.0 in
     let run = executions-kept t.best t.worst t.payload t.extended (bit_time d t.on) (given i e less) fit-executions.0 fit-executions.1 fit-payload.1 (u.ordered i e less) (bit-kept d u t.on know.0) in
-    let suit : turn_misfits (by_priority (kind_of d t.on)) t ≡ false = (or_parts _ _ (u.tasks_suit i e less)).0 in
+    let suit = turn-suits d t (u.tasks_suit i e less) in
+    let suit-region : (is_some t.region && not (is_preemptive (unwrap_or (kind_of d t.on) word.Preemptive))) ≡ false = (or_parts _ _ (u.tasks_suit i e less)).1 in
     let is_kind = kind-some d t.on know.0 in
     let r = draft_resource_at d (resource_place d t.on) in
     let turn : TurnFits (built_kind r.kind r.gap r.bit) (built_turn (by_priority (kind_of d t.on)) t) =
     rw is_kind (turn-kept r.kind r.gap r.bit t (rw is_kind at suit) fit-priority.1 fit.1) in
+    let region : RegionFits (built_kind r.kind r.gap r.bit) (nat_or 1 t.region) = region-kept r.kind r.gap r.bit t.region (rw is_kind at suit-region) fit-region.1 in
     record {
       placed = rw (length-map d.resources built_resource) below;
       some = rw (length-map t.after (built_activator d)) (is_fed d u i e less).some;
@@ -253,6 +261,7 @@ task-kept-at d u given i e less =
       ordered = run.ordered;
       worst = run.small;
       turn_fits = rw (get_or-map built_resource d.resources (resource_place d t.on) no_draft_resource no_resource below) turn;
+      region_fits = rw (get_or-map built_resource d.resources (resource_place d t.on) no_draft_resource no_resource below) region;
     }
 
 -- priorities
@@ -283,8 +292,8 @@ unfolding built_task
 own-priorities d u i j e before less same number turn-i turn-j =
     let t = get_or d.tasks i e in
     let v = get_or d.tasks j e in
-    let rank-t : rank_of d t ≡ Some (resource_place d t.on, number) = rank-from (by_priority (kind_of d t.on)) (resource_place d t.on) number t (or_parts _ _ (u.tasks_suit i e (omega arith))).0 turn-i in
-    let rank-v : rank_of d v ≡ Some (resource_place d v.on, number) = rank-from (by_priority (kind_of d v.on)) (resource_place d v.on) number v (or_parts _ _ (u.tasks_suit j e less)).0 turn-j in
+    let rank-t : rank_of d t ≡ Some (resource_place d t.on, number) = rank-from (by_priority (kind_of d t.on)) (resource_place d t.on) number t (turn-suits d t (u.tasks_suit i e (omega arith))) turn-i in
+    let rank-v : rank_of d v ≡ Some (resource_place d v.on, number) = rank-from (by_priority (kind_of d v.on)) (resource_place d v.on) number v (turn-suits d v (u.tasks_suit j e less)) turn-j in
     let place : resource_place d t.on ≡ resource_place d v.on = ap (λ (r : ResId). r.0) same in
     let there : rank_of d (get_or (take j d.tasks) i e) ≡ Some (resource_place d v.on, number) = rw (get_or-take j d.tasks i e before) (rank-t ∙ ap (λ k. Some (k, number)) place) in
     let taken : is_taken (Some (resource_place d v.on, number)) (filter_map (rank_of d) (take j d.tasks)) ≡ true =
@@ -423,7 +432,8 @@ record FitParts (t : DraftTask) : Type 0 where
 
 fit-parts : (t : DraftTask) → task_fits t ≡ true → FitParts t
 fit-parts t h =
-    let fit = and_parts _ _ h in
+    let fit-region = and_parts _ _ h in
+    let fit = and_parts _ _ fit-region.0 in
     let fit-priority = and_parts _ _ fit.0 in
     let fit-payload = and_parts _ _ fit-priority.0 in
     record {

@@ -1,11 +1,11 @@
 -- The rules of an entry, from what a draft has to which no reason applies.
-use Rattle.std.proofs.Common.{◌≡◌, ℕ, ℤ, pos, negsuc, ◌-◌, ◌*◌, ◌<◌, ◌≤◌, Bool, true, false, ◌&&◌, ◌||◌, nat_lt, List, length, Option, Some, None, is_some, is_none, unwrap_or, refl, arith, inl, inr, lit≤}
+use Rattle.std.proofs.Common.{◌≡◌, ℕ, ℤ, pos, negsuc, ◌-◌, ◌*◌, ◌<◌, ◌≤◌, Bool, true, false, not, ◌&&◌, ◌||◌, nat_lt, List, length, Option, Some, None, is_some, is_none, unwrap_or, refl, arith, inl, inr, lit≤}
 use Rattle.std.proofs.Math.Nat.{mul-le-mul_right}
 use Rattle.std.proofs.lemmas.Bool.{and_parts, or_parts, false≢true, true≢false, leb-true, ltb-false, cases_Bool}
 use Rattle.cpa_units.specs.Frames.{least_frame_bits, greatest_frame_bits}
 use Rattle.cpa_draft.specs.Numbers.{nat_of, nat_or, is_within, may_be_within}
 use Rattle.cpa_draft.specs.Names.{place_of, link_at, is_nothing, is_task}
-use Rattle.cpa_draft.specs.Refusals.{resource_fits, source_fits, by_priority, turn_misfits}
+use Rattle.cpa_draft.specs.Refusals.{resource_fits, source_fits, by_priority, is_preemptive, turn_misfits}
 use Rattle.cpa_draft.specs.declared.draft.DraftResource.{DraftResource}
 use Rattle.cpa_draft.specs.declared.draft.DraftSource.{DraftSource}
 use Rattle.cpa_draft.specs.declared.draft.DraftTask.{DraftTask}
@@ -13,7 +13,7 @@ use Rattle.cpa_draft.specs.declared.draft.KindWord.{KindWord}
 use Rattle.cpa_draft.specs.declared.draft.KindWord.TheVariants as word
 use Rattle.cpa_draft.specs.declared.links.Link.TheVariants as link
 use Rattle.cpa_draft.proofs.NameLaws.{place_below}
-use Rattle.cpa_model.specs.Rules.{IsResource, IsSource, KindFits, TurnFits}
+use Rattle.cpa_model.specs.Rules.{IsResource, IsSource, KindFits, TurnFits, RegionFits}
 use Rattle.cpa_model.specs.Built.{built_kind, built_resource, built_source, built_turn, least_execution, greatest_execution}
 
 -- numbers in their ranges
@@ -96,6 +96,17 @@ turn-kept word.Preemptive gap bit t h p s = (may-range 0 536870911 0 t.priority 
 turn-kept word.Can gap bit t h p s = (may-range 0 536870911 0 t.priority (lit≤ tt, lit≤ tt) p).1
 turn-kept word.RoundRobin gap bit t h p s = there-range 1 1000000 t.slot (or_parts _ _ h).1 s
 turn-kept word.Tdma gap bit t h p s = there-range 1 1000000 t.slot (or_parts _ _ h).1 s
+
+-- regions
+
+pub region-kept : (w : KindWord) (gap bit region : Option ℤ) → (is_some region && not (is_preemptive w)) ≡ false → may_be_within 1 1000000 region ≡ true → RegionFits (built_kind w gap bit) (nat_or 1 region)
+region-kept word.Preemptive gap bit region h r = may-range 1 1000000 1 region (lit≤ tt, lit≤ tt) r
+region-kept word.RoundRobin gap bit None h r = refl
+region-kept word.RoundRobin gap bit (Some z) h r = absurd (true≢false h)
+region-kept word.Tdma gap bit None h r = refl
+region-kept word.Tdma gap bit (Some z) h r = absurd (true≢false h)
+region-kept word.Can gap bit None h r = refl
+region-kept word.Can gap bit (Some z) h r = absurd (true≢false h)
 
 -- executions
 

@@ -1,8 +1,9 @@
 -- The redraft of a system is accepted, and it stands for the system.
-use Rattle.std.proofs.Common.{◌≡◌, ℕ, pos, ◌<◌, List, map, length, get_or, All, Option, Some, None, option_map, refl, ap, ◌∙◌}
+use Rattle.std.proofs.Common.{◌≡◌, ℕ, pos, ◌<◌, List, map, length, get_or, All, Option, Some, None, option_map, refl, sym, ap, ◌∙◌, inl, inr}
+use Rattle.std.proofs.lemmas.Bool.{cases_eq, eq-eqb, ne_eqb}
 use Rattle.std.proofs.lemmas.List.Folds.{map_fixed}
 use Rattle.cpa_units.specs.declared.places.TaskId.{TaskId}
-use Rattle.cpa_draft.specs.Numbers.{nat_of}
+use Rattle.cpa_draft.specs.Numbers.{nat_of, nat_or}
 use Rattle.cpa_draft.specs.Names.{kind_of}
 use Rattle.cpa_draft.specs.Refusals.{by_priority, first_refusal}
 use Rattle.cpa_draft.proofs.ListLaws.{map-map}
@@ -18,7 +19,7 @@ use Rattle.cpa_model.specs.declared.entries.Turn.TheVariants as turn
 use Rattle.cpa_model.specs.SystemLists.{SystemLists, resource_at, task_at}
 use Rattle.cpa_model.specs.Rules.{IsSystem, IsTask, IsPath, TurnFits}
 use Rattle.cpa_model.specs.Built.{built_kind, built_resource, built_source, built_task, built_path, built_turn, task_named, system_of}
-use Rattle.cpa_model.specs.Redraft.{word_of, gap_at, bit_at, redraft_resource, redraft_source, redraft_task, redraft_path, redraft}
+use Rattle.cpa_model.specs.Redraft.{word_of, gap_at, bit_at, region_at, redraft_resource, redraft_source, redraft_task, redraft_path, redraft}
 use Rattle.cpa_model.proofs.RedraftNames.{place_of-resource, kind_of-redraft, activators-back, task-back}
 use Rattle.cpa_model.proofs.RedraftUnrefused.{redraft-unrefused}
 
@@ -48,14 +49,21 @@ turn-back s t (kind.Tdma gap) (turn.Slot ticks) is fits = rw is refl
 turn-back s t (kind.Can bit) (turn.Priority number) is fits = rw is refl
 turn-back s t (kind.Can bit) (turn.Slot ticks) is fits = absurd fits
 
--- and a task with its turn
+-- a region comes back
+region-back : (ticks : ℕ) → nat_or 1 (region_at ticks) ≡ ticks
+region-back ticks = elim (cases_eq ticks 1) [
+  | inl is ↦ rw (eq-eqb ticks 1 is) (sym is)
+  | inr isn't ↦ rw (ne_eqb ticks 1 isn't) refl
+]
+
+-- and a task with its turn and its region
 task_entry-back : (s : SystemLists) → IsSystem s → (t : Task) → IsTask s t → built_task (redraft s) (redraft_task s t) ≡ t
 unfolding built_task
 task_entry-back s rules t fits =
     let is_turn : built_turn (by_priority (kind_of (redraft s) (resource_at s t.res.0).name)) (redraft_task s t) ≡ t.turn =
     ap (λ o. built_turn (by_priority o) (redraft_task s t)) (kind_of-redraft s rules t.res.0 fits.placed)
     ∙ turn-back s t (resource_at s t.res.0).kind t.turn refl fits.turn_fits in
-    rw (is_turn, place_of-resource s rules t.res.0 fits.placed, activators-back s rules t.after fits.activated) refl
+    rw (is_turn, place_of-resource s rules t.res.0 fits.placed, activators-back s rules t.after fits.activated, region-back t.region) refl
 
 -- a deadline comes back
 deadline-back : (o : Option ℕ) → option_map nat_of (option_map pos o) ≡ o

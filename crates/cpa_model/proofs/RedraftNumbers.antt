@@ -1,9 +1,10 @@
 -- The numbers of the redraft of a system are in their ranges, and they fit the kinds.
-use Rattle.std.proofs.Common.{◌≡◌, ℕ, pos, ◌≤◌, true, false, Option, Some, None, option_map, refl, arith}
+use Rattle.std.proofs.Common.{◌≡◌, ℕ, pos, ◌≤◌, true, false, not, ◌&&◌, Option, Some, None, is_some, option_map, refl, inl, inr, arith}
 use Rattle.std.specs.Option.{ForSome}
-use Rattle.std.proofs.lemmas.Bool.{and_from, le-leb, le-ltb}
+use Rattle.std.proofs.lemmas.Bool.{and_from, or_from, cases_eq, eq-eqb, ne_eqb, le-leb, le-ltb}
+use Rattle.std.proofs.Math.Bool.{and-false}
 use Rattle.cpa_draft.specs.Numbers.{is_within, may_be_within}
-use Rattle.cpa_draft.specs.Refusals.{resource_fits, source_fits, task_fits, path_fits, by_priority, turn_misfits, task_misfits, resource_misfits, is_crossed}
+use Rattle.cpa_draft.specs.Refusals.{resource_fits, source_fits, task_fits, path_fits, by_priority, is_preemptive, turn_misfits, task_misfits, resource_misfits, is_crossed}
 use Rattle.cpa_model.specs.declared.entries.Resource.{Resource}
 use Rattle.cpa_model.specs.declared.entries.Source.{Source}
 use Rattle.cpa_model.specs.declared.entries.Task.{Task}
@@ -13,8 +14,9 @@ use Rattle.cpa_model.specs.declared.entries.Kind.TheVariants as kind
 use Rattle.cpa_model.specs.declared.entries.Turn.{Turn}
 use Rattle.cpa_model.specs.declared.entries.Turn.TheVariants as turn
 use Rattle.cpa_model.specs.SystemLists.{SystemLists, resource_at}
-use Rattle.cpa_model.specs.Rules.{IsResource, IsSource, IsTask, IsPath, KindFits, TurnFits}
-use Rattle.cpa_model.specs.Redraft.{word_of, gap_at, bit_at, priority_at, slot_at, redraft_resource, redraft_source, redraft_task, redraft_path}
+use Rattle.cpa_model.specs.Rules.{IsResource, IsSource, IsTask, IsPath, KindFits, TurnFits, RegionFits}
+use Rattle.cpa_model.proofs.SystemLaws.{region-range}
+use Rattle.cpa_model.specs.Redraft.{word_of, gap_at, bit_at, priority_at, slot_at, region_at, redraft_resource, redraft_source, redraft_task, redraft_path}
 
 -- a number in its range
 number-within : (least most n : ℕ) → least ≤ n → n ≤ most → is_within least most (pos n) ≡ true
@@ -64,13 +66,25 @@ slot-within kind.RoundRobin (turn.Slot ticks) fits = number-within 1 1000000 tic
 slot-within (kind.Tdma gap) (turn.Slot ticks) fits = number-within 1 1000000 ticks fits.0 fits.1
 slot-within (kind.Can bit) (turn.Slot ticks) fits = absurd fits
 
+-- the region that is written
+region-within : (ticks : ℕ) → 1 ≤ ticks → ticks ≤ 1000000 → may_be_within 1 1000000 (region_at ticks) ≡ true
+region-within ticks some most = elim (cases_eq ticks 1) [
+  | inl is ↦ rw (eq-eqb ticks 1 is) refl
+  | inr isn't ↦ rw (ne_eqb ticks 1 isn't) (number-within 1 1000000 ticks some most)
+]
+
 -- the numbers of a task
 pub task-fits : (s : SystemLists) (t : Task) → IsTask s t → task_fits (redraft_task s t) ≡ true
 task-fits s t fits =
     let k = (resource_at s t.res.0).kind in
     let best : is_within 1 1000000 (pos t.best) ≡ true = number-within 1 1000000 t.best fits.some_best (omega (arith, fits.ordered, fits.worst)) in
     let worst : is_within 1 1000000 (pos t.worst) ≡ true = number-within 1 1000000 t.worst (omega (arith, fits.some_best, fits.ordered)) fits.worst in
-    and_from _ _ (and_from _ _ (and_from _ _ (and_from _ _ best worst) refl) (priority-within k t.turn fits.turn_fits)) (slot-within k t.turn fits.turn_fits)
+    let range = region-range k t.region fits.region_fits in
+    and_from _ _
+    (and_from _ _
+    (and_from _ _ (and_from _ _ (and_from _ _ best worst) refl) (priority-within k t.turn fits.turn_fits))
+    (slot-within k t.turn fits.turn_fits))
+    (region-within t.region range.0 range.1)
 
 -- a deadline
 deadline-within : (o : Option ℕ) → ForSome o (λ d. (1 ≤ d) × (d ≤ 1000000000)) → may_be_within 1 1000000000 (option_map pos o) ≡ true
@@ -103,9 +117,18 @@ turn-suits s t (kind.Tdma gap) (turn.Slot ticks) is fits = rw is refl
 turn-suits s t (kind.Can bit) (turn.Priority number) is fits = rw is refl
 turn-suits s t (kind.Can bit) (turn.Slot ticks) is fits = absurd fits
 
--- and no payload
+-- a region is written under preemptive priority alone
+region-suits : (k : Kind) (ticks : ℕ) → RegionFits k ticks → (is_some (region_at ticks) && not (is_preemptive (word_of k))) ≡ false
+region-suits kind.Preemptive ticks fits = and-false (is_some (region_at ticks))
+region-suits kind.RoundRobin ticks fits = rw fits refl
+region-suits (kind.Tdma gap) ticks fits = rw fits refl
+region-suits (kind.Can bit) ticks fits = rw fits refl
+
+-- so a task has what the kind of its resource wants, and no payload
 pub task-suits : (s : SystemLists) (t : Task) → IsTask s t → task_misfits (Some (word_of (resource_at s t.res.0).kind)) (redraft_task s t) ≡ false
-task-suits s t fits = rw (turn-suits s t (resource_at s t.res.0).kind t.turn refl fits.turn_fits) refl
+task-suits s t fits =
+    let k = (resource_at s t.res.0).kind in
+    or_from _ _ (or_from _ _ (turn-suits s t k t.turn refl fits.turn_fits) refl) (region-suits k t.region fits.region_fits)
 
 -- the least execution isn't above the greatest
 pub task-ordered : (s : SystemLists) (t : Task) → IsTask s t → is_crossed (redraft_task s t) ≡ false

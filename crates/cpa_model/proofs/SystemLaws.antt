@@ -22,7 +22,7 @@ use Rattle.cpa_model.specs.Chains.{chain_step, depth_within, streams_step, strea
 use Rattle.cpa_model.proofs.ActivatorLaws.{HasActivator, has-task, has-source, has-each, flat_map-same, flat_map-all, flat_map-long}
 use Rattle.cpa_model.proofs.ChainLaws.{Links, streams_by, depth_within-none, streams_within-next, streams_within-step}
 use Rattle.cpa_model.proofs.LongestLaws.{IsWithin, within-more, within-some, some-within, longest-start, longest-each, longest-all, longest_more, step-back}
-use Rattle.cpa_model.specs.Rules.{IsSystem, IsPath, IsActivator, TurnFits, KindFits}
+use Rattle.cpa_model.specs.Rules.{IsSystem, IsPath, IsActivator, TurnFits, RegionFits, KindFits}
 use Rattle.cpa_model.specs.SystemLists.{SystemLists, task_at, no_task, depth_of, root_of, stream_at, streams_of, is_activated_by, is_fed_by, slot_of, gap_of}
 
 -- what the activators of a task are among those of all
@@ -283,6 +283,20 @@ slot-small kind.Preemptive (turn.Slot ticks) h = absurd h
 slot-small kind.RoundRobin (turn.Slot ticks) h = h.1
 slot-small (kind.Tdma gap) (turn.Slot ticks) h = h.1
 slot-small (kind.Can bit) (turn.Slot ticks) h = absurd h
+
+-- a region is in its range under any kind
+pub region-range : (k : Kind) (ticks : ℕ) → RegionFits k ticks → (1 ≤ ticks) × (ticks ≤ 1000000)
+region-range kind.Preemptive ticks h = h
+region-range kind.RoundRobin ticks h = (omega arith, omega arith)
+region-range (kind.Tdma gap) ticks h = (omega arith, omega arith)
+region-range (kind.Can bit) ticks h = (omega arith, omega arith)
+
+-- and a region of a tick fits any kind
+pub tick-fits : (k : Kind) → RegionFits k 1
+tick-fits kind.Preemptive = (omega arith, omega arith)
+tick-fits kind.RoundRobin = refl
+tick-fits (kind.Tdma gap) = refl
+tick-fits (kind.Can bit) = refl
 
 pub gap-small : (k : Kind) → KindFits k → gap_of k ≤ 1000000
 gap-small kind.Preemptive h = omega arith

@@ -81,6 +81,7 @@ built_task d t = record {
   best = least_execution t.payload (unwrap_or t.extended false) (bit_time d t.on) (nat_or 0 t.best);
   worst = greatest_execution t.payload (unwrap_or t.extended false) (bit_time d t.on) (nat_or 0 t.worst);
   turn = built_turn (by_priority (kind_of d t.on)) t;
+  region = nat_or 1 t.region;
 }
 
 -- the place of the task with a name

@@ -1,5 +1,5 @@
 -- The draft that says the same as a system.
-use Rattle.std.specs.Prelude.{◌≡◌, ℕ, ℤ, pos, List, map, Option, Some, None, option_map}
+use Rattle.std.specs.Prelude.{◌≡◌, ℕ, ℤ, pos, ◌==◌, if◌then◌else◌, List, map, Option, Some, None, option_map}
 use Rattle.cpa_units.specs.declared.places.TaskId.{TaskId}
 use Rattle.cpa_model.specs.declared.entries.Resource.{Resource}
 use Rattle.cpa_model.specs.declared.entries.Source.{Source}
@@ -49,6 +49,10 @@ abbrev pub slot_at : Turn → Option ℤ
 slot_at (Priority number) = None
 slot_at (Slot ticks) = Some (pos ticks)
 
+-- a region that isn't the default
+abbrev pub region_at : ℕ → Option ℤ
+region_at ticks = if ticks == 1 then None else Some (pos ticks)
+
 abbrev pub redraft_task : SystemLists → Task → DraftTask
 redraft_task s t = record {
   name = t.name;
@@ -60,6 +64,7 @@ redraft_task s t = record {
   extended = None;
   priority = priority_at t.turn;
   slot = slot_at t.turn;
+  region = region_at t.region;
 }
 
 abbrev pub redraft_path : SystemLists → Path → DraftPath

@@ -49,6 +49,11 @@ TurnFits kind.RoundRobin (turn.Slot ticks) = (1 ≤ ticks) × (ticks ≤ MAX_EXE
 TurnFits (kind.Tdma gap) (turn.Slot ticks) = (1 ≤ ticks) × (ticks ≤ MAX_EXECUTION)
 TurnFits _ _ = ⊥
 
+-- a region is in its range; only under preemptive priority is it more than a tick
+abbrev pub RegionFits : Kind → ℕ → Type 0
+RegionFits kind.Preemptive ticks = (1 ≤ ticks) × (ticks ≤ MAX_EXECUTION)
+RegionFits _ ticks = ticks ≡ 1
+
 pub record IsTask (s : SystemLists) (t : Task) : Type 0 where
   pub placed : t.res.0 < length s.resources
   pub some : 0 < length t.after
@@ -58,6 +63,7 @@ pub record IsTask (s : SystemLists) (t : Task) : Type 0 where
   pub ordered : t.best ≤ t.worst
   pub worst : t.worst ≤ MAX_EXECUTION
   pub turn_fits : TurnFits (resource_at s t.res.0).kind t.turn
+  pub region_fits : RegionFits (resource_at s t.res.0).kind t.region
 
 -- each task of a path is among the activators of the next
 abbrev pub IsLinked : SystemLists → List TaskId → Type 0

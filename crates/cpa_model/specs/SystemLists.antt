@@ -1,5 +1,5 @@
 -- A system: its resources, sources, tasks and paths, as in the system graphs of SymTA/S.
-use Rattle.std.specs.Prelude.{ℕ, ◌+◌, ◌==◌, ◌&&◌, nat_lt, not, max, Bool, false, List, [], filter, map, sum_by, fold, length, slice_index_or, None, Option, option_map, position, unwrap_or}
+use Rattle.std.specs.Prelude.{ℕ, ◌+◌, ◌==◌, ◌&&◌, nat_lt, not, Bool, false, List, [], filter, map, sum_by, length, slice_index_or, None, Option, option_map, position, unwrap_or}
 use Rattle.std.specs.List.{range_with_len, list_any}
 use Rattle.std.specs.Str.{bytes_eq}
 use Rattle.cpa_units.specs.declared.limits.TheConstants.{MAX_CHAIN}
@@ -33,7 +33,7 @@ abbrev pub no_source : Source
 no_source = record { name = []; period = 1; jitter = 0; distance = 0 }
 
 abbrev pub no_task : Task
-no_task = record { name = []; res = record { 0 = 0 }; after = []; best = 0; worst = 0; turn = turn.Priority 0 }
+no_task = record { name = []; res = record { 0 = 0 }; after = []; best = 0; worst = 0; turn = turn.Priority 0; region = 1 }
 
 abbrev pub no_path : Path
 no_path = record { name = []; tasks = []; deadline = None }
@@ -105,10 +105,6 @@ is_other s i j = shares_resource s i j && not (j == i)
 
 abbrev pub other_tasks : SystemLists → ℕ → List ℕ
 other_tasks s i = filter (is_other s i) (task_places s)
-
--- the greatest execution among the tasks of lower priority, 0 if there are none
-abbrev pub blocking_of : SystemLists → ℕ → ℕ
-blocking_of s i = fold (λ most j. max most (task_at s j).worst) 0 (filter (λ j. is_higher s j i) (task_places s))
 
 -- the gap of a kind, 0 where it has none
 abbrev pub gap_of : Kind → ℕ

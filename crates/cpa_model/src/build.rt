@@ -167,6 +167,7 @@ fn build_task(
         worst,
         turn: build_turn(is_by_priority(draft.kind_of(found)), task),
         after: build_activators(draft, tables, task.after.names()),
+        region: natural_or(1, task.region),
     })
 }
 

@@ -41,6 +41,7 @@ fn copy_task(alloc: Global, task: &Task) -> Result<Task, NoMemory>
         worst: task.worst,
         turn: task.turn,
         after: task.after.duplicate(),
+        region: task.region,
     })
 }
 

@@ -118,6 +118,9 @@ pub struct Task {
     pub turn: Turn,
     /// Any one of them starts a job.
     pub after: Activators,
+    /// For so many ticks a job isn't preempted once it has begun a region, 1 to 1,000,000; 1 where the resource isn't
+    /// preemptive.
+    pub region: u64,
 }
 
 /// The tasks of a path, each of which is an activator of the next.

@@ -18,5 +18,6 @@ returns-clause-ok c =
       c.resource-found.ensures,
       c.bytes.ensures,
       c.names.ensures,
+      c.natural_or.ensures,
     )
     refl
