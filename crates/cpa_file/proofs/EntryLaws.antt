@@ -14,15 +14,17 @@ use Rattle.cpa_draft.specs.DraftLists.{DraftLists}
 use Rattle.cpa_draft.specs.declared.refusal.Part.{Part}
 use Rattle.cpa_draft.specs.declared.refusal.Part.TheVariants.{File, Task}
 use Rattle.cpa_draft.specs.declared.refusal.Refusal.{Refusal}
-use Rattle.cpa_file.specs.Document.{refusal, is_other_format, has_lists, integer_at, has_form, items_at, in_part, entries_of, entries_at, joined, lists_of, draft_of}
+use Rattle.cpa_file.specs.Document.{refusal, is_other_format, integer_at, has_form, items_at, in_part, entries_of, entries_at, joined, lists_of, draft_of}
+use Rattle.cpa_file.specs.declared.format.Format.{Format}
 use Rattle.cpa_file.specs.Fields.{◌>>=◌}
+use Rattle.cpa_file.specs.Formats.{format_with}
 use Rattle.cpa_file.specs.Lists.{read_all, with_entry}
 use Rattle.cpa_file.specs.Entries.{task_entry, task_fields, with_executions}
 use Rattle.cpa_model.specs.Built.{has_executions}
 
-pub task_entry-executions : (lists : Bool) (d : Data) (t : DraftTask) → task_entry lists d ≡ Some t → has_executions t ≡ true
+pub task_entry-executions : (format : Format) (d : Data) (t : DraftTask) → task_entry format d ≡ Some t → has_executions t ≡ true
 unfolding task_entry
-task_entry-executions lists d t e = by (task_fields lists d) e
+task_entry-executions format d t e = by (task_fields format d) e
   where
     cond_is : {A : Type 0} (b : Bool) (x y : A) → cond b (Some x) None ≡ Some y → (b ≡ true) × (x ≡ y)
     cond_is true x y e = (refl, same_Some x y e)
@@ -53,12 +55,12 @@ read_all-keeps read p each k ds xs e = rw e at (kept read p each k ds)
 
 -- each task that was read has its executions
 
-tasks_in : (lists : Bool) (part : Part) (items : Option Items) (ts : List DraftTask) → entries_of part (task_entry lists) items ≡ Ok ts → list_all has_executions ts ≡ true
-tasks_in lists part None ts e = cc
-tasks_in lists part (Some ds) ts e = by (read_all (task_entry lists) 1 ds) refl e
+tasks_in : (format : Format) (part : Part) (items : Option Items) (ts : List DraftTask) → entries_of part (task_entry format) items ≡ Ok ts → list_all has_executions ts ≡ true
+tasks_in format part None ts e = cc
+tasks_in format part (Some ds) ts e = by (read_all (task_entry format) 1 ds) refl e
   where
-    by : (r : Result (List DraftTask) ℕ) → read_all (task_entry lists) 1 ds ≡ r → in_part part r ≡ Ok ts → list_all has_executions ts ≡ true
-    by (Ok us) here e = let same : us ≡ ts = cc in read_all-keeps (task_entry lists) has_executions (task_entry-executions lists) 1 ds ts (here ∙ ap Ok same)
+    by : (r : Result (List DraftTask) ℕ) → read_all (task_entry format) 1 ds ≡ r → in_part part r ≡ Ok ts → list_all has_executions ts ≡ true
+    by (Ok us) here e = let same : us ≡ ts = cc in read_all-keeps (task_entry format) has_executions (task_entry-executions format) 1 ds ts (here ∙ ap Ok same)
     by (Err k) here e = cc
 
 joined-tasks : (a : Result (List DraftResource) Refusal) (b : Result (List DraftSource) Refusal) (c : Result (List DraftTask) Refusal) (e : Result (List DraftPath) Refusal) (d : DraftLists) → joined a b c e ≡ Ok d → c ≡ Ok d.tasks
@@ -72,16 +74,16 @@ joined-tasks (Ok rs) (Ok ss) (Ok ts) (Ok ps) d h = ap (λ (r : Result DraftLists
     by (Ok d) = Ok d.tasks
     by (Err r) = Err r
 
-lists-executions : (lists : Bool) (x : Data) (d : DraftLists) → lists_of lists x ≡ Ok d → list_all has_executions d.tasks ≡ true
+lists-executions : (format : Format) (x : Data) (d : DraftLists) → lists_of format x ≡ Ok d → list_all has_executions d.tasks ≡ true
 unfolding lists_of entries_at
-lists-executions lists x d e = tasks_in lists Task (items_at (codes "task") x) d.tasks (joined-tasks _ _ (entries_of Task (task_entry lists) (items_at (codes "task") x)) _ d e)
+lists-executions format x d e = tasks_in format Task (items_at (codes "task") x) d.tasks (joined-tasks _ _ (entries_of Task (task_entry format) (items_at (codes "task") x)) _ d e)
 
 -- of each draft
 pub draft-executions : (x : Data) (d : DraftLists) → draft_of x ≡ Ok d → All (λ t. has_executions t ≡ true) d.tasks
 unfolding draft_of
 draft-executions x d e = AllPass-from_list_all has_executions d.tasks (by (is_other_format (integer_at (codes "format") x)) (has_form x) e)
   where
-    by : (other formed : Bool) → cond other (Err (refusal 13 File 0)) (cond formed (lists_of (has_lists (integer_at (codes "format") x)) x) (Err (refusal 1 File 0))) ≡ Ok d → list_all has_executions d.tasks ≡ true
+    by : (other formed : Bool) → cond other (Err (refusal 13 File 0)) (cond formed (lists_of (format_with (integer_at (codes "format") x)) x) (Err (refusal 1 File 0))) ≡ Ok d → list_all has_executions d.tasks ≡ true
     by true formed h = cc
-    by false true h = lists-executions (has_lists (integer_at (codes "format") x)) x d h
+    by false true h = lists-executions (format_with (integer_at (codes "format") x)) x d h
     by false false h = cc

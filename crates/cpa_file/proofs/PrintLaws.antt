@@ -20,13 +20,16 @@ use Rattle.cpa_model.specs.declared.entries.Kind.TheVariants.{Preemptive, RoundR
 use Rattle.cpa_model.specs.declared.entries.Turn.{Turn}
 use Rattle.cpa_model.specs.declared.entries.Turn.TheVariants.{Priority, Slot}
 use Rattle.cpa_model.specs.SystemLists.{SystemLists, task_at, activator_name}
+use Rattle.cpa_file.specs.declared.format.Format.{Format}
+use Rattle.cpa_file.specs.declared.format.Format.TheVariants.{One, Two, Three}
 use Rattle.cpa_file.specs.Fields.{required, optional, has_only}
+use Rattle.cpa_file.specs.Formats.{has_lists}
 use Rattle.cpa_file.specs.Lists.{read_all}
 use Rattle.cpa_file.specs.Entries.{resource_entry, source_entry, as_after, task_entry, task_fields, path_entry}
 use Rattle.cpa_file.specs.Document.{draft_of, lists_of, has_form, entries_at, items_at}
 use Rattle.cpa_model.specs.declared.entries.Activator.{Activator}
 use Rattle.cpa_model.specs.Redraft.{redraft_resource, redraft_source, redraft_task, redraft_path, redraft}
-use Rattle.cpa_file.specs.Printed.{put, resource_data, source_data, activator_data, after_data, task_names_data, task_data, has_one, name_data, path_data, system_data}
+use Rattle.cpa_file.specs.Printed.{put, resource_data, source_data, activator_data, after_data, task_names_data, task_data, has_one, has_no_region, name_data, path_data, system_data}
 
 put_by : (o : Ordering) (a b c : List (String Global × Value)) → members_view (match_ordering o a b c) ≡ match_ordering o (members_view a) (members_view b) (members_view c)
 put_by Less a b c = refl
@@ -72,20 +75,37 @@ list-printed s [] = refl
 list-printed s (a ∷ []) = refl
 list-printed s (a ∷ b ∷ after) = rw (activators-printed s (a ∷ b ∷ after)) refl
 
-task_by : (lists : Bool) (s : SystemLists) (t : Task) (turn : Turn) → as_after lists (after_data s t.after) ≡ Some (map (activator_name s) t.after)
-    → let u : Task = record t { turn = turn } in task_entry lists (task_data s u) ≡ Some (redraft_task s u)
+-- a task with no region is read in each format in which its activators are
+plain_by : (format : Format) (s : SystemLists) (t : Task) (turn : Turn) → has_no_region t ≡ true → as_after (has_lists format) (after_data s t.after) ≡ Some (map (activator_name s) t.after)
+    → let u : Task = record t { turn = turn } in task_entry format (task_data s u) ≡ Some (redraft_task s u)
 unfolding task_entry task_fields task_data task_names_data required optional has_only
-task_by lists s t (Priority number) after = rw after refl
-task_by lists s t (Slot ticks) after = rw after refl
+plain_by format s t (Priority number) plain after = rw (plain, after) refl
+plain_by format s t (Slot ticks) plain after = rw (plain, after) refl
 
-task-printed : (s : SystemLists) (t : Task) → task_entry true (task_data s t) ≡ Some (redraft_task s t)
-task-printed s t = task_by true s t t.turn (list-printed s t.after)
+-- and one with a region in format 3
+region_by : (s : SystemLists) (t : Task) (turn : Turn) → has_no_region t ≡ false → let u : Task = record t { turn = turn } in task_entry Three (task_data s u) ≡ Some (redraft_task s u)
+unfolding task_entry task_fields task_data task_names_data required optional has_only
+region_by s t (Priority number) region = rw (region, list-printed s t.after) refl
+region_by s t (Slot ticks) region = rw (region, list-printed s t.after) refl
 
-tasks-printed : (s : SystemLists) (k : ℕ) (ts : List Task) → list_all has_one ts ≡ true → read_all (task_entry false) k (items_of (map (task_data s) ts)) ≡ Ok (map (redraft_task s) ts)
-tasks-printed s k [] h = refl
-tasks-printed s k (t ∷ ts) h =
-    let here = and_parts (has_one t) (list_all has_one ts) h in
-    rw (task_by false s t t.turn (one-printed false s t.after here.0), tasks-printed s (k + 1) ts here.1) refl
+task-printed : (s : SystemLists) (t : Task) → task_entry Three (task_data s t) ≡ Some (redraft_task s t)
+task-printed s t = elim (cases_Bool (has_no_region t)) [
+  | inl plain ↦ plain_by Three s t t.turn plain (list-printed s t.after)
+  | inr region ↦ region_by s t t.turn region
+]
+
+two-printed : (s : SystemLists) (k : ℕ) (ts : List Task) → list_all has_no_region ts ≡ true → read_all (task_entry Two) k (items_of (map (task_data s) ts)) ≡ Ok (map (redraft_task s) ts)
+two-printed s k [] plain = refl
+two-printed s k (t ∷ ts) plain =
+    let here = and_parts (has_no_region t) (list_all has_no_region ts) plain in
+    rw (plain_by Two s t t.turn here.0 (list-printed s t.after), two-printed s (k + 1) ts here.1) refl
+
+one_each-printed : (s : SystemLists) (k : ℕ) (ts : List Task) → list_all has_no_region ts ≡ true → list_all has_one ts ≡ true → read_all (task_entry One) k (items_of (map (task_data s) ts)) ≡ Ok (map (redraft_task s) ts)
+one_each-printed s k [] plain one = refl
+one_each-printed s k (t ∷ ts) plain one =
+    let here = and_parts (has_no_region t) (list_all has_no_region ts) plain in
+    let own = and_parts (has_one t) (list_all has_one ts) one in
+    rw (plain_by One s t t.turn here.0 (one-printed false s t.after own.0), one_each-printed s (k + 1) ts here.1 own.1) refl
 
 names-printed : (s : SystemLists) (ts : List TaskId) → read_all as_str 1 (items_of (map (name_data s) ts)) ≡ Ok (map (λ (i : TaskId). (task_at s i.0).name) ts)
 names-printed s ts = read_all-printed as_str (name_data s) (λ (i : TaskId). (task_at s i.0).name) (λ i. refl) 1 ts
@@ -101,22 +121,35 @@ path-printed s p = path_by s p p.deadline
 -- the document of a system is read as its draft
 pub draft_of-printed : (s : SystemLists) → draft_of (system_data s) ≡ Ok (redraft s)
 unfolding draft_of lists_of has_form entries_at items_at system_data has_only redraft
-draft_of-printed s = elim (cases_Bool (list_all has_one s.tasks)) [
-  | inl one ↦
+draft_of-printed s = elim (cases_Bool (list_all has_no_region s.tasks)) [
+  | inl plain ↦ elim (cases_Bool (list_all has_one s.tasks)) [
+    | inl one ↦
+        rw (
+          plain,
+          one,
+          read_all-printed resource_entry resource_data redraft_resource resource-printed 1 s.resources,
+          read_all-printed source_entry source_data redraft_source source-printed 1 s.sources,
+          one_each-printed s 1 s.tasks plain one,
+          read_all-printed path_entry (path_data s) (redraft_path s) (path-printed s) 1 s.paths,
+        )
+        refl
+    | inr several ↦
+        rw (
+          plain,
+          several,
+          read_all-printed resource_entry resource_data redraft_resource resource-printed 1 s.resources,
+          read_all-printed source_entry source_data redraft_source source-printed 1 s.sources,
+          two-printed s 1 s.tasks plain,
+          read_all-printed path_entry (path_data s) (redraft_path s) (path-printed s) 1 s.paths,
+        )
+        refl
+  ]
+  | inr regions ↦
       rw (
-        one,
+        regions,
         read_all-printed resource_entry resource_data redraft_resource resource-printed 1 s.resources,
         read_all-printed source_entry source_data redraft_source source-printed 1 s.sources,
-        tasks-printed s 1 s.tasks one,
-        read_all-printed path_entry (path_data s) (redraft_path s) (path-printed s) 1 s.paths,
-      )
-      refl
-  | inr several ↦
-      rw (
-        several,
-        read_all-printed resource_entry resource_data redraft_resource resource-printed 1 s.resources,
-        read_all-printed source_entry source_data redraft_source source-printed 1 s.sources,
-        read_all-printed (task_entry true) (task_data s) (redraft_task s) (task-printed s) 1 s.tasks,
+        read_all-printed (task_entry Three) (task_data s) (redraft_task s) (task-printed s) 1 s.tasks,
         read_all-printed path_entry (path_data s) (redraft_path s) (path-printed s) 1 s.paths,
       )
       refl
@@ -148,13 +181,15 @@ after-depth s [] = omega arith
 after-depth s (a ∷ []) = omega arith
 after-depth s (a ∷ b ∷ after) = omega (arith, items-depth (activator_data s) 0 (λ a. omega arith) (a ∷ b ∷ after))
 
-task-depth_by : (s : SystemLists) (t : Task) (turn : Turn) → let u : Task = record t { turn = turn } in depth (task_data s u) ≤ 2
+task-depth_by : (s : SystemLists) (t : Task) (turn : Turn) (plain : Bool) → has_no_region t ≡ plain → let u : Task = record t { turn = turn } in depth (task_data s u) ≤ 2
 unfolding task_data task_names_data
-task-depth_by s t (Priority number) = omega (arith, after-depth s t.after)
-task-depth_by s t (Slot ticks) = omega (arith, after-depth s t.after)
+task-depth_by s t (Priority number) true is = rw is (omega (arith, after-depth s t.after))
+task-depth_by s t (Priority number) false is = rw is (omega (arith, after-depth s t.after))
+task-depth_by s t (Slot ticks) true is = rw is (omega (arith, after-depth s t.after))
+task-depth_by s t (Slot ticks) false is = rw is (omega (arith, after-depth s t.after))
 
 task-depth : (s : SystemLists) (t : Task) → depth (task_data s t) ≤ 2
-task-depth s t = task-depth_by s t t.turn
+task-depth s t = task-depth_by s t t.turn (has_no_region t) refl
 
 path-depth_by : (s : SystemLists) (p : Path) (deadline : Option ℕ) → let q : Path = record p { deadline = deadline } in depth (path_data s q) ≤ 2
 unfolding path_data
@@ -204,13 +239,15 @@ after-undated s [] = refl
 after-undated s (a ∷ []) = refl
 after-undated s (a ∷ b ∷ after) = rw (items-undated (activator_data s) (λ a. refl) (a ∷ b ∷ after)) refl
 
-task-undated_by : (s : SystemLists) (t : Task) (turn : Turn) → let u : Task = record t { turn = turn } in has_valid_dates (task_data s u) ≡ true
+task-undated_by : (s : SystemLists) (t : Task) (turn : Turn) (plain : Bool) → has_no_region t ≡ plain → let u : Task = record t { turn = turn } in has_valid_dates (task_data s u) ≡ true
 unfolding task_data task_names_data
-task-undated_by s t (Priority number) = rw (after-undated s t.after) refl
-task-undated_by s t (Slot ticks) = rw (after-undated s t.after) refl
+task-undated_by s t (Priority number) true is = rw (is, after-undated s t.after) refl
+task-undated_by s t (Priority number) false is = rw (is, after-undated s t.after) refl
+task-undated_by s t (Slot ticks) true is = rw (is, after-undated s t.after) refl
+task-undated_by s t (Slot ticks) false is = rw (is, after-undated s t.after) refl
 
 task-undated : (s : SystemLists) (t : Task) → has_valid_dates (task_data s t) ≡ true
-task-undated s t = task-undated_by s t t.turn
+task-undated s t = task-undated_by s t t.turn (has_no_region t) refl
 
 path-undated_by : (s : SystemLists) (p : Path) (deadline : Option ℕ) → let q : Path = record p { deadline = deadline } in has_valid_dates (path_data s q) ≡ true
 unfolding path_data

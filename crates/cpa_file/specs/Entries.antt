@@ -9,6 +9,8 @@ use Rattle.cpa_draft.specs.declared.draft.DraftSource.{DraftSource}
 use Rattle.cpa_draft.specs.declared.draft.DraftTask.{DraftTask}
 use Rattle.cpa_draft.specs.declared.draft.DraftPath.{DraftPath}
 use Rattle.cpa_model.specs.Built.{has_executions}
+use Rattle.cpa_file.specs.declared.format.Format.{Format}
+use Rattle.cpa_file.specs.Formats.{has_lists, has_regions}
 use Rattle.cpa_file.specs.Lists.{read_all}
 use Rattle.cpa_file.specs.Fields.{◌>>=◌, optional, required, has_only}
 
@@ -56,20 +58,31 @@ resource_entry d = do
   if has_only (codes "name" ∷ codes "kind" ∷ codes "limit" ∷ codes "gap" ∷ codes "bit" ∷ []) d
       then Some (record { name = name; kind = kind; limit = limit; gap = gap; bit = bit }) else None
 
+-- the key that only some formats know
+abbrev pub region_key : Bool → List (List ℕ)
+region_key true = codes "region" ∷ []
+region_key false = []
+
+-- the keys that a task may have
+abbrev pub task_keys : Format → List (List ℕ)
+task_keys format =
+    codes "name" ∷ codes "on" ∷ codes "after" ∷ codes "best" ∷ codes "worst" ∷ codes "payload" ∷ codes "extended" ∷ codes "priority" ∷ codes "slot" ∷ region_key (has_regions format)
+
 -- the keys of a task, each of its type
-unfoldable pub task_fields : Bool → Data → Option DraftTask
-task_fields lists d = do
+unfoldable pub task_fields : Format → Data → Option DraftTask
+task_fields format d = do
   name ← required as_str (codes "name") d
   on ← required as_str (codes "on") d
-  after ← required (as_after lists) (codes "after") d
+  after ← required (as_after (has_lists format)) (codes "after") d
   best ← optional as_integer (codes "best") d
   worst ← optional as_integer (codes "worst") d
   payload ← optional as_integer (codes "payload") d
   extended ← optional as_bool (codes "extended") d
   priority ← optional as_integer (codes "priority") d
   slot ← optional as_integer (codes "slot") d
-  if has_only (codes "name" ∷ codes "on" ∷ codes "after" ∷ codes "best" ∷ codes "worst" ∷ codes "payload" ∷ codes "extended" ∷ codes "priority" ∷ codes "slot" ∷ []) d
-      then Some (record { name = name; on = on; after = after; best = best; worst = worst; payload = payload; extended = extended; priority = priority; slot = slot })
+  region ← optional as_integer (codes "region") d
+  if has_only (task_keys format) d
+      then Some (record { name = name; on = on; after = after; best = best; worst = worst; payload = payload; extended = extended; priority = priority; slot = slot; region = region })
       else None
 
 -- the task, if its executions stand in one of the two ways
@@ -77,8 +90,8 @@ abbrev pub with_executions : DraftTask → Option DraftTask
 with_executions t = if has_executions t then Some t else None
 
 -- the entry, if it has the form of a task
-unfoldable pub task_entry : Bool → Data → Option DraftTask
-task_entry lists d = task_fields lists d >>= with_executions
+unfoldable pub task_entry : Format → Data → Option DraftTask
+task_entry format d = task_fields format d >>= with_executions
 
 -- the entry, if it has the form of a source
 unfoldable pub source_entry : Data → Option DraftSource

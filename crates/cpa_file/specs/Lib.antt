@@ -1,5 +1,6 @@
 pub mod Entries
 pub mod Fields
+pub mod Formats
 pub mod Lists
 pub mod Document
 pub mod Given

@@ -61,8 +61,13 @@ unfoldable pub task_names_data : SystemLists → Task → Members
 task_names_data s t =
     put (codes "after") (after_data s t.after) (put (codes "on") (string (resource_at s t.res.0).name) (put (codes "name") (string t.name) no_members))
 
+-- a region of more than a tick
+abbrev pub with_region : ℕ → Members → Members
+with_region ticks ms = if ticks == 1 then ms else put (codes "region") (integer (pos ticks)) ms
+
 unfoldable pub task_data : SystemLists → Task → Data
-task_data s t = table (with_turn t.turn (put (codes "worst") (integer (pos t.worst)) (put (codes "best") (integer (pos t.best)) (task_names_data s t))))
+task_data s t =
+    table (with_region t.region (with_turn t.turn (put (codes "worst") (integer (pos t.worst)) (put (codes "best") (integer (pos t.best)) (task_names_data s t)))))
 
 abbrev pub with_deadline : Option ℕ → Members → Members
 with_deadline None ms = ms
@@ -77,12 +82,18 @@ path_data s p = table (with_deadline p.deadline (put (codes "tasks") (array (ite
 abbrev pub list_data : List Data → Data
 list_data ds = array (items_of ds)
 
--- format 1 where each task has one activator
+-- a task has one activator, and a region of no more than a tick
 abbrev pub has_one : Task → Bool
 has_one t = length t.after == 1
 
+abbrev pub has_no_region : Task → Bool
+has_no_region t = t.region == 1
+
+-- the least format that can say the system
 abbrev pub format_of : SystemLists → ℕ
-format_of s = if list_all has_one s.tasks then 1 else 2
+format_of s =
+    if list_all has_no_region s.tasks then (if list_all has_one s.tasks then 1 else 2)
+    else 3
 
 -- the document
 unfoldable pub system_data : SystemLists → Data

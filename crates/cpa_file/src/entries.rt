@@ -4,12 +4,13 @@ ghost use Rattle.std.specs.Prelude.{◌≡◌, ◌∷◌, [], Some};
 ghost use Rattle.toml.specs.View.{view, items_view};
 ghost use Rattle.cpa_file.specs.Lists.{GivesList, read_all};
 ghost use Rattle.toml.specs.Data.{as_str};
-ghost use Rattle.cpa_file.specs.Fields.{Gives, required, optional};
-ghost use Rattle.cpa_file.specs.Entries.{kind_of_word, as_kind, as_texts, as_after, task_fields};
+ghost use Rattle.cpa_file.specs.Fields.{Gives, required, optional, has_only};
+ghost use Rattle.cpa_file.specs.Entries.{kind_of_word, as_kind, as_texts, as_after, task_keys, task_fields};
 ghost use Rattle.cpa_model.specs.Built.{has_executions};
 
 use crate::fault::ReadFault;
 use crate::fields::{only_has, optional_integer, optional_truth, required_integer, required_text};
+use crate::format::Format;
 use cpa_model::{DraftPath, DraftResource, DraftSource, DraftTask, KindWord, Raw, RawList};
 use std::alloc::Global;
 use toml::Value;
@@ -44,25 +45,26 @@ fn required_kind(entry: &Value, key: &str) -> Result<KindWord, ReadFault>
 
 /// What stands in a file as an entry of its own.
 pub trait Entry: Drop {
-    ghost use Rattle.std.specs.Prelude.{Bool, Option};
+    ghost use Rattle.std.specs.Prelude.{Option};
     ghost use Rattle.toml.specs.Data.{Data};
     ghost use Rattle.toml.specs.View.{view};
     ghost use Rattle.cpa_file.specs.Fields.{Gives};
+    ghost use Rattle.cpa_file.specs.declared.format.Format.{Format};
 
-    /// The entry, if it has the form; a task may have a list of activators where lists may be.
-    ghost entry: { Bool → Data → Option Self };
+    /// The entry, if it has the form; what a task may have goes by the format.
+    ghost entry: { Format → Data → Option Self };
 
-    fn read(alloc: Global, lists: bool, value: &Value) -> Result<Self, ReadFault>
-        ensures { Gives result (entry lists (view value.now)) };
+    fn read(alloc: Global, format: Format, value: &Value) -> Result<Self, ReadFault>
+        ensures { Gives result (entry format (view value.now)) };
 }
 
 impl Entry for DraftResource {
     ghost use Rattle.cpa_file.specs.Entries.{resource_entry};
 
-    ghost entry = { λ lists. resource_entry };
+    ghost entry = { λ format. resource_entry };
 
     #[tactic(auto, unfolding(crate::specs::Entries::resource_entry))]
-    fn read(alloc: Global, _lists: bool, value: &Value) -> Result<DraftResource, ReadFault> {
+    fn read(alloc: Global, _format: Format, value: &Value) -> Result<DraftResource, ReadFault> {
         let name = required_text(alloc, value, "name")?;
         let kind = required_kind(value, "kind")?;
         let limit = optional_integer(value, "limit")?;
@@ -93,23 +95,39 @@ fn has_executions(task: &DraftTask) -> bool
         || (task.payload.is_some() && task.best.is_none() && task.worst.is_none())
 }
 
+/// Whether an entry has no key but those that a task may have.
+fn has_task_keys(format: Format, value: &Value) -> bool
+    ensures { result ≡ has_only (task_keys format) (view value.now) }
+{
+    if format.has_regions() {
+        let known = [
+            "name", "on", "after", "best", "worst", "payload", "extended", "priority", "slot",
+            "region",
+        ];
+        only_has(value, &known)
+    } else {
+        let known = [
+            "name", "on", "after", "best", "worst", "payload", "extended", "priority", "slot",
+        ];
+        only_has(value, &known)
+    }
+}
+
 #[tactic(auto, unfolding(crate::specs::Entries::task_fields))]
-fn read_task_fields(alloc: Global, lists: bool, value: &Value) -> Result<DraftTask, ReadFault>
-    ensures { Gives result (task_fields lists (view value.now)) }
+fn read_task_fields(alloc: Global, format: Format, value: &Value) -> Result<DraftTask, ReadFault>
+    ensures { Gives result (task_fields format (view value.now)) }
 {
     let name = required_text(alloc, value, "name")?;
     let on = required_text(alloc, value, "on")?;
-    let after = required_after(alloc, lists, value, "after")?;
+    let after = required_after(alloc, format.has_lists(), value, "after")?;
     let best = optional_integer(value, "best")?;
     let worst = optional_integer(value, "worst")?;
     let payload = optional_integer(value, "payload")?;
     let extended = optional_truth(value, "extended")?;
     let priority = optional_integer(value, "priority")?;
     let slot = optional_integer(value, "slot")?;
-    let known = [
-        "name", "on", "after", "best", "worst", "payload", "extended", "priority", "slot",
-    ];
-    if only_has(value, &known) {
+    let region = optional_integer(value, "region")?;
+    if has_task_keys(format, value) {
         Ok(DraftTask {
             name,
             on,
@@ -120,6 +138,7 @@ fn read_task_fields(alloc: Global, lists: bool, value: &Value) -> Result<DraftTa
             extended,
             priority,
             slot,
+            region,
         })
     } else {
         Err(ReadFault::Malformed)
@@ -132,8 +151,8 @@ impl Entry for DraftTask {
     ghost entry = { task_entry };
 
     #[tactic(auto, unfolding(crate::specs::Entries::task_entry))]
-    fn read(alloc: Global, lists: bool, value: &Value) -> Result<DraftTask, ReadFault> {
-        let task = read_task_fields(alloc, lists, value)?;
+    fn read(alloc: Global, format: Format, value: &Value) -> Result<DraftTask, ReadFault> {
+        let task = read_task_fields(alloc, format, value)?;
         if has_executions(&task) {
             Ok(task)
         } else {
@@ -145,10 +164,10 @@ impl Entry for DraftTask {
 impl Entry for DraftSource {
     ghost use Rattle.cpa_file.specs.Entries.{source_entry};
 
-    ghost entry = { λ lists. source_entry };
+    ghost entry = { λ format. source_entry };
 
     #[tactic(auto, unfolding(crate::specs::Entries::source_entry))]
-    fn read(alloc: Global, _lists: bool, value: &Value) -> Result<DraftSource, ReadFault> {
+    fn read(alloc: Global, _format: Format, value: &Value) -> Result<DraftSource, ReadFault> {
         let name = required_text(alloc, value, "name")?;
         let period = required_integer(value, "period")?;
         let jitter = optional_integer(value, "jitter")?;
@@ -169,10 +188,10 @@ impl Entry for DraftSource {
 impl Entry for DraftPath {
     ghost use Rattle.cpa_file.specs.Entries.{path_entry};
 
-    ghost entry = { λ lists. path_entry };
+    ghost entry = { λ format. path_entry };
 
     #[tactic(auto, unfolding(crate::specs::Entries::path_entry))]
-    fn read(alloc: Global, _lists: bool, value: &Value) -> Result<DraftPath, ReadFault> {
+    fn read(alloc: Global, _format: Format, value: &Value) -> Result<DraftPath, ReadFault> {
         let name = required_text(alloc, value, "name")?;
         let tasks = required_texts(alloc, value, "tasks")?;
         let deadline = optional_integer(value, "deadline")?;
@@ -193,7 +212,7 @@ fn texts(alloc: Global, value: &Value) -> Result<RawList, ReadFault>
 {
     match value.as_array() {
         None => Err(ReadFault::Malformed),
-        Some(items) => match read_entries::<Raw>(alloc, false, items.as_slice()) {
+        Some(items) => match read_entries::<Raw>(alloc, Format::One, items.as_slice()) {
             Ok(names) => Ok(RawList::new(names)),
             Err(ListFault::At(_)) => Err(ReadFault::Malformed),
             Err(ListFault::Memory) => Err(ReadFault::Memory),
@@ -253,9 +272,9 @@ fn required_after(
 impl Entry for Raw {
     ghost use Rattle.toml.specs.Data.{as_str};
 
-    ghost entry = { λ lists. as_str };
+    ghost entry = { λ format. as_str };
 
-    fn read(alloc: Global, _lists: bool, value: &Value) -> Result<Raw, ReadFault> {
+    fn read(alloc: Global, _format: Format, value: &Value) -> Result<Raw, ReadFault> {
         match value.as_str() {
             None => Err(ReadFault::Malformed),
             Some(text) => Ok(Raw::new(Vec::from_slice(alloc, text.as_bytes())?)),
@@ -275,14 +294,14 @@ pub enum ListFault {
 /// The entries of an array, or the place of the first that is malformed, from 1.
 pub fn read_entries<E: Entry>(
     alloc: Global,
-    lists: bool,
+    format: Format,
     items: &[Value],
 ) -> Result<Vec<E>, ListFault>
-    ensures { GivesList result (read_all (E.entry lists) 1 (items_view items.now)) }
+    ensures { GivesList result (read_all (E.entry format) 1 (items_view items.now)) }
 {
     let mut entries = Vec::new(alloc);
     for (k, item) in items.iter().enumerate() {
-        match E::read(alloc, lists, item) {
+        match E::read(alloc, format, item) {
             Ok(entry) => match entries.push(entry) {
                 Ok(()) => {}
                 Err(_) => return Err(ListFault::Memory),

@@ -6,11 +6,13 @@ mod display;
 mod entries;
 mod fault;
 mod fields;
+mod format;
 mod print;
 mod read;
 
 pub use entries::{Entry, ListFault, read_entries, required_texts};
 pub use fault::ReadFault;
 pub use fields::{only_has, optional_integer, required_text};
+pub use format::Format;
 pub use print::print_system;
 pub use read::{FileRefusal, format_of, read_document, read_system};

@@ -1,13 +1,14 @@
 //! From a system to the bytes of a file.
 
 ghost use Rattle.std.specs.Prelude.{◌≡◌, ◌<◌, ◌^◌, pos, map, length, All, IfOk, OnOk};
+ghost use Rattle.std.specs.List.{list_all};
 ghost use Rattle.std.specs.Option.{ForSome};
 ghost use Rattle.toml.specs.Data.{string, integer, table};
 ghost use Rattle.toml.specs.View.{view, table_view};
 ghost use Rattle.cpa_model.specs.Rules.{IsSystem, IsResource, IsSource, IsActivator, IsTask, IsPath, KindFits};
 ghost use Rattle.cpa_model.specs.SystemLists.{resource_at, source_at, task_at, path_at, task_places, slot_of, activator_name};
 ghost use Rattle.cpa_file.specs.Reading.{reading_of, Accepted};
-ghost use Rattle.cpa_file.specs.Printed.{put, kind_text, with_kind_number, resource_data, source_data, with_turn, activator_data, after_data, task_names_data, task_data, format_of, with_deadline, name_data, path_data, system_data, IsPrinted};
+ghost use Rattle.cpa_file.specs.Printed.{put, kind_text, with_kind_number, resource_data, source_data, with_turn, with_region, activator_data, after_data, task_names_data, task_data, has_one, has_no_region, format_of, with_deadline, name_data, path_data, system_data, IsPrinted};
 
 use cpa_model::{
     Activator, Activators, Kind, Path, Resource, Source, System, Task, TaskList, Turn,
@@ -173,6 +174,17 @@ fn put_turn(alloc: Global, entry: &mut Table, turn: Turn) -> Result<(), NoMemory
     }
 }
 
+fn put_region(alloc: Global, entry: &mut Table, ticks: u64) -> Result<(), NoMemory>
+    requires { ticks < 2 ^ 63 }
+    ensures { OnOk result (table_view entry.new ≡ with_region ticks (table_view entry.old)) }
+{
+    if ticks == 1 {
+        Ok(())
+    } else {
+        put_number(alloc, entry, "region", ticks)
+    }
+}
+
 #[tactic(auto, unfolding(crate::specs::Printed::task_data))]
 fn task_value(alloc: Global, system: &System, task: &Task) -> Result<Value, NoMemory>
     requires { IsTask system.now task.now }
@@ -182,6 +194,7 @@ fn task_value(alloc: Global, system: &System, task: &Task) -> Result<Value, NoMe
     put_number(alloc, &mut entry, "best", task.best)?;
     put_number(alloc, &mut entry, "worst", task.worst)?;
     put_turn(alloc, &mut entry, task.turn)?;
+    put_region(alloc, &mut entry, task.region)?;
     Ok(Value::Table(entry))
 }
 
@@ -261,16 +274,41 @@ fn path_values(alloc: Global, system: &System) -> Result<Vec<Value>, NoMemory>
     Ok(values)
 }
 
-/// The format: 1 where each task has one activator, else 2.
-fn format_of(system: &System) -> u64
-    ensures { result ≡ format_of system.now }
+/// Whether each task has one activator.
+fn have_one(system: &System) -> bool
+    ensures { result ≡ list_all has_one system.now.tasks }
 {
     for k in 0..system.tasks() {
         if system.task(TaskId(k)).after.len() != 1 {
-            return 2;
+            return false;
         }
     }
-    1
+    true
+}
+
+/// Whether no task has a region of more than a tick.
+fn have_no_region(system: &System) -> bool
+    ensures { result ≡ list_all has_no_region system.now.tasks }
+{
+    for k in 0..system.tasks() {
+        if system.task(TaskId(k)).region != 1 {
+            return false;
+        }
+    }
+    true
+}
+
+/// The least format that can say the system.
+fn format_of(system: &System) -> u64
+    ensures { result ≡ format_of system.now }
+{
+    if !have_no_region(system) {
+        3
+    } else if have_one(system) {
+        1
+    } else {
+        2
+    }
 }
 
 /// The document of a system.

@@ -5,10 +5,11 @@ ghost use Rattle.toml.specs.View.{view, items_view, table_view};
 ghost use Rattle.toml.specs.Data.{Data, table};
 ghost use Rattle.cpa_file.specs.Reading.{reading_of, Accepted, IsReadFault};
 ghost use Rattle.cpa_file.specs.Given.{GivesDraft, GivesPart, GivesDocument};
-ghost use Rattle.cpa_file.specs.Document.{is_other_format, has_lists, integer_at, items_at, entries_at, has_form, lists_of, draft_of, document_of};
+ghost use Rattle.cpa_file.specs.Document.{is_other_format, integer_at, items_at, entries_at, has_form, lists_of, draft_of, document_of};
 
 use crate::entries::{Entry, ListFault, read_entries};
 use crate::fields::only_has;
+use crate::format::Format;
 use cpa_model::{
     BuildFault, Draft, DraftPath, DraftResource, DraftSource, DraftTask, Part, Refusal, System,
 };
@@ -36,22 +37,12 @@ pub fn format_of(document: &Value) -> Option<i64>
     }
 }
 
-fn has_other_format(format: Option<i64>) -> bool
-    ensures { result ≡ is_other_format format }
+fn has_other_format(number: Option<i64>) -> bool
+    ensures { result ≡ is_other_format number }
 {
-    match format {
+    match number {
         None => false,
-        Some(number) => number != 1 && number != 2,
-    }
-}
-
-/// Whether a task may have a list of activators.
-fn has_lists(format: Option<i64>) -> bool
-    ensures { result ≡ has_lists format }
-{
-    match format {
-        None => false,
-        Some(number) => number == 2,
+        Some(number) => number < 1 || 3 < number,
     }
 }
 
@@ -80,12 +71,12 @@ fn is_formed(document: &Value) -> bool
 #[tactic(auto, unfolding(crate::specs::Document::entries_at, crate::specs::Document::items_at))]
 fn read_part<E: Entry>(
     alloc: Global,
-    lists: bool,
+    format: Format,
     part: Part,
     document: &Value,
     key: &str,
 ) -> Result<Vec<E>, FileRefusal>
-    ensures { GivesPart result (entries_at part (E.entry lists) key.now (view document.now)) }
+    ensures { GivesPart result (entries_at part (E.entry format) key.now (view document.now)) }
 {
     match document.get(key) {
         None => Ok(Vec::new(alloc)),
@@ -95,7 +86,7 @@ fn read_part<E: Entry>(
                 part: Part::File,
                 place: 0,
             })),
-            Some(items) => match read_entries::<E>(alloc, lists, items.as_slice()) {
+            Some(items) => match read_entries::<E>(alloc, format, items.as_slice()) {
                 Ok(entries) => Ok(entries),
                 Err(ListFault::At(place)) => Err(FileRefusal::Refused(Refusal {
                     reason: 1,
@@ -109,13 +100,19 @@ fn read_part<E: Entry>(
 }
 
 #[tactic(auto, unfolding(crate::specs::Document::lists_of))]
-fn read_lists(alloc: Global, lists: bool, document: &Value) -> Result<Draft, FileRefusal>
-    ensures { GivesDraft result (lists_of lists (view document.now)) }
+fn read_lists(alloc: Global, format: Format, document: &Value) -> Result<Draft, FileRefusal>
+    ensures { GivesDraft result (lists_of format (view document.now)) }
 {
-    let resources = read_part::<DraftResource>(alloc, lists, Part::Resource, document, "resource")?;
-    let sources = read_part::<DraftSource>(alloc, lists, Part::Source, document, "source")?;
-    let tasks = read_part::<DraftTask>(alloc, lists, Part::Task, document, "task")?;
-    let paths = read_part::<DraftPath>(alloc, lists, Part::Path, document, "path")?;
+    let resources = read_part::<DraftResource>(
+        alloc,
+        format,
+        Part::Resource,
+        document,
+        "resource",
+    )?;
+    let sources = read_part::<DraftSource>(alloc, format, Part::Source, document, "source")?;
+    let tasks = read_part::<DraftTask>(alloc, format, Part::Task, document, "task")?;
+    let paths = read_part::<DraftPath>(alloc, format, Part::Path, document, "path")?;
     Ok(Draft {
         resources,
         sources,
@@ -128,8 +125,8 @@ fn read_lists(alloc: Global, lists: bool, document: &Value) -> Result<Draft, Fil
 fn read_draft(alloc: Global, document: &Value) -> Result<Draft, FileRefusal>
     ensures { GivesDraft result (draft_of (view document.now)) }
 {
-    let format = format_of(document);
-    if has_other_format(format) {
+    let number = format_of(document);
+    if has_other_format(number) {
         return Err(FileRefusal::Refused(Refusal {
             reason: 13,
             part: Part::File,
@@ -143,7 +140,7 @@ fn read_draft(alloc: Global, document: &Value) -> Result<Draft, FileRefusal>
             place: 0,
         }));
     }
-    read_lists(alloc, has_lists(format), document)
+    read_lists(alloc, Format::with(number), document)
 }
 
 /// The document that the bytes are; `NotToml` exactly where they are none, or `Memory`.

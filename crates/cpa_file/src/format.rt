@@ -1,0 +1,57 @@
+//! The formats of system files.
+
+ghost use Rattle.std.specs.Prelude.{◌≡◌};
+ghost use Rattle.cpa_file.specs.Formats.{format_with, has_lists, has_regions};
+
+/// What a system file may say: each format what those before it may, and more.
+#[derive(Clone, Copy, Debug, PartialEq, Eq)]
+pub enum Format {
+    /// Tasks with one activator each.
+    One,
+    /// Tasks with several activators.
+    Two,
+    /// Tasks with regions.
+    Three,
+}
+
+impl Format {
+    /// The format with a number, and 1 where none has it.
+    pub(crate) fn with(number: Option<i64>) -> Format
+        ensures { result ≡ format_with number }
+    {
+        match number {
+            None => Format::One,
+            Some(number) => {
+                if number == 2 {
+                    Format::Two
+                } else if number == 3 {
+                    Format::Three
+                } else {
+                    Format::One
+                }
+            }
+        }
+    }
+
+    /// Whether a task may have a list of activators.
+    pub(crate) fn has_lists(self) -> bool
+        ensures { result ≡ has_lists self }
+    {
+        match self {
+            Format::One => false,
+            Format::Two => true,
+            Format::Three => true,
+        }
+    }
+
+    /// Whether a task may have a region.
+    pub(crate) fn has_regions(self) -> bool
+        ensures { result ≡ has_regions self }
+    {
+        match self {
+            Format::One => false,
+            Format::Two => false,
+            Format::Three => true,
+        }
+    }
+}
