@@ -14,8 +14,9 @@ use Rattle.cpa_rr.specs.RoundRobin.{round_robin_bound}
 use Rattle.cpa_can.proofs.CanLaws.{can_bound-same}
 use Rattle.cpa_model.specs.declared.entries.Kind.{Kind}
 use Rattle.cpa_model.specs.declared.entries.Kind.TheVariants.{Preemptive, RoundRobin, Tdma, Can}
-use Rattle.cpa_model.specs.SystemLists.{SystemLists, task_at, resource_at, resource_of, task_places, slot_of, is_higher, is_other, shares_resource, higher_tasks, blocking_of, no_task}
+use Rattle.cpa_model.specs.SystemLists.{SystemLists, task_at, resource_at, resource_of, task_places, slot_of, is_higher, is_other, shares_resource, higher_tasks, no_task}
 use Rattle.cpa_model.specs.Rules.{IsSystem, IsTask}
+use Rattle.cpa_local.specs.Blocking.{blocking_of}
 use Rattle.cpa_local.specs.Inputs.{input_along, input}
 use Rattle.cpa_local.specs.Local.{rival_of, bound_by_kind, bound_at_input, response}
 use Rattle.cpa_local.specs.Solution.{IsClosed, IsVector, least_of}
@@ -70,12 +71,12 @@ module _ (s : SystemLists) (x y : List Bound) where
     module _ (turns : (i : ℕ) (own : Model) → (task_at s i).res.0 ≡ r → (resource_of s i).kind ≡ RoundRobin → bound_by_kind s x i own RoundRobin ≡ bound_by_kind s y i own RoundRobin) where
       bound_by_kind-same : (i : ℕ) (own : Model) (kind : Kind) → (task_at s i).res.0 ≡ r → (resource_of s i).kind ≡ kind → bound_by_kind s x i own kind ≡ bound_by_kind s y i own kind
       bound_by_kind-same i own Preemptive on e =
-          preemptive_bound-same own (task_at s i).worst (map (rival_of s x) (higher_tasks s i)) (map (rival_of s y) (higher_tasks s i)) (resource_of s i).limit
+          preemptive_bound-same own (task_at s i).worst (blocking_of s Preemptive i) (map (rival_of s x) (higher_tasks s i)) (map (rival_of s y) (higher_tasks s i)) (resource_of s i).limit
           (λ w. work_in-same (map (rival_of s x) (higher_tasks s i)) (map (rival_of s y) (higher_tasks s i)) w (loads-same i on))
       bound_by_kind-same i own RoundRobin on e = turns i own on e
       bound_by_kind-same i own (Tdma gap) on e = refl
       bound_by_kind-same i own (Can bit) on e =
-          can_bound-same own (task_at s i).worst (blocking_of s i) (map (rival_of s x) (higher_tasks s i)) (map (rival_of s y) (higher_tasks s i)) bit (resource_of s i).limit
+          can_bound-same own (task_at s i).worst (blocking_of s (Can bit) i) (map (rival_of s x) (higher_tasks s i)) (map (rival_of s y) (higher_tasks s i)) bit (resource_of s i).limit
           (λ w. work_in-same (map (rival_of s x) (higher_tasks s i)) (map (rival_of s y) (higher_tasks s i)) w (loads-same i on))
 
       bound_at_input-same : (i : ℕ) (m : Option Model) → (task_at s i).res.0 ≡ r → bound_at_input s x i m ≡ bound_at_input s y i m

@@ -31,6 +31,7 @@ raised-same s t i sources same =
       best = let e = ap (λ (v : Task). v.best) same in omega arith;
       worst = let e = ap (λ (v : Task). v.worst) same in omega arith;
       turn = ap (λ (v : Task). v.turn) same;
+      region = let e = ap (λ (v : Task). v.region) same in omega arith;
     }
   where
     denser-same : (a : Activator) → IsDenserActivator s t a a
@@ -55,6 +56,7 @@ raising-exec s p best worst low high =
               best = let e = ap (λ (v : Task). v.best) it in omega arith;
               worst = let e = ap (λ (v : Task). v.worst) it in omega arith;
               turn = sym (ap (λ (v : Task). v.turn) it);
+              region = let e = ap (λ (v : Task). v.region) it in omega arith;
             })
         | inr other ↦
             raised-same s (with_task_at s p (record (task_at s p) { best = best; worst = worst })) i refl (sym (get_or-set_other s.tasks p i (record (task_at s p) { best = best; worst = worst }) no_task other))

@@ -20,9 +20,10 @@ use Rattle.cpa_model.specs.declared.entries.Kind.{Kind}
 use Rattle.cpa_model.specs.declared.entries.Kind.TheVariants.{Preemptive, RoundRobin, Tdma, Can}
 use Rattle.cpa_model.specs.declared.entries.Activator.{Activator}
 use Rattle.cpa_model.specs.declared.entries.Activator.TheVariants.{Source as FromSource, Task as FromTask}
-use Rattle.cpa_model.specs.SystemLists.{SystemLists, task_at, resource_at, resource_of, task_places, slot_of, gap_of, is_higher, is_other, higher_tasks, other_tasks, blocking_of, cycle_of, is_task, no_resource}
+use Rattle.cpa_model.specs.SystemLists.{SystemLists, task_at, resource_at, resource_of, task_places, slot_of, gap_of, is_higher, is_other, higher_tasks, other_tasks, cycle_of, is_task, no_resource}
 use Rattle.cpa_model.specs.Rules.{IsSystem}
 use Rattle.cpa_model.proofs.SystemLaws.{activated-there}
+use Rattle.cpa_local.specs.Blocking.{blocking_by, blocking_of}
 use Rattle.cpa_local.specs.Inputs.{output_of, sent_by, sent_by_all, input_along, input}
 use Rattle.cpa_local.specs.Local.{rival_of, bound_by_kind, bound_at_input, response}
 use Rattle.cpa_local.specs.Raising.{IsDenserActivator, IsRaisedTask, IsRaising}
@@ -129,16 +130,22 @@ module _ (s t : SystemLists) (rules : IsSystem s) (up : IsRaising s t) (x y : Li
         let gap : gap_of (resource_of s i).kind ≡ gap_of (resource_of t i).kind = ap (λ (r : Resource). gap_of r.kind) resource_as in
         omega arith
 
-    blocking_up : blocking_of s i ≤ blocking_of t i
-    blocking_up =
-        subst (λ (n : ℕ). blocking_of s i ≤ greatest_over (λ j. (task_at t j).worst) 0 (filter (λ j. is_higher t j i) (range_with_len 0 n))) all_tasks
-        (greatest-more_passing (λ j. is_higher s j i) (λ j. is_higher t j i) (λ j. (task_at s j).worst) (λ j. (task_at t j).worst) 0 0 0 (length s.tasks) added (omega arith)
-        (λ j low high. lower_as j (omega arith)) (λ j low high. (up.tasks j (omega arith)).worst))
+    blocking_by_up : (kind : Kind) (j : ℕ) → j < length s.tasks → blocking_by kind (task_at s j) ≤ blocking_by kind (task_at t j)
+    blocking_by_up Preemptive j j_less = let it = up.tasks j j_less in omega (arith, it.worst, it.region)
+    blocking_by_up RoundRobin j j_less = omega arith
+    blocking_by_up (Tdma gap) j j_less = omega arith
+    blocking_by_up (Can bit) j j_less = (up.tasks j j_less).worst
+
+    blocking_up : (kind : Kind) → blocking_of s kind i ≤ blocking_of t kind i
+    blocking_up kind =
+        subst (λ (n : ℕ). blocking_of s kind i ≤ greatest_over (λ j. blocking_by kind (task_at t j)) 0 (filter (λ j. is_higher t j i) (range_with_len 0 n))) all_tasks
+        (greatest-more_passing (λ j. is_higher s j i) (λ j. is_higher t j i) (λ j. blocking_by kind (task_at s j)) (λ j. blocking_by kind (task_at t j)) 0 0 0 (length s.tasks) added (omega arith)
+        (λ j low high. lower_as j (omega arith)) (λ j low high. blocking_by_up kind j (omega arith)))
 
     by_kind_up : (m n : Model) (kind : Kind) → IsNoDenser m n → IsAtMost (bound_by_kind s x i m kind) (bound_by_kind t y i n kind)
     by_kind_up m n Preemptive d =
         rw (← resource_as)
-        (preemptive_bound-mono m n (task_at s i).worst (task_at t i).worst _ _ (resource_of s i).limit d own.worst higher_heavier)
+        (preemptive_bound-mono m n (task_at s i).worst (task_at t i).worst (blocking_of s Preemptive i) (blocking_of t Preemptive i) _ _ (resource_of s i).limit d own.worst (blocking_up Preemptive) higher_heavier)
     by_kind_up m n RoundRobin d =
         rw (← resource_as, ← own.turn)
         (round_robin_bound-mono m n (task_at s i).worst (task_at t i).worst (slot_of (task_at s i).turn) _ _ (resource_of s i).limit d own.worst others_heavier)
@@ -148,7 +155,7 @@ module _ (s t : SystemLists) (rules : IsSystem s) (up : IsRaising s t) (x y : Li
         (tdma_bound-mono m n (task_at s i).worst (task_at t i).worst (slot_of (task_at s i).turn) (cycle_of s (task_at s i).res.0) (cycle_of t (task_at t i).res.0) (resource_of s i).limit d own.worst cycle_up)
     by_kind_up m n (Can bit) d =
         rw (← resource_as)
-        (can_bound-mono m n (task_at s i).worst (task_at t i).worst (blocking_of s i) (blocking_of t i) _ _ bit (resource_of s i).limit d own.worst blocking_up higher_heavier)
+        (can_bound-mono m n (task_at s i).worst (task_at t i).worst (blocking_of s (Can bit) i) (blocking_of t (Can bit) i) _ _ bit (resource_of s i).limit d own.worst (blocking_up (Can bit)) higher_heavier)
 
     at_input_up : (m n : Option Model) → IsInputNoDenser m n → IsAtMost (bound_at_input s x i m) (bound_at_input t y i n)
     at_input_up m None d = tt

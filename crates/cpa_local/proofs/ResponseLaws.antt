@@ -23,10 +23,11 @@ use Rattle.cpa_model.specs.declared.entries.Kind.{Kind}
 use Rattle.cpa_model.specs.declared.entries.Kind.TheVariants.{Preemptive, RoundRobin, Tdma, Can}
 use Rattle.cpa_model.specs.declared.entries.Activator.{Activator}
 use Rattle.cpa_model.specs.declared.entries.Activator.TheVariants.{Source as FromSource, Task as FromTask}
-use Rattle.cpa_model.specs.SystemLists.{SystemLists, task_at, source_at, resource_of, slot_of, higher_tasks, other_tasks, blocking_of, cycle_of, is_task, no_source, no_task}
+use Rattle.cpa_model.specs.SystemLists.{SystemLists, task_at, source_at, resource_of, slot_of, higher_tasks, other_tasks, cycle_of, is_task, no_source, no_task}
 use Rattle.cpa_model.specs.Rules.{IsSystem, IsSource, IsTask}
 use Rattle.cpa_model.proofs.SystemLaws.{activated-there}
 use Rattle.cpa_model.specs.Streams.{source_stream, source_model}
+use Rattle.cpa_local.specs.Blocking.{blocking_of}
 use Rattle.cpa_local.specs.Inputs.{output_of, sent_by, joined, sent_by_all, input_along, input}
 use Rattle.cpa_local.specs.Local.{rival_of, bound_by_kind, bound_at_input, response, responses}
 use Rattle.cpa_local.proofs.SentLaws.{is_task-itself}
@@ -92,10 +93,10 @@ module _ (s : SystemLists) (x : List Bound) (rules : IsSystem s) where
   input-is_input i there = input_along-is_input MAX_CHAIN i there
 
   bound_by_kind-ge : (i : ℕ) (own : Model) (kind : Kind) → IsModel own → IsAtMost (Within (task_at s i).worst) (bound_by_kind s x i own kind)
-  bound_by_kind-ge i own Preemptive m = preemptive_bound-low own (task_at s i).worst (map (rival_of s x) (higher_tasks s i)) (resource_of s i).limit
+  bound_by_kind-ge i own Preemptive m = preemptive_bound-low own (task_at s i).worst (blocking_of s Preemptive i) (map (rival_of s x) (higher_tasks s i)) (resource_of s i).limit
   bound_by_kind-ge i own RoundRobin m = round_robin_bound-low own (task_at s i).worst (slot_of (task_at s i).turn) (map (rival_of s x) (other_tasks s i)) (resource_of s i).limit
   bound_by_kind-ge i own (Tdma gap) m = tdma_bound-low own (task_at s i).worst (slot_of (task_at s i).turn) (cycle_of s (task_at s i).res.0) (resource_of s i).limit
-  bound_by_kind-ge i own (Can bit) m = can_bound-ge own (task_at s i).worst (blocking_of s i) (map (rival_of s x) (higher_tasks s i)) bit (resource_of s i).limit m
+  bound_by_kind-ge i own (Can bit) m = can_bound-ge own (task_at s i).worst (blocking_of s (Can bit) i) (map (rival_of s x) (higher_tasks s i)) bit (resource_of s i).limit m
 
   bound_at_input-ge : (i : ℕ) (m : Option Model) → IsInput m → IsAtMost (Within (task_at s i).worst) (bound_at_input s x i m)
   bound_at_input-ge i (Some own) m = bound_by_kind-ge i own (resource_of s i).kind m
@@ -110,10 +111,10 @@ module _ (s : SystemLists) (x : List Bound) (rules : IsSystem s) where
 
 module _ (s : SystemLists) (x : List Bound) where
   bound_by_kind-limit : (i : ℕ) (own : Model) (kind : Kind) → RespectsLimit (resource_of s i).limit (bound_by_kind s x i own kind)
-  bound_by_kind-limit i own Preemptive = preemptive_bound-high own (task_at s i).worst (map (rival_of s x) (higher_tasks s i)) (resource_of s i).limit
+  bound_by_kind-limit i own Preemptive = preemptive_bound-high own (task_at s i).worst (blocking_of s Preemptive i) (map (rival_of s x) (higher_tasks s i)) (resource_of s i).limit
   bound_by_kind-limit i own RoundRobin = round_robin_bound-high own (task_at s i).worst (slot_of (task_at s i).turn) (map (rival_of s x) (other_tasks s i)) (resource_of s i).limit
   bound_by_kind-limit i own (Tdma gap) = tdma_bound-high own (task_at s i).worst (slot_of (task_at s i).turn) (cycle_of s (task_at s i).res.0) (resource_of s i).limit
-  bound_by_kind-limit i own (Can bit) = can_bound-limit own (task_at s i).worst (blocking_of s i) (map (rival_of s x) (higher_tasks s i)) bit (resource_of s i).limit
+  bound_by_kind-limit i own (Can bit) = can_bound-limit own (task_at s i).worst (blocking_of s (Can bit) i) (map (rival_of s x) (higher_tasks s i)) bit (resource_of s i).limit
 
   bound_at_input-limit : (i : ℕ) (m : Option Model) → RespectsLimit (resource_of s i).limit (bound_at_input s x i m)
   bound_at_input-limit i (Some own) = bound_by_kind-limit i own (resource_of s i).kind
@@ -172,14 +173,14 @@ module _ (s : SystemLists) (x y : List Bound) (below : IsNowhereAbove x y) where
 
   bound_by_kind-mono : (i : ℕ) (m n : Model) (kind : Kind) → IsNoDenser m n → IsAtMost (bound_by_kind s x i m kind) (bound_by_kind s y i n kind)
   bound_by_kind-mono i m n Preemptive d =
-      preemptive_bound-mono m n (task_at s i).worst (task_at s i).worst _ _ (resource_of s i).limit d (omega arith) (rivals-mono (higher_tasks s i))
+      preemptive_bound-mono m n (task_at s i).worst (task_at s i).worst (blocking_of s Preemptive i) (blocking_of s Preemptive i) _ _ (resource_of s i).limit d (omega arith) (omega arith) (rivals-mono (higher_tasks s i))
   bound_by_kind-mono i m n RoundRobin d =
       round_robin_bound-mono m n (task_at s i).worst (task_at s i).worst (slot_of (task_at s i).turn) _ _ (resource_of s i).limit d (omega arith) (rivals-mono (other_tasks s i))
   bound_by_kind-mono i m n (Tdma gap) d =
       let cycle = cycle_of s (task_at s i).res.0 in
       tdma_bound-mono m n (task_at s i).worst (task_at s i).worst (slot_of (task_at s i).turn) cycle cycle (resource_of s i).limit d (omega arith) (omega arith)
   bound_by_kind-mono i m n (Can bit) d =
-      can_bound-mono m n (task_at s i).worst (task_at s i).worst (blocking_of s i) (blocking_of s i) _ _ bit (resource_of s i).limit d (omega arith) (omega arith) (rivals-mono (higher_tasks s i))
+      can_bound-mono m n (task_at s i).worst (task_at s i).worst (blocking_of s (Can bit) i) (blocking_of s (Can bit) i) _ _ bit (resource_of s i).limit d (omega arith) (omega arith) (rivals-mono (higher_tasks s i))
 
   bound_at_input-mono : (i : ℕ) (m n : Option Model) → IsInputNoDenser m n → IsAtMost (bound_at_input s x i m) (bound_at_input s y i n)
   bound_at_input-mono i m None d = tt

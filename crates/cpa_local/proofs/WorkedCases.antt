@@ -33,7 +33,7 @@ from_task j = FromTask (record { 0 = j }) ∷ []
 
 abbrev task : ℕ → List Activator → ℕ → ℕ → ℕ → Task
 task place after best worst priority =
-    record { name = []; res = record { 0 = place }; after = after; best = best; worst = worst; turn = Priority priority }
+    record { name = []; res = record { 0 = place }; after = after; best = best; worst = worst; turn = Priority priority; region = 1 }
 
 abbrev model : ℕ → ℕ → ℕ → Model
 model period jitter distance = record { period = period; jitter = jitter; distance = distance } ∷ []
@@ -138,6 +138,24 @@ shared_source-inputs = refl
 shared_source-fixed : responses shared_source shared_source_bounds ≡ shared_source_bounds
 unfolding shared_source input response busy_window_bound jobs_in_busy_window window stream_eta_plus eta_plus stream_delta_minus delta_minus least_from greatest_to
 shared_source-fixed = refl
+
+-- three tasks of one processor, where those of lower priority have regions
+abbrev with_region : ℕ → ℕ → ℕ → ℕ → ℕ → Task
+with_region k best worst priority region =
+    record { name = []; res = record { 0 = 0 }; after = from_source k; best = best; worst = worst; turn = Priority priority; region = region }
+
+regions : SystemLists
+regions =
+    record {
+      resources = resource Preemptive ∷ [];
+      sources = source 10 0 ∷ source 20 5 ∷ source 40 0 ∷ [];
+      tasks = with_region 0 1 3 1 1 ∷ with_region 1 2 4 2 2 ∷ with_region 2 6 9 3 4 ∷ [];
+      paths = [];
+    }
+
+regions-fixed : responses regions (map Within (6 ∷ 10 ∷ 26 ∷ [])) ≡ map Within (6 ∷ 10 ∷ 26 ∷ [])
+unfolding regions input response busy_window_bound jobs_in_busy_window window stream_eta_plus eta_plus stream_delta_minus delta_minus least_from greatest_to
+regions-fixed = refl
 
 -- The network of a car: six processors and two CAN buses. Chain k has three tasks, which begin at place 3 * k: a sensor's
 -- on a processor, its frame on a bus, and an actuator's on a processor.

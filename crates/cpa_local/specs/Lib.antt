@@ -2,6 +2,7 @@ pub mod Inputs
 pub mod Gathered
 pub mod Laws
 pub mod Local
+pub mod Blocking
 pub mod Paths
 pub mod Solution
 pub mod Trails

@@ -11,7 +11,8 @@ use Rattle.cpa_tdma.specs.Tdma.{tdma_bound}
 use Rattle.cpa_can.specs.Can.{can_bound}
 use Rattle.cpa_model.specs.declared.entries.Kind.{Kind}
 use Rattle.cpa_model.specs.declared.entries.Kind.TheVariants.{Preemptive, RoundRobin, Tdma, Can}
-use Rattle.cpa_model.specs.SystemLists.{SystemLists, task_at, resource_of, task_places, slot_of, higher_tasks, other_tasks, blocking_of, cycle_of}
+use Rattle.cpa_model.specs.SystemLists.{SystemLists, task_at, resource_of, task_places, slot_of, higher_tasks, other_tasks, cycle_of}
+use Rattle.cpa_local.specs.Blocking.{blocking_of}
 use Rattle.cpa_local.specs.Inputs.{input}
 
 -- a task as its neighbours see it
@@ -27,13 +28,13 @@ rival_of s x j =
 -- the bound by the rule of the resource's kind, of a task with a bounded input
 abbrev pub bound_by_kind : SystemLists → List Bound → ℕ → Model → Kind → Bound
 bound_by_kind s x i own Preemptive =
-    preemptive_bound own (task_at s i).worst (map (rival_of s x) (higher_tasks s i)) (resource_of s i).limit
+    preemptive_bound own (task_at s i).worst (blocking_of s Preemptive i) (map (rival_of s x) (higher_tasks s i)) (resource_of s i).limit
 bound_by_kind s x i own RoundRobin =
     round_robin_bound own (task_at s i).worst (slot_of (task_at s i).turn) (map (rival_of s x) (other_tasks s i)) (resource_of s i).limit
 bound_by_kind s x i own (Tdma gap) =
     tdma_bound own (task_at s i).worst (slot_of (task_at s i).turn) (cycle_of s (task_at s i).res.0) (resource_of s i).limit
 bound_by_kind s x i own (Can bit) =
-    can_bound own (task_at s i).worst (blocking_of s i) (map (rival_of s x) (higher_tasks s i)) bit (resource_of s i).limit
+    can_bound own (task_at s i).worst (blocking_of s (Can bit) i) (map (rival_of s x) (higher_tasks s i)) bit (resource_of s i).limit
 
 abbrev pub bound_at_input : SystemLists → List Bound → ℕ → Option Model → Bound
 bound_at_input s x i (Some own) = bound_by_kind s x i own (resource_of s i).kind

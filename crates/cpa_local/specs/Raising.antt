@@ -21,6 +21,7 @@ pub record IsRaisedTask (s t : SystemLists) (i : ℕ) : Type 0 where
   pub best : (task_at t i).best ≤ (task_at s i).best
   pub worst : (task_at s i).worst ≤ (task_at t i).worst
   pub turn : (task_at s i).turn ≡ (task_at t i).turn
+  pub region : (task_at s i).region ≤ (task_at t i).region
 
 -- each task of s asks for at least as much in t, which may have more tasks at its end
 pub record IsRaising (s t : SystemLists) : Type 0 where

@@ -128,7 +128,8 @@ fn preemptive(
     let count = gather_higher(system, task, x, inputs, rivals);
     let entry = system.task(task);
     let limit = system.resource(entry.res).limit;
-    cpa_spp::respond(own, entry.worst, &rivals[..count], limit)
+    let blocking = blocking(system, task, Kind::Preemptive);
+    cpa_spp::respond(own, entry.worst, blocking, &rivals[..count], limit)
 }
 
 /// The bound under slotted round robin.
@@ -193,6 +194,6 @@ fn can(
     let count = gather_higher(system, task, x, inputs, rivals);
     let entry = system.task(task);
     let limit = system.resource(entry.res).limit;
-    let longest = blocking(system, task);
+    let longest = blocking(system, task, Kind::Can { bit });
     cpa_can::respond(own, entry.worst, longest, &rivals[..count], bit, limit)
 }

@@ -4,14 +4,15 @@ ghost use Rattle.std.specs.Prelude.{◌≡◌, ◌<◌, ◌≤◌, ◌==◌, ◌
 ghost use Rattle.cpa_units.specs.declared.limits.TheConstants.{MAX_CYCLE, MAX_EXECUTION};
 ghost use Rattle.cpa_events.specs.Events.{IsModelInRange};
 ghost use Rattle.cpa_window.specs.Rivals.{IsRival, AreRivals};
-ghost use Rattle.cpa_model.specs.SystemLists.{task_at, tasks_on, is_higher, is_other, higher_tasks, other_tasks, blocking_of, cycle_of};
+ghost use Rattle.cpa_model.specs.SystemLists.{task_at, tasks_on, is_higher, is_other, higher_tasks, other_tasks, cycle_of};
+ghost use Rattle.cpa_local.specs.Blocking.{blocking_by, blocking_of};
 ghost use Rattle.cpa_local.specs.Inputs.{AreInputs, input};
 ghost use Rattle.cpa_local.specs.Local.{rival_of};
 ghost use Rattle.cpa_local.specs.Solution.{IsVector};
 
 use crate::prepared_inputs::keep;
 use cpa_events::Model;
-use cpa_model::System;
+use cpa_model::{Kind, System, Task};
 use cpa_units::{TaskId, Vector};
 use cpa_window::Rival;
 
@@ -121,17 +122,32 @@ pub(crate) fn gather_others(
     count
 }
 
-/// The greatest execution among the tasks of lower priority on the resource of a task, 0 if there
+/// By how many ticks a job of a task that has begun keeps a more urgent one waiting, on a resource of this kind: by the rest of
+/// a region after its first tick under preemptive priority (Davis and Bertogna, "Optimal Fixed Priority Scheduling with
+/// Deferred Pre-emption", 2012), and by a whole frame on CAN (Davis et al., 2007).
+pub fn blocking_by(kind: Kind, entry: &Task) -> u64
+    requires { entry.now.worst ≤ MAX_EXECUTION }
+    ensures value { result ≡ blocking_by kind entry.now }
+    ensures in_range { result ≤ MAX_EXECUTION }
+{
+    match kind {
+        Kind::Preemptive => entry.region.min(entry.worst).saturating_sub(1),
+        Kind::Can { bit: _ } => entry.worst,
+        Kind::RoundRobin | Kind::Tdma { gap: _ } => 0,
+    }
+}
+
+/// By how many ticks one of lower priority on the resource of a task, whose kind it is, keeps it waiting at most; 0 if there
 /// are none.
-pub(crate) fn blocking(system: &System, task: TaskId) -> u64
+pub(crate) fn blocking(system: &System, task: TaskId, kind: Kind) -> u64
     requires there { task.0 < length system.now.tasks }
-    ensures value { result ≡ blocking_of system.now task.0 }
+    ensures value { result ≡ blocking_of system.now kind task.0 }
     ensures in_range { result ≤ MAX_EXECUTION }
 {
     let mut most: u64 = 0;
     for other in system.tasks_on(system.task(task).res) {
         if is_higher(system, *other, task) {
-            most = most.max(system.task(*other).worst);
+            most = most.max(blocking_by(kind, system.task(*other)));
         }
     }
     most
