@@ -60,7 +60,7 @@ module _ (s : SystemLists) (tr : TraceLists) where
     first-held r (Can bit) = λ x e. cc
 
     first-frames : (r : ℕ) (k : Kind) (w : ℕ → Bool) → FrameWaits k (first_state s r k) w
-    first-frames r Preemptive w = tt
+    first-frames r Preemptive w = λ x e. cc
     first-frames r RoundRobin w = tt
     first-frames r (Tdma gap) w = tt
     first-frames r (Can bit) w = λ x e. cc
@@ -100,7 +100,7 @@ module _ (s : SystemLists) (tr : TraceLists) where
           ]
         where
           completed-holder : (k : Kind) (st : ResourceState) (P : ℕ → Type 0) → ForSome st.holder P → ForSome (completed k st).holder P
-          completed-holder Preemptive st P h = h
+          completed-holder Preemptive st P h = λ x e. cc
           completed-holder RoundRobin st P h = h
           completed-holder (Tdma gap) st P h = h
           completed-holder (Can bit) st P h = λ x e. cc

@@ -263,7 +263,8 @@ pub(crate) fn foresee_all(
     ticks
 }
 
-/// Where the job that ran is complete, nothing is foreseen any more, and no frame is started.
+/// Where the job that ran is complete, nothing is foreseen any more, and neither a frame nor a region goes
+/// on.
 fn complete(system: &System, dispatch: &mut Dispatch, res: ResId)
     requires there { res.0 < length system.now.resources }
     requires belongs { Belongs system.now res.0 (state_now (kind_of system.now res.0) dispatch.old) }

@@ -1,11 +1,12 @@
-use Rattle.std.proofs.Common.{◌≡◌, ◌∙◌, ◌+◌, option_map, sym, ap, subst, arith}
+use Rattle.std.proofs.Common.{◌≡◌, ◌∙◌, ◌+◌, ◌<◌, option_map, sym, ap, subst, arith}
 use Rattle.cpa_model.specs.declared.entries.Resource.{Resource}
 use Rattle.cpa_model.specs.declared.entries.Kind.TheVariants.{Preemptive, Can}
 use Rattle.cpa_model.specs.SystemLists.{place_of}
 use Rattle.cpa_sched.specs.Steps.{kind_of, can_step}
 use Rattle.cpa_sched.specs.States.{seen}
 use Rattle.cpa_sched.specs.Stretches.{IsStretch, state_later}
-use Rattle.cpa_sched.proofs.StretchLaws.{priority-stretch, priority-long, frame-stretch, frame-long}
+use Rattle.cpa_sched.proofs.RegionLaws.{region-stretch, region-long}
+use Rattle.cpa_sched.proofs.StretchLaws.{frame-stretch, frame-long}
 use Rattle.cpa_sched.proofs.stretches.stretch_by_order.Goals as goal
 
 pub returns-in-Preemptive-clause-stretch : goal.returns-in-Preemptive-clause-stretch
@@ -14,10 +15,9 @@ returns-in-Preemptive-clause-stretch g c n less =
     let r = c.args.ranking.now.res.0 in
     let w = g.Q.Queue.waiting c.args.queue.now in
     let kind : kind_of s r ≡ Preemptive = sym (ap (λ (x : Resource). x.kind) c.resource.ensures.value) ∙ c.in-Preemptive.is in
-    let o = option_map place_of c.first_waiting.result in
-    subst (λ k. IsStretch s r (seen c.args.state.now) w c.args.tick c.args.phase (n + 1) o (state_later k o (seen c.args.state.now) n)) (sym kind)
-    (subst (λ o. IsStretch s r (seen c.args.state.now) w c.args.tick c.args.phase (n + 1) o (seen c.args.state.now)) (sym (c.first_waiting.ensures.first ∙ c.requires.ranking w))
-    (priority-stretch s r w (seen c.args.state.now) c.args.tick c.args.phase (n + 1) kind))
+    let o = option_map place_of c.regions_by.result.task in
+    subst (λ k. IsStretch s r (seen c.args.state.now) w c.args.tick c.args.phase (n + 1) o (state_later k o (seen c.regions_by.new.state) n)) (sym kind)
+    (region-stretch s r w kind (seen c.args.state.now) (seen c.regions_by.new.state) c.args.tick c.args.phase o c.regions_by.ensures.step c.args.most n c.requires.belongs (subst (λ m. n < m) c.regions_by.ensures.ticks less))
 
 pub returns-in-Preemptive-clause-length : goal.returns-in-Preemptive-clause-length
 returns-in-Preemptive-clause-length g c =
@@ -25,7 +25,8 @@ returns-in-Preemptive-clause-length g c =
     let r = c.args.ranking.now.res.0 in
     let w = g.Q.Queue.waiting c.args.queue.now in
     let kind : kind_of s r ≡ Preemptive = sym (ap (λ (x : Resource). x.kind) c.resource.ensures.value) ∙ c.in-Preemptive.is in
-    priority-long s r w (seen c.args.state.now) c.args.tick c.args.phase c.args.most kind
+    let o = option_map place_of c.regions_by.result.task in
+    region-long s r w kind (seen c.args.state.now) (seen c.regions_by.new.state) c.args.tick c.args.phase o c.regions_by.ensures.step c.args.most c.regions_by.result.ticks c.regions_by.ensures.ticks
 
 pub returns-in-Can-clause-stretch : goal.returns-in-Can-clause-stretch
 returns-in-Can-clause-stretch g c n less =
