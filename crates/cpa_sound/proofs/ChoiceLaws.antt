@@ -1,12 +1,12 @@
 -- What is chosen in a run, kind by kind, and the next state of a resource.
-use Rattle.std.proofs.Common.{◌≡◌, ℕ, zero, suc, ◌+◌, ◌%◌, Bool, true, eqb, Option, Some, None, refl, sym, ◌∙◌, inl, inr, arith, subst, ap}
+use Rattle.std.proofs.Common.{◌≡◌, ℕ, zero, suc, ◌+◌, ◌-◌, ◌%◌, ◌<◌, ◌⊎◌, Bool, true, eqb, Option, Some, None, refl, sym, ◌∙◌, inl, inr, arith, subst, ap}
 use Rattle.std.specs.List.{filter}
 use Rattle.std.proofs.lemmas.Bool.{cases_Bool, eqb-true, eq-eqb, false≢true}
 use Rattle.cpa_model.specs.declared.entries.Kind.{Kind}
 use Rattle.cpa_model.specs.declared.entries.Kind.TheVariants.{Preemptive, RoundRobin, Tdma, Can}
 use Rattle.cpa_model.specs.SystemLists.{SystemLists, task_at, cycle_of, tasks_on}
 use Rattle.cpa_trace.specs.Trace.{TraceLists, phase_of}
-use Rattle.cpa_sched.specs.Steps.{ResourceState, Choice, most_urgent, owner_at, if_waiting, can_step, choose, kind_of, step}
+use Rattle.cpa_sched.specs.Steps.{ResourceState, Choice, most_urgent, owner_at, if_waiting, region_of, within_region, preemptive_step, can_step, choose, kind_of, step}
 use Rattle.cpa_sim.specs.Run.{waits, is_chosen, choice_at, runs_in, ends_in, settled, run}
 use Rattle.cpa_sound.proofs.JobLaws.{waits-less, less-waits}
 use Rattle.cpa_sim.proofs.JobCount.{ended-suc, length-suc}
@@ -49,7 +49,45 @@ can_step-goes_on st o urgent h e = rw e refl
 can_step-starts : (st : ResourceState) (o urgent : Option ℕ) → o ≡ None → (can_step st o urgent).task ≡ urgent
 can_step-starts st o urgent e = rw e refl
 
--- nothing changes when a job is complete, but on CAN
+-- ---- regions
+
+-- a state within a region is of its task, and some of the region is left
+within-is : (h n j : ℕ) → (within_region h n).holder ≡ Some j → (h ≡ j) × (0 < n) × ((within_region h n).left ≡ n)
+within-is h zero j e = cc
+within-is h (suc n) j e = (some-injective h j e, omega arith, refl)
+
+-- a region of a task that holds its resource after a tick went on in it, or began in it
+abbrev pub WentOn : SystemLists → ResourceState → ResourceState → ℕ → Type 0
+WentOn s before after j =
+    ((before.holder ≡ Some j) × (after.left + 1 ≡ before.left)) ⊎ ((before.holder ≡ None) × (after.left + 1 ≡ region_of s j))
+
+preemptive_step-within : (s : SystemLists) (st : ResourceState) (o urgent : Option ℕ) (j : ℕ) → st.holder ≡ o → (preemptive_step s st o urgent).state.holder ≡ Some j → ((preemptive_step s st o urgent).task ≡ Some j) × WentOn s st (preemptive_step s st o urgent).state j
+preemptive_step-within s st (Some h) urgent j same e =
+    let w = within-is h (st.left - 1) j e in
+    (ap Some w.0, inl (same ∙ ap Some w.0, omega (arith, w.1, w.2)))
+preemptive_step-within s st None None j same e = cc
+preemptive_step-within s st None (Some k) j same e =
+    let w = within-is k (region_of s k - 1) j e in
+    let same_region : region_of s k ≡ region_of s j = ap (region_of s) w.0 in
+    (ap Some w.0, inr (same, omega (arith, w.1, w.2, same_region)))
+
+preemptive_step-goes_on : (s : SystemLists) (st : ResourceState) (o urgent : Option ℕ) (h : ℕ) → o ≡ Some h → (preemptive_step s st o urgent).task ≡ Some h
+preemptive_step-goes_on s st o urgent h e = rw e refl
+
+preemptive_step-starts : (s : SystemLists) (st : ResourceState) (o urgent : Option ℕ) → o ≡ None → (preemptive_step s st o urgent).task ≡ urgent
+preemptive_step-starts s st o None e = rw e refl
+preemptive_step-starts s st o (Some j) e = rw e refl
+
+-- a region that goes on is of a job that isn't complete
+region-settled : (ends : ℕ → ℕ) (st : ResourceState) (o : Option ℕ) (j : ℕ) → (settled Preemptive ends st o).holder ≡ Some j → (settled Preemptive ends st o ≡ st) × ((i : ℕ) → o ≡ Some i → ends i ≡ 0)
+region-settled ends st None j e = (refl, λ i chosen. cc)
+region-settled ends st (Some i) j e =
+    elim (cases_Bool (eqb (ends i) 0)) [
+      | inl none ↦ (rw none refl, λ k chosen. subst (λ l. ends l ≡ 0) (some-injective i k chosen) (eqb-true (ends i) 0 none))
+      | inr some ↦ let e' = rw some at e in cc
+    ]
+
+-- nothing changes when a job is complete, but within regions and on CAN
 pub ring-next_at : (ends : ℕ → ℕ) (st : ResourceState) (o : Option ℕ) → settled RoundRobin ends st o ≡ st
 ring-next_at ends st None = refl
 ring-next_at ends st (Some i) = elim (cases_Bool (eqb (ends i) 0)) [ inl none ↦ rw none refl | inr some ↦ rw some refl ]
@@ -85,14 +123,65 @@ module _ (s : SystemLists) (tr : TraceLists) where
       less-waits ((run s tr (suc t)).jobs i)
       (omega (arith, waits-less ((run s tr t).jobs i) w, ended-suc s tr t i, length-suc s tr t i, ends_in-is s tr t i))
 
-  -- ---- preemptive
-
-  pub preemptive-choice : (t r : ℕ) → kind_of s r ≡ Preemptive → chosen_at t r ≡ most_urgent s (filter (waiting_at t) (tasks_on s r))
-  preemptive-choice t r e = ap (λ (c : Choice). c.task) (choice-by_kind t r Preemptive e)
+  -- ---- by priority
 
   pub urgent_waits : (t r j : ℕ) → most_urgent s (filter (waiting_at t) (tasks_on s r)) ≡ Some j → IsMostUrgent s (IsWaiting s r (waiting_at t)) (filter (waiting_at t) (tasks_on s r)) j
   urgent_waits t r j e =
       urgent_is s (IsWaiting s r (waiting_at t)) (filter (waiting_at t) (tasks_on s r)) (waiting-are s r (waiting_at t) (tasks_on s r) (tasks_on-are s r)) j e
+
+  -- whoever holds a resource runs, and else the most urgent of those that wait: so both wait
+  module _ (r : ℕ) (first : (state_at 0 r).holder ≡ None) (goes_on : (t h : ℕ) → (state_at t r).holder ≡ Some h → chosen_at t r ≡ Some h) (starts : (t : ℕ) → (state_at t r).holder ≡ None → chosen_at t r ≡ most_urgent s (filter (waiting_at t) (tasks_on s r))) (next : (t j : ℕ) → (state_at (suc t) r).holder ≡ Some j → (chosen_at t r ≡ Some j) × (ends_in s tr t (run s tr t) j ≡ 0)) where
+    chosen-waits_at : (t j : ℕ) → ((j : ℕ) → (state_at t r).holder ≡ Some j → IsWaiting s r (waiting_at t) j) → (o : Option ℕ) → (state_at t r).holder ≡ o → chosen_at t r ≡ Some j → IsWaiting s r (waiting_at t) j
+    chosen-waits_at t j held (Some h) same e = held j (same ∙ (sym (goes_on t h same) ∙ e))
+    chosen-waits_at t j held None same e = (urgent_waits t r j (sym (starts t same) ∙ e)).one
+
+    holder-waits : (t j : ℕ) → (state_at t r).holder ≡ Some j → IsWaiting s r (waiting_at t) j
+    holder-waits zero j e = let none = first in cc
+    holder-waits (suc t) j e =
+        let before = next t j e in
+        let w = chosen-waits_at t j (holder-waits t) (state_at t r).holder refl before.0 in
+        record { on = w.on; waits_now = still_waits t j w.waits_now before.1 }
+
+    chosen-waits : (t j : ℕ) → chosen_at t r ≡ Some j → IsWaiting s r (waiting_at t) j
+    chosen-waits t j e = chosen-waits_at t j (holder-waits t) (state_at t r).holder refl e
+
+  -- ---- regions
+
+  module _ (r : ℕ) (kind : kind_of s r ≡ Preemptive) where
+    region-choice : (t : ℕ) → choice_at s tr t (run s tr t) r ≡ preemptive_step s (state_at t r) (state_at t r).holder (most_urgent s (filter (waiting_at t) (tasks_on s r)))
+    region-choice t = choice-by_kind t r Preemptive kind
+
+    -- a job within a region goes on
+    pub region-goes_on : (t h : ℕ) → (state_at t r).holder ≡ Some h → chosen_at t r ≡ Some h
+    region-goes_on t h e =
+        ap (λ (c : Choice). c.task) (region-choice t) ∙ preemptive_step-goes_on s (state_at t r) (state_at t r).holder (most_urgent s (filter (waiting_at t) (tasks_on s r))) h e
+
+    -- else the most urgent begins one
+    pub region-starts : (t : ℕ) → (state_at t r).holder ≡ None → chosen_at t r ≡ most_urgent s (filter (waiting_at t) (tasks_on s r))
+    region-starts t e =
+        ap (λ (c : Choice). c.task) (region-choice t) ∙ preemptive_step-starts s (state_at t r) (state_at t r).holder (most_urgent s (filter (waiting_at t) (tasks_on s r))) e
+
+    -- who holds the resource after a tick ran in it, isn't complete, and either held it before or began a region
+    pub region-next : (t j : ℕ) → (state_at (suc t) r).holder ≡ Some j → ((chosen_at t r ≡ Some j) × (ends_in s tr t (run s tr t) j ≡ 0)) × WentOn s (state_at t r) (state_at (suc t) r) j
+    region-next t j e =
+        let after : ResourceState = (choice_at s tr t (run s tr t) r).state in
+        let e' = rw (state-suc s tr t r, kind) at e in
+        let stays = region-settled (ends_in s tr t (run s tr t)) after (chosen_at t r) j e' in
+        let now : state_at (suc t) r ≡ after = state-suc s tr t r ∙ (rw kind stays.0) in
+        let here : after ≡ (preemptive_step s (state_at t r) (state_at t r).holder (most_urgent s (filter (waiting_at t) (tasks_on s r)))).state = ap (λ (c : Choice). c.state) (region-choice t) in
+        let holds = ap (λ (st : ResourceState). st.holder) (sym (now ∙ here)) ∙ e in
+        let w = preemptive_step-within s (state_at t r) (state_at t r).holder (most_urgent s (filter (waiting_at t) (tasks_on s r))) j refl holds in
+        let chosen : chosen_at t r ≡ Some j = ap (λ (c : Choice). c.task) (region-choice t) ∙ w.0 in
+        ((chosen, stays.1 j chosen), subst (λ (st : ResourceState). WentOn s (state_at t r) st j) (sym (now ∙ here)) w.1)
+
+    pub region-first : (state_at 0 r).holder ≡ None
+    region-first = rw (state-zero s tr r, kind) refl
+
+    pub region-held : (t j : ℕ) → (state_at t r).holder ≡ Some j → IsWaiting s r (waiting_at t) j
+    region-held = holder-waits r region-first region-goes_on region-starts (λ t j e. (region-next t j e).0)
+
+    pub region-waits : (t j : ℕ) → chosen_at t r ≡ Some j → IsWaiting s r (waiting_at t) j
+    region-waits = chosen-waits r region-first region-goes_on region-starts (λ t j e. (region-next t j e).0)
 
   -- ---- CAN
 
@@ -123,20 +212,12 @@ module _ (s : SystemLists) (tr : TraceLists) where
     pub can-first : (state_at 0 r).holder ≡ None
     can-first = rw (state-zero s tr r, kind) refl
 
-    mutual_step : (t j : ℕ) → ((j : ℕ) → (state_at t r).holder ≡ Some j → IsWaiting s r (waiting_at t) j) → (o : Option ℕ) → (state_at t r).holder ≡ o → chosen_at t r ≡ Some j → IsWaiting s r (waiting_at t) j
-    mutual_step t j held (Some h) same e = held j (same ∙ (sym (can-goes_on t h same) ∙ e))
-    mutual_step t j held None same e = (urgent_waits t r j (sym (can-starts t same) ∙ e)).one
-
     -- a started frame waits
     pub can-held : (t j : ℕ) → (state_at t r).holder ≡ Some j → IsWaiting s r (waiting_at t) j
-    can-held zero j e = let none = can-first in cc
-    can-held (suc t) j e =
-        let next = can-next t j e in
-        let w = mutual_step t j (can-held t) (state_at t r).holder refl next.0 in
-        record { on = w.on; waits_now = still_waits t j w.waits_now next.1 }
+    can-held = holder-waits r can-first can-goes_on can-starts can-next
 
     pub can-waits : (t j : ℕ) → chosen_at t r ≡ Some j → IsWaiting s r (waiting_at t) j
-    can-waits t j e = mutual_step t j (can-held t) (state_at t r).holder refl e
+    can-waits = chosen-waits r can-first can-goes_on can-starts can-next
 
   -- ---- TDMA
 

@@ -1,9 +1,10 @@
 -- How every run of a system serves its tasks, in their courses.
 use Rattle.std.specs.Prelude.{◌≡◌, ℕ, ◌+◌, ◌<◌, ◌≤◌, List, ◌∷◌, length, true}
-use Rattle.std.specs.List.{sum_by, filter, AllByRecursion}
+use Rattle.std.specs.List.{sum_by, AllByRecursion}
 use Rattle.cpa_model.specs.declared.entries.Kind.{Kind}
 use Rattle.cpa_model.specs.declared.entries.Kind.TheVariants.{Preemptive, RoundRobin, Tdma, Can}
-use Rattle.cpa_model.specs.SystemLists.{SystemLists, task_at, resource_of, task_places, slot_of, shares_resource, is_higher, higher_tasks, cycle_of}
+use Rattle.cpa_model.specs.SystemLists.{SystemLists, task_at, resource_of, slot_of, shares_resource, is_higher, higher_tasks, cycle_of}
+use Rattle.cpa_local.specs.Blocking.{blocking_by, lower_tasks}
 use Rattle.cpa_sound.specs.Course.{Course}
 use Rattle.cpa_sound.proofs.Serving.{IsPending, IsStarted, IsInOrder, AnyOf}
 use Rattle.cpa_sound.proofs.Turns.{Turns, TakesTurn, AreTurns}
@@ -12,17 +13,16 @@ use Rattle.cpa_sound.proofs.Turns.{Turns, TakesTurn, AreTurns}
 abbrev pub received_by : (ℕ → Course) → List ℕ → ℕ → ℕ
 received_by course js t = sum_by (λ j. (course j).received t) js
 
--- the tasks of lower priority on the resource of i
-abbrev pub lower_tasks : SystemLists → ℕ → List ℕ
-lower_tasks s i = filter (λ j. is_higher s j i) (task_places s)
+-- how many ticks each task has had of a region that it is within, 0 where it isn't within one; while the task or a higher one has
+-- something to do no lower one begins a region, and where no lower one is within one, one of them runs
+pub record RunsByRegions (s : SystemLists) (course : ℕ → Course) (i : ℕ) : Type 0 where
+  pub had : ℕ → ℕ → ℕ
+  pub short : (j t : ℕ) → j < length s.tasks → is_higher s j i ≡ true → had j t ≤ blocking_by Preemptive (task_at s j)
+  pub goes_on : (j t : ℕ) → j < length s.tasks → is_higher s j i ≡ true → AnyOf (λ k. IsPending (course k) t) (i ∷ higher_tasks s i) → 0 < had j (t + 1) → (0 < had j t) × (had j t < had j (t + 1))
+  pub serves : (t : ℕ) → AllByRecursion (λ j. had j t ≡ 0) (lower_tasks s i) → AnyOf (λ j. IsPending (course j) t) (i ∷ higher_tasks s i) → received_by course (i ∷ higher_tasks s i) t < received_by course (i ∷ higher_tasks s i) (t + 1)
 
--- while the task or a higher one has something to do, one of them runs
-abbrev pub RunsByPriority : SystemLists → (ℕ → Course) → ℕ → Type 0
-RunsByPriority s course i =
-    (t : ℕ) → AnyOf (λ j. IsPending (course j) t) (i ∷ higher_tasks s i) →
-    received_by course (i ∷ higher_tasks s i) t < received_by course (i ∷ higher_tasks s i) (t + 1)
-
--- the same where no lower frame is under way; a frame goes on to its end, and a lower one doesn't start while a higher task waits
+-- while the task or a higher one has something to do, one of them runs if no lower frame is under way; a frame goes on to its end, and a
+-- lower one doesn't start while a higher task waits
 pub record RunsByFrames (s : SystemLists) (course : ℕ → Course) (i : ℕ) : Type 0 where
   pub goes_on : (j t : ℕ) → j < length s.tasks → shares_resource s i j ≡ true → IsStarted (course j) t → (course j).received t < (course j).received (t + 1)
   pub gives_way : (j t : ℕ) → j < length s.tasks → is_higher s j i ≡ true → AnyOf (λ k. IsPending (course k) t) (i ∷ higher_tasks s i) → (course j).received t < (course j).received (t + 1) → IsStarted (course j) t
@@ -53,7 +53,7 @@ pub record RunsByTurns (s : SystemLists) (course : ℕ → Course) (i : ℕ) : T
 
 -- the rule of each kind, as one task of the resource knows it
 abbrev pub RunsByKind : SystemLists → (ℕ → Course) → ℕ → Kind → Type 0
-RunsByKind s course i Preemptive = RunsByPriority s course i
+RunsByKind s course i Preemptive = RunsByRegions s course i
 RunsByKind s course i RoundRobin = RunsByTurns s course i
 RunsByKind s course i (Tdma gap) = RunsBySlots course i (slot_of (task_at s i).turn) (cycle_of s (task_at s i).res.0)
 RunsByKind s course i (Can bit) = RunsByFrames s course i × (0 < bit)

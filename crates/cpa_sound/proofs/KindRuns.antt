@@ -1,5 +1,5 @@
 -- In a run each kind of resource keeps its law.
-use Rattle.std.proofs.Common.{◌≡◌, ℕ, zero, suc, ◌+◌, ◌<◌, ◌≤◌, length, List, [], ◌∷◌, true, false, ltb, ◌&&◌, Option, Some, None, refl, sym, ◌∙◌, inl, inr, ◌⊎◌, arith, subst, ap, get_or}
+use Rattle.std.proofs.Common.{◌≡◌, ℕ, zero, suc, ◌+◌, ◌-◌, ◌<◌, ◌≤◌, length, List, [], ◌∷◌, true, false, cond, eqb, ltb, ◌&&◌, Option, Some, None, refl, sym, ◌∙◌, inl, inr, ◌⊎◌, arith, subst, ap, get_or}
 use Rattle.std.specs.List.{AllByRecursion, filter}
 use Rattle.std.proofs.lemmas.Bool.{cases_lt, cases_Bool, lt-ltb, and_parts, and_from, and_cases, ltb-true, ltb-false, eqb-true, eq-eqb, false≢true}
 use Rattle.cpa_model.specs.declared.entries.Kind.{Kind}
@@ -10,22 +10,24 @@ use Rattle.cpa_sound.proofs.Turns.{Turns, GoesOn, PassesOn, TakesTurn}
 use Rattle.cpa_trace.specs.Trace.{TraceLists, need, Obeys}
 use Rattle.cpa_model.specs.Rules.{IsSystem}
 use Rattle.cpa_sound.proofs.RuleLaws.{HasPriorities, best-some, best-le, slot-some, own_priority}
-use Rattle.cpa_sched.specs.Steps.{ring_after, most_urgent}
+use Rattle.cpa_sched.specs.Steps.{ring_after, most_urgent, region_of}
+use Rattle.cpa_local.specs.Blocking.{blocking_by, lower_tasks}
 use Rattle.cpa_sim.specs.Run.{no_job, is_open, waits, ended_count, runs_in, ends_in, run}
 use Rattle.cpa_sched.specs.Steps.{kind_of}
 use Rattle.cpa_sound.specs.RunCourse.{received_before, course_of}
-use Rattle.cpa_sound.proofs.KeepsLaws.{received_by, lower_tasks, RunsByPriority, RunsByFrames, IsOnRing, RunsByTurns}
-use Rattle.cpa_sound.proofs.CourseLaws.{ended-mono, work-mono}
+use Rattle.cpa_sound.proofs.KeepsLaws.{received_by, RunsByRegions, RunsByFrames, IsOnRing, RunsByTurns}
+use Rattle.cpa_sound.proofs.CourseLaws.{ended-mono, work-mono, work-one}
 use Rattle.cpa_sound.proofs.LevelLaws.{sum-lt}
 use Rattle.cpa_sound.proofs.LocalBounds.{all_tasks, any_task, shares_itself}
 use Rattle.cpa_sound.proofs.JobLaws.{less-waits}
 use Rattle.cpa_sound.proofs.RunLaws.{open-is, arrived-one, received-runs, received-idle, served-idle, course-in_order}
 use Rattle.cpa_sim.proofs.JobCount.{ended-suc}
 use Rattle.cpa_sound.proofs.ArrivalLaws.{need-least, need-greatest, ends_in-is}
-use Rattle.cpa_sched.specs.States.{IsOn, IsWaiting}
+use Rattle.cpa_sched.specs.States.{IsOn, IsWaiting, HoldsRegion}
+use Rattle.cpa_sim.proofs.RunLaws.{run-belongs}
 use Rattle.cpa_sched.proofs.OptionLaws.{some-injective}
 use Rattle.cpa_sound.proofs.StepLaws.{all_at, in_waiting, some_urgent, some_first, in_ring_after, next-nearest}
-use Rattle.cpa_sound.proofs.ChoiceLaws.{waiting_at, state_at, chosen_at, runs-chosen, chosen-runs, preemptive-choice, urgent_waits, can-goes_on, can-starts, can-next, can-kept, can-first, can-held, can-waits, tdma-waits}
+use Rattle.cpa_sound.proofs.ChoiceLaws.{waiting_at, state_at, chosen_at, runs-chosen, chosen-runs, urgent_waits, region-goes_on, region-starts, region-next, region-first, region-held, region-waits, can-goes_on, can-starts, can-next, can-kept, can-first, can-held, can-waits, tdma-waits}
 use Rattle.cpa_sound.proofs.RingRuns.{ring-waits, held, ring_cases, next_on}
 
 -- a member of a list that is so, with what holds of all
@@ -41,7 +43,7 @@ module _ (s : SystemLists) (tr : TraceLists) (rules : IsSystem s) (obeys : Obeys
   -- ---- whoever is chosen waits
 
   chosen_waits_at : (t i : ℕ) → i < length s.tasks → (k : Kind) → kind_of s (task_at s i).res.0 ≡ k → chosen_at s tr t (task_at s i).res.0 ≡ Some i → IsWaiting s (task_at s i).res.0 (waiting_at s tr t) i
-  chosen_waits_at t i h Preemptive kind e = (urgent_waits s tr t (task_at s i).res.0 i (sym (preemptive-choice s tr t (task_at s i).res.0 kind) ∙ e)).one
+  chosen_waits_at t i h Preemptive kind e = region-waits s tr (task_at s i).res.0 kind t i e
   chosen_waits_at t i h RoundRobin kind e = ring-waits s tr (task_at s i).res.0 kind i (on_own i h) t i e
   chosen_waits_at t i h (Tdma gap) kind e = tdma-waits s tr (task_at s i).res.0 gap kind t i e
   chosen_waits_at t i h (Can bit) kind e = can-waits s tr (task_at s i).res.0 bit kind t i e
@@ -113,19 +115,130 @@ module _ (s : SystemLists) (tr : TraceLists) (rules : IsSystem s) (obeys : Obeys
       let le = all_at (λ j. priority_of (task_at s c).turn ≤ priority_of (task_at s j).turn) (filter (waiting_at s tr t) (tasks_on s (task_at s i).res.0)) j first.first (in_waiting s (task_at s i).res.0 (waiting_at s tr t) j w) in
       on_level i c first.one.on (omega (arith, le, l.rank))
 
-  -- ---- preemptive priority
+  -- ---- regions
 
-  priority_runs : (i t : ℕ) → i < length s.tasks → kind_of s (task_at s i).res.0 ≡ Preemptive → HasPriorities (resource_of s i).kind → AnyOf (λ j. IsPending (course_of s tr j) t) (i ∷ higher_tasks s i) → (o : Option ℕ) → most_urgent s (filter (waiting_at s tr t) (tasks_on s (task_at s i).res.0)) ≡ o → received_by (course_of s tr) (i ∷ higher_tasks s i) t < received_by (course_of s tr) (i ∷ higher_tasks s i) (t + 1)
-  priority_runs i t h kind ranked any None e =
-      let one = waiting_in_level i t h any in
-      absurd (some_urgent s (filter (waiting_at s tr t) (tasks_on s (task_at s i).res.0)) one.0 (in_waiting s (task_at s i).res.0 (waiting_at s tr t) one.0 one.2) e)
-  priority_runs i t h kind ranked any (Some c) e =
-      let one = waiting_in_level i t h any in
-      level_up i c t h ranked (urgent_in_level i t one.0 c one.1 one.2 e) (preemptive-choice s tr t (task_at s i).res.0 kind ∙ e)
+  -- a task that is less urgent than one of the level isn't of it
+  not_lower : (i j : ℕ) → is_higher s j i ≡ true → ¬ InLevel i j
+  not_lower i j lower l =
+      let less = ltb-true (priority_of (task_at s i).turn) (priority_of (task_at s j).turn) (and_parts (shares_resource s j i) _ lower).1 in
+      omega (arith, less, l.rank)
 
-  pub preemptive-runs : (i : ℕ) → i < length s.tasks → (resource_of s i).kind ≡ Preemptive → RunsByPriority s (course_of s tr) i
-  preemptive-runs i h kind t any =
-      priority_runs i t h kind (rw kind tt) any (most_urgent s (filter (waiting_at s tr t) (tasks_on s (task_at s i).res.0))) refl
+  -- what task j has had of a region of its own, where this task holds the resource and so much of its region is left
+  had_by : ℕ → Option ℕ → ℕ → ℕ
+  had_by j None left = 0
+  had_by j (Some k) left = cond (eqb k j) (region_of s k - left) 0
+
+  had_by-some : (j : ℕ) (o : Option ℕ) (left : ℕ) → 0 < had_by j o left → o ≡ Some j
+  unfolding had_by
+  had_by-some j None left some = absurd (omega arith)
+  had_by-some j (Some k) left some =
+      elim (cases_Bool (eqb k j)) [
+        | inl own ↦ ap Some (eqb-true k j own)
+        | inr other ↦ let some' = rw other at some in absurd (omega arith)
+      ]
+
+  had_by-is : (j : ℕ) (o : Option ℕ) (left : ℕ) → o ≡ Some j → had_by j o left ≡ region_of s j - left
+  unfolding had_by
+  had_by-is j o left e = rw e (rw (eq-eqb j j refl) refl)
+
+  module _ (i : ℕ) (h : i < length s.tasks) (kind : (resource_of s i).kind ≡ Preemptive) where
+    had_at : ℕ → ℕ → ℕ
+    had_at j t = had_by j (state_at s tr t (task_at s i).res.0).holder (state_at s tr t (task_at s i).res.0).left
+
+    -- a job within a region has had the ticks of it that aren't left
+    record IsWithin (t j : ℕ) : Type 0 where
+      some : 0 < (state_at s tr t (task_at s i).res.0).left
+      less : (state_at s tr t (task_at s i).res.0).left < region_of s j
+      got : work (need s tr j) (ended_count ((run s tr t).jobs j)) + (region_of s j - (state_at s tr t (task_at s i).res.0).left) ≤ received_before s tr j t
+
+    -- what is left of a region, by who holds the resource
+    left-within : (o : Option ℕ) (left j : ℕ) → HoldsRegion s left o → o ≡ Some j → (0 < left) × (left < region_of s j)
+    left-within (Some k) left j holds e = subst (λ l. (0 < left) × (left < region_of s l)) (some-injective k j e) holds
+    left-within None left j holds e = cc
+
+    is_within : (t j : ℕ) → (state_at s tr t (task_at s i).res.0).holder ≡ Some j → IsWithin t j
+    is_within zero j holds = let none = region-first s tr (task_at s i).res.0 kind in cc
+    is_within (suc t) j holds =
+        let e : suc t ≡ t + 1 = omega arith in
+        let next = region-next s tr (task_at s i).res.0 kind t j holds in
+        let w = region-waits s tr (task_at s i).res.0 kind t j next.0.0 in
+        let ran = rw (sym e) at (received-runs s tr t j (chosen-runs s tr t (task_at s i).res.0 j w.on next.0.0)) in
+        let same : ended_count ((run s tr (suc t)).jobs j) ≡ ended_count ((run s tr t).jobs j) = omega (arith, ended-suc s tr t j, ends_in-is s tr t j, next.0.1) in
+        let range = left-within (state_at s tr (suc t) (task_at s i).res.0).holder (state_at s tr (suc t) (task_at s i).res.0).left j (keeps_region (suc t)) holds in
+        record {
+          some = range.0;
+          less = range.1;
+          got = rw same (elim next.1 [
+            | inl on ↦ let before = is_within t j on.0 in omega (arith, ran, before.got, before.less, on.1)
+            | inr new ↦ let paid = (order j w.on.task).ended_paid t in omega (arith, ran, paid, new.1)
+          ]);
+        }
+      where
+        keeps_region : (t : ℕ) → HoldsRegion s (state_at s tr t (task_at s i).res.0).left (state_at s tr t (task_at s i).res.0).holder
+        keeps_region t = let keeps = (run-belongs s tr t (task_at s i).res.0).turn in rw kind at keeps
+
+    region-short : (j t : ℕ) → j < length s.tasks → had_at j t ≤ blocking_by Preemptive (task_at s j)
+    unfolding had_at
+    region-short j t below =
+        elim (cases_lt 0 (had_at j t)) [
+          | inr none ↦ omega arith
+          | inl some ↦
+              let st = state_at s tr t (task_at s i).res.0 in
+              let holds = had_by-some j st.holder st.left some in
+              let is = had_by-is j st.holder st.left holds in
+              let w = is_within t j holds in
+              let o = order j below in
+              omega (arith, is, w.some, w.less, w.got, o.next_unpaid t, work-one (need s tr j) (ended_count ((run s tr t).jobs j)), o.greatest (ended_count ((run s tr t).jobs j)))
+        ]
+
+    region-goes_on_at : (j t : ℕ) → j < length s.tasks → is_higher s j i ≡ true → AnyOf (λ k. IsPending (course_of s tr k) t) (i ∷ higher_tasks s i) → 0 < had_at j (t + 1) → (0 < had_at j t) × (had_at j t < had_at j (t + 1))
+    unfolding had_at
+    region-goes_on_at j t below lower any some =
+        let e : t + 1 ≡ suc t = omega arith in
+        let then = state_at s tr (t + 1) (task_at s i).res.0 in
+        let now = state_at s tr t (task_at s i).res.0 in
+        let holds = had_by-some j then.holder then.left some in
+        let is = had_by-is j then.holder then.left holds in
+        let next = region-next s tr (task_at s i).res.0 kind t j (rw e at holds) in
+        elim next.1 [
+          | inl on ↦
+              let before = had_by-is j now.holder now.left on.0 in
+              let w = is_within t j on.0 in
+              let left = rw (sym e) at on.1 in
+              (omega (arith, before, w.less), omega (arith, before, is, w.less, w.some, left))
+          | inr new ↦
+              let one = waiting_in_level i t h any in
+              absurd (not_lower i j lower (urgent_in_level i t one.0 j one.1 one.2 (sym (region-starts s tr (task_at s i).res.0 kind t new.0) ∙ next.0.0)))
+        ]
+
+    regions-serve_at : (t : ℕ) → AllByRecursion (λ j. had_at j t ≡ 0) (lower_tasks s i) → AnyOf (λ j. IsPending (course_of s tr j) t) (i ∷ higher_tasks s i) → (o : Option ℕ) → (state_at s tr t (task_at s i).res.0).holder ≡ o → (u : Option ℕ) → most_urgent s (filter (waiting_at s tr t) (tasks_on s (task_at s i).res.0)) ≡ u → received_by (course_of s tr) (i ∷ higher_tasks s i) t < received_by (course_of s tr) (i ∷ higher_tasks s i) (t + 1)
+    unfolding had_at
+    regions-serve_at t nobody any (Some k) holds u urgent =
+        let chosen = region-goes_on s tr (task_at s i).res.0 kind t k holds in
+        let on = (region-held s tr (task_at s i).res.0 kind t k holds).on in
+        elim (cases_lt (priority_of (task_at s i).turn) (priority_of (task_at s k).turn)) [
+          | inl lower ↦
+              let among = any_task s (λ j. is_higher s j i) (λ j. j ≡ k) k on.task (and_from (shares_resource s k i) (ltb (priority_of (task_at s i).turn) (priority_of (task_at s k).turn)) on.here (lt-ltb _ _ lower)) refl in
+              let none = all_at (λ j. had_at j t ≡ 0) (lower_tasks s i) k nobody among in
+              let is = had_by-is k (state_at s tr t (task_at s i).res.0).holder (state_at s tr t (task_at s i).res.0).left holds in
+              absurd (omega (arith, none, is, (is_within t k holds).less))
+          | inr higher ↦ level_up i k t h (rw kind tt) (on_level i k on higher) chosen
+        ]
+    regions-serve_at t nobody any None holds None urgent =
+        let one = waiting_in_level i t h any in
+        absurd (some_urgent s (filter (waiting_at s tr t) (tasks_on s (task_at s i).res.0)) one.0 (in_waiting s (task_at s i).res.0 (waiting_at s tr t) one.0 one.2) urgent)
+    regions-serve_at t nobody any None holds (Some c) urgent =
+        let one = waiting_in_level i t h any in
+        level_up i c t h (rw kind tt) (urgent_in_level i t one.0 c one.1 one.2 urgent) (region-starts s tr (task_at s i).res.0 kind t holds ∙ urgent)
+
+    pub preemptive-runs : RunsByRegions s (course_of s tr) i
+    preemptive-runs =
+        record {
+          had = had_at;
+          short = λ j t below lower. region-short j t below;
+          goes_on = region-goes_on_at;
+          serves = λ t nobody any. regions-serve_at t nobody any (state_at s tr t (task_at s i).res.0).holder refl (most_urgent s (filter (waiting_at s tr t) (tasks_on s (task_at s i).res.0))) refl;
+        }
 
   -- ---- CAN
 
@@ -188,8 +301,7 @@ module _ (s : SystemLists) (tr : TraceLists) (rules : IsSystem s) (obeys : Obeys
     gives_way_at j t on lower any chosen None holds =
         let one = waiting_in_level i t h any in
         let l = urgent_in_level i t one.0 j one.1 one.2 (sym (can-starts s tr (task_at s i).res.0 bit kind t holds) ∙ chosen) in
-        let less = ltb-true (priority_of (task_at s i).turn) (priority_of (task_at s j).turn) (and_parts (shares_resource s j i) _ lower).1 in
-        absurd (omega (arith, less, l.rank))
+        absurd (not_lower i j lower l)
 
     frame-gives_way : (j t : ℕ) → j < length s.tasks → is_higher s j i ≡ true → AnyOf (λ k. IsPending (course_of s tr k) t) (i ∷ higher_tasks s i) → received_before s tr j t < received_before s tr j (t + 1) → IsStarted (course_of s tr j) t
     frame-gives_way j t below lower any ran =
