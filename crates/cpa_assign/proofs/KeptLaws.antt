@@ -79,10 +79,10 @@ module _ (s : SystemLists) (r : ℕ) (o : List ℕ) (rules : IsSystem s) (kind :
       elim (cases_Bool (is_on s r j)) [
         | inl on ↦
             rw on
-            (record { placed = it.placed; some = it.some; activated = All-weaker (IsActivator s) (IsActivator t) activated (task_at s j).after it.activated; different = it.different; some_best = it.some_best; ordered = it.ordered; worst = it.worst; turn_fits = turn_kept j it on })
+            (record { placed = it.placed; some = it.some; activated = All-weaker (IsActivator s) (IsActivator t) activated (task_at s j).after it.activated; different = it.different; some_best = it.some_best; ordered = it.ordered; worst = it.worst; turn_fits = turn_kept j it on; region_fits = it.region_fits })
         | inr off ↦
             rw off
-            (record { placed = it.placed; some = it.some; activated = All-weaker (IsActivator s) (IsActivator t) activated (task_at s j).after it.activated; different = it.different; some_best = it.some_best; ordered = it.ordered; worst = it.worst; turn_fits = it.turn_fits })
+            (record { placed = it.placed; some = it.some; activated = All-weaker (IsActivator s) (IsActivator t) activated (task_at s j).after it.activated; different = it.different; some_best = it.some_best; ordered = it.ordered; worst = it.worst; turn_fits = it.turn_fits; region_fits = it.region_fits })
       ]
 
   path_kept : (p : Path) → IsPath s p → IsPath t p

@@ -46,7 +46,10 @@ once-to (k ∷ o) h = AllPairs-cons (λ i j. i ≢ j) k o (differ-all k o h.0) (
 module _ (s : SystemLists) (r : ℕ) (rules : IsSystem s) (able : IsOrderable s r) where
   pub fewer_fits : (fewer above : ℕ → Bool) (i : ℕ) → ((j : ℕ) → fewer j ≡ true → above j ≡ true) → Fits s r above i → Fits s r fewer i
   fewer_fits fewer above i moved fits = λ k less only.
-      within-deadline (path_at s k).deadline (placed_bound s r fewer i) (placed_bound s r above i) (fewer_above s r i fewer above rules moved) (fits k less only)
+      let own : IsPath s (path_at s k) = rules.paths k no_path less in
+      let there = rw only at own.there in
+      let in_range : i < length s.tasks = there 0 (record { 0 = 0 }) (omega arith) in
+      within-deadline (path_at s k).deadline (placed_bound s r fewer i) (placed_bound s r above i) (fewer_above s r i fewer above rules in_range moved) (fits k less only)
 
   abbrev pub IsPart : (ℕ → Bool) → List ℕ → Type 0
   IsPart free o = IsLowerPart (Fits s r) fewer_fits (is_task_on s r) free o

@@ -1,13 +1,13 @@
 -- Where tasks move from above a task to below it, its bound doesn't rise: each leaves the interference, in which it has its
 -- execution at least once, and enters the blocking at most once.
-use Rattle.std.proofs.Common.{◌≡◌, ℕ, ◌+◌, ◌-◌, ◌*◌, ◌<◌, ◌≤◌, ◌==◌, ◌&&◌, ◌||◌, ◌⊎◌, not, max, Bool, true, false, cond, List, [], ◌∷◌, map, length, get_or, refl, ap, sym, ◌∙◌, inl, inr, arith}
+use Rattle.std.proofs.Common.{◌≡◌, ℕ, zero, suc, ◌+◌, ◌-◌, ◌*◌, ◌<◌, ◌≤◌, ◌==◌, ◌&&◌, ◌||◌, ◌⊎◌, not, max, Bool, true, false, cond, List, [], ◌∷◌, map, length, get_or, refl, ap, sym, ◌∙◌, inl, inr, arith}
 use Rattle.std.specs.Prelude.{filter, fold}
 use Rattle.std.specs.List.{sum_by}
 use Rattle.std.proofs.lemmas.Bool.{cases_Bool, cases_lt}
 use Rattle.std.proofs.lemmas.List.{length-map}
 use Rattle.std.proofs.lemmas.List.Elements.{All-map}
 use Rattle.std.proofs.lemmas.List.Sums.{sum_by-cons}
-use Rattle.std.proofs.Math.Nat.{mul-le-mul_right}
+use Rattle.std.proofs.Math.Nat.{mul-le-mul_left, mul-le-mul_right}
 use Rattle.std.proofs.Math.ListN.{get_or-eq_default}
 use Rattle.cpa_units.specs.declared.places.SourceId.{SourceId}
 use Rattle.cpa_units.specs.declared.bound.Bound.{Bound}
@@ -21,20 +21,22 @@ use Rattle.cpa_window.specs.declared.rivals.Rival.{Rival}
 use Rattle.cpa_window.specs.Rivals.{work_in}
 use Rattle.cpa_window.specs.Windows.{window, IsWindow}
 use Rattle.cpa_window.proofs.WindowLaws.{window-is, window-least}
-use Rattle.cpa_window.proofs.BusyWindowLaws.{busy_window_bound-grows}
-use Rattle.cpa_spp.specs.Preemptive.{preemptive_demand}
+use Rattle.cpa_window.specs.BusyWindow.{windows_of}
+use Rattle.cpa_window.proofs.BusyWindowLaws.{busy_window_bound-mono}
+use Rattle.cpa_spp.specs.Preemptive.{preemptive_demand, preemptive_bound}
 use Rattle.cpa_can.specs.Can.{can_busy_demand, can_demand, can_response, can_bound, greatest_in_busy_window}
 use Rattle.cpa_model.specs.declared.entries.Task.{Task}
 use Rattle.cpa_model.specs.declared.entries.Kind.{Kind}
 use Rattle.cpa_model.specs.declared.entries.Kind.TheVariants.{Preemptive, RoundRobin, Tdma, Can}
 use Rattle.cpa_model.specs.SystemLists.{SystemLists, task_at, resource_at, task_places, streams_of, no_resource, no_task}
-use Rattle.cpa_model.specs.Rules.{IsSystem, IsResource, KindFits}
+use Rattle.cpa_model.specs.Rules.{IsSystem, IsResource, IsTask, KindFits}
+use Rattle.cpa_local.specs.Blocking.{blocking_by}
 use Rattle.cpa_assign.specs.Orders.{is_task_on}
 use Rattle.cpa_events.specs.Streams.{IsStream}
 use Rattle.cpa_model.proofs.SystemLaws.{streams_of-some}
 use Rattle.cpa_model.specs.Streams.{source_stream}
 use Rattle.cpa_local.proofs.ResponseLaws.{source-is_stream}
-use Rattle.cpa_assign.specs.Placing.{sources_model, rival_at, rivals_at, greatest_worst, is_below, placed_by_kind, placed_bound}
+use Rattle.cpa_assign.specs.Placing.{sources_model, rival_at, rivals_at, greatest_blocking, is_below, placed_by_kind, placed_bound}
 
 -- ---- windows of demands that are compared from their first length on
 
@@ -46,7 +48,14 @@ window-mono_from_at demand demand' first limit (Within w) d h =
 window-mono_from : (demand demand' : ℕ → Bound) (first limit : ℕ) → ((v : ℕ) → first ≤ v → IsAtMost (demand v) (demand' v)) → IsAtMost (window demand first limit) (window demand' first limit)
 window-mono_from demand demand' first limit d = window-mono_from_at demand demand' first limit (window demand' first limit) d (window-is demand' first limit)
 
--- ---- less blocking and interference together, no greater a bound on a bus
+-- where something is asked for at once, the first length doesn't matter
+window-mono_past_zero : (demand demand' : ℕ → Bound) (limit : ℕ) (w : Bound) → ¬ IsAtMost (demand' 0) (Within 0) → ((v : ℕ) → 1 ≤ v → IsAtMost (demand v) (demand' v)) → IsWindow demand' 0 limit w → IsAtMost (window demand 0 limit) w
+window-mono_past_zero demand demand' limit Overload some d h = tt
+window-mono_past_zero demand demand' limit (Within zero) some d h = absurd (some h.2)
+window-mono_past_zero demand demand' limit (Within (suc w)) some d h =
+    window-least demand 0 limit (suc w) h.0 h.1 (IsAtMost_trans (demand (suc w)) (demand' (suc w)) (Within (suc w)) (d (suc w) (omega arith)) h.2)
+
+-- ---- less blocking and interference together, no greater a bound
 
 shifted : (a b c : ℕ) (v w : Bound) → IsAtMost (bound_plus (Within a) v) (bound_plus (Within b) w) → IsAtMost (bound_plus (Within (a + c)) v) (bound_plus (Within (b + c)) w)
 shifted a b c v Overload h = tt
@@ -73,6 +82,23 @@ module _ (own : Model) (worst blocking blocking' : ℕ) (rs ss : List Rival) (bi
       response-trade (λ v w le. eta_plus-mono own v w le)
       (window-mono_from (can_busy_demand own worst blocking rs) (can_busy_demand own worst blocking' ss) 1 limit
       (λ w first. shifted blocking blocking' (eta_plus own w * worst) (work_in rs w) (work_in ss w) (less w first)))
+
+something_at : (a : ℕ) (b : Bound) → 1 ≤ a → ¬ IsAtMost (bound_plus (Within a) b) (Within 0)
+something_at a (Within b) some h = omega arith
+something_at a Overload some h = h
+
+module _ (own : Model) (worst blocking blocking' : ℕ) (rs ss : List Rival) (limit : ℕ) (some : 1 ≤ worst) (less : (w : ℕ) → 1 ≤ w → IsAtMost (bound_plus (Within blocking) (work_in rs w)) (bound_plus (Within blocking') (work_in ss w))) where
+  jobs-trade : (q : ℕ) → 0 < q → IsAtMost (windows_of (preemptive_demand worst blocking rs) limit q) (windows_of (preemptive_demand worst blocking' ss) limit q)
+  jobs-trade q one =
+      let each : q * 1 ≤ q * worst = mul-le-mul_left q some in
+      window-mono_past_zero (preemptive_demand worst blocking rs q) (preemptive_demand worst blocking' ss q) limit (window (preemptive_demand worst blocking' ss q) 0 limit)
+      (something_at (blocking' + q * worst) (work_in ss 0) (omega (arith, each)))
+      (λ w first. shifted blocking blocking' (q * worst) (work_in rs w) (work_in ss w) (less w first))
+      (window-is (preemptive_demand worst blocking' ss q) 0 limit)
+
+  preemptive_bound-trade : IsAtMost (preemptive_bound own worst blocking rs limit) (preemptive_bound own worst blocking' ss limit)
+  preemptive_bound-trade =
+      busy_window_bound-mono (windows_of (preemptive_demand worst blocking rs) limit) (windows_of (preemptive_demand worst blocking' ss) limit) (delta_minus own) (delta_minus own) limit jobs-trade (λ q. omega arith)
 
 -- ---- what moves leaves at least as much as it brings
 
@@ -143,16 +169,6 @@ picked-kept fewer above g j moved =
       | inr low ↦ rw low (omega arith)
     ]
 
-kept : (fewer above : ℕ → Bool) (g : ℕ → ℕ) (js : List ℕ) → ((j : ℕ) → fewer j ≡ true → above j ≡ true) → sum_over fewer g js ≤ sum_over above g js
-unfolding sum_over
-kept fewer above g [] moved = omega arith
-kept fewer above g (j ∷ js) moved =
-    let rest = kept fewer above g js moved in
-    let a = sum-step fewer g j js in
-    let b = sum-step above g j js in
-    let here : picked fewer g j ≤ picked above g j = picked-kept fewer above g j (moved j) in
-    omega (arith, rest, a, b, here)
-
 picked-some : (p : ℕ → Bool) (f : ℕ → ℕ) (j : ℕ) → p j ≡ true → picked p f j ≡ f j
 unfolding picked
 picked-some p f j passes = rw passes refl
@@ -165,9 +181,20 @@ picked-le : (p : ℕ → Bool) (f : ℕ → ℕ) (j : ℕ) → picked p f j ≤ 
 unfolding picked
 picked-le p f j = elim (cases_Bool (p j)) [ inl passes ↦ rw passes (omega arith) | inr fails ↦ rw fails (omega arith) ]
 
-module _ (s : SystemLists) (r i : ℕ) (fewer above : ℕ → Bool) (rules : IsSystem s) (moved : (j : ℕ) → fewer j ≡ true → above j ≡ true) where
+module _ (s : SystemLists) (r i : ℕ) (fewer above : ℕ → Bool) (rules : IsSystem s) (there : i < length s.tasks) (moved : (j : ℕ) → fewer j ≡ true → above j ≡ true) where
   worst_of : ℕ → ℕ
   worst_of j = (task_at s j).worst
+
+  -- by how long one of its jobs that has begun keeps others waiting
+  held_of : Kind → ℕ → ℕ
+  held_of kind j = blocking_by kind (task_at s j)
+
+  held_of-le : (kind : Kind) (j : ℕ) → held_of kind j ≤ worst_of j
+  unfolding held_of worst_of
+  held_of-le Preemptive j = omega arith
+  held_of-le RoundRobin j = omega arith
+  held_of-le (Tdma gap) j = omega arith
+  held_of-le (Can bit) j = omega arith
 
   work_of : ℕ → ℕ → ℕ
   work_of w j = eta_plus (sources_model s j) w * worst_of j
@@ -198,25 +225,25 @@ module _ (s : SystemLists) (r i : ℕ) (fewer above : ℕ → Bool) (rules : IsS
         | inr elsewhere ↦ rw elsewhere refl
       ]
 
-  trades : (w j : ℕ) → 1 ≤ w → IsTrade fewer above (is_below s r fewer i) (is_below s r above i) worst_of (work_of w) j
+  trades : (kind : Kind) (w j : ℕ) → 1 ≤ w → IsTrade fewer above (is_below s r fewer i) (is_below s r above i) (held_of kind) (work_of w) j
   unfolding work_of
-  trades w j some =
+  trades kind w j some =
       let once : worst_of j ≤ work_of w j = once_worst w j some in
-      let brings : picked (is_below s r fewer i) worst_of j ≤ worst_of j = picked-le (is_below s r fewer i) worst_of j in
+      let brings : picked (is_below s r fewer i) (held_of kind) j ≤ held_of kind j = picked-le (is_below s r fewer i) (held_of kind) j in
       let less : picked fewer (work_of w) j ≤ picked above (work_of w) j = picked-kept fewer above (work_of w) j (moved j) in
       elim (cases_Bool (fewer j)) [
         | inl high ↦
-            let none = picked-none (is_below s r fewer i) worst_of j (not_below fewer j high) in
+            let none = picked-none (is_below s r fewer i) (held_of kind) j (not_below fewer j high) in
             record { less = less; trade = inl (omega (arith, none)) }
         | inr low ↦
             let left = picked-none fewer (work_of w) j low in
             elim (cases_Bool (above j)) [
               | inl higher ↦
                   let had = picked-some above (work_of w) j higher in
-                  record { less = less; trade = inr (omega (arith, left, had, once, brings)) }
+                  record { less = less; trade = inr (omega (arith, left, had, once, brings, held_of-le kind j)) }
               | inr lower ↦
                   let same : is_below s r fewer i j ≡ is_below s r above i j = ap (λ (b : Bool). is_task_on s r j && not (b || j == i)) (low ∙ sym lower) in
-                  record { less = less; trade = inl (picked-same (is_below s r fewer i) (is_below s r above i) worst_of j same) }
+                  record { less = less; trade = inl (picked-same (is_below s r fewer i) (is_below s r above i) (held_of kind) j same) }
             ]
       ]
 
@@ -226,28 +253,21 @@ module _ (s : SystemLists) (r i : ℕ) (fewer above : ℕ → Bool) (rules : IsS
   work_in-listed w (j ∷ js) = rw (work_in-listed w js, sum_by-cons (work_of w) j js) refl
 
   -- the blocking and the interference of a window, together
-  no_more_together : (w : ℕ) → 1 ≤ w
-      → IsAtMost (bound_plus (Within (greatest_worst s (is_below s r fewer i))) (work_in (rivals_at s fewer) w)) (bound_plus (Within (greatest_worst s (is_below s r above i))) (work_in (rivals_at s above) w))
-  unfolding sum_over greatest_over worst_of
-  no_more_together w some =
+  no_more_together : (kind : Kind) (w : ℕ) → 1 ≤ w
+      → IsAtMost (bound_plus (Within (greatest_blocking s kind (is_below s r fewer i))) (work_in (rivals_at s fewer) w)) (bound_plus (Within (greatest_blocking s kind (is_below s r above i))) (work_in (rivals_at s above) w))
+  unfolding sum_over greatest_over held_of
+  no_more_together kind w some =
       rw (work_in-listed w (filter fewer (task_places s)), work_in-listed w (filter above (task_places s)))
-      (traded fewer above (is_below s r fewer i) (is_below s r above i) worst_of (work_of w) (task_places s) (λ j. trades w j some)).0
-
-  -- the interference alone
-  no_more_work : (w : ℕ) → IsAtMost (work_in (rivals_at s fewer) w) (work_in (rivals_at s above) w)
-  unfolding sum_over
-  no_more_work w =
-      rw (work_in-listed w (filter fewer (task_places s)), work_in-listed w (filter above (task_places s)))
-      (kept fewer above (work_of w) (task_places s) moved)
+      (traded fewer above (is_below s r fewer i) (is_below s r above i) (held_of kind) (work_of w) (task_places s) (λ j. trades kind w j some)).0
 
   placed_by_kind-fewer : (kind : Kind) → KindFits kind → IsAtMost (placed_by_kind s r fewer i kind) (placed_by_kind s r above i kind)
   placed_by_kind-fewer Preemptive fit =
-      busy_window_bound-grows (preemptive_demand (task_at s i).worst (rivals_at s fewer)) (preemptive_demand (task_at s i).worst (rivals_at s above)) (delta_minus (sources_model s i)) (delta_minus (sources_model s i)) (resource_at s r).limit
-      (λ q w. bound_plus-mono (Within (q * (task_at s i).worst)) (Within (q * (task_at s i).worst)) (work_in (rivals_at s fewer) w) (work_in (rivals_at s above) w) (omega arith) (no_more_work w))
-      (λ q. omega arith)
+      let own : IsTask s (task_at s i) = rules.tasks i no_task there in
+      preemptive_bound-trade (sources_model s i) (task_at s i).worst (greatest_blocking s Preemptive (is_below s r fewer i)) (greatest_blocking s Preemptive (is_below s r above i)) (rivals_at s fewer) (rivals_at s above) (resource_at s r).limit
+      (omega (arith, own.some_best, own.ordered)) (no_more_together Preemptive)
   placed_by_kind-fewer (Can bit) fit =
-      can_bound-trade (sources_model s i) (task_at s i).worst (greatest_worst s (is_below s r fewer i)) (greatest_worst s (is_below s r above i)) (rivals_at s fewer) (rivals_at s above) bit (resource_at s r).limit
-      fit.0 no_more_together
+      can_bound-trade (sources_model s i) (task_at s i).worst (greatest_blocking s (Can bit) (is_below s r fewer i)) (greatest_blocking s (Can bit) (is_below s r above i)) (rivals_at s fewer) (rivals_at s above) bit (resource_at s r).limit
+      fit.0 (no_more_together (Can bit))
   placed_by_kind-fewer RoundRobin fit = tt
   placed_by_kind-fewer (Tdma gap) fit = tt
 

@@ -1,5 +1,5 @@
 -- What orders mean, and what Audsley's argument stands on.
-use Rattle.std.specs.Prelude.{ℕ, ◌≡◌, Bool, true, Option, List}
+use Rattle.std.specs.Prelude.{ℕ, ◌≡◌, ◌<◌, Bool, true, Option, List, length}
 use Rattle.cpa_units.specs.declared.places.TaskId.{TaskId}
 use Rattle.cpa_units.specs.Bounds.{IsAtMost}
 use Rattle.cpa_model.specs.SystemLists.{SystemLists, resource_at}
@@ -10,7 +10,7 @@ use Rattle.cpa_assign.specs.Placing.{placed_bound}
 -- where tasks move from above a task to below it, its bound doesn't rise
 abbrev pub FewerAboveIsNoWorse : Type 0
 FewerAboveIsNoWorse =
-    (s : SystemLists) (r i : ℕ) (fewer above : ℕ → Bool) → IsSystem s → ((j : ℕ) → fewer j ≡ true → above j ≡ true)
+    (s : SystemLists) (r i : ℕ) (fewer above : ℕ → Bool) → IsSystem s → i < length s.tasks → ((j : ℕ) → fewer j ≡ true → above j ≡ true)
     → IsAtMost (placed_bound s r fewer i) (placed_bound s r above i)
 
 -- a system with an order of one of its resources is a system

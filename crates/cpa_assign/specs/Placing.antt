@@ -11,6 +11,7 @@ use Rattle.cpa_model.specs.declared.entries.Kind.{Kind}
 use Rattle.cpa_model.specs.declared.entries.Kind.TheVariants.{Preemptive, Can}
 use Rattle.cpa_model.specs.SystemLists.{SystemLists, task_at, resource_at, task_places, streams_of}
 use Rattle.cpa_model.specs.Streams.{source_stream}
+use Rattle.cpa_local.specs.Blocking.{blocking_by}
 use Rattle.cpa_assign.specs.Orders.{is_task_on, IsInTime}
 
 -- the event model of a task that sources alone activate: the streams of these, in their order
@@ -25,9 +26,9 @@ rival_at s j = record { model = Some (sources_model s j); worst = (task_at s j).
 abbrev pub rivals_at : SystemLists → (ℕ → Bool) → List Rival
 rivals_at s test = map (rival_at s) (filter test (task_places s))
 
--- the greatest execution of the tasks that pass a test, 0 where none does
-abbrev pub greatest_worst : SystemLists → (ℕ → Bool) → ℕ
-greatest_worst s test = fold (λ most j. max most (task_at s j).worst) 0 (filter test (task_places s))
+-- the greatest blocking by one of the tasks that pass a test, 0 where none does
+abbrev pub greatest_blocking : SystemLists → Kind → (ℕ → Bool) → ℕ
+greatest_blocking s kind test = fold (λ most j. max most (blocking_by kind (task_at s j))) 0 (filter test (task_places s))
 
 -- whether j is below task i of the resource, where `above` says which are above
 abbrev pub is_below : SystemLists → ℕ → (ℕ → Bool) → ℕ → ℕ → Bool
@@ -35,9 +36,9 @@ is_below s r above i j = is_task_on s r j && not (above j || j == i)
 
 abbrev pub placed_by_kind : SystemLists → ℕ → (ℕ → Bool) → ℕ → Kind → Bound
 placed_by_kind s r above i Preemptive =
-    preemptive_bound (sources_model s i) (task_at s i).worst (rivals_at s above) (resource_at s r).limit
+    preemptive_bound (sources_model s i) (task_at s i).worst (greatest_blocking s Preemptive (is_below s r above i)) (rivals_at s above) (resource_at s r).limit
 placed_by_kind s r above i (Can bit) =
-    can_bound (sources_model s i) (task_at s i).worst (greatest_worst s (is_below s r above i)) (rivals_at s above) bit (resource_at s r).limit
+    can_bound (sources_model s i) (task_at s i).worst (greatest_blocking s (Can bit) (is_below s r above i)) (rivals_at s above) bit (resource_at s r).limit
 placed_by_kind s r above i _ = Overload
 
 -- the bound of task i of a resource below those that `above` says

@@ -10,9 +10,10 @@ ghost use Rattle.cpa_model.specs.SystemLists.{path_at, stream_at, streams_of};
 ghost use Rattle.cpa_model.specs.Streams.{source_stream};
 ghost use Rattle.cpa_units.specs.Bounds.{IsAtMost};
 ghost use Rattle.cpa_assign.specs.Orders.{IsInTime, IsPathInTime, IsWithinDeadline};
-ghost use Rattle.cpa_assign.specs.Placing.{sources_model, rival_at, rivals_at, greatest_worst, is_below, placed_bound, without, Fits, IsLowestOf, NoneIsLowest};
+ghost use Rattle.cpa_assign.specs.Placing.{sources_model, rival_at, rivals_at, greatest_blocking, is_below, placed_bound, without, Fits, IsLowestOf, NoneIsLowest};
 
 use cpa_events::{Model, Stream};
+use cpa_local::blocking_by;
 use cpa_model::{Kind, System};
 use cpa_units::{Bound, PathId, ResId, TaskId};
 use cpa_window::Rival;
@@ -89,16 +90,16 @@ fn stands_below(system: &System, res: ResId, free: &[bool], task: TaskId, other:
     system.task(other).res.0 == res.0 && !(stands_above(free, task, other) || other.0 == task.0)
 }
 
-/// The greatest execution of the tasks below one at the lowest free place, 0 if there are none.
-fn blocking(system: &System, res: ResId, task: TaskId, free: &[bool]) -> u64
+/// The greatest blocking by one of the tasks below one at the lowest free place, on a resource of this kind; 0 if there are none.
+fn blocking(system: &System, res: ResId, kind: Kind, task: TaskId, free: &[bool]) -> u64
     requires marks { length free.now ≡ length system.now.tasks }
-    ensures value { result ≡ greatest_worst system.now (is_below system.now res.0 (without (holds free.now) task.0) task.0) }
+    ensures value { result ≡ greatest_blocking system.now kind (is_below system.now res.0 (without (holds free.now) task.0) task.0) }
     ensures in_range { result ≤ MAX_EXECUTION }
 {
     let mut most: u64 = 0;
     for k in 0..system.tasks() {
         if stands_below(system, res, free, task, TaskId(k)) {
-            most = most.max(system.task(TaskId(k)).worst);
+            most = most.max(blocking_by(kind, system.task(TaskId(k))));
         }
     }
     most
@@ -128,9 +129,12 @@ fn is_lowest_within(
     let above = rivals.as_slice();
     let entry = system.resource(res);
     match entry.kind {
-        Kind::Preemptive => cpa_spp::is_within(&own, worst, above, entry.limit, most),
+        Kind::Preemptive => {
+            let regions = blocking(system, res, Kind::Preemptive, task, free);
+            cpa_spp::is_within(&own, worst, regions, above, entry.limit, most)
+        }
         Kind::Can { bit } => {
-            let longest = blocking(system, res, task, free);
+            let longest = blocking(system, res, Kind::Can { bit }, task, free);
             cpa_can::is_within(&own, worst, longest, above, bit, entry.limit, most)
         }
         Kind::RoundRobin | Kind::Tdma { gap: _ } => false,

@@ -16,8 +16,10 @@ use Rattle.cpa_model.specs.declared.entries.Kind.TheVariants.{Preemptive, RoundR
 use Rattle.cpa_model.specs.Rules.{IsSystem}
 use Rattle.cpa_model.specs.SystemLists.{SystemLists, task_at, priority_of, tasks_on, task_places, source_places, is_task, is_source, is_activated_by}
 use Rattle.cpa_trace.specs.Trace.{TraceLists, times_of, Obeys}
-use Rattle.cpa_sched.specs.States.{IsOn, IsWaiting}
-use Rattle.cpa_sched.specs.Steps.{kind_of}
+use Rattle.cpa_sched.specs.States.{IsOn, IsWaiting, HoldsRegion}
+use Rattle.cpa_sched.specs.Steps.{kind_of, region_of}
+use Rattle.cpa_sched.proofs.OptionLaws.{some-injective}
+use Rattle.cpa_sim.proofs.RunLaws.{run-belongs}
 use Rattle.cpa_sim.specs.Run.{runs_in, ended_count, run}
 use Rattle.cpa_sim.proofs.JobCount.{events_before, jobs-counted}
 use Rattle.cpa_sound.specs.RunCourse.{course_of}
@@ -26,7 +28,7 @@ use Rattle.cpa_sound.proofs.Serving.{IsPending}
 use Rattle.cpa_sound.proofs.CourseLaws.{arrived-mono, arrives-order}
 use Rattle.cpa_sound.proofs.RunLaws.{arrived-zero, arrived-one}
 use Rattle.cpa_sound.specs.Course.{Arrives}
-use Rattle.cpa_sound.proofs.ChoiceLaws.{waiting_at, runs-chosen, preemptive-choice, urgent_waits}
+use Rattle.cpa_sound.proofs.ChoiceLaws.{waiting_at, state_at, runs-chosen, region-goes_on, region-starts, urgent_waits}
 use Rattle.cpa_sound.proofs.StepLaws.{in_waiting, all_at}
 use Rattle.cpa_sound.proofs.KindRuns.{pending-waits}
 use Rattle.cpa_sound.proofs.FieldLaws.{arrival-is}
@@ -57,6 +59,7 @@ preemptive-is (Can bit) e = absurd (false≢true e)
 
 pub record IsAbove (s : SystemLists) (p c : ℕ) : Type 0 where
   pub kind : kind_of s (task_at s c).res.0 ≡ Preemptive
+  pub one_tick : region_of s c ≡ 1
   pub shared : (task_at s p).res.0 ≡ (task_at s c).res.0
   pub rank : priority_of (task_at s p).turn < priority_of (task_at s c).turn
   pub apart : is_activated_by s p c ≡ true → ⊥
@@ -65,9 +68,11 @@ pub above-is : (s : SystemLists) (p c : ℕ) → is_above s p c ≡ true → IsA
 above-is s p c e =
     let outer = both-true _ _ e in
     let inner = both-true _ _ outer.0 in
+    let way = both-true _ _ inner.0 in
     let higher = both-true _ _ inner.1 in
     record {
-      kind = preemptive-is (kind_of s (task_at s c).res.0) inner.0;
+      kind = preemptive-is (kind_of s (task_at s c).res.0) way.0;
+      one_tick = eqb-true (region_of s c) 1 way.1;
       shared = sym (eqb-true (task_at s c).res.0 (task_at s p).res.0 higher.0);
       rank = ltb-true (priority_of (task_at s p).turn) (priority_of (task_at s c).turn) higher.1;
       apart = not-true (is_activated_by s p c) outer.1;
@@ -145,11 +150,24 @@ runs-of reading s tr t reads tasks by runs k less = (subst (λ r. ReadsBy r s tr
 -- ---- from above
 
 module _ (s : SystemLists) (tr : TraceLists) (rules : IsSystem s) (obeys : Obeys s tr) (p c : TaskId) (hp : p.0 < length s.tasks) (hc : c.0 < length s.tasks) (above : IsAbove s p.0 c.0) where
+  -- no region of the lower one has begun before a tick in which it runs
+  no-region : (u : ℕ) → runs_in s tr u (run s tr u) c.0 ≡ true → (o : Option ℕ) → (state_at s tr u (task_at s c.0).res.0).holder ≡ o → (state_at s tr u (task_at s c.0).res.0).holder ≡ None
+  no-region u runs None same = same
+  no-region u runs (Some h) same =
+      let r : ℕ = (task_at s c.0).res.0 in
+      let own = some-injective h c.0 (sym (region-goes_on s tr r above.kind u h same) ∙ runs-chosen s tr u c.0 runs) in
+      let keeps = (run-belongs s tr u r).turn in
+      let holds : HoldsRegion s (state_at s tr u r).left (state_at s tr u r).holder = rw above.kind at keeps in
+      let held : HoldsRegion s (state_at s tr u r).left (Some h) = subst (HoldsRegion s (state_at s tr u r).left) same holds in
+      let one : region_of s h ≡ 1 = ap (region_of s) own ∙ above.one_tick in
+      absurd (omega (arith, held.0, held.1, one))
+
   -- no job of the higher one is pending in a tick in which the lower one runs
   runs-alone : (u : ℕ) → runs_in s tr u (run s tr u) c.0 ≡ true → IsPending (course_of s tr p.0) u → ⊥
   runs-alone u runs pending =
       let r : ℕ = (task_at s c.0).res.0 in
-      let urgent = sym (preemptive-choice s tr u r above.kind) ∙ runs-chosen s tr u c.0 runs in
+      let free = no-region u runs (state_at s tr u r).holder refl in
+      let urgent = sym (region-starts s tr r above.kind u free) ∙ runs-chosen s tr u c.0 runs in
       let first = urgent_waits s tr u r c.0 urgent in
       let on : IsOn s r p.0 = record { task = hp; here = eq-eqb (task_at s p.0).res.0 r above.shared } in
       let waits : IsWaiting s r (waiting_at s tr u) p.0 = record { on = on; waits_now = pending-waits s tr rules obeys p.0 u pending } in

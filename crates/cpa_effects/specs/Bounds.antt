@@ -33,9 +33,13 @@ is_preemptive RoundRobin = false
 is_preemptive (Tdma gap) = false
 is_preemptive (Can bit) = false
 
--- whether task j is on the resource of task i with preemptive priorities, of higher priority, and starts none of its jobs
+-- whether a job of task i is preempted at each tick
+abbrev pub gives_way : SystemLists → ℕ → Bool
+gives_way s i = is_preemptive (resource_of s i).kind && (task_at s i).region == 1
+
+-- whether task j is on the resource of task i, which gives way to it, of higher priority, and starts none of its jobs
 abbrev pub is_above : SystemLists → ℕ → ℕ → Bool
-is_above s j i = (is_preemptive (resource_of s i).kind && is_higher s i j) && not (is_activated_by s j i)
+is_above s j i = (gives_way s i && is_higher s i j) && not (is_activated_by s j i)
 
 -- the source that is a task's only activator
 abbrev pub sole_source : List Activator → Option SourceId

@@ -2,7 +2,7 @@
 
 ghost use Rattle.std.specs.Prelude.{◌≡◌, ◌<◌, length};
 ghost use Rattle.cpa_model.specs.SystemLists.{priority_of, is_higher};
-ghost use Rattle.cpa_effects.specs.Bounds.{step_between, is_preemptive, is_above, sole_source, is_one_source, have_one_source, passage_between};
+ghost use Rattle.cpa_effects.specs.Bounds.{step_between, is_preemptive, gives_way, is_above, sole_source, is_one_source, have_one_source, passage_between};
 
 use cpa_model::{Activator, Kind, System};
 use cpa_units::{SourceId, TaskId};
@@ -75,16 +75,24 @@ fn is_higher(system: &System, task: TaskId, other: TaskId) -> bool
     first.res.0 == second.res.0 && second.turn.priority() < first.turn.priority()
 }
 
-/// Whether a task is on the preemptive resource of the next, of higher priority, and starts none of its jobs.
+/// Whether a job of a task is preempted at each tick: on a preemptive resource, where its regions are of a tick.
+fn gives_way(system: &System, task: TaskId) -> bool
+    requires { task.0 < length system.now.tasks }
+    ensures { result ≡ gives_way system.now task.0 }
+{
+    let entry = system.task(task);
+    is_preemptive(system.resource(entry.res).kind) && entry.region == 1
+}
+
+/// Whether a task is on the resource of the next, which gives way to it, of higher priority, and starts none of its jobs.
 fn is_above(system: &System, before: TaskId, next: TaskId) -> bool
     requires before { before.0 < length system.now.tasks }
     requires next { next.0 < length system.now.tasks }
     ensures { result ≡ is_above system.now before.0 next.0 }
 {
-    let reader = system.task(next);
-    is_preemptive(system.resource(reader.res).kind)
+    gives_way(system, next)
         && is_higher(system, next, before)
-        && !reader.after.has_task(before)
+        && !system.task(next).after.has_task(before)
 }
 
 /// The source that is the only activator of a list.

@@ -5,6 +5,7 @@ use Rattle.cpa_model.specs.declared.entries.Task.{Task}
 use Rattle.cpa_model.specs.SystemLists.{task_at}
 use Rattle.std.specs.Prelude.{filter}
 use Rattle.cpa_units.proofs.PlaceLaws.{places}
+use Rattle.cpa_local.specs.Blocking.{blocking_by}
 use Rattle.cpa_local.proofs.BlockingLaws.{greatest-push}
 use Rattle.cpa_assign.proofs.CountLaws.{passing-more, failing-more}
 use Rattle.cpa_assign.specs.Placing.{is_below, without}
@@ -17,11 +18,11 @@ loop-k-preserved c =
     elim c.if-stands_below.branch [
       | then-stands_below w ↦
           let lower : test c.loop-k.k ≡ true = sym c.stands_below.ensures ∙ w.if-stands_below.true in
-          let worst : w.task.result.now.worst ≡ (task_at c.args.system.now c.loop-k.k).worst = ap (λ (t : Task). t.worst) w.task.ensures.value in
-          let short : w.task.result.now.worst ≤ MAX_EXECUTION = w.task.ensures.rules.worst in
+          let same = w.blocking_by.ensures.value ∙ ap (blocking_by c.args.kind) w.task.ensures.value in
+          let short = w.blocking_by.ensures.in_range in
           record {
-            found = rw (w.most-is, w.max-most.ensures, worst, c.loop-k.invariant.found, passing-more test c.loop-k.k lower)
-                (sym (greatest-push (λ j. (task_at c.args.system.now j).worst) (filter test (places c.loop-k.k)) c.loop-k.k));
+            found = rw (w.most-is, w.max-most.ensures, same, c.loop-k.invariant.found, passing-more test c.loop-k.k lower)
+                (sym (greatest-push (λ j. blocking_by c.args.kind (task_at c.args.system.now j)) (filter test (places c.loop-k.k)) c.loop-k.k));
             small = omega (arith, w.most-is, w.max-most.ensures, short, c.loop-k.invariant.small);
           }
       | else-stands_below w ↦
