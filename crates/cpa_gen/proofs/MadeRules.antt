@@ -19,6 +19,7 @@ use Rattle.cpa_model.specs.declared.entries.Activator.TheVariants as activator
 use Rattle.cpa_model.specs.declared.entries.Turn.TheVariants as turn
 use Rattle.cpa_model.specs.Chains.{activators, chain_steps, depth_within, streams_step, streams_within}
 use Rattle.cpa_model.specs.SystemLists.{SystemLists, is_task, no_resource, no_task, priority_of, resource_at, task_at}
+use Rattle.cpa_model.proofs.SystemLaws.{tick-fits}
 use Rattle.cpa_model.specs.Rules.{AllDiffer, HaveOwnPriorities, IsActivator, IsLinked, IsPath, IsResource, IsSource, IsSystem, IsTask, TurnFits, activity_names}
 use Rattle.cpa_gen.specs.declared.chains.Chain.{Chain}
 use Rattle.cpa_gen.specs.Chains.{IsChain, chain_at, no_chain}
@@ -131,6 +132,7 @@ task_fits number size zero k few l m =
       ordered = omega arith;
       worst = omega (arith, c.first);
       turn_fits = subst (λ x. TurnFits x (turn.Priority (2 * k))) (sym (kind_low number size (k % processors size) on)) (omega (arith, m, few));
+      region_fits = tick-fits (resource_at (lists number size) (k % processors size)).kind;
     }
 task_fits number size (suc zero) k few l m =
     let c = chain_fits number size k (omega (arith, m)) in
@@ -144,6 +146,7 @@ task_fits number size (suc zero) k few l m =
       ordered = omega arith;
       worst = omega (arith, c.payload);
       turn_fits = subst (λ x. TurnFits x (turn.Priority k)) (sym (kind_high number size (processors size + k % buses size) (omega arith) (omega (arith, on)))) (omega (arith, m, few));
+      region_fits = tick-fits (resource_at (lists number size) (processors size + k % buses size)).kind;
     }
 task_fits number size (suc (suc zero)) k few l m =
     let c = chain_fits number size k (omega (arith, m)) in
@@ -156,6 +159,7 @@ task_fits number size (suc (suc zero)) k few l m =
       ordered = omega arith;
       worst = omega (arith, c.last);
       turn_fits = subst (λ x. TurnFits x (turn.Priority (2 * k + 1))) (sym (kind_low number size (chain_of number size k).processor c.processor)) (omega (arith, m, few));
+      region_fits = tick-fits (resource_at (lists number size) (chain_of number size k).processor).kind;
     }
 task_fits number size (suc (suc (suc t))) k few l m = absurd (omega (arith, l))
 

@@ -66,6 +66,7 @@ first_task size k c = record {
   best = c.first / 2;
   worst = c.first;
   turn = turn.Priority (2 * k);
+  region = 1;
 }
 
 abbrev pub frame_task : ℕ → ℕ → Chain → Task
@@ -76,6 +77,7 @@ frame_task size k c = record {
   best = least_frame_bits c.payload false * 2;
   worst = greatest_frame_bits c.payload false * 2;
   turn = turn.Priority k;
+  region = 1;
 }
 
 abbrev pub last_task : ℕ → Chain → Task
@@ -86,6 +88,7 @@ last_task k c = record {
   best = c.last / 2;
   worst = c.last;
   turn = turn.Priority (2 * k + 1);
+  region = 1;
 }
 
 -- the task that stands so far after the first of its chain

@@ -19,19 +19,28 @@ use std::thread::Threads;
 /// How many runs are kept until they are added up.
 const BATCH: u64 = 64;
 
+/// Runs of a system under generated traces of a number, which are held against a vector.
+#[derive(Drop)]
+struct GeneratedRuns<'a> {
+    system: &'a System,
+    x: &'a Vector,
+    number: u64,
+    ghost long: { length x.now ≡ length system.now.tasks },
+}
+
 /// What is seen under traces `from` to `to`, without the last, each on any thread; in the order of the traces.
 fn see_batch<R: Threads + Sync>(
     rt: &R,
     alloc: Global,
-    system: &System,
-    x: &Vector,
-    number: u64,
+    runs: &GeneratedRuns,
     from: u64,
     to: u64,
 ) -> Result<Vec<Result<Seen, NoMemory>>, AllocError>
-    requires { length x.now ≡ length system.now.tasks }
-    ensures { IfOk result (λ v. AllZip (λ k s. IfOk s (λ seen. seen ≡ seen_over system.now x.now number (k ∷ []))) (range_with_len from (to - from)) v.items) }
+    ensures { IfOk result (λ v. AllZip (λ k s. IfOk s (λ seen. seen ≡ seen_over runs.now.system.now runs.now.x.now runs.now.number (k ∷ []))) (range_with_len from (to - from)) v.items) }
 {
+    let system = runs.system;
+    let x = runs.x;
+    let number = runs.number;
     (from..to)
         .into_par_iter()
         .with_min_len(1)
@@ -60,21 +69,18 @@ fn add(alloc: Global, total: &Seen, one: &Result<Seen, NoMemory>) -> Result<Seen
 fn see_more<R: Threads + Sync>(
     rt: &R,
     alloc: Global,
-    system: &System,
-    x: &Vector,
-    number: u64,
+    runs: &GeneratedRuns,
     mut total: Seen,
     from: u64,
     to: u64,
 ) -> Result<Seen, NoMemory>
-    requires long { length x.now ≡ length system.now.tasks }
     requires ordered { from ≤ to }
     requires few { to ≤ MAX_TRACES }
-    requires seen { total ≡ seen_over system.now x.now number (range_with_len 0 from) }
-    ensures { IfOk result (λ seen. seen ≡ seen_over system.now x.now number (range_with_len 0 to)) }
+    requires seen { total ≡ seen_over runs.now.system.now runs.now.x.now runs.now.number (range_with_len 0 from) }
+    ensures { IfOk result (λ seen. seen ≡ seen_over runs.now.system.now runs.now.x.now runs.now.number (range_with_len 0 to)) }
 {
-    system.has_rules();
-    let batch = see_batch(rt, alloc, system, x, number, from, to)?;
+    runs.system.has_rules();
+    let batch = see_batch(rt, alloc, runs, from, to)?;
     for i in 0..batch.len() {
         total = add(alloc, &total, &batch[i])?;
     }
@@ -99,11 +105,12 @@ pub fn hammer<R: Threads + Sync>(
     ensures none { IsClosed system.now x.now → IfOk result (λ seen. seen.beyond ≡ 0) }
 {
     system.has_rules();
+    let runs = GeneratedRuns { system, x, number };
     let mut total = Seen::none(alloc, system.tasks())?;
     let mut from = 0;
     while from < traces {
         let to = min(from + BATCH, traces);
-        total = see_more(rt, alloc, system, x, number, total, from, to)?;
+        total = see_more(rt, alloc, &runs, total, from, to)?;
         from = to;
     }
     Ok(total)

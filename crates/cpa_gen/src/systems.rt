@@ -102,6 +102,7 @@ fn first_task(alloc: Global, size: u32, k: u64, chain: Chain) -> Result<Task, No
         best: chain.first / 2,
         worst: chain.first,
         turn: Turn::Priority(2 * k as u32),
+        region: 1,
     })
 }
 
@@ -120,6 +121,7 @@ fn frame_task(alloc: Global, size: u32, k: u64, chain: Chain) -> Result<Task, No
         best: least * BIT,
         worst: greatest * BIT,
         turn: Turn::Priority(k as u32),
+        region: 1,
     })
 }
 
@@ -136,6 +138,7 @@ fn last_task(alloc: Global, k: u64, chain: Chain) -> Result<Task, NoMemory>
         best: chain.last / 2,
         worst: chain.last,
         turn: Turn::Priority(2 * k as u32 + 1),
+        region: 1,
     })
 }
 

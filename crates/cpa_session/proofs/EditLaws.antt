@@ -129,6 +129,7 @@ spared-in_place s t touched h sent =
             best = ap (λ (u : Task). u.best) it;
             worst = ap (λ (u : Task). u.worst) it;
             turn = ap (λ (u : Task). u.turn) it;
+            region = ap (λ (u : Task). u.region) it;
           };
       listed = λ old new tests.
           let agree : (j : ℕ) → 0 ≤ j → j < 0 + length s.tasks → old j ≡ new j = λ j low high.
@@ -252,6 +253,7 @@ module _ (s : SystemLists) (u : Task) (touched : List Bool) (on : Members touche
               best = ap (λ (v : Task). v.best) it;
               worst = ap (λ (v : Task). v.worst) it;
               turn = ap (λ (v : Task). v.turn) it;
+              region = ap (λ (v : Task). v.region) it;
             };
         listed = λ old new tests.
             let agree : (j : ℕ) → 0 ≤ j → j < 0 + length s.tasks → old j ≡ new j = λ j low high.
@@ -339,6 +341,7 @@ module _ (s : SystemLists) (gone : TaskId) (touched : List Bool) (there : gone.0
               best = sym (ap (λ (v : Task). v.best) it);
               worst = sym (ap (λ (v : Task). v.worst) it);
               turn = sym (ap (λ (v : Task). v.turn) it);
+              region = sym (ap (λ (v : Task). v.region) it);
             };
         listed = λ old new tests.
             let one : length s.tasks ≡ suc (length t.tasks) = omega (arith, long-without) in
@@ -362,7 +365,7 @@ raising-source s k period jitter distance shorter wider closer =
     record {
       resources = refl;
       more = omega arith;
-      tasks = λ i less. record { res = refl; after = each-itself (IsDenserActivator s (record s { sources = set s.sources k given })) by (task_at s i).after; best = omega arith; worst = omega arith; turn = refl };
+      tasks = λ i less. record { res = refl; after = each-itself (IsDenserActivator s (record s { sources = set s.sources k given })) by (task_at s i).after; best = omega arith; worst = omega arith; turn = refl; region = omega arith };
     }
   where
     given : Source

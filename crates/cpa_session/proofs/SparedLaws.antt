@@ -13,9 +13,10 @@ use Rattle.cpa_model.specs.declared.entries.Kind.{Kind}
 use Rattle.cpa_model.specs.declared.entries.Kind.TheVariants.{Preemptive, RoundRobin, Tdma, Can}
 use Rattle.cpa_model.specs.declared.entries.Activator.{Activator}
 use Rattle.cpa_model.specs.declared.entries.Activator.TheVariants.{Source as FromSource, Task as FromTask}
-use Rattle.cpa_model.specs.SystemLists.{SystemLists, task_at, resource_at, resource_of, task_places, slot_of, gap_of, is_higher, is_other, higher_tasks, other_tasks, blocking_of, cycle_of, is_task, no_resource}
+use Rattle.cpa_model.specs.SystemLists.{SystemLists, task_at, resource_at, resource_of, task_places, slot_of, gap_of, is_higher, is_other, higher_tasks, other_tasks, cycle_of, is_task, no_resource}
 use Rattle.cpa_model.specs.Rules.{IsSystem}
 use Rattle.cpa_model.proofs.SystemLaws.{activated-there}
+use Rattle.cpa_local.specs.Blocking.{blocking_by, blocking_of}
 use Rattle.cpa_local.specs.Inputs.{sent_by, joined, sent_by_all, input_along, input}
 use Rattle.cpa_local.specs.Local.{rival_of, bound_by_kind, bound_at_input, response}
 use Rattle.cpa_depend.specs.Cone.{Activates, LeadsTo, directly, through, Reads, earlier, IsClosedUnder}
@@ -162,12 +163,18 @@ module _ (s t : SystemLists) (touched reached : List Bool) (was : ℕ → ℕ) (
         let gap : gap_of (resource_of s (was i)).kind ≡ gap_of (resource_of t i).kind = ap (λ (r : Resource). gap_of r.kind) resource_same in
         omega arith
 
-    blocking_same : blocking_of s (was i) ≡ blocking_of t i
-    blocking_same =
-        ap (greatest_over (λ k. (task_at s k).worst) 0) (h.spared.listed (λ k. is_higher s k (was i)) (λ j. is_higher t j i) lower_tests)
-        ∙ greatest-map (λ k. (task_at s k).worst) was 0 (filter (λ j. is_higher t j i) (task_places t))
-        ∙ greatest-passing (λ j. is_higher t j i) (λ j. (task_at s (was j)).worst) (λ j. (task_at t j).worst) 0 0 (length t.tasks)
-        (λ j low high passes. (same_task j (omega arith) (beside j (sym (eqb-true (task_at t j).res.0 (task_at t i).res.0 (and_parts _ _ passes).0)))).worst)
+    blocking_by_same : (kind : Kind) (j : ℕ) → IsSameTask s t was j → blocking_by kind (task_at s (was j)) ≡ blocking_by kind (task_at t j)
+    blocking_by_same Preemptive j it = rw (it.region, it.worst) refl
+    blocking_by_same RoundRobin j it = refl
+    blocking_by_same (Tdma gap) j it = refl
+    blocking_by_same (Can bit) j it = it.worst
+
+    blocking_same : (kind : Kind) → blocking_of s kind (was i) ≡ blocking_of t kind i
+    blocking_same kind =
+        ap (greatest_over (λ k. blocking_by kind (task_at s k)) 0) (h.spared.listed (λ k. is_higher s k (was i)) (λ j. is_higher t j i) lower_tests)
+        ∙ greatest-map (λ k. blocking_by kind (task_at s k)) was 0 (filter (λ j. is_higher t j i) (task_places t))
+        ∙ greatest-passing (λ j. is_higher t j i) (λ j. blocking_by kind (task_at s (was j))) (λ j. blocking_by kind (task_at t j)) 0 0 (length t.tasks)
+        (λ j low high passes. blocking_by_same kind j (same_task j (omega arith) (beside j (sym (eqb-true (task_at t j).res.0 (task_at t i).res.0 (and_parts _ _ passes).0)))))
 
   -- ---- at vectors that agree
 
@@ -233,10 +240,10 @@ module _ (s t : SystemLists) (touched reached : List Bool) (was : ℕ → ℕ) (
           rivals_same (is_other s (was i)) (is_other t i) (other_tests i less off) (λ j passes. eqb-true (task_at t i).res.0 (task_at t j).res.0 (and_parts _ _ passes).0)
 
       by_kind_same : (own : Model) (kind : Kind) → bound_by_kind s x (was i) own kind ≡ bound_by_kind t y i own kind
-      by_kind_same own Preemptive = rw (higher_same, (same_task i less off).worst, resource_same i less off) refl
+      by_kind_same own Preemptive = rw (higher_same, blocking_same i less off Preemptive, (same_task i less off).worst, resource_same i less off) refl
       by_kind_same own RoundRobin = rw (others_same, (same_task i less off).worst, (same_task i less off).turn, resource_same i less off) refl
       by_kind_same own (Tdma gap) = rw (cycle_same i less off, (same_task i less off).worst, (same_task i less off).turn, resource_same i less off) refl
-      by_kind_same own (Can bit) = rw (higher_same, blocking_same i less off, (same_task i less off).worst, resource_same i less off) refl
+      by_kind_same own (Can bit) = rw (higher_same, blocking_same i less off (Can bit), (same_task i less off).worst, resource_same i less off) refl
 
       at_input_same : (m : Option Model) → bound_at_input s x (was i) m ≡ bound_at_input t y i m
       at_input_same (Some own) = ap (λ (r : Resource). bound_by_kind s x (was i) own r.kind) (resource_same i less off) ∙ by_kind_same own (resource_of t i).kind

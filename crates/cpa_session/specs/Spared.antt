@@ -31,6 +31,7 @@ pub record IsSameTask (s t : SystemLists) (was : ℕ → ℕ) (i : ℕ) : Type 0
   pub best : (task_at s (was i)).best ≡ (task_at t i).best
   pub worst : (task_at s (was i)).worst ≡ (task_at t i).worst
   pub turn : (task_at s (was i)).turn ≡ (task_at t i).turn
+  pub region : (task_at s (was i)).region ≡ (task_at t i).region
 
 -- tests of the tasks of both systems that pass none on touched resources, and agree on all others
 pub record AreSameTests (s t : SystemLists) (touched : List Bool) (was : ℕ → ℕ) (old new : ℕ → Bool) : Type 0 where

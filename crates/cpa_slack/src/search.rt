@@ -16,6 +16,24 @@ use cpa_units::limits::MAX_EXECUTION;
 use cpa_units::{Bound, NoMemory, PathId, TaskId, Vector};
 use std::alloc::Global;
 
+/// The task of a system that is to grow, and by how many ticks at most.
+#[derive(Drop)]
+struct Growth<'a> {
+    system: &'a System,
+    task: TaskId,
+    most: u64,
+    ghost there: { task.0 < length system.now.tasks },
+    ghost in_range: { (task_at system.now task.0).worst + most ≤ MAX_EXECUTION },
+}
+
+/// A copy of a system in which a task may have grown, and a vector from which the search for its least
+/// solution may begin: the least solution with the most ticks that are known to hold.
+#[derive(Drop)]
+struct Trial {
+    system: System,
+    held: Vector,
+}
+
 /// Whether a path takes at most its deadline by these bounds, if it has one.
 fn path_holds(system: &System, path: PathId, x: &Vector) -> bool
     requires there { path.0 < length system.now.paths }
@@ -94,46 +112,40 @@ pub fn find_slack<H: Sync, R: Round<H>>(
         return Ok(Slack::Missed);
     }
     let room = MAX_EXECUTION - system.task(task).worst;
-    let ticks = most_ticks(rt, alloc, system, task, room, bounds, round, trail)?;
+    let growth = Growth {
+        system,
+        task,
+        most: room,
+    };
+    let ticks = most_ticks(rt, alloc, &growth, bounds, round, trail)?;
     Ok(Slack::Add {
         ticks,
         limit: ticks == room,
     })
 }
 
-/// The most ticks up to `most` with which all holds, where it does without any.
+/// The most ticks with which all holds, where it does without any.
 fn most_ticks<H: Sync, R: Round<H>>(
     rt: &H,
     alloc: Global,
-    system: &System,
-    task: TaskId,
-    most: u64,
+    growth: &Growth,
     bounds: Vector,
     round: &mut R,
     trail: &mut Trail,
 ) -> Result<u64, NoMemory>
-    requires there { task.0 < length system.now.tasks }
-    requires holds { Holds system.now }
-    requires in_range { (task_at system.now task.0).worst + most ≤ MAX_EXECUTION }
-    requires bounds { bounds ≡ least_of system.now }
+    requires holds { Holds growth.now.system.now }
+    requires bounds { bounds ≡ least_of growth.now.system.now }
     requires room { MAX_TASKS ≤ trail.old.room }
-    ensures found { IfOk result (IsMostUpTo system.now task.0 most) }
+    ensures found { IfOk result (IsMostUpTo growth.now.system.now growth.now.task.0 growth.now.most) }
     ensures kept { IsKept trail.old trail.new }
-    ensures fresh { NewMarksAre trail.old trail.new (λ i. i < length system.now.tasks) }
+    ensures fresh { NewMarksAre trail.old trail.new (λ i. i < length growth.now.system.now.tasks) }
 {
-    let mut tried = system.copy(alloc)?;
-    let mut least_held = bounds;
-    halve(
-        rt,
-        alloc,
+    let system = growth.system.copy(alloc)?;
+    let mut trial = Trial {
         system,
-        task,
-        most,
-        &mut tried,
-        &mut least_held,
-        round,
-        trail,
-    )
+        held: bounds,
+    };
+    halve(rt, alloc, growth, &mut trial, round, trail)
 }
 
 /// The same by a copy of the system and its least solution. Each search begins at the least solution
@@ -141,32 +153,26 @@ fn most_ticks<H: Sync, R: Round<H>>(
 fn halve<H: Sync, R: Round<H>>(
     rt: &H,
     alloc: Global,
-    system: &System,
-    task: TaskId,
-    most: u64,
-    tried: &mut System,
-    least_held: &mut Vector,
+    growth: &Growth,
+    trial: &mut Trial,
     round: &mut R,
     trail: &mut Trail,
 ) -> Result<u64, NoMemory>
-    requires there { task.0 < length system.now.tasks }
-    requires holds { Holds system.now }
-    requires in_range { (task_at system.now task.0).worst + most ≤ MAX_EXECUTION }
-    requires tried { IsLonger system.now task.0 tried.old }
-    requires least_held { least_held.old ≡ least_of system.now }
+    requires holds { Holds growth.now.system.now }
+    requires longer { IsLonger growth.now.system.now growth.now.task.0 trial.old.system }
+    requires held { trial.old.held ≡ least_of growth.now.system.now }
     requires room { MAX_TASKS ≤ trail.old.room }
-    ensures found { IfOk result (IsMostUpTo system.now task.0 most) }
+    ensures found { IfOk result (IsMostUpTo growth.now.system.now growth.now.task.0 growth.now.most) }
     ensures kept { IsKept trail.old trail.new }
-    ensures fresh { NewMarksAre trail.old trail.new (λ i. i < length system.now.tasks) }
+    ensures fresh { NewMarksAre trail.old trail.new (λ i. i < length growth.now.system.now.tasks) }
 {
-    system.has_rules();
+    growth.system.has_rules();
     let mut holding = 0;
-    let mut past = most + 1;
+    let mut past = growth.most + 1;
     while past - holding > 1 {
         let middle = holding + (past - holding) / 2;
-        if holds_with(
-            rt, alloc, system, task, middle, tried, least_held, round, trail,
-        )? {
+        lengthen(&mut trial.system, growth, middle);
+        if holds_longer(rt, alloc, trial, round, trail)? {
             holding = middle;
         } else {
             past = middle;
@@ -175,51 +181,43 @@ fn halve<H: Sync, R: Round<H>>(
     Ok(holding)
 }
 
-/// Whether all holds with so many ticks more. If so, a vector from which the search may begin becomes
-/// the least solution with them, else it stays.
-fn holds_with<H: Sync, R: Round<H>>(
+/// Whether all holds in the system of a trial. If so, the vector from which the search may begin becomes
+/// its least solution, else it stays.
+fn holds_longer<H: Sync, R: Round<H>>(
     rt: &H,
     alloc: Global,
-    system: &System,
-    task: TaskId,
-    ticks: u64,
-    tried: &mut System,
-    least_held: &mut Vector,
+    trial: &mut Trial,
     round: &mut R,
     trail: &mut Trail,
 ) -> Result<bool, NoMemory>
-    requires there { task.0 < length system.now.tasks }
-    requires in_range { (task_at system.now task.0).worst + ticks ≤ MAX_EXECUTION }
-    requires tried { IsLonger system.now task.0 tried.old }
-    requires vector { IsVector (longer system.now task.0 ticks) least_held.old }
-    requires below { IsNowhereAbove least_held.old (least_of (longer system.now task.0 ticks)) }
+    requires vector { IsVector trial.old.system trial.old.held }
+    requires below { IsNowhereAbove trial.old.held (least_of trial.old.system) }
     requires room { MAX_TASKS ≤ trail.old.room }
-    ensures tried { IsLonger system.now task.0 tried.new }
-    ensures holds { IfOk result (λ holds. IsTrue holds ↔ Holds (longer system.now task.0 ticks)) }
-    ensures held { IfOk result (λ holds. least_held.new ≡ (if holds then least_of (longer system.now task.0 ticks) else least_held.old)) }
+    ensures system { trial.new.system ≡ trial.old.system }
+    ensures holds { IfOk result (λ holds. IsTrue holds ↔ Holds trial.old.system) }
+    ensures held { IfOk result (λ holds. trial.new.held ≡ (if holds then least_of trial.old.system else trial.old.held)) }
     ensures kept { IsKept trail.old trail.new }
-    ensures fresh { NewMarksAre trail.old trail.new (λ i. i < length system.now.tasks) }
+    ensures fresh { NewMarksAre trail.old trail.new (λ i. i < length trial.old.system.tasks) }
 {
-    lengthen(tried, system, task, ticks);
-    let start = least_held.copy(alloc)?;
-    let found = least(rt, alloc, tried, start, round, trail)?;
-    if all_hold(tried, &found) {
-        *least_held = found;
+    let start = trial.held.copy(alloc)?;
+    let found = least(rt, alloc, &trial.system, start, round, trail)?;
+    if all_hold(&trial.system, &found) {
+        trial.held = found;
         Ok(true)
     } else {
         Ok(false)
     }
 }
 
-/// Lets a task of a copy, which may have another greatest execution there already, take so many ticks
+/// Lets the task of a copy, which may have another greatest execution there already, take so many ticks
 /// more than in the system.
-fn lengthen(copy: &mut System, system: &System, task: TaskId, ticks: u64)
-    requires there { task.0 < length system.now.tasks }
-    requires in_range { (task_at system.now task.0).worst + ticks ≤ MAX_EXECUTION }
-    requires copy { IsLonger system.now task.0 copy.old }
-    ensures { copy.new ≡ longer system.now task.0 ticks }
+fn lengthen(copy: &mut System, growth: &Growth, ticks: u64)
+    requires few { ticks ≤ growth.now.most }
+    requires copy { IsLonger growth.now.system.now growth.now.task.0 copy.old }
+    ensures { copy.new ≡ longer growth.now.system.now growth.now.task.0 ticks }
 {
-    system.has_rules();
-    let entry = system.task(task);
+    let task = growth.task;
+    growth.system.has_rules();
+    let entry = growth.system.task(task);
     copy.set_exec(task, entry.best, entry.worst + ticks);
 }

@@ -1,5 +1,5 @@
-//! What comes after the workers: the bounds are taken from the board, and what no worker handed in is
-//! analysed.
+//! What the calling thread does: it analyses all that is dirty, or, after the workers, takes the bounds from
+//! the board, and analyses what none of them handed in.
 
 ghost use Rattle.std.specs.Prelude.{◌≡◌, ℕ, ◌<◌, length};
 ghost use Rattle.std.specs.Result.{OnOk};
@@ -11,12 +11,13 @@ ghost use Rattle.cpa_fix.specs.Rounds.{MayStart, IsRound};
 ghost use Rattle.cpa_workers.specs.Workers.{IsRoundResult, IsTaken, IsMissing};
 
 use crate::board_words::read_word;
-use cpa_fix::{OneByOne, Readings, Round};
+use crate::dirty_resources::DirtyResources;
+use crate::gate::{Gate, NoGate};
+use cpa_fix::{Readings, round_of_one};
 use cpa_local::Trail;
 use cpa_model::System;
 use cpa_units::{NoMemory, ResId, ResSet, TaskId, Vector};
 use std::alloc::Global;
-use std::thread::Threads;
 
 /// The result of all workers.
 #[derive(Drop)]
@@ -55,29 +56,55 @@ fn missing(system: &System, dirty: ResSet, found: &Readings) -> ResSet
     set
 }
 
-/// The rest of a round whose workers are through.
-pub fn settle<H: Threads + Sync>(
-    rt: &H,
+/// A round on the calling thread, through the gate.
+pub fn alone<G: Gate>(
     alloc: Global,
-    system: &System,
+    dirty: &DirtyResources,
+    x: &mut Vector,
+    readings: &mut Readings,
+    trail: &mut Trail,
+    gate: &G,
+) -> Result<(), NoMemory>
+    requires { MayStart dirty.now.system.now x.old readings.old trail.old }
+    ensures risen { IsRisen dirty.now.system.now x.old x.new }
+    ensures kept { IsKept trail.old trail.new }
+    ensures fresh { NewMarksAre trail.old trail.new (TasksOn dirty.now.system.now (Members dirty.now.set)) }
+    ensures done { OnOk result (IsRound dirty.now.system.now (holds dirty.now.set) x.old x.new readings.old readings.new) }
+    ensures marked { OnOk result (AreMarked trail.new (TasksOn dirty.now.system.now (Members dirty.now.set))) }
+{
+    let count = dirty.system.resources();
+    for place in 0..count {
+        let res = ResId(place);
+        if dirty.set.has(res) {
+            gate.enter(res);
+            round_of_one(alloc, dirty.system, res, x, readings, trail)?;
+        }
+    }
+    Ok(())
+}
+
+/// The rest of a round whose workers are through.
+pub fn settle(
+    alloc: Global,
+    dirty: &DirtyResources,
     outcome: RoundResult,
     x: &mut Vector,
-    dirty: ResSet,
     readings: &mut Readings,
     trail: &mut Trail,
 ) -> Result<(), NoMemory>
-    requires start { MayStart system.now x.old readings.old trail.old }
-    requires in_range { (r : ℕ) → Members dirty r → r < length system.now.resources }
-    requires outcome { IsRoundResult system.now dirty x.old outcome.words.items outcome.found outcome.trail }
-    ensures risen { IsRisen system.now x.old x.new }
+    requires start { MayStart dirty.now.system.now x.old readings.old trail.old }
+    requires outcome { IsRoundResult dirty.now.system.now dirty.now.set x.old outcome.words.items outcome.found outcome.trail }
+    ensures risen { IsRisen dirty.now.system.now x.old x.new }
     ensures kept { IsKept trail.old trail.new }
-    ensures fresh { NewMarksAre trail.old trail.new (TasksOn system.now (Members dirty)) }
-    ensures done { OnOk result (IsRound system.now (holds dirty) x.old x.new readings.old readings.new) }
-    ensures marked { OnOk result (AreMarked trail.new (TasksOn system.now (Members dirty))) }
+    ensures fresh { NewMarksAre trail.old trail.new (TasksOn dirty.now.system.now (Members dirty.now.set)) }
+    ensures done { OnOk result (IsRound dirty.now.system.now (holds dirty.now.set) x.old x.new readings.old readings.new) }
+    ensures marked { OnOk result (AreMarked trail.new (TasksOn dirty.now.system.now (Members dirty.now.set))) }
 {
+    let system = dirty.system;
     trail.join(&outcome.trail);
-    take_words(system, x, dirty, outcome.words.as_slice());
-    let missing = missing(system, dirty, &outcome.found);
+    take_words(system, x, dirty.set, outcome.words.as_slice());
+    let set = missing(system, dirty.set, &outcome.found);
     readings.take_over(outcome.found);
-    OneByOne.round(rt, alloc, system, x, missing, readings, trail)
+    let missing = DirtyResources { system, set };
+    alone(alloc, &missing, x, readings, trail, &NoGate)
 }

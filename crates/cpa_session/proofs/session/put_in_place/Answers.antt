@@ -1,6 +1,13 @@
-use Rattle.std.proofs.Common.{arith}
-use Rattle.std.proofs.lemmas.Grind.{common_steps}
+use Rattle.std.proofs.Common.{sym, ◌∙◌}
+use Rattle.cpa_session.proofs.ChainsKept.{resources-kept_by, long-kept_by}
 use Rattle.cpa_session.proofs.session.put_in_place.Goals as goal
 
-pub returns-clause-spare : goal.returns-clause-spare
-returns-clause-spare c = grind (arith, common_steps)
+pub carried_too-readings-requires-clause-same : goal.carried_too-readings-requires-clause-same
+carried_too-readings-requires-clause-same c =
+    rw (c.change_places-old.ensures.old_solution, c.change_places-old.ensures.system)
+    (c.requires.solved.sound.long ∙ resources-kept_by c.args.system.now c.args.next.system c.args.edit.now c.requires.edited)
+
+pub carried_too-readings-requires-clause-long : goal.carried_too-readings-requires-clause-long
+carried_too-readings-requires-clause-long c =
+    rw (c.change_places-old.ensures.old_solution, c.change_places-old.ensures.system)
+    (long-kept_by c.args.system.now c.args.next.system c.args.edit.now c.args.solution.now.bounds c.args.solution.now.readings c.requires.edited (sym c.keeps_chains.ensures ∙ c.if-keeps_chains.true) c.requires.solved)

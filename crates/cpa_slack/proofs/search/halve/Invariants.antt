@@ -7,14 +7,14 @@ use Rattle.cpa_slack.proofs.search.halve.Given as goal
 
 abbrev pub invariant-loop-past : goal.invariant-loop-past
 invariant-loop-past g l = record {
-  tried : IsLonger l.system l.task.0 l.tried;
-  least_held : l.least_held ≡ least_of (longer l.system l.task.0 l.holding);
+  tried : IsLonger l.growth.system.now l.growth.task.0 l.trial.system;
+  least_held : l.trial.held ≡ least_of (longer l.growth.system.now l.growth.task.0 l.holding);
   below : l.holding < l.past;
-  top : l.past ≤ l.fn.most + 1;
-  holds : Holds (longer l.system l.task.0 l.holding);
-  fails : l.past ≤ l.fn.most → ¬ Holds (longer l.system l.task.0 l.past);
+  top : l.past ≤ l.growth.most + 1;
+  holds : Holds (longer l.growth.system.now l.growth.task.0 l.holding);
+  fails : l.past ≤ l.growth.most → ¬ Holds (longer l.growth.system.now l.growth.task.0 l.past);
   kept : IsKept l.fn.trail l.trail;
-  fresh : NewMarksAre l.fn.trail l.trail (λ i. i < length l.system.tasks);
+  fresh : NewMarksAre l.fn.trail l.trail (λ i. i < length l.growth.system.now.tasks);
   room : MAX_TASKS ≤ l.trail.room;
 }
 

@@ -6,7 +6,7 @@ use Rattle.cpa_workers.proofs.shared.finish.Goals as goal
 
 pub returns : goal.returns
 returns c =
-    let s = c.args.system.now in
+    let s = c.args.dirty.now.system.now in
     let least = (least_of-is_least s c.tasks.ensures.rules).vector in
     let range = seated-range s _ _ c.args.handed.seat least c.requires.seated in
     let count = c.tasks.ensures.count in
@@ -15,4 +15,4 @@ returns c =
     let value = c.as_mut_slice.ensures.len in
     let long : length c.close.new.out ≡ length s.tasks = omega arith in
     rw (take-front c.close.new.out _ c.in_ok-words.words.len (omega arith))
-    (outcome-closed s _ c.args._dirty c.args._starts.now c.args.handed.seat c.close.new.out c.args.handed.found c.args.handed.trail least c.requires long (λ i less. c.in_ok-close.ensures.words i (omega arith)))
+    (outcome-closed s _ c.args.dirty.now.set c.args._starts.now c.args.handed.seat c.close.new.out c.args.handed.found c.args.handed.trail least c.requires long (λ i less. c.in_ok-close.ensures.words i (omega arith)))
