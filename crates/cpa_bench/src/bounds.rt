@@ -79,8 +79,8 @@ impl Rivals {
     pub fn bound(&self, case: &str) -> Option<Bound> {
         let (quiet, busy) = (self.quiet.as_slice(), self.busy.as_slice());
         match case {
-            "preemptive-quiet" => Some(cpa_spp::respond(&late(1), 1, quiet, MAX_LIMIT)),
-            "preemptive-busy" => Some(cpa_spp::respond(&late(1), 1, busy, MAX_LIMIT)),
+            "preemptive-quiet" => Some(cpa_spp::respond(&late(1), 1, 0, quiet, MAX_LIMIT)),
+            "preemptive-busy" => Some(cpa_spp::respond(&late(1), 1, 0, busy, MAX_LIMIT)),
             "round-robin-quiet" => Some(cpa_rr::respond(&late(1), 1, 1, quiet, MAX_LIMIT)),
             "round-robin-busy" => Some(cpa_rr::respond(&late(1), 1, 1, busy, MAX_LIMIT)),
             "can-quiet" => Some(cpa_can::respond(&late(102), 1, 1000, quiet, 1, MAX_LIMIT)),

@@ -2,8 +2,7 @@
 use Rattle.std.specs.Prelude.{ℕ, codes, List, [], ◌++◌}
 use Rattle.std.specs.Fmt.{decimal}
 use Rattle.cpa_draft.specs.declared.refusal.Refusal.{Refusal}
-use Rattle.cpa_draft.specs.declared.refusal.Part.{Part}
-use Rattle.cpa_draft.specs.declared.refusal.Part.TheVariants.{File, Resource, Source, Task, Path}
+use Rattle.cpa_draft.specs.FaultTexts.{part_text}
 use Rattle.cpa_model.specs.SystemLists.{SystemLists, resource_at, source_at, task_at}
 use Rattle.cpa_trace.specs.declared.fault.TraceFault.{TraceFault}
 use Rattle.cpa_trace.specs.declared.fault.TraceFault.TheVariants as trace
@@ -22,15 +21,8 @@ too_long file = codes "too long " ++ file ++ codes "\n"
 abbrev pub not_toml : List ℕ → List ℕ
 not_toml file = codes "not TOML " ++ file ++ codes "\n"
 
-abbrev pub part_word : Part → List ℕ
-part_word File = codes "file"
-part_word Resource = codes "resource"
-part_word Source = codes "source"
-part_word Task = codes "task"
-part_word Path = codes "path"
-
 abbrev pub system_refused : Refusal → List ℕ
-system_refused r = codes "system refused reason " ++ decimal r.reason ++ codes " " ++ part_word r.part ++ codes " " ++ decimal r.place ++ codes "\n"
+system_refused r = codes "system refused reason " ++ decimal r.reason ++ codes " " ++ part_text r.part ++ codes " " ++ decimal r.place ++ codes "\n"
 
 abbrev pub row_refused : ℕ → List ℕ → List ℕ
 row_refused row why = codes "trace refused row " ++ decimal row ++ why

@@ -2,7 +2,8 @@
 
 ghost use Rattle.std.specs.Prelude.{◌≡◌, ◌++◌, codes, IfOk, OnOk};
 ghost use Rattle.cpa_trace.specs.Breaches.{IsBreachOf};
-ghost use Rattle.cpa_call.specs.Lines.{words_refused, part_word, system_refused, trace_refused, row_refused, breach_text, trace_disobeys};
+ghost use Rattle.cpa_draft.specs.FaultTexts.{part_text};
+ghost use Rattle.cpa_call.specs.Lines.{words_refused, system_refused, trace_refused, row_refused, breach_text, trace_disobeys};
 
 use cpa_model::{Part, Refusal, System};
 use cpa_text::Text;
@@ -36,7 +37,7 @@ pub fn file_line(alloc: Global, words: &[u8], file: &str) -> Result<Vec<u8>, NoM
 }
 
 fn part_word(part: Part) -> &'static [u8]
-    ensures { result.now ≡ part_word part }
+    ensures { result.now ≡ part_text part }
 {
     match part {
         Part::File => b"file",

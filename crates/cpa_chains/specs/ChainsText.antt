@@ -11,15 +11,15 @@ use Rattle.cpa_chains.specs.Chain.{Chain}
 use Rattle.cpa_chains.specs.declared.text.Totals.{Totals}
 
 -- a bound, a deadline, and the verdict
-unfoldable pub judged_text : Option ℕ → Bound → List ℕ
-judged_text deadline bound =
+unfoldable pub verdict_text : Option ℕ → Bound → List ℕ
+verdict_text deadline bound =
     codes " " ++ bound_text bound ++ codes " deadline " ++ deadline_text deadline ++ codes " " ++ deadline_verdict_text (deadline_verdict_of deadline bound)
 
 unfoldable pub chain_line : SystemLists → List Bound → Chain → List ℕ
 chain_line s x c =
     codes "chain " ++ c.name ++ codes " tasks " ++ decimal (length c.tasks)
-    ++ codes " reaction" ++ judged_text c.reaction (reaction_of s x c.tasks)
-    ++ codes " age" ++ judged_text c.age (age_of s x c.tasks) ++ codes "\n"
+    ++ codes " reaction" ++ verdict_text c.reaction (reaction_of s x c.tasks)
+    ++ codes " age" ++ verdict_text c.age (age_of s x c.tasks) ++ codes "\n"
 
 -- one of the two bounds is missing
 abbrev pub is_overloaded : SystemLists → List Bound → Chain → Bool

@@ -15,7 +15,7 @@ ghost use Rattle.cpa_chains.specs.Calls.{part_word, chains_refused, chains_of, c
 
 use crate::chains::{Chain, read_chains};
 use crate::refusal::{ChainsFault, ChainsRefusal};
-use crate::text::judge_chains;
+use crate::text::chain_verdicts;
 use crate::words::accept;
 use cpa_call::errors::{InputError, OutputError, Reply};
 use cpa_call::lines::{file_line, words_line};
@@ -167,7 +167,7 @@ fn judge_listed(alloc: Global, system: &System, chains: &[Chain]) -> Result<Repl
     ensures small { IfOk result (λ r. r.status ≤ 2) }
 {
     let bounds = least_bounds(&(), alloc, system, &mut OneByOne)?;
-    judge_chains(alloc, system, &bounds, chains)
+    chain_verdicts(alloc, system, &bounds, chains)
 }
 
 /// Sends the bounds of chains, with their status.

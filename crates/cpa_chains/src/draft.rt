@@ -1,6 +1,8 @@
 //! A chain as it was read, before its rules are looked at.
 
-use cpa_file::{Entry, ReadFault, only_has, optional_integer, required_text, required_texts};
+use cpa_file::{
+    Entry, Format, ReadFault, only_has, optional_integer, required_text, required_texts,
+};
 use cpa_model::{Raw, RawList};
 use std::alloc::Global;
 use toml::Value;
@@ -17,10 +19,10 @@ pub(crate) struct DraftChain {
 impl Entry for DraftChain {
     ghost use Rattle.cpa_chains.specs.Drafts.{chain_entry};
 
-    ghost entry = { λ lists. chain_entry };
+    ghost entry = { λ format. chain_entry };
 
     #[tactic(auto, unfolding(crate::specs::Drafts::chain_entry))]
-    fn read(alloc: Global, _lists: bool, value: &Value) -> Result<DraftChain, ReadFault> {
+    fn read(alloc: Global, _format: Format, value: &Value) -> Result<DraftChain, ReadFault> {
         let name = required_text(alloc, value, "name")?;
         let tasks = required_texts(alloc, value, "tasks")?;
         let reaction = optional_integer(value, "reaction")?;

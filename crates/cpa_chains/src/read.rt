@@ -6,7 +6,7 @@ ghost use Rattle.cpa_chains.specs.Drafts.{GivesDraft, is_other_format, has_form,
 
 use crate::draft::DraftChain;
 use crate::refusal::{ChainsFault, ChainsRefusal};
-use cpa_file::{ListFault, format_of, only_has, read_entries};
+use cpa_file::{Format, ListFault, format_of, only_has, read_entries};
 use std::alloc::Global;
 use toml::Value;
 
@@ -40,7 +40,7 @@ fn read_array(alloc: Global, document: &Value) -> Result<Vec<DraftChain>, Chains
                 reason: 1,
                 place: 0,
             })),
-            Some(items) => match read_entries::<DraftChain>(alloc, false, items.as_slice()) {
+            Some(items) => match read_entries::<DraftChain>(alloc, Format::One, items.as_slice()) {
                 Ok(chains) => Ok(chains),
                 Err(ListFault::At(place)) => {
                     Err(ChainsFault::Refused(ChainsRefusal { reason: 1, place }))

@@ -5,7 +5,7 @@ ghost use Rattle.std.specs.List.{flat_map};
 ghost use Rattle.cpa_local.specs.Solution.{IsVector};
 ghost use Rattle.cpa_local.specs.Paths.{deadline_verdict_of, is_missed_by};
 ghost use Rattle.cpa_chains.specs.Reading.{IsChainIn};
-ghost use Rattle.cpa_chains.specs.ChainsText.{judged_text, chain_line, is_overloaded, is_late, totals, summary_line, chains_text, status_of, chains_status};
+ghost use Rattle.cpa_chains.specs.ChainsText.{verdict_text, chain_line, is_overloaded, is_late, totals, summary_line, chains_text, status_of, chains_status};
 
 use crate::chains::Chain;
 use cpa_call::errors::Reply;
@@ -17,9 +17,9 @@ use cpa_text::Text;
 use cpa_units::{Bound, NoMemory, Vector};
 use std::alloc::Global;
 
-#[tactic(auto, unfolding(crate::specs::ChainsText::judged_text))]
-fn put_judged(text: &mut Text, deadline: Option<u64>, bound: Bound) -> Result<(), NoMemory>
-    ensures { OnOk result (text.new ≡ text.old ++ judged_text deadline bound) }
+#[tactic(auto, unfolding(crate::specs::ChainsText::verdict_text))]
+fn put_verdict(text: &mut Text, deadline: Option<u64>, bound: Bound) -> Result<(), NoMemory>
+    ensures { OnOk result (text.new ≡ text.old ++ verdict_text deadline bound) }
 {
     text.put(b" ")?;
     put_bound(text, bound)?;
@@ -40,9 +40,9 @@ fn put_chain(text: &mut Text, system: &System, x: &Vector, chain: &Chain) -> Res
     text.put(chain.name())?;
     text.put_count(b" tasks ", tasks.len() as u64)?;
     text.put(b" reaction")?;
-    put_judged(text, chain.reaction(), reaction(system, x, tasks))?;
+    put_verdict(text, chain.reaction(), reaction(system, x, tasks))?;
     text.put(b" age")?;
-    put_judged(text, chain.age(), age(system, x, tasks))?;
+    put_verdict(text, chain.age(), age(system, x, tasks))?;
     text.put(b"\n")?;
     Ok(())
 }
@@ -145,7 +145,7 @@ fn status_of(totals: Totals) -> u8
 
 /// The text of the bounds of chains at a vector, and its status.
 #[tactic(auto, unfolding(crate::specs::ChainsText::chains_text))]
-pub(crate) fn judge_chains(
+pub(crate) fn chain_verdicts(
     alloc: Global,
     system: &System,
     x: &Vector,

@@ -7,9 +7,9 @@ unfolding chain_line
 returns c =
     rw (
       c.in_ok-put-5.ensures,
-      c.in_ok-put_judged-2.ensures,
+      c.in_ok-put_verdict-2.ensures,
       c.in_ok-put-4.ensures,
-      c.in_ok-put_judged.ensures,
+      c.in_ok-put_verdict.ensures,
       c.in_ok-put-3.ensures,
       c.in_ok-put_count.ensures,
       c.in_ok-put-2.ensures,
