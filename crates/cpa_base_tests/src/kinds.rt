@@ -70,7 +70,7 @@ fn preemptive(rt: HostRuntime) {
         ("long_window below it", 693, Bound::Overload),
     ] {
         let rivals = [rival(70, 0, 26, 0, 26)];
-        let found = cpa_spp::respond(&every(100, 0), 62, &rivals, limit);
+        let found = cpa_spp::respond(&every(100, 0), 62, 0, &rivals, limit);
         wrong = tell(wrong, case, found == bound);
     }
     for (case, limit, bound) in [
@@ -82,7 +82,7 @@ fn preemptive(rt: HostRuntime) {
         ("burst at its last window", 8, Bound::Within(6)),
         ("burst below it", 7, Bound::Overload),
     ] {
-        let found = cpa_spp::respond(&every(10, 25), 2, &[], limit);
+        let found = cpa_spp::respond(&every(10, 25), 2, 0, &[], limit);
         wrong = tell(wrong, case, found == bound);
     }
     // The window ends at the next arrival of the rival, which doesn't count.
@@ -91,7 +91,16 @@ fn preemptive(rt: HostRuntime) {
         ("limit_edge below it", 9, Bound::Overload),
     ] {
         let rivals = [rival(10, 0, 3, 0, 3)];
-        let found = cpa_spp::respond(&every(20, 0), 7, &rivals, limit);
+        let found = cpa_spp::respond(&every(20, 0), 7, 0, &rivals, limit);
+        wrong = tell(wrong, case, found == bound);
+    }
+    // A task of 2 ticks above one that takes up to 20, in regions of 1, 5 and 20 ticks.
+    for (case, blocking, bound) in [
+        ("region of a tick", 0, Bound::Within(2)),
+        ("region of 5", 4, Bound::Within(6)),
+        ("not preempted", 19, Bound::Within(21)),
+    ] {
+        let found = cpa_spp::respond(&every(10, 0), 2, blocking, &[], 1_000_000);
         wrong = tell(wrong, case, found == bound);
     }
     assert!(rt; wrong.is_none(), "{wrong:?}");
@@ -101,14 +110,14 @@ fn preemptive(rt: HostRuntime) {
 #[test]
 fn preemptive_bursts(rt: HostRuntime) {
     let rivals = [rival(60, 0, 5, 0, 5), rival(100, 7, 4, 0, 4)];
-    let late = cpa_spp::respond(&every(3, 40), 2, &rivals, 1000);
+    let late = cpa_spp::respond(&every(3, 40), 2, 0, &rivals, 1000);
     let rivals = [rival(13, 0, 3, 0, 3), rival(17, 20, 2, 0, 2)];
-    let later = cpa_spp::respond(&every(5, 100), 2, &rivals, 1000);
+    let later = cpa_spp::respond(&every(5, 100), 2, 0, &rivals, 1000);
     assert!(rt; late == Bound::Within(37) && later == Bound::Within(72));
-    let largest_jitter = cpa_spp::respond(&every(1, MAX_JITTER), 1_000_000, &[], MAX_LIMIT);
+    let largest_jitter = cpa_spp::respond(&every(1, MAX_JITTER), 1_000_000, 0, &[], MAX_LIMIT);
     // Without a bound on a rival's input there is none.
     let rivals = [rival(10, 0, 3, 0, 3), endless(None, 1, 0)];
-    let beside_endless = cpa_spp::respond(&every(20, 0), 7, &rivals, 1000);
+    let beside_endless = cpa_spp::respond(&every(20, 0), 7, 0, &rivals, 1000);
     assert!(rt; largest_jitter == Bound::Overload && beside_endless == Bound::Overload);
 }
 

@@ -57,7 +57,7 @@ const HELD: [(&str, &str); 7] = [
     ("endless", ENDLESS),
     ("none", "format = 1\n"),
     ("bad", "x"),
-    ("other", "format = 3\n"),
+    ("other", "format = 4\n"),
 ];
 
 /// The numbers of the loads that fail, how many bytes the sink takes at once, and the numbers of the puts that fail.

@@ -230,8 +230,8 @@ chain = [{ name = "a", tasks = [
     // The system file comes first.
     ("format =", "format =", 13, "not TOML s\n"),
     (
-        "format = 3\n",
-        "format = 3\n",
+        "format = 4\n",
+        "format = 4\n",
         14,
         "system refused reason 13 file 0\n",
     ),

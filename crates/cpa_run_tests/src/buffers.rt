@@ -1,7 +1,9 @@
 //! How many jobs wait, and how many can.
 
 use crate::calls::Call;
-use crate::cases::{CUT_NAME, ENDLESS_JITTER, JOINED_KINDS, TWO_ACTIVATORS};
+use crate::cases::{
+    CUT_NAME, ENDLESS_JITTER, JOINED_KINDS, REGIONS, REGIONS_TRACE, TWO_ACTIVATORS,
+};
 use crate::orders::IDLE;
 use crate::runs::{JOINED_KINDS_TRACE, LONG_WINDOW_TRACE};
 use cpa_cases::{BURST, LONG_WINDOW, TWO_TASKS};
@@ -19,7 +21,15 @@ const BACKLOG_TRACE: &str =
 const BUFFERS: &[&str] = &["buffers", "sys", "tr"];
 
 /// Bounds and peaks of the jobs that wait.
-pub const WAITING: [Call; 8] = [
+pub const WAITING: [Call; 9] = [
+    (
+        BUFFERS,
+        &[("sys", REGIONS), ("tr", REGIONS_TRACE)],
+        0,
+        &[
+            "buffer a bound 1 peak 1\nbuffer b bound 1 peak 1\nbuffer c bound 1 peak 1\nresource cpu bound 3 peak 3\nsummary tasks 3 overload 0\n",
+        ],
+    ),
     (
         BUFFERS,
         &[("sys", LONG_WINDOW), ("tr", LONG_WINDOW_TRACE)],

@@ -5,6 +5,42 @@ task b cpu period 20 jitter 0 distance 0 best 2 worst 10
 summary tasks 2 overload 0 missed 0
 ";
 
+/// Three tasks of a processor, of which the lower two have regions.
+pub const REGIONS: &str = r#"format = 3
+resource = [{ name = "cpu", kind = "preemptive" }]
+source = [{ name = "sa", period = 10 }, { name = "sb", period = 20, jitter = 5 }, { name = "sc", period = 40 }]
+task = [
+  { name = "a", on = "cpu", after = "sa", best = 1, worst = 3, priority = 1 },
+  { name = "b", on = "cpu", after = "sb", best = 2, worst = 4, priority = 2, region = 2 },
+  { name = "c", on = "cpu", after = "sc", best = 6, worst = 9, priority = 3, region = 4 },
+]
+"#;
+
+pub const REGIONS_REPORT: &str = "task a cpu period 10 jitter 0 distance 0 best 1 worst 6
+task b cpu period 20 jitter 5 distance 0 best 2 worst 10
+task c cpu period 40 jitter 0 distance 0 best 6 worst 26
+summary tasks 3 overload 0 missed 0
+";
+
+/// An event of each source, so that a region of `c` has begun when `b` and `a` come.
+pub const REGIONS_TRACE: &str = "event,sc,0\nevent,sb,1\nevent,sa,2\n";
+
+/// The same with a deadline for each task, which only this order meets. `c` has four ticks to spare.
+pub const REGIONS_IN_TIME: &str = r#"format = 3
+resource = [{ name = "cpu", kind = "preemptive" }]
+source = [{ name = "sa", period = 10 }, { name = "sb", period = 20, jitter = 5 }, { name = "sc", period = 40 }]
+task = [
+  { name = "a", on = "cpu", after = "sa", best = 1, worst = 3, priority = 1 },
+  { name = "b", on = "cpu", after = "sb", best = 2, worst = 4, priority = 2, region = 2 },
+  { name = "c", on = "cpu", after = "sc", best = 6, worst = 9, priority = 3, region = 4 },
+]
+path = [
+  { name = "da", tasks = ["a"], deadline = 6 },
+  { name = "db", tasks = ["b"], deadline = 10 },
+  { name = "dc", tasks = ["c"], deadline = 30 },
+]
+"#;
+
 /// No tasks at all.
 pub const EMPTY_REPORT: &str = "summary tasks 0 overload 0 missed 0\n";
 
@@ -62,7 +98,7 @@ task = [
 "#;
 
 /// The two tasks in a format that isn't known.
-pub const OTHER_FORMAT: &str = r#"format = 3
+pub const OTHER_FORMAT: &str = r#"format = 4
 resource = [{ name = "cpu", kind = "preemptive" }]
 source = [{ name = "sa", period = 10 }, { name = "sb", period = 20 }]
 task = [

@@ -2,7 +2,8 @@
 
 use crate::calls::Call;
 use crate::cases::{
-    CROSSING_CHAINS, CUT_NAME, DAVIS_BUS, ENDLESS_JITTER, JOINED_KINDS, TDMA_GAP, TWO_ACTIVATORS,
+    CROSSING_CHAINS, CUT_NAME, DAVIS_BUS, ENDLESS_JITTER, JOINED_KINDS, REGIONS_IN_TIME, TDMA_GAP,
+    TWO_ACTIVATORS,
 };
 use cpa_cases::{ENDLESS_WITHOUT_DEADLINE, TWO_TASKS};
 
@@ -56,7 +57,13 @@ path = [
 "#;
 
 /// Orders of resources.
-pub const ORDERS: [Call; 9] = [
+pub const ORDERS: [Call; 10] = [
+    (
+        &["assign", "sys", "cpu"],
+        &[("sys", REGIONS_IN_TIME)],
+        0,
+        &["priority a 1\npriority b 2\npriority c 3\nassigned cpu tasks 3\n"],
+    ),
     (
         &["assign", "sys", "bus"],
         &[("sys", DAVIS_BUS)],
@@ -114,7 +121,13 @@ pub const ORDERS: [Call; 9] = [
 ];
 
 /// Slacks of tasks.
-pub const GROWTHS: [Call; 9] = [
+pub const GROWTHS: [Call; 10] = [
+    (
+        &["slack", "sys", "c"],
+        &[("sys", REGIONS_IN_TIME)],
+        0,
+        &["slack c 4 next missed\n"],
+    ),
     (
         &["slack", "sys", "b"],
         &[("sys", TWO_IN_TIME)],

@@ -15,7 +15,15 @@ pub const JOINED_KINDS_TRACE: &str =
     "event,sa,0\nevent,sb,0\nevent,sc,0\nevent,sb,790\nevent,sa,640\nevent,sc,900\nexec,a1,20\nexec,a1,5\nexec,a3,5\nexec,b2,9\nexec,b2,20\nphase,ring,11\n";
 
 /// Runs of systems of one resource, or none.
-pub const RUNS: [Call; 8] = [
+pub const RUNS: [Call; 9] = [
+    (
+        SIMULATE,
+        &[("sys", REGIONS), ("tr", REGIONS_TRACE)],
+        0,
+        &[
+            "task a jobs 1 done 1 worst 5\ntask b jobs 1 done 1 worst 10\ntask c jobs 1 done 1 worst 16\nsummary jobs 3 done 3 end 16\n",
+        ],
+    ),
     (
         SIMULATE,
         &[("sys", LONG_WINDOW), ("tr", LONG_WINDOW_TRACE)],

@@ -25,9 +25,10 @@ const ANALYSE_BY: Options = &[
 ];
 
 /// Systems whose tasks stand alone.
-const SINGLE_TASKS: [Call; 10] = [
+const SINGLE_TASKS: [Call; 11] = [
     (ANALYSE, &[("sys", TWO_TASKS)], 0, &[TWO_TASKS_REPORT]),
     (ANALYSE, &[("sys", LIMIT_REACHED)], 0, &[TWO_TASKS_REPORT]),
+    (ANALYSE, &[("sys", REGIONS)], 0, &[REGIONS_REPORT]),
     (ANALYSE, &[("sys", LIMIT_BELOW)], 2, &[LIMIT_BELOW_REPORT]),
     (ANALYSE, &[("sys", LONG_WINDOW)], 0, &[LONG_WINDOW_REPORT]),
     (ANALYSE, &[("sys", BURST)], 0, &[BURST_REPORT]),

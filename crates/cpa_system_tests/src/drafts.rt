@@ -43,6 +43,11 @@ fn kind(line: &str) -> KindWord {
     }
 }
 
+/// The number behind the first word of a line.
+fn region(line: &str) -> Option<i64> {
+    field(line, 0).strip_prefix("task ")?.parse().ok()
+}
+
 fn task(alloc: Global, line: &str) -> Result<DraftTask, AllocError> {
     Ok(DraftTask {
         name: raw(alloc, field(line, 1))?,
@@ -54,6 +59,7 @@ fn task(alloc: Global, line: &str) -> Result<DraftTask, AllocError> {
         extended: None,
         priority: number(line, 6),
         slot: number(line, 7),
+        region: region(line),
     })
 }
 
@@ -72,12 +78,12 @@ fn add(alloc: Global, draft: &mut Draft, line: &str) -> Result<(), AllocError> {
             jitter: number(line, 3),
             distance: number(line, 4),
         })?,
-        "task" => draft.tasks.push(task(alloc, line)?)?,
-        _ => draft.paths.push(DraftPath {
+        "path" => draft.paths.push(DraftPath {
             name: raw(alloc, field(line, 1))?,
             tasks: names(alloc, line, 3)?,
             deadline: number(line, 2),
         })?,
+        _ => draft.tasks.push(task(alloc, line)?)?,
     }
     Ok(())
 }

@@ -6,7 +6,7 @@ use cpa_model::{Activator, System, Turn};
 use cpa_units::{PathId, ResId, SourceId, TaskId};
 use std::alloc::{AllocError, Global};
 use std::test::Fail;
-use systems::{CROSSING_CHAINS, JOINED, LADDER, WORKS};
+use systems::{COOPERATIVE, CROSSING_CHAINS, JOINED, LADDER, WORKS};
 
 /// Takes values that threads may share.
 pub(crate) fn needs_shared<T: Send + Sync>(_value: &T) {}
@@ -473,6 +473,38 @@ fn changes_what_is_named(rt: HostRuntime) -> Result<(), Fail> {
         for change in changes {
             assert!(rt; changes_to(alloc, &system, change)?, "{}", change.0);
         }
+    }
+    Ok(())
+}
+
+/// Scripts over the system with regions, and the regions afterwards.
+const REGIONS: [Change; 4] = [
+    ("", &[2, 4, 1]),
+    (
+        "exec a 3 5\npriority b 9\nswap a b\nsource s 20 0 0",
+        &[2, 4, 1],
+    ),
+    ("add d cpu s 1 2 5", &[2, 4, 1, 1]),
+    ("remove a", &[4, 1]),
+];
+
+/// Whether the tasks of a copy of a system have these regions after a script.
+fn has_regions(alloc: Global, system: &System, change: &Change) -> Result<bool, Fail> {
+    let mut copy = system.copy(alloc)?;
+    let _ = run(alloc, &mut copy, change.0)?;
+    let mut regions = Vec::new(alloc);
+    for i in 0..copy.tasks() {
+        regions.push(copy.task(TaskId(i)).region)?;
+    }
+    Ok(regions.as_slice() == change.1)
+}
+
+#[test]
+fn keeps_regions(rt: HostRuntime) -> Result<(), Fail> {
+    let alloc = rt.alloc();
+    let system = read_system(alloc, COOPERATIVE.as_bytes())?;
+    for change in &REGIONS {
+        assert!(rt; has_regions(alloc, &system, change)?, "{}", change.0);
     }
     Ok(())
 }

@@ -1,19 +1,21 @@
 pub(crate) mod systems;
 
 use cpa_file::{FileRefusal, print_system, read_system};
-use cpa_model::{Part, Refusal};
+use cpa_model::{Part, Refusal, System};
+use cpa_units::TaskId;
 use std::alloc::{AllocError, Global};
 use std::test::Fail;
 use systems::{
-    BURST, CROSSING_CHAINS, DAVIS_BUS, ENDLESS_JITTER, FRAME_LENGTHS, LONG_WINDOW, ROUND_ROBIN,
-    ROUND_ROBIN_SHARE, SHARED_SOURCE, TDMA_GAP, TWO_ACTIVATORS, TWO_TASKS, TWO_TASKS_LATER,
+    BURST, COOPERATIVE, CROSSING_CHAINS, DAVIS_BUS, ENDLESS_JITTER, FRAME_LENGTHS, LONG_WINDOW,
+    ROUND_ROBIN, ROUND_ROBIN_SHARE, SHARED_SOURCE, TDMA_GAP, TWO_ACTIVATORS, TWO_TASKS,
+    TWO_TASKS_LATER,
 };
 
 /// A text, and why a file with it is refused: the reason, the part and the place.
 type Refused = (&'static str, u8, Part, u64);
 
 /// Each way to break the form of a file, at the top and in each kind of entry: the reason, the part and the place.
-const OTHER_FORMS: [Refused; 47] = [
+const OTHER_FORMS: [Refused; 51] = [
     ("", 1, Part::File, 0),
     ("format = 1.0", 1, Part::File, 0),
     ("format = \"1\"", 1, Part::File, 0),
@@ -22,8 +24,9 @@ const OTHER_FORMS: [Refused; 47] = [
     ("format = 1\nsource = \"s\"", 1, Part::File, 0),
     ("format = 1\ntask = {}", 1, Part::File, 0),
     ("format = 1\n[path]", 1, Part::File, 0),
-    ("format = 3", 13, Part::File, 0),
+    ("format = 4", 13, Part::File, 0),
     ("format = 2\nspeed = 1", 1, Part::File, 0),
+    ("format = 3\nregion = 1", 1, Part::File, 0),
     ("format = 0\nspeed = 1\nresource = 3", 13, Part::File, 0),
     ("format = 1\nresource = [3]", 1, Part::Resource, 1),
     (
@@ -172,6 +175,24 @@ const OTHER_FORMS: [Refused; 47] = [
         Part::Task,
         1,
     ),
+    (
+        "format = 2\ntask = [{ name = \"t\", on = \"r\", after = \"s\", best = 1, worst = 1, region = 1 }]",
+        1,
+        Part::Task,
+        1,
+    ),
+    (
+        "format = 3\ntask = [{ name = \"t\", on = \"r\", after = \"s\", best = 1, worst = 1, region = \"1\" }]",
+        1,
+        Part::Task,
+        1,
+    ),
+    (
+        "format = 3\ntask = [{ name = \"t\", on = \"r\", after = [\"s\"], best = 1, worst = 1, region = 1 }]",
+        5,
+        Part::Task,
+        1,
+    ),
     ("format = 1\npath = [{ name = \"p\" }]", 1, Part::Path, 1),
     ("format = 1\npath = [{ tasks = [] }]", 1, Part::Path, 1),
     (
@@ -243,15 +264,15 @@ const REFUSED: [(&str, &[Refused]); 5] = [
         "format = 2",
         &[
             ("format = 1", 1, Part::Task, 1),
-            ("format = 3", 13, Part::File, 0),
+            ("format = 4", 13, Part::File, 0),
         ],
     ),
 ];
 
-/// Whether the file with another text in this one's place is refused for its reason.
-fn is_refused(alloc: Global, old: &str, other: &Refused) -> Result<bool, AllocError> {
+/// Whether a file with another text in this one's place is refused for its reason.
+fn is_refused(alloc: Global, file: &str, old: &str, other: &Refused) -> Result<bool, AllocError> {
     let (new, reason, part, place) = *other;
-    let text = TWO_ACTIVATORS.replace(alloc, old, new)?;
+    let text = file.replace(alloc, old, new)?;
     let refusal = Refusal {
         reason,
         part,
@@ -266,7 +287,7 @@ fn refuses_other_forms(rt: HostRuntime) -> Result<(), Fail> {
     let mut wrong = None;
     for (old, others) in &REFUSED {
         for other in *others {
-            if !is_refused(alloc, old, other)? {
+            if !is_refused(alloc, TWO_ACTIVATORS, old, other)? {
                 wrong = Some(other.0);
             }
         }
@@ -380,15 +401,17 @@ fn refuses_other_bytes(rt: HostRuntime) -> Result<(), Fail> {
     Ok(())
 }
 
-/// Files, the format in which their systems are printed, which is 1 where each task has one activator, and how many tasks and paths
-/// these have.
-const READ_BACK: [(&str, &str, u32, u32); 15] = [
+/// Files, the format in which their systems are printed, which is the least that can say them, and how many tasks and paths these
+/// have.
+const READ_BACK: [(&str, &str, u32, u32); 17] = [
     ("format = 1", "format = 1\n", 0, 0),
     ("format = 2", "format = 1\n", 0, 0),
+    ("format = 3", "format = 1\n", 0, 0),
     (TWO_TASKS, "format = 1\n", 2, 0),
     (TWO_TASKS_LATER, "format = 1\n", 2, 0),
     (TWO_ACTIVATORS, "format = 2\n", 2, 1),
     (SHARED_SOURCE, "format = 2\n", 3, 0),
+    (COOPERATIVE, "format = 3\n", 3, 0),
     (LONG_WINDOW, "format = 1\n", 2, 0),
     (DAVIS_BUS, "format = 1\n", 3, 1),
     (FRAME_LENGTHS, "format = 1\n", 2, 0),
@@ -422,5 +445,57 @@ fn prints_and_reads_back(rt: HostRuntime) -> Result<(), Fail> {
         }
     }
     assert!(rt; wrong.is_none(), "{wrong:?}");
+    Ok(())
+}
+
+/// Regions are read in format 3 alone, on preemptive resources, and in their range.
+const REGIONS: [(&str, Refused); 6] = [
+    ("format = 3", ("format = 2", 1, Part::Task, 2)),
+    ("region = 2", ("region = 0", 2, Part::Task, 2)),
+    ("region = 2", ("region = 1000001", 2, Part::Task, 2)),
+    ("region = 2", ("region = \"2\"", 1, Part::Task, 2)),
+    ("region = 1 ", ("region = 4.0 ", 1, Part::Task, 3)),
+    ("\"preemptive\"", ("\"can\"", 9, Part::Task, 2)),
+];
+
+#[test]
+fn refuses_other_regions(rt: HostRuntime) -> Result<(), Fail> {
+    let alloc = rt.alloc();
+    let mut wrong = None;
+    for (old, other) in &REGIONS {
+        if !is_refused(alloc, COOPERATIVE, old, other)? {
+            wrong = Some(other.0);
+        }
+    }
+    assert!(rt; wrong.is_none(), "{wrong:?}");
+    Ok(())
+}
+
+/// The regions of the tasks of that system.
+const TICKS: &[u64] = &[1, 2, 1];
+
+/// Whether a system's tasks have them.
+fn has_regions(system: &System) -> bool {
+    let mut right = system.tasks() as usize == TICKS.len();
+    for i in 0..system.tasks() {
+        right &= TICKS.get(i as usize).copied() == Some(system.task(TaskId(i)).region);
+    }
+    right
+}
+
+/// A region is 1 where none is given, and is printed where it is more.
+#[test]
+fn prints_regions(rt: HostRuntime) -> Result<(), Fail> {
+    let alloc = rt.alloc();
+    let system = read_system(alloc, COOPERATIVE.as_bytes())?;
+    let bytes = print_system(alloc, &system)?;
+    let again = read_system(alloc, bytes.as_slice())?;
+    let text = std::str::from_utf8(bytes.as_slice()).unwrap_or("");
+    let keys = text.matches("region = ").count();
+    let there = text.contains("priority = 2\nregion = 2\nworst = 4\n");
+    assert!(rt;
+        has_regions(&system) && has_regions(&again) && keys == 1 && there,
+        "{text}"
+    );
     Ok(())
 }

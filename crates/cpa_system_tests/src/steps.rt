@@ -28,6 +28,16 @@ task = [
 ]
 "#;
 
+/// Two tasks by their priorities, the second with regions of 3 ticks.
+const REGIONS: &str = r#"format = 3
+resource = [{ name = "r", kind = "preemptive" }]
+source = [{ name = "s", period = 100 }]
+task = [
+  { name = "a", on = "r", after = "s", best = 2, worst = 7, priority = 1 },
+  { name = "b", on = "r", after = "s", best = 2, worst = 7, priority = 2, region = 3 },
+]
+"#;
+
 /// The tasks that wait.
 #[derive(Drop)]
 struct Waiting([bool; 2]);
@@ -46,12 +56,13 @@ impl Queue for Waiting {
     }
 }
 
-/// Whether a started frame waits.
+/// Whether the task of a frame or a region that has begun waits.
 fn frame_waits(system: &System, res: ResId, state: &ResState, queue: &Waiting) -> bool
     requires { res.0 < length system.now.resources }
     ensures { result ≡ true → FrameWaits (kind_of system.now res.0) (seen state.now) (⟦<Waiting as Queue>⟧.waiting queue.now) }
 {
     match (system.resource(res).kind, state.holder) {
+        (Kind::Preemptive, Some(holder)) => queue.waits(holder),
         (Kind::Can { bit: _ }, Some(holder)) => queue.waits(holder),
         _ => true,
     }
@@ -61,13 +72,14 @@ const A: Option<TaskId> = Some(TaskId(0));
 
 const B: Option<TaskId> = Some(TaskId(1));
 
-/// Who runs in the first eight ticks.
-fn eight_ticks(system: &System, res: ResId, queue: &Waiting) -> [Option<TaskId>; 8]
+/// Who runs in the first eight ticks, where these tasks wait in the first of them, and those from then on.
+fn eight_ticks(system: &System, res: ResId, first: &Waiting, then: &Waiting) -> [Option<TaskId>; 8]
     requires { res.0 < length system.now.resources }
 {
     let mut state = first_state(system, res);
     let mut ran = [None; 8];
     for tick in 0..8 {
+        let queue = if tick == 0 { first } else { then };
         if frame_waits(system, res, &state, queue) {
             ran[tick] = pick(system, res, &mut state, queue, tick as u64, 0);
         }
@@ -132,8 +144,26 @@ fn takes_turns(rt: HostRuntime) -> Result<(), Fail> {
         ring.resources() == 1
             && table.resources() == 1
             && first_turn(&ring, res, &both) == (A, 3, 2, 1)
-            && eight_ticks(&ring, res, &both) == [A, A, A, B, B, A, A, A]
+            && eight_ticks(&ring, res, &both, &both) == [A, A, A, B, B, A, A, A]
             && four_stretches(&table, res, &both, 3) == [(B, 2), (None, 2), (A, 3), (B, 2)]
+    );
+    Ok(())
+}
+
+/// A region that has begun goes on while a more urgent task waits, and a stretch ends with its region.
+#[test]
+fn takes_regions(rt: HostRuntime) -> Result<(), Fail> {
+    let alloc = rt.alloc();
+    let system = read_system(alloc, REGIONS.as_bytes())?;
+    let second = Waiting([false, true]);
+    let both = Waiting([true, true]);
+    let res = ResId(0);
+    assert!(rt;
+        system.resources() == 1
+            && eight_ticks(&system, res, &second, &both) == [B, B, B, A, A, A, A, A]
+            && four_stretches(&system, res, &second, 0) == [(B, 3); 4]
+            && four_stretches(&system, res, &both, 0) == [(A, 9); 4]
+            && first_turn(&system, res, &second) == (B, 3, 2, 1)
     );
     Ok(())
 }

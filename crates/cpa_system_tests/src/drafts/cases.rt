@@ -3,7 +3,7 @@
 //! An entry is a line of fields, with a bar between each two; an empty one stands for a key that is absent. After the name these are:
 //! of a resource its kind, its limit, its gap and its bit time; of a source its period, its jitter and its distance; of a task its
 //! resource, its executions, its payload, its priority and its slot, and then its activators; of a path its deadline, and then its
-//! tasks.
+//! tasks. A region stands behind the word `task`.
 
 use cpa_draft::Part;
 
@@ -97,6 +97,8 @@ pub(crate) const ADDED: [(Option<(u8, Part, u64)>, &[&str]); 25] = [
             "task|c|ring|1|1|||1|s",
             "task|c|table|1|1|||1000000|s",
             "task|c|cpu|2|2||3||s",
+            "task 1|c|cpu|2|2||3||s",
+            "task 1000000|c|cpu|2|2||3||s",
         ],
     ),
     (
@@ -110,6 +112,10 @@ pub(crate) const ADDED: [(Option<(u8, Part, u64)>, &[&str]); 25] = [
             "task|c|ring|1|1|||1000001|s",
             "task|c|bus|||9|3||s",
             "task|c|cpu|||-1|3||s",
+            "task 0|c|cpu|1|1||3||s",
+            "task -1|c|cpu|1|1||3||s",
+            "task 1000001|c|cpu|1|1||3||s",
+            "task 0|c|bus|1|1||3||s",
         ],
     ),
     (Some((3, Part::Task, 3)), &["task|c/|cpu|1|1||3||s"]),
@@ -151,7 +157,7 @@ pub(crate) const ADDED: [(Option<(u8, Part, u64)>, &[&str]); 25] = [
     ),
     (
         Some((8, Part::Task, 3)),
-        &["task|c|cpu|1|1||1||s", "task|c|cpu|1|1||2||s"],
+        &["task|c|cpu|1|1||1||s", "task 2|c|cpu|1|1||2||s"],
     ),
     (
         Some((9, Part::Task, 3)),
@@ -164,6 +170,10 @@ pub(crate) const ADDED: [(Option<(u8, Part, u64)>, &[&str]); 25] = [
             "task|c|table|1|1||||s",
             "task|c|cpu|||0|3||s",
             "task|c|ring|||8||1|s",
+            "task 1|c|bus|1|1||3||s",
+            "task 2|c|ring|1|1|||1|s",
+            "task 2|c|table|1|1|||1|s",
+            "task 2|c|bus|2|1||3||s",
         ],
     ),
     (None, &["path|a||b", "path|v|1000000000|a|b"]),

@@ -19,6 +19,17 @@ task = [
 path = [{ name = "p", tasks = ["k", "f"] }]
 "#;
 
+/// Two tasks with regions and one without, none of which another needs.
+pub(crate) const COOPERATIVE: &str = r#"format = 3
+resource = [{ name = "cpu", kind = "preemptive", limit = 1000 }]
+source = [{ name = "s", period = 40 }]
+task = [
+  { name = "a", on = "cpu", after = "s", best = 1, worst = 3, priority = 1, region = 2 },
+  { name = "b", on = "cpu", after = "s", best = 2, worst = 4, priority = 2, region = 4 },
+  { name = "c", on = "cpu", after = "s", best = 1, worst = 2, priority = 3 },
+]
+"#;
+
 /// Two chains that cross: each processor has the first task of one and the second of the other.
 pub(crate) const CROSSING_CHAINS: &str = r#"format = 1
 resource = [

@@ -39,6 +39,17 @@ task = [
 ]
 ";
 
+/// One task has a region of two ticks; that of the third is the default.
+pub(crate) const COOPERATIVE: &str = "format = 3
+resource = [{ name = \"cpu\", kind = \"preemptive\" }]
+source = [{ name = \"s\", period = 40 }]
+task = [
+  { name = \"a\", on = \"cpu\", after = \"s\", best = 1, worst = 3, priority = 1 },
+  { name = \"b\", on = \"cpu\", after = [\"s\", \"a\"], best = 2, worst = 4, priority = 2, region = 2 },
+  { name = \"c\", on = \"cpu\", after = \"s\", best = 6, worst = 9, priority = 3, region = 1 },
+]
+";
+
 pub(crate) const LONG_WINDOW: &str = "format = 1
 resource = [{ name = \"cpu\", kind = \"preemptive\" }]
 source = [{ name = \"sa\", period = 70 }, { name = \"sb\", period = 100 }]
