@@ -75,7 +75,7 @@ def random_system(draw: Random, faulty: float = 0.1) -> System:
                 ("name", "s0"),
                 ("extended", True),
                 ("priority", None),
-                ("name", "\u00e4\x7f\t\"\\"),
+                ("name", '\u00e4\x7f\t"\\'),
             ]
         )
         setattr(task, name, value)

@@ -123,7 +123,7 @@ class Programs(unittest.TestCase):
         with tempfile.TemporaryDirectory() as room:
             for name in ("cpa_cli", "cpa_schedule", "cpa_chain", "lokwurmi"):
                 file = Path(room, name)
-                file.write_text(f"#!/bin/sh\necho {name} \"$@\"\n")
+                file.write_text(f'#!/bin/sh\necho {name} "$@"\n')
                 file.chmod(0o755)
             calls = (
                 ("schedule", [b"", b""], ()),

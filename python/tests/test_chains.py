@@ -5,6 +5,7 @@ import warnings
 from pathlib import Path
 
 from engine_for_tests import need_engine, some_engines
+
 from lokwurmi import (
     Chain,
     ChainsRefused,

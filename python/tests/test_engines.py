@@ -6,12 +6,13 @@ from concurrent.futures import ThreadPoolExecutor
 from pathlib import Path
 from random import Random
 
-import lokwurmi
 from engine_for_tests import both_engines
+from made import random_system
+
+import lokwurmi
 from lokwurmi import Chain, Library, NoEngine, System
 from lokwurmi.chains import written
 from lokwurmi_tools.progress import Progress
-from made import random_system
 
 TOP = Path(__file__).resolve().parents[2]
 EXAMPLES = TOP / "examples"

@@ -11,8 +11,9 @@ import tempfile
 import unittest
 from pathlib import Path
 
-import lokwurmi
 from engine_for_tests import need_engine
+
+import lokwurmi
 from lokwurmi.__main__ import main
 
 TOP = Path(__file__).resolve().parents[2]

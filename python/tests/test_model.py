@@ -10,12 +10,14 @@ from pathlib import Path
 from random import Random
 
 from engine_for_tests import need_engine
+from made import random_system
+
 from lokwurmi import (
     Kind,
-    RoundingWarning,
     NameRefused,
     NoEngine,
     NotToml,
+    RoundingWarning,
     ScriptRefused,
     System,
     SystemRefused,
@@ -28,7 +30,6 @@ from lokwurmi import (
     made_system,
 )
 from lokwurmi.errors import LokwurmiError
-from made import random_system
 
 TOP = Path(__file__).resolve().parents[2]
 EXAMPLES = TOP / "examples"
@@ -213,7 +214,7 @@ class Files(unittest.TestCase):
     def test_unknown_keys(self) -> None:
         for text in (
             "format = 1\ntasks = []",
-            "format = 3",
+            "format = 4",
             "x = [",
             "format = 1\ntask = [{ name = 'a', colour = 1 }]",
             "format = 1\nsource = [{ name = 's', period = 1 }, { name = 's', period = 2 }]",
@@ -225,7 +226,7 @@ class Files(unittest.TestCase):
         """What can't be a system of objects says where, and what to write."""
         for text, why in (
             ("x = [", "isn't TOML: Invalid value"),
-            ("format = 3", "the format is 3: write format = 1"),
+            ("format = 4", "the format is 4: write format = 1"),
             ("format = 1\ntasks = []", "tasks is no key of a system; the keys are format, resource, source"),
             ("format = 1\ntask = 5", r"task is no list of entries: write task = \[{ name"),
             ("format = 1\ntask = [5]", "task 1 is no table"),

@@ -7,6 +7,9 @@ from pathlib import Path
 from random import Random
 
 from engine_for_tests import need_engine, some_engines
+from made import random_edit, random_system
+from test_model import two_tasks
+
 from lokwurmi import (
     EditRefused,
     Library,
@@ -22,8 +25,6 @@ from lokwurmi import (
     ns,
     us,
 )
-from made import random_edit, random_system
-from test_model import two_tasks
 
 TOP = Path(__file__).resolve().parents[2]
 

@@ -6,9 +6,9 @@ import unittest
 from html.parser import HTMLParser
 from pathlib import Path
 
-from lokwurmi import Chain, Kind, NotInstalled, System, ms, us
+from lokwurmi import Chain, Kind, NotInstalled, System
 from lokwurmi import chains as chain_results
-from lokwurmi import reports
+from lokwurmi import ms, reports, us
 
 SRC = Path(__file__).resolve().parents[1] / "src"
 REPORT = """task a cpu period 10 jitter 0 distance 0 best 1 worst 3

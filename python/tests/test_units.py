@@ -7,10 +7,12 @@ from fractions import Fraction
 from pathlib import Path
 
 from engine_for_tests import need_engine
+
 from lokwurmi import NoTick, RoundingWarning, System, Time, UnitsRefused, ms, ns, s, us
 from lokwurmi.entries import keys_of
 from lokwurmi.frames import classical, error, ethernet, execution, flexible, frame_bits, padded
-from lokwurmi.units import UP, Converter, bit_of, tick_of
+from lokwurmi.limits import UP
+from lokwurmi.units import Converter, bit_of, tick_of
 
 TOP = Path(__file__).resolve().parents[2]
 

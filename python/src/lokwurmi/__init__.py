@@ -15,24 +15,131 @@ All times are in ticks; a tick is whatever you take it for, and `System(tick="1u
 
 The bounds are those of the proved analysis. This package itself is not proved. docs/PYTHON.md has more.
 """
-from .chains import Chain, ChainReport, ChainsReport, JudgedChain, Step
-from .engines import Engine, Library, Program, default_engine, use
-from .entries import Kind, Path, Resource, Source, Task
-from .errors import (CallFailed, ChainsRefused, EditRefused, FileTooLong, LokwurmiError, NameRefused, NoEngine,
-                     NotInstalled, NotToml, NoTick, Refused, ScheduleRefused, ScriptRefused, SessionClosed,
-                     SystemRefused, TraceDisobeys, TraceRefused, UnitsRefused, Unreadable, WordsRefused)
-from .live import Session
-from .model import System, generated_system, made_system
-from .reports import (Buffers, Hammered, Order, PathReport, Report, Run, Schedule, SeenPath, SeenTask, Segment, Slack,
-                      TaskReport, Verdict)
-from .units import Rounding, RoundingWarning, Time, ms, ns, s, us
+from importlib import import_module
+from typing import TYPE_CHECKING
+
+if TYPE_CHECKING:
+    from .chains import Chain, ChainReport, ChainsReport, JudgedChain, Step
+    from .engines import Engine, Library, Program, default_engine, use
+    from .entries import Path, Resource, Source, Task
+    from .errors import (
+        CallFailed,
+        ChainsRefused,
+        EditRefused,
+        FileTooLong,
+        LokwurmiError,
+        NameRefused,
+        NoEngine,
+        NoTick,
+        NotInstalled,
+        NotToml,
+        Refused,
+        ScheduleRefused,
+        ScriptRefused,
+        SessionClosed,
+        SystemRefused,
+        TraceDisobeys,
+        TraceRefused,
+        UnitsRefused,
+        Unreadable,
+        WordsRefused,
+    )
+    from .limits import Kind
+    from .live import Session
+    from .model import System, generated_system, made_system
+    from .reports import (
+        Buffers,
+        Hammered,
+        Order,
+        PathReport,
+        Report,
+        Run,
+        Schedule,
+        SeenPath,
+        SeenTask,
+        Segment,
+        Slack,
+        TaskReport,
+        Verdict,
+    )
+    from .units import Rounding, RoundingWarning, Time, ms, ns, s, us
 
 __all__ = [
-    "Buffers", "CallFailed", "Chain", "ChainReport", "ChainsRefused", "ChainsReport", "EditRefused", "Engine",
-    "FileTooLong", "Hammered", "JudgedChain", "Kind", "Library", "LokwurmiError", "NameRefused", "NoEngine", "NoTick",
-    "NotInstalled", "NotToml", "Order", "Path", "PathReport", "Program", "Refused", "Report", "Resource", "Rounding",
-    "RoundingWarning", "Run", "Schedule", "ScheduleRefused", "ScriptRefused", "SeenPath", "SeenTask", "Segment",
-    "Session", "SessionClosed", "Slack", "Source", "Step", "System", "SystemRefused", "Task", "TaskReport", "Time",
-    "TraceDisobeys", "TraceRefused", "UnitsRefused", "Unreadable", "Verdict", "WordsRefused", "default_engine",
-    "generated_system", "made_system", "ms", "ns", "s", "us", "use",
+    "Buffers",
+    "CallFailed",
+    "Chain",
+    "ChainReport",
+    "ChainsRefused",
+    "ChainsReport",
+    "EditRefused",
+    "Engine",
+    "FileTooLong",
+    "Hammered",
+    "JudgedChain",
+    "Kind",
+    "Library",
+    "LokwurmiError",
+    "NameRefused",
+    "NoEngine",
+    "NoTick",
+    "NotInstalled",
+    "NotToml",
+    "Order",
+    "Path",
+    "PathReport",
+    "Program",
+    "Refused",
+    "Report",
+    "Resource",
+    "Rounding",
+    "RoundingWarning",
+    "Run",
+    "Schedule",
+    "ScheduleRefused",
+    "ScriptRefused",
+    "SeenPath",
+    "SeenTask",
+    "Segment",
+    "Session",
+    "SessionClosed",
+    "Slack",
+    "Source",
+    "Step",
+    "System",
+    "SystemRefused",
+    "Task",
+    "TaskReport",
+    "Time",
+    "TraceDisobeys",
+    "TraceRefused",
+    "UnitsRefused",
+    "Unreadable",
+    "Verdict",
+    "WordsRefused",
+    "default_engine",
+    "generated_system",
+    "made_system",
+    "ms",
+    "ns",
+    "s",
+    "us",
+    "use",
 ]
+# where these are, the light ones first
+_MODULES = ("errors", "limits", "units", "entries", "reports", "chains", "engines", "live", "model")
+
+if not TYPE_CHECKING:
+    # each is loaded at its first use, so that whoever needs one module alone doesn't wait for all
+
+    def __getattr__(name: str) -> object:
+        if name in _MODULES:
+            return import_module(f".{name}", __name__)
+        for module in _MODULES if name in __all__ else ():
+            found = getattr(import_module(f".{module}", __name__), name, None)
+            if found and found.__module__ == f"{__name__}.{module}":
+                globals()[name] = found
+                return found
+        raise AttributeError(f"module {__name__!r} has no attribute {name!r}")
+
+    def __dir__() -> list[str]:
+        return sorted({*globals(), *_MODULES, *__all__})

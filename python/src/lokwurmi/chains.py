@@ -13,12 +13,11 @@ from typing import Any, ClassVar
 from . import html, lines
 from .documents import Document
 from .errors import LokwurmiError, NoTick, Unreadable
+from .limits import CHAIN_KEYS, MOST_CHAINS, MOST_IN_CHAIN, MOST_TICKS, TIMES
 from .reports import Timed, Verdict, worst_of
 from .toml import entry_text
-from .units import TIMES, Converter, Rounding, Time
+from .units import Converter, Rounding, Time
 
-MOST_TASKS, MOST_CHAINS, MOST_TICKS = 32, 128, 1_000_000_000
-KEYS = ("name", "tasks", "reaction", "age")
 _NAME = re.compile(r"[A-Za-z0-9_.-]{1,64}")
 
 
@@ -120,7 +119,8 @@ def chain_report(text: str, tick: Time | None = None) -> ChainReport:
         raise Unreadable(f"this is no output of lokwurmi chain: {text.strip() or 'nothing'}")
     found = [
         Step(it["name"], it["kind"], lines.number(it["wait"]), lines.number(it["response"]), tick=tick)
-        for it in steps if it
+        for it in steps
+        if it
     ]
     reaction, age, held = (lines.number(total[it] or "") for it in ("reaction", "age", "held"))
     return ChainReport(tuple(found), reaction, age, held, bool(total["running"]), tick=tick)
@@ -146,7 +146,7 @@ def chains_report(text: str, tick: Time | None = None) -> ChainsReport:
 
 def in_ticks(chain: Chain, tick: Time | None) -> tuple[dict[str, Any], list[Rounding]]:
     """The keys of a chain in a file, and what was rounded of its deadlines."""
-    entry = {key: value for key in KEYS if (value := getattr(chain, key)) is not None}
+    entry = {key: value for key in CHAIN_KEYS if (value := getattr(chain, key)) is not None}
     if not any(isinstance(entry.get(key), (str, Time)) for key in TIMES["chain"]):
         return entry, []
     if tick is None:
@@ -160,13 +160,13 @@ def fault_in(entry: object, tasks: Collection[str]) -> str | None:
     """What is wrong with an entry of a file of chains, or None."""
     if not isinstance(entry, dict):
         return "is no table { name, tasks, reaction, age }"
-    if other := sorted(set(entry) - set(KEYS)):
+    if other := sorted(set(entry) - set(CHAIN_KEYS)):
         return f"has a key {other[0]}; the keys are name, tasks, reaction and age"
     if not isinstance(entry.get("name"), str) or not _NAME.fullmatch(entry["name"]):
         return 'wants a name of up to 64 letters, digits, _, - and .: name = "brake"'
     several = entry.get("tasks")
-    if not isinstance(several, list) or not 1 <= len(several) <= MOST_TASKS:
-        return f'wants 1 to {MOST_TASKS} tasks: tasks = ["capture", "act"]'
+    if not isinstance(several, list) or not 1 <= len(several) <= MOST_IN_CHAIN:
+        return f'wants 1 to {MOST_IN_CHAIN} tasks: tasks = ["capture", "act"]'
     if unknown := [it for it in several if it not in tasks]:
         return f"names a task {unknown[0]}, which the system doesn't have"
     for key in ("reaction", "age"):

@@ -32,9 +32,9 @@ def values_in(text: str) -> dict[str, Any]:
 class Document:
     """The values of a document, and where they stand in its text. The entries of a part are there where it is an array.
 
-        >>> document = Document('format = 1\\n[[task]]\\nname = "a"\\n')
-        >>> document.entries["task"], document.text_of(document.value_span("task", 0, "name"))
-        ([{'name': 'a'}], '"a"')
+    >>> document = Document('format = 1\\n[[task]]\\nname = "a"\\n')
+    >>> document.entries["task"], document.text_of(document.value_span("task", 0, "name"))
+    ([{'name': 'a'}], '"a"')
     """
 
     def __init__(self, text: str, parts: Sequence[str] = PARTS) -> None:
@@ -48,7 +48,12 @@ class Document:
     @property
     def has_lists(self) -> bool:
         """Whether its format has lists of activators."""
-        return self.values.get("format") == 2
+        return self.values.get("format") in (2, 3)
+
+    @property
+    def has_regions(self) -> bool:
+        """Whether its format has regions of tasks."""
+        return self.values.get("format") == 3
 
     @cached_property
     def root(self) -> Place:

@@ -18,10 +18,18 @@ from .errors import CallFailed, NoEngine, SessionClosed, refusal
 
 # of each command, which files it takes
 FILES = {
-    "analyse": ("system",), "session": ("system", "script"), "simulate": ("system", "trace"),
-    "schedule": ("system", "trace"), "buffers": ("system", "trace"), "audit": ("system", "trace", "schedule"),
-    "hammer": ("system",), "assign": ("system",), "slack": ("system",), "chain": ("system",),
-    "chains": ("system", "chains"), "generate": (),
+    "analyse": ("system",),
+    "session": ("system", "script"),
+    "simulate": ("system", "trace"),
+    "schedule": ("system", "trace"),
+    "buffers": ("system", "trace"),
+    "audit": ("system", "trace", "schedule"),
+    "hammer": ("system",),
+    "assign": ("system",),
+    "slack": ("system",),
+    "chain": ("system",),
+    "chains": ("system", "chains"),
+    "generate": (),
 }
 
 # the repository, where the package is used from there
@@ -154,8 +162,10 @@ class KeptByLibrary:
         self._handle = _Handle(0, None)
         self._close = library._library.lokwurmi_close
         self._close.restype = None
-        self._numbers = [(getattr(library._library, f"lokwurmi_{it}"), (ctypes.c_uint64 * most)())
-                         for it, most in (("bounds", 512), ("latencies", 128))]
+        self._numbers = [
+            (getattr(library._library, f"lokwurmi_{it}"), (ctypes.c_uint64 * most)())
+            for it, most in (("bounds", 512), ("latencies", 128))
+        ]
         status, text = self._give("open", ctypes.c_char_p(system), ctypes.c_size_t(len(system)))
         if status:
             raise refusal(status, text)
@@ -260,8 +270,10 @@ class Program:
         places = [self.file.with_name(other), self.file.parent.parent.parent / other / "out" / other]
         there = next((it for it in places if it.is_file()), None)
         if there is None:
-            raise NoEngine(f"{command} has a program of its own, and there is none at {places[0]}, nor at {places[1]}:"
-                           f" ./lokwurmi {command} builds it, and an installed lokwurmi has all commands")
+            raise NoEngine(
+                f"{command} has a program of its own, and there is none at {places[0]}, nor at {places[1]}:"
+                f" ./lokwurmi {command} builds it, and an installed lokwurmi has all commands"
+            )
         return [str(there)] if command == "schedule" else [str(there), command]
 
     def call(self, command: str, files: Sequence[bytes], words: Sequence[str | int] = ()) -> tuple[int, str]:
@@ -271,7 +283,10 @@ class Program:
                 Path(folder, name).write_bytes(text)
             try:
                 done = subprocess.run(
-                    [*start, *names, *map(str, words)], cwd=folder, stdout=subprocess.PIPE, check=False,
+                    [*start, *names, *map(str, words)],
+                    cwd=folder,
+                    stdout=subprocess.PIPE,
+                    check=False,
                     env=os.environ | {"LOKWURMI_QUIET": "1"},
                 )
             except (OSError, ValueError) as fault:

@@ -6,28 +6,15 @@ system file is written, and stays as it is here.
 """
 from collections.abc import Mapping
 from dataclasses import MISSING, dataclass, fields
-from enum import StrEnum
 from typing import Any
 
 from .errors import LokwurmiError, NoTick
+from .limits import TIMES
 from .toml import value_text
-from .units import TIMES, Time, amount_of
+from .units import Time, amount_of
 
 Ticks = int | Time | str
 """A number of ticks, or a time with a unit."""
-
-
-class Kind(StrEnum):
-    """Who runs on a resource."""
-
-    PREEMPTIVE = "preemptive"
-    """The smallest priority number runs."""
-    ROUND_ROBIN = "round-robin"
-    """One task after the other, each for up to its slot."""
-    TDMA = "tdma"
-    """Each task in its slot of a fixed cycle."""
-    CAN = "can"
-    """The smallest priority number is next, and what has started goes on to its end."""
 
 
 @dataclass(slots=True)
@@ -85,6 +72,9 @@ class Task:
     slot: Ticks | None = None
     """On `round-robin` and `tdma`: how long its turn lasts, in ticks or as a time, which must be a whole number of
     ticks."""
+    region: Ticks | None = None
+    """On `preemptive`: for so many ticks a job isn't preempted once it has begun a region. A time is rounded up, and
+    has a tick more. None: 1 tick, so that a job is preempted at any."""
 
 
 @dataclass(slots=True)
@@ -117,7 +107,7 @@ def entry_of(key: str, place: int, found: Any) -> Entry:
     if unknown := [it for it in found if it not in _KEYS[kind]]:
         raise LokwurmiError(f"{key} {place} has a key {unknown[0]}; the keys are {', '.join(_KEYS[kind])}")
     if lacking := [it.name for it in fields(kind) if it.default is MISSING and it.name not in found]:
-        raise LokwurmiError(f"{key} {place} lacks {lacking[0]} (docs/FILES.md, \"The system\")")
+        raise LokwurmiError(f'{key} {place} lacks {lacking[0]} (docs/FILES.md, "The system")')
     return kind(**found)  # type: ignore[no-any-return]
 
 

@@ -3,15 +3,25 @@ import re
 
 # the reasons for which a file is no system: docs/FILES.md, "Refusals", whose headings these are
 REASONS = {
-    13: "another format", 1: "the form", 2: "a number out of its range", 3: "a name of another form", 4: "a name twice",
-    5: "a name of nothing", 6: "no source at the beginning", 7: "a chain too long", 8: "a priority twice",
-    9: "what doesn't fit the kind", 10: "best above worst", 11: "a path that isn't linked", 12: "too many entries",
+    13: "another format",
+    1: "the form",
+    2: "a number out of its range",
+    3: "a name of another form",
+    4: "a name twice",
+    5: "a name of nothing",
+    6: "no source at the beginning",
+    7: "a chain too long",
+    8: "a priority twice",
+    9: "what doesn't fit the kind",
+    10: "best above worst",
+    11: "a path that isn't linked",
+    12: "too many entries",
     14: "no activator, or too many",
 }
 
 # what may be wrong there, in a sentence
 HELP = {
-    13: "format is 1, or 2 for lists of activators",
+    13: "format is 1, 2 for lists of activators, or 3 for regions too",
     1: "a key isn't known or is lacking, or a value has another type",
     2: "docs/FILES.md has the range of each key; a distance is at most the period",
     3: "a name has 1 to 64 of ASCII letters, digits, _, - and .",
@@ -20,7 +30,8 @@ HELP = {
     6: "following after must end at a source: tasks that activate each other in a ring can't be analysed",
     7: "a chain has at most 32 tasks",
     8: "tasks of one preemptive or can resource have different priorities",
-    9: "gap is for tdma, bit and payload are for can; a task has a priority on preemptive and can, else a slot",
+    9: "gap is for tdma, bit and payload for can, region for preemptive; a task has a priority on preemptive and can,"
+    " else a slot",
     10: "best is at most worst",
     11: "a path has a task at least, and each but the first has the one before it in after",
     12: "there are at most 64 resources, 128 sources, 512 tasks and 128 paths",
@@ -29,18 +40,27 @@ HELP = {
 
 # the rules that an edit may break: docs/FILES.md, "Edits that are refused"
 RULES = {
-    1: "a name names nothing, or no such thing as is wanted", 2: "the kind of the resource has no such number",
-    3: "a number is out of its range", 4: "another task of the resource has the priority",
-    5: "the least execution is above the greatest", 6: "the task is among another's activators, or a path names it",
-    7: "a source or a task has the name already", 8: "there are 512 tasks",
+    1: "a name names nothing, or no such thing as is wanted",
+    2: "the kind of the resource has no such number",
+    3: "a number is out of its range",
+    4: "another task of the resource has the priority",
+    5: "the least execution is above the greatest",
+    6: "the task is among another's activators, or a path names it",
+    7: "a source or a task has the name already",
+    8: "there are 512 tasks",
     9: "the chain would have more than 32 tasks",
 }
 
 # why a file of chains is refused: docs/FILES.md, "Why a file of chains is refused"
 CHAIN_REASONS = {
-    13: "another format", 1: "the form: the keys are name, tasks, reaction and age",
-    2: "a deadline is out of its range, which is 1 to 1,000,000,000 ticks", 3: "a name of another form",
-    4: "a name twice", 5: "a name of no task", 11: "there is no task, or more than 32", 12: "more than 128 chains",
+    13: "another format",
+    1: "the form: the keys are name, tasks, reaction and age",
+    2: "a deadline is out of its range, which is 1 to 1,000,000,000 ticks",
+    3: "a name of another form",
+    4: "a name twice",
+    5: "a name of no task",
+    11: "there is no task, or more than 32",
+    12: "more than 128 chains",
 }
 
 
@@ -88,7 +108,9 @@ class CallFailed(LokwurmiError):
         self.status = status
         self.text = text
         what = {
-            30: "out of memory", 11: "a file couldn't be read", 20: "the output couldn't be written",
+            30: "out of memory",
+            11: "a file couldn't be read",
+            20: "the output couldn't be written",
             70: "the program couldn't be built",
         }
         told = f": {text.strip()}" if text.strip() else ""
@@ -174,8 +196,10 @@ class NameRefused(Refused):
     number in the line."""
 
     WORDS = {
-        ("assign", 1): "no resource has the name", ("assign", 2): "its tasks have slots, and no priorities",
-        ("assign", 3): "a task on it has a task among its activators", ("slack", 1): "no task has the name",
+        ("assign", 1): "no resource has the name",
+        ("assign", 2): "its tasks have slots, and no priorities",
+        ("assign", 3): "a task on it has a task among its activators",
+        ("slack", 1): "no task has the name",
     }
 
     def __init__(self, status: int, text: str, command: str, reason: int):
@@ -218,7 +242,8 @@ def refusal(status: int, text: str) -> LokwurmiError:
         )
     if status == 12:
         return FileTooLong(
-            status, text,
+            status,
+            text,
             "a text is too long: a system, a script or a file of chains has at most 1,048,576 bytes, a trace or a"
             " schedule 16,777,216",
         )

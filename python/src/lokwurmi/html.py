@@ -12,9 +12,7 @@ if TYPE_CHECKING:
 
 # white letters on these are readable, and so are they on white and on black
 _COLOURS = {"met": "#1a7f37", "missed": "#b42318", "overload": "#b42318", "unknown": "#8a5a00", "none": "#57606a"}
-_WORDS = {
-    "met": "met", "missed": "missed", "overload": "overload", "unknown": "unknown", "none": "no deadline",
-}
+_WORDS = {"met": "met", "missed": "missed", "overload": "overload", "unknown": "unknown", "none": "no deadline"}
 _CELL = "padding:2px 10px;border-bottom:1px solid rgba(128,128,128,.35);"
 _ROWS_SHOWN = 200
 
@@ -115,16 +113,19 @@ def system(it: "model.System") -> str:
     """The entries of a system."""
     resources = [(one.name, one.kind, one.limit, one.gap, bit_text(one)) for one in it.resources.values()]
     sources = [(one.name, one.period, one.jitter or 0, one.distance or 0) for one in it.sources.values()]
+    has_regions = any(one.region is not None for one in it.tasks.values())
     tasks = [
         (one.name, one.on, after_text(one), execution_text(one), one.slot if one.priority is None else one.priority)
+        + ((one.region,) if has_regions else ())
         for one in it.tasks.values()
     ]
+    of_task = ("task", "on", "after", "execution", "priority or slot") + (("region",) if has_regions else ())
     paths = [(one.name, " → ".join(one.tasks), one.deadline) for one in it.paths.values()]
     note = f"{unit_note(it.tick)} Numbers without a unit are ticks." if it.tick else unit_note(None)
     parts: list[tuple[str, Sequence[str], list[Any]]] = [
         ("Resources", ("resource", "kind", "limit", "gap", "bit"), resources),
         ("Sources", ("source", "period", "jitter", "distance"), sources),
-        ("Tasks", ("task", "on", "after", "execution", "priority or slot"), tasks),
+        ("Tasks", of_task, tasks),
         ("Paths", ("path", "tasks", "deadline"), paths),
     ]
     there = [part for part in parts if part[2]]
@@ -145,7 +146,9 @@ def run(it: "reports.Run") -> str:
     ]
     note = f"Seen in one run, which isn't the worst case. {unit_note(it.tick)}"
     first = table(
-        f"Run up to {cell_text(plain(it.end, it.tick))}", ("task", "jobs", "done", "greatest response seen"), tasks,
+        f"Run up to {cell_text(plain(it.end, it.tick))}",
+        ("task", "jobs", "done", "greatest response seen"),
+        tasks,
         "" if paths else note,
     )
     return first + (table("Paths", ("path", "passages", "greatest time seen"), paths, note) if paths else "")
@@ -194,12 +197,8 @@ _PREMISE = "Holds where sources keep their periods: events are at most as far ap
 
 def chain(it: "chain_results.ChainReport") -> str:
     """The bounds of a chain."""
-    steps = [
-        (one.name, one.kind, shown(one.wait, it.tick), shown(one.response, it.tick)) for one in it.steps
-    ]
-    totals = ", ".join(
-        f"{name} {cell_text(shown(getattr(it, name), it.tick))}" for name in ("reaction", "age", "held")
-    )
+    steps = [(one.name, one.kind, shown(one.wait, it.tick), shown(one.response, it.tick)) for one in it.steps]
+    totals = ", ".join(f"{name} {cell_text(shown(getattr(it, name), it.tick))}" for name in ("reaction", "age", "held"))
     running = " Presumes that each task reads only while it runs." if it.while_running else ""
     note = f"{_PREMISE}{running} {unit_note(it.tick)}"
     return table(f"Chain: {totals}", ("task", "step", "wait", "response"), steps, note)

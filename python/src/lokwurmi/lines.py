@@ -29,9 +29,7 @@ BUFFER = re.compile(r"buffer (\S+) bound (\d+|overload) peak (\d+)")
 RESOURCE = re.compile(r"resource (\S+) bound (\d+|overload) peak (\d+)")
 WRONG = re.compile(r"audit wrong segment (\d+) expected (?:none|(\S+) (\d+) (\d+))")
 SEGMENT = re.compile(r"(\S+),(\d+),(\d+)")
-STEP = re.compile(
-    r"step (?P<name>\S+) (?P<kind>\S+) wait (?P<wait>\d+|overload) response (?P<response>\d+|overload)"
-)
+STEP = re.compile(r"step (?P<name>\S+) (?P<kind>\S+) wait (?P<wait>\d+|overload) response (?P<response>\d+|overload)")
 TOTAL = re.compile(
     r"chain(?P<running> while-running)? tasks \d+ reaction (?P<reaction>\d+|overload) age (?P<age>\d+|overload)"
     r"(?: held (?P<held>\d+|overload))?"
@@ -52,8 +50,13 @@ def task_in(it: re.Match[str]) -> dict[str, Any]:
     """What a task's line says. Where it has several streams, it has no period, no jitter and no distance."""
     period, jitter, distance = (word and number(word) for word in it.group("period", "jitter", "distance"))
     return {
-        "on": it["on"], "period": period, "jitter": jitter, "distance": distance, "streams": int(it["streams"] or 1),
-        "best": int(it["best"]), "worst": number(it["worst"]),
+        "on": it["on"],
+        "period": period,
+        "jitter": jitter,
+        "distance": distance,
+        "streams": int(it["streams"] or 1),
+        "best": int(it["best"]),
+        "worst": number(it["worst"]),
     }
 
 

@@ -6,8 +6,9 @@ from typing import TYPE_CHECKING, Any
 
 from . import reports
 from .engines import EDIT_REFUSED, SCRIPT_REFUSED, Engine, Kept, Library, default_engine
-from .entries import Kind, Resource, Source, Task, Ticks
+from .entries import Resource, Source, Task, Ticks
 from .errors import CallFailed, EditRefused, ScriptRefused, SessionClosed, refusal
+from .limits import Kind
 from .lines import REFUSED
 from .reports import Verdict
 from .units import Rounding, warn
@@ -104,7 +105,11 @@ class Session:
         """Times of an entry in ticks, rounded and reported as those of a system."""
         entry: dict[str, Any] = {"name": name} | {key: it for key, it in given.items() if it is not None}
         if kind == "task" and "on" not in entry and name in self._system.tasks:
-            entry["on"] = self._system.tasks[name].on
+            task = self._system.tasks[name]
+            entry["on"] = task.on
+            if task.region is not None:
+                # an execution that it covers has a tick more
+                entry["region"] = self._system.ticks(task, "region")
         told = self._system._convert(kind, entry)
         if told:
             self._roundings += told
@@ -135,7 +140,10 @@ class Session:
             self._edit(f"slot {name} {self._ticks('task', name, slot=slot)['slot']}")
 
     def source(
-        self, source: str | Source, period: Ticks | None = None, jitter: Ticks | None = None,
+        self,
+        source: str | Source,
+        period: Ticks | None = None,
+        jitter: Ticks | None = None,
         distance: Ticks | None = None,
     ) -> None:
         """Sets the period, the jitter and the distance of a source, in ticks or with units; what isn't given stays."""
@@ -149,8 +157,15 @@ class Session:
             self._edit(f"source {name} {found['period']} {found['jitter']} {found['distance']}")
 
     def add(
-        self, name: str, *, on: str | Resource, after: "str | Source | Task", best: Ticks, worst: Ticks,
-        priority: int | None = None, slot: Ticks | None = None,
+        self,
+        name: str,
+        *,
+        on: str | Resource,
+        after: "str | Source | Task",
+        best: Ticks,
+        worst: Ticks,
+        priority: int | None = None,
+        slot: Ticks | None = None,
     ) -> None:
         """Adds a task as the last one, after one source or task, with a priority or a slot."""
         with self._lock:

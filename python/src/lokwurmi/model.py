@@ -14,10 +14,23 @@ from . import chains as chain_results
 from . import html, reports
 from .documents import Document
 from .engines import WHILE_RUNNING, Engine, answer, keep
-from .entries import (KINDS, Entry, Kind, Path, Resource, Source, Task, Ticks, check_no_time, entry_of, keys_of,
-                      kind_name, text_in_ticks)
+from .entries import (
+    KINDS,
+    Entry,
+    Path,
+    Resource,
+    Source,
+    Task,
+    Ticks,
+    check_no_time,
+    entry_of,
+    keys_of,
+    kind_name,
+    text_in_ticks,
+)
 from .errors import ChainsRefused, LokwurmiError, SystemRefused, UnitsRefused
 from .frames import execution
+from .limits import Kind
 from .toml import entry_text
 from .units import Converter, Rounding, Time, text_of, tick_of, warn, whole_ticks
 
@@ -31,6 +44,10 @@ _Entry = TypeVar("_Entry", Resource, Source, Task, Path)
 
 def _name(it: "str | Entry") -> str:
     return it if isinstance(it, str) else it.name
+
+
+def _in_comment(text: str) -> str:
+    return text.encode("ascii", "backslashreplace").decode()
 
 
 class System:
@@ -124,7 +141,13 @@ class System:
             warn(new)
 
     def resource(
-        self, name: str, kind: str, *, limit: Ticks | None = None, gap: Ticks | None = None, bit: Ticks | None = None,
+        self,
+        name: str,
+        kind: str,
+        *,
+        limit: Ticks | None = None,
+        gap: Ticks | None = None,
+        bit: Ticks | None = None,
         bitrate: int | None = None,
     ) -> Resource:
         """Adds a resource; times are in ticks, or have a unit."""
@@ -149,21 +172,37 @@ class System:
         """Adds a CAN bus, whose bits take `bit` ticks or such a time each, or which has so many bits per second."""
         return self.resource(name, Kind.CAN, limit=limit, bit=bit, bitrate=bitrate)
 
-    def source(
-        self, name: str, period: Ticks, *, jitter: Ticks | None = None, distance: Ticks | None = None
-    ) -> Source:
+    def source(self, name: str, period: Ticks, *, jitter: Ticks | None = None, distance: Ticks | None = None) -> Source:
         """Adds a source of events; times are in ticks, or have a unit."""
         return self._add(Source(name, period, jitter, distance))
 
     def task(
-        self, name: str, *, on: str | Resource, after: "str | Source | Task | Iterable[str | Source | Task]",
-        best: Ticks | None = None, worst: Ticks | None = None, payload: int | None = None, extended: bool | None = None,
-        priority: int | None = None, slot: Ticks | None = None,
+        self,
+        name: str,
+        *,
+        on: str | Resource,
+        after: "str | Source | Task | Iterable[str | Source | Task]",
+        best: Ticks | None = None,
+        worst: Ticks | None = None,
+        payload: int | None = None,
+        extended: bool | None = None,
+        priority: int | None = None,
+        slot: Ticks | None = None,
+        region: Ticks | None = None,
     ) -> Task:
-        """Adds a task; `on` and `after` are names, or what was added before. Times are in ticks, or have a unit."""
+        """Adds a task; `on` and `after` are names, or what was added before. Times are in ticks, or have a unit.
+
+        >>> system = System()
+        >>> cpu, often = system.preemptive("cpu"), system.source("often", period=10)
+        >>> control = system.task("control", on=cpu, after=often, best=2, worst=2, priority=1)
+        >>> seldom = system.source("seldom", period=100)
+        >>> log = system.task("log", on=cpu, after=seldom, best=5, worst=20, priority=2, region=5)
+        >>> system.analyse().tasks["control"].worst
+        6
+        """
         single = isinstance(after, (str, Source, Task))
         starts: str | list[str] = _name(after) if single else [_name(it) for it in after]  # type: ignore
-        return self._add(Task(name, _name(on), starts, best, worst, payload, extended, priority, slot))
+        return self._add(Task(name, _name(on), starts, best, worst, payload, extended, priority, slot, region))
 
     def path(self, name: str, tasks: Iterable[str | Task], *, deadline: Ticks | None = None) -> Path:
         """Adds a path over tasks, with a deadline in ticks or as a time, if there is one."""
@@ -176,9 +215,9 @@ class System:
     def ticks(self, it: Entry, key: str) -> int | None:
         """An attribute of an entry in ticks, rounded as the system file has it; None where it isn't set.
 
-            >>> system = System(tick="10us")
-            >>> system.ticks(system.source("s", "1 ms", jitter="15 us"), "jitter")
-            2
+        >>> system = System(tick="10us")
+        >>> system.ticks(system.source("s", "1 ms", jitter="15 us"), "jitter")
+        2
         """
         entry = keys_of(it)
         self._convert(kind_name(it), entry)
@@ -193,47 +232,55 @@ class System:
 
     # ---- files
 
-    def _converted(self) -> tuple[dict[str, list[dict[str, Any]]], list[Rounding]]:
-        """The keys of all entries, in ticks where there is a tick, and what was rounded."""
+    def _converted(self) -> tuple[dict[str, list[dict[str, Any]]], Converter | None]:
+        """The keys of all entries, in ticks where there is a tick, and what has turned them into ticks."""
         document = {key: [keys_of(it) for it in part.values()] for key, part in self._parts().items()}
         if self._tick is None:
-            return document, []
+            return document, None
         converter = Converter(self._tick.nanoseconds)
         converter.convert(document)
-        return document, converter.told
+        return document, converter
 
     @property
     def roundings(self) -> list[Rounding]:
         """The times that are no whole number of ticks, each with the side to which it is rounded."""
-        return self._converted()[1]
+        converter = self._converted()[1]
+        return converter.told if converter else []
+
+    def _format(self) -> int:
+        """The least format that has all keys that are set."""
+        if any(it.region is not None for it in self.tasks.values()):
+            return 3
+        return 2 if any(isinstance(it.after, list) for it in self.tasks.values()) else 1
 
     def _file(self) -> tuple[str, list[Rounding]]:
         """The system file, and what was rounded for it."""
-        several = any(isinstance(it.after, list) for it in self.tasks.values())
-        text = f"format = {2 if several else 1}\n"
+        text = f"format = {self._format()}\n"
         if self._tick is None:
             for key, part in self._parts().items():
                 if part:
                     text += f"{key} = [\n{''.join(map(text_in_ticks, part.values()))}]\n"
             return text, []
-        document, told = self._converted()
+        document, converter = self._converted()
+        assert converter is not None
         for key, entries in document.items():
             if entries:
                 text += f"{key} = [\n{''.join(map(entry_text, entries))}]\n"
-        return self._head(told) + text, told
+        return self._head(converter) + text, converter.told
 
-    def _head(self, told: list[Rounding]) -> str:
+    def _head(self, converter: Converter) -> str:
         """What a file says of its ticks."""
-        assert self._tick is not None
-        head = f"# A tick is {self._tick}.\n"
+        head, told = f"# A tick is {self._tick}.\n", converter.told
         if told:
             head += f"# {len(told)} times are rounded, each to its safe side:\n"
-            head += "".join(f"#   {it}".encode("ascii", "backslashreplace").decode() + "\n" for it in told)
+            head += "".join(f"#   {_in_comment(str(it))}\n" for it in told)
+        if more := converter.more_text():
+            head += f"# {_in_comment(more)}\n"
         return head
 
     def to_toml(self) -> str:
-        """The system file. It has format 2 where a task has several activators, and whole ticks; roundings stand in
-        comments at its head."""
+        """The system file, in whole ticks; roundings stand in comments at its head. It has format 3 where a task has a
+        region, else 2 where one has several activators, else 1."""
         text, told = self._file()
         self._warn(told)
         return text
@@ -252,8 +299,8 @@ class System:
             raise LokwurmiError(f"the text isn't TOML: {fault}") from fault
         system = cls(tick)
         form = read.pop("format", None)
-        if form not in (1, 2):
-            raise LokwurmiError(f"the format is {form}: write format = 1, or 2 for lists of activators")
+        if form not in (1, 2, 3):
+            raise LokwurmiError(f"the format is {form}: write format = 1, 2 for lists of activators, or 3 for regions")
         if unknown := sorted(set(read) - set(KINDS)):
             raise LokwurmiError(f"{unknown[0]} is no key of a system; the keys are format, {', '.join(KINDS)}")
         for key, part in system._parts().items():
@@ -315,20 +362,22 @@ class System:
     def analyse(self, *, engine: Engine | None = None) -> reports.Report:
         """The bounds of all tasks and paths, in ticks; `time` of each gives them as times.
 
-            >>> system = System()
-            >>> cpu = system.preemptive("cpu")
-            >>> a = system.task("a", on=cpu, after=system.source("s", period=10), best=1, worst=3, priority=1)
-            >>> system.analyse().tasks["a"].worst
-            3
+        >>> system = System()
+        >>> cpu = system.preemptive("cpu")
+        >>> a = system.task("a", on=cpu, after=system.source("s", period=10), best=1, worst=3, priority=1)
+        >>> system.analyse().tasks["a"].worst
+        3
         """
         text, told = self._told_answer("analyse", engine=engine)
         return reports.reports(text, self._tick, told)[-1]
 
     @overload
-    def session(self, script: None = None, *, engine: Engine | None = None) -> "Session": ...
+    def session(self, script: None = None, *, engine: Engine | None = None) -> "Session":
+        ...
 
     @overload
-    def session(self, script: str | Iterable[str], *, engine: Engine | None = None) -> list[reports.Report]: ...
+    def session(self, script: str | Iterable[str], *, engine: Engine | None = None) -> list[reports.Report]:
+        ...
 
     def session(
         self, script: str | Iterable[str] | None = None, *, engine: Engine | None = None
@@ -380,9 +429,7 @@ class System:
 
     def audit(self, trace: Trace, schedule: Trace, *, engine: Engine | None = None) -> reports.Segment | None:
         """Where a recorded schedule first differs from the run under a trace, or None where it doesn't."""
-        return reports.difference(
-            self._answer("audit", [self._rows(trace), self._rows(schedule)], engine=engine)
-        )
+        return reports.difference(self._answer("audit", [self._rows(trace), self._rows(schedule)], engine=engine))
 
     def hammer(self, number: int, traces: int, *, engine: Engine | None = None) -> reports.Hammered:
         """What is seen under so many traces that are generated from a seed."""

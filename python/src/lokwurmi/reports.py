@@ -172,7 +172,10 @@ class Report:
     """The times of the system that were rounded, each to its safe side."""
 
     def __init__(
-        self, rows: list[str], refused: dict[int, int] | None = None, tick: Time | None = None,
+        self,
+        rows: list[str],
+        refused: dict[int, int] | None = None,
+        tick: Time | None = None,
         roundings: Iterable[Rounding] = (),
     ):
         summary = lines.SUMMARY.fullmatch(rows[-1]) if rows else None
@@ -310,7 +313,9 @@ def run(text: str, tick: Time | None = None) -> Run:
     tasks, paths, end = lines.seen_in(text.splitlines())
     return Run(
         {name: SeenTask(name, **it, tick=tick) for name, it in tasks.items()},
-        {name: SeenPath(name, **it, tick=tick) for name, it in paths.items()}, end, tick=tick,
+        {name: SeenPath(name, **it, tick=tick) for name, it in paths.items()},
+        end,
+        tick=tick,
     )
 
 

@@ -11,9 +11,9 @@ is rounded to the side that is safe for its key, and each rounding is reported:
     >>> f"{us(16_667):ms}"
     '16.667ms'
 
-Greatest executions, jitters and gaps are rounded up; least executions, periods, distances and deadlines down. A slot
-has no safe side and must be whole. The proof of the bounds is about ticks. That they hold for the times that were
-rounded so is argued in docs/NETWORKS.md, "Times with units", and not proved.
+Greatest executions, regions, jitters and gaps are rounded up; least executions, periods, distances and deadlines down.
+A slot has no safe side and must be whole. A region has a tick more. The proof of the bounds is about ticks. That they
+hold for the times that were rounded so is argued in docs/NETWORKS.md, "Times with units", and not proved.
 """
 import math
 import re
@@ -28,25 +28,12 @@ from typing import Any
 
 from .errors import NoTick, UnitsRefused
 from .frames import frame_bits
+from .limits import DOWN, MOST_BIT, NEITHER, TIMES, UP
 
 UNITS = {"ns": 1, "us": 1_000, "ms": 1_000_000, "s": 1_000_000_000}
 """How many nanoseconds each unit has."""
 _TIME = re.compile(r"(\d+(?:\.\d+)?) ?(ns|us|ms|s)", re.ASCII)
 _AMOUNT = re.compile(r"(\d+(?:\.\d+)?) ?(ns|us|ms|s|bits?|bytes?)", re.ASCII)
-
-UP, DOWN, NEITHER = "up", "down", "to neither side"
-TIMES: dict[str, dict[str, tuple[str, int, int]]] = {
-    "resource": {"limit": (UP, 1, 10_000_000), "gap": (UP, 0, 1_000_000)},
-    "source": {
-        "period": (DOWN, 1, 1_000_000_000), "jitter": (UP, 0, 1_000_000_000), "distance": (DOWN, 0, 1_000_000_000),
-    },
-    "task": {"best": (DOWN, 1, 1_000_000), "worst": (UP, 1, 1_000_000), "slot": (NEITHER, 1, 1_000_000)},
-    "path": {"deadline": (DOWN, 1, 1_000_000_000)},
-    "chain": {"reaction": (DOWN, 1, 1_000_000_000), "age": (DOWN, 1, 1_000_000_000)},
-}
-"""The keys that are times, each with the side that is safe, and the least and the greatest number of ticks."""
-MOST_BIT = 1_000
-"""The most ticks that a bit of a CAN bus may take."""
 
 Number = int | float | str | Decimal | Fraction
 """An amount of a unit. A float counts as the decimal number that Python shows of it: 0.1 is a tenth."""
@@ -315,6 +302,8 @@ class Converter:
     told: list[Rounding] = field(default_factory=list)
     bare: list[tuple[str, str, str]] = field(default_factory=list)
     """The keys with a number that has no unit, and so counts ticks: key, kind and name of the entry."""
+    longer: list[tuple[str, str, int]] = field(default_factory=list)
+    """The times that have a tick more: key and entry, and what each became."""
     exact: list[tuple[Fraction, int]] = field(default_factory=list)
     """The times, each with the most ticks that it may be."""
     bits: dict[str, Fraction] = field(default_factory=dict)
@@ -348,20 +337,28 @@ class Converter:
             )
         return Fraction(found[1]) * bit * (8 if found[2].startswith("byte") else 1)
 
-    def ticks(self, what: str, key: str, time: Fraction, side: str, most: int) -> int:
-        """A time in whole ticks, rounded to a side, which is kept for the report."""
-        self.exact.append((time, most))
+    def ticks(self, what: str, key: str, time: Fraction, side: str, most: int, more: int = 0) -> int:
+        """A time in whole ticks, rounded to a side, which is kept for the report, and so many more."""
+        self.exact.append((time, most - more))
         number = time / self.tick
         if number.denominator == 1:
-            return int(number)
+            return int(number) + more
         if side == NEITHER:
             raise UnitsRefused(
                 f"{what}: {key} of {text_of(time)} is {float(number):.12g} ticks, and has no safe side: a longer slot"
                 f" helps its task and delays the others. With a tick of {text_of(common(self.tick, time))} it is whole"
             )
-        rounded = math.ceil(number) if side == UP else math.floor(number)
+        rounded = (math.ceil(number) if side == UP else math.floor(number)) + more
         self.told.append(Rounding(what, key, Time(time), side, rounded))
         return rounded
+
+    def more_of(self, item: Entry, key: str, time: Fraction) -> int:
+        """A tick more for a region, and for an execution that is no longer than its region is without that. A job that has
+        begun between two ticks holds up others for all of it, and in ticks it holds them up for a tick less."""
+        if key != "worst":
+            return int(key == "region")
+        region = item.get("region")
+        return int(isinstance(region, int) and region > math.ceil(time / self.tick))
 
     def set_time(self, kind: str, item: Entry, key: str, bit: Fraction | None) -> None:
         """Replaces a time of an entry that has a unit."""
@@ -372,7 +369,13 @@ class Converter:
             return
         what, (side, least, most) = f"{kind} {item.get('name', '?')}", TIMES[kind][key]
         time = self.nanoseconds(what, key, word, bit)
-        number = self.ticks(what, key, time, side, most)
+        if key == "region":
+            # what is as long as any execution does for all that is longer
+            time = min(time, (most - 1) * self.tick)
+        more = self.more_of(item, key, time)
+        number = self.ticks(what, key, time, side, most, more)
+        if more and number > 1:
+            self.longer.append((key, what, number))
         if key == "limit" and number > most:
             self.told.append(Rounding(what, key, Time(time), side, most, is_capped=True))
             number = most
@@ -454,6 +457,11 @@ class Converter:
             found = (it if found is None else common(found, it)) if it else found
         return found if found and all(it / found <= most for it, most in self.exact) else None
 
+    def more_text(self) -> str:
+        """What is to be said of the times that have a tick more; nothing where there are none."""
+        several = ", ".join(f"{key} of {what} is {number}" for key, what, number in self.longer)
+        return f"a tick more, since between ticks all of a region may go by: {several}" if several else ""
+
     def lines(self) -> list[str]:
         """What is to be said of a file."""
         found = [f"A tick is {text_of(self.tick)}."]
@@ -464,6 +472,8 @@ class Converter:
             found.append(f"  with --tick {text_of(whole)} none is" if whole else "")
         if any(it.key == "period" for it in self.told):
             found.append("  a period that is rounded is too short for `chain`, which takes it as the longest, too")
+        if more := self.more_text():
+            found.append(more)
         if self.bare:
             several = ", ".join(f"{key} of {kind} {name}" for key, kind, name in self.bare)
             found.append(f"taken as ticks, since they have no unit: {several}")

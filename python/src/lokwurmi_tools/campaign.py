@@ -3,10 +3,10 @@
     ./lokwurmi campaign hammer FILE --traces N [--seed S] [--call K] [common options]
     ./lokwurmi campaign variants FILE GRID [--front LATENCY,COST] [common options]
 
-hammer splits N generated traces into calls of `lokwurmi hammer`, each with a number of its own from S on, and writes what
-one such call would write of them all. At a job beyond its bound it stops, and writes which number and which trace show
-it. variants takes the system of FILE with each combination of what the TOML file GRID varies, and writes a table of
-comma-separated values, a row a variant. docs/CAMPAIGNS.md tells of both, of GRID, and of several machines.
+hammer splits N generated traces into calls of `lokwurmi hammer`, each with a number of its own from S on. It writes
+what one such call would write of them all. At a job beyond its bound it stops, and writes which number and which trace
+show it. variants takes the system of FILE with each combination of what the TOML file GRID varies, and writes a table
+of comma-separated values, a row a variant. docs/CAMPAIGNS.md tells of both, of GRID, and of several machines.
 
 The common options: --scheduler ADDRESS uses the Dask scheduler there, and its workers; without it there is a worker for
 each processor of this machine, or --workers N. What is done is kept in the folder of --resume FOLDER, and isn't done

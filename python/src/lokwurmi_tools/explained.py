@@ -12,6 +12,8 @@ from lokwurmi_tools.report import reports_in
 
 # how many looks at windows are taken where there may be no end
 MOST = 3_000_000
+# what a job waits for: the kind of a part, of whom it is, and what is under way where that blocks
+Wait = tuple[str, str, str]
 
 
 def explained_by(program: str, file: str) -> "Explained":
@@ -97,7 +99,7 @@ class Explained:
         """What there is to tell of a path: its tasks, and by whom it waits in all."""
         tasks, found = [self.task(it) for it in self.paths[name]], self.found_paths[name]
         own = before = 0
-        waits: dict[tuple[str, str], int] = {}
+        waits: dict[Wait, int] = {}
         for it in tasks:
             job = it.get("job")
             before += job["came"] if job else 0
@@ -112,7 +114,7 @@ class Explained:
             "deadline": found["deadline"],
             "verdict": found["verdict"],
             "own": own,
-            "waits": [{"kind": kind, "of": of, "ticks": ticks} for (kind, of), ticks in several],
+            "waits": [{"kind": kind, "of": of, "under": under, "ticks": ticks} for (kind, of, under), ticks in several],
             "before": before,
             "tasks": tasks,
         }
@@ -194,13 +196,13 @@ class Explained:
         }
 
 
-def waits_of(told: dict) -> list[tuple[tuple[str, str], int]]:
-    """What a job of a task waits for: a kind and a name, and how long. Its own earlier jobs are among it."""
+def waits_of(told: dict) -> list[tuple[Wait, int]]:
+    """What a job of a task waits for, and how long. Its own earlier jobs are among it."""
     if not told.get("parts"):
         return []
     own, *others = told["parts"]
-    earlier = [(("own", own["of"]), own["each"] * (own["count"] - 1))] if own["count"] > 1 else []
-    return earlier + [((it["kind"], it["of"]), it["ticks"]) for it in others]
+    earlier = [(("own", own["of"], ""), own["each"] * (own["count"] - 1))] if own["count"] > 1 else []
+    return earlier + [((it["kind"], it["of"], it["under"]), it["ticks"]) for it in others]
 
 
 def cause_told(cause: dict) -> dict:

@@ -5,12 +5,11 @@ from dataclasses import dataclass, field, replace
 from fractions import Fraction
 from typing import Any
 
+from lokwurmi.limits import MOST_ENTRIES
 from lokwurmi_tools.faults import Fault
 from lokwurmi_tools.networks import BEHIND, ERRORS, LONGEST, QUEUED, named, plain, priorities
 from lokwurmi_tools.taking import Taken, Taker, first_of
 from lokwurmi_tools.times import text_of
-
-MOST_RESOURCES, MOST_SOURCES, MOST_TASKS, MOST_PATHS = 64, 128, 512, 128
 
 Entry = dict[str, Any]
 
@@ -173,10 +172,10 @@ def add_ways(system: System, forwards: dict[str, str]) -> None:
 def counts(system: System) -> dict[str, tuple[int, int]]:
     """How many entries of each kind there are, and how many there may be."""
     return {
-        "resources": (len(system.resources), MOST_RESOURCES),
-        "sources": (len(system.sources), MOST_SOURCES),
-        "tasks": (len(system.tasks), MOST_TASKS),
-        "paths": (len(system.paths), MOST_PATHS),
+        "resources": (len(system.resources), MOST_ENTRIES["resource"]),
+        "sources": (len(system.sources), MOST_ENTRIES["source"]),
+        "tasks": (len(system.tasks), MOST_ENTRIES["task"]),
+        "paths": (len(system.paths), MOST_ENTRIES["path"]),
     }
 
 
@@ -188,12 +187,12 @@ def proposals(system: System, taker: Taker) -> list[str]:
         extra = len(taker.errors)
         for how in ("sender", "all"):
             number = len(groups(taker, how)) + extra
-            fits = "fits" if number <= MOST_SOURCES else "still too many"
+            fits = "fits" if number <= MOST_ENTRIES["source"] else "still too many"
             lines.append(f"  --share {how}: {number} sources, {fits}; all bounds stay as they are")
     if "paths" in beyond:
         lines.append(
-            f"  --paths 'PATTERN': a path for these frames alone, {MOST_PATHS} at most; or --deadline none: the report"
-            " has the bound of each frame without a path"
+            f"  --paths 'PATTERN': a path for these frames alone, {MOST_ENTRIES['path']} at most; or --deadline none:"
+            " the report has the bound of each frame without a path"
         )
     if len(taker.taken) > 1:
         each = ", ".join(f"{name} has {len(it)} frames" for name, it in taker.taken.items())

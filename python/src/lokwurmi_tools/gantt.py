@@ -6,10 +6,10 @@ ends with .svg, .png or .pdf. The tasks of a path have its colour, as lokwurmi g
 task.
 
 With a trace, the one that the schedule is of, triangles show when jobs came (above the lane) and when they were done
-(below it), and TDMA slots stand where the trace's phases put them; without one the phases are 0. With a report of
-`lokwurmi analyse` as well, a job that took longer than its bound, or that isn't done though its bound is past, is
-framed in red, with a red line from its bound on. --from and --until cut a part out. With --tick, as 1us, the times that
-are shown have units; --from and --until stay ticks.
+(below it), a white line stands between two regions of a job, and TDMA slots stand where the trace's phases put them;
+without one the phases are 0. With a report of `lokwurmi analyse` as well, a job that took longer than its bound, or
+that isn't done though its bound is past, is framed in red, with a red line from its bound on. --from and --until cut a
+part out. With --tick, as 1us, the times that are shown have units; --from and --until stay ticks.
 
 --longest marks the job of a task that took longest, or the passage of a path that did: its jobs are framed, with a line
 for each from where it came to its end, and one for the whole below. Of a path only that stretch is drawn, and of a task
@@ -35,7 +35,7 @@ from lokwurmi_tools.packages import need
 from lokwurmi_tools.plotting import Line2D, LineCollection, Patch, PatchCollection, Rectangle, begun, check_name, save
 from lokwurmi_tools.program import add_program, schedule_by
 from lokwurmi_tools.report import read_report
-from lokwurmi_tools.runs import jobs_in, passages_in, read_schedule, read_trace, schedule_in
+from lokwurmi_tools.runs import jobs_in, passages_in, points_in, read_schedule, read_trace, schedule_in
 from lokwurmi_tools.seen import READINGS, Run
 from lokwurmi_tools.times import Scale
 from lokwurmi_tools.words import add_tick, reader_of
@@ -108,6 +108,8 @@ class Chart(NamedTuple):
     start: int
     until: int
     scale: Scale = Scale()
+    # where jobs go on from one region to the next
+    points: dict[str, list[int]] = {}
 
     def lanes(self) -> list[Values]:
         """The resources that have tasks."""
@@ -193,6 +195,16 @@ def draw_bars(axes: Any, chart: Chart, colour: dict[str, str], unit: float) -> N
                     zorder=4,
                     clip_on=True,
                 )
+
+
+def draw_points(axes: Any, chart: Chart) -> None:
+    """A line between two regions of a job, where there aren't too many."""
+    place = chart.place()
+    for name, times in chart.points.items():
+        y = place[name]
+        lines = [[(it, y - BAR / 2), (it, y + BAR / 2)] for it in times if chart.start < it < chart.until]
+        if len(lines) <= MOST_SLOTS:
+            axes.add_collection(LineCollection(lines, colors=PAPER, linewidths=1.1, zorder=3))
 
 
 def draw_jobs(axes: Any, chart: Chart, colour: dict[str, str]) -> None:
@@ -418,7 +430,8 @@ def chart_of(
         for it in overdue_in(jobs_of(jobs, name, bounds or {}, last))
         if it.past < until and it.job.last > start
     ]
-    return Chart(system, rows, jobs, late, trace[2] if trace else {}, start, until, scale)
+    points = points_in(system, schedule, trace) if trace else {}
+    return Chart(system, rows, jobs, late, trace[2] if trace else {}, start, until, scale, points)
 
 
 def drawn(
@@ -435,6 +448,7 @@ def drawn(
     figure, axes = begun(figsize=(width, 0.62 * (max(1, len(chart.lanes())) + below) + 1.25))
     draw_slots(axes, chart, colour)
     draw_bars(axes, chart, colour, unit)
+    draw_points(axes, chart)
     draw_jobs(axes, chart, colour)
     draw_late(axes, chart)
     if longest:

@@ -127,7 +127,8 @@ class Drawing:
         name, show = task["name"], self.scale.text
         best, worst = execution(task, resource)
         turn = f"priority {task['priority']}" if "priority" in task else f"slot {show(task['slot'])}"
-        text, look = f"{name}\n{show(best)} to {show(worst)}, {turn}", ""
+        region = f", region {show(task['region'])}" if task.get("region", 1) > 1 else ""
+        text, look = f"{name}\n{show(best)} to {show(worst)}, {turn}{region}", ""
         if self.streams[name] > 1:
             text += f"\nstreams {self.streams[name]}"
         if len(activators(task)) > 1:

@@ -7,6 +7,7 @@ choice: there may be others that help more, and several together may do what non
 from typing import Any, NamedTuple
 
 from lokwurmi_tools.explained import Explained
+from lokwurmi_tools.kinds import WITH_PRIORITIES
 from lokwurmi_tools.report import reports_in
 from lokwurmi_tools.system import sources_of
 from lokwurmi_tools.times import TICKS, Scale
@@ -72,20 +73,29 @@ class Changes:
     def of_task(self, name: str) -> None:
         """The changes for one task of the path: its own numbers, and those of the tasks that it waits for."""
         parts = self.parts
-        before, blocked = [it.name for it in parts.before(name)], parts.blocking(name)
+        before = [it.name for it in parts.before(name)]
         takers = [it for kind, it, _ in parts.cycle(name) if kind == "slot"]
-        if parts.kind(name) in ("preemptive", "can") and before:
+        if parts.kind(name) in WITH_PRIORITIES and before:
             self.swap(name, before[-1])
         if "slot" in parts.tasks[name]:
             self.slot(name, name, longer=True)
-        self.worst(name, name)
-        for it in [*before, *([blocked] if blocked else [])]:
+        for it in [name, *before, *self.blocker(name)]:
             self.worst(name, it)
         for it in before:
             self.periods(name, it)
         for it in takers if parts.kind(name) == "tdma" else before:
             if "slot" in parts.tasks[it]:
                 self.slot(name, it, longer=False)
+
+    def blocker(self, name: str) -> list[str]:
+        """The task of lower priority that holds one up, where less of an execution makes that less. No edit of a script
+        makes a region shorter."""
+        blocked = self.parts.blocking(name)
+        if blocked is None:
+            return []
+        worst = self.parts.executions[blocked.of][1]
+        is_whole = blocked.under == "frame" or blocked.each >= worst - tenth(worst)
+        return [blocked.of] if is_whole else []
 
     def put(self, kind: str, of: str, for_task: str, now: Any, then: Any, edits: list[str], back: list[str]) -> None:
         key = (kind, of, for_task if kind == "priority" else then)

@@ -17,12 +17,11 @@ from fractions import Fraction
 
 from lokwurmi import frames
 from lokwurmi.frames import Bits
+from lokwurmi.limits import MOST_EXECUTION
 from lokwurmi.units import bit_of
 from lokwurmi_tools.faults import Fault
 from lokwurmi_tools.times import rate_of, text_of, time_of, word_of
 from lokwurmi_tools.words import reader_of
-
-MOST_EXECUTION = 1_000_000
 
 
 def ticks(least: Fraction, greatest: Fraction, tick: Fraction) -> tuple[int, int]:

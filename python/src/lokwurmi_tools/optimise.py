@@ -23,9 +23,11 @@ from collections.abc import Callable, Iterator
 from typing import Any
 
 from lokwurmi.frames import execution
+from lokwurmi.limits import MOST_ENTRIES, MOST_TICKS
 from lokwurmi_tools.accepted import read_system
 from lokwurmi_tools.explained import Explained
 from lokwurmi_tools.faults import Fault, OwnFault
+from lokwurmi_tools.kinds import WITH_PRIORITIES
 from lokwurmi_tools.program import add_program, often, written_by
 from lokwurmi_tools.progress import Progress
 from lokwurmi_tools.report import reports_in
@@ -44,7 +46,7 @@ docs/PRIORITIES.md tells how often it finds an order, and on which systems.
 # how much parts of deadlines are moved in a round, one after the other, and how many exchanges are tried at a time
 FACTORS, MOST_EXCHANGES, OUT_OF_THE_WAY = (1.5, 3.0, 1.2), 60, 536_870_911
 # how many sources and paths a file may have, the greatest time in it, and how many looks at windows a round may take
-MOST_ENTRIES, MOST_TIME, MOST_LOOKS = 128, 1_000_000_000, 2_000_000
+MOST_LOOKS = 2_000_000
 
 # the tasks of each resource, the most urgent first
 Order = dict[str, list[str]]
@@ -103,7 +105,7 @@ class Search(Sharing):
         self.periods = {it["name"]: it["period"] for it in self.system.get("source", [])}
         self.paths = {it["name"]: it for it in self.system.get("path", [])}
         self.executions = {name: execution(it, self.resources[it["on"]]) for name, it in self.tasks.items()}
-        ranked = [name for name, it in self.resources.items() if it["kind"] in ("preemptive", "can")]
+        ranked = [name for name, it in self.resources.items() if it["kind"] in WITH_PRIORITIES]
         self.given = {name: self.ranked(name) for name in ranked}
         self.numbers = {on: [self.tasks[it]["priority"] for it in order] for on, order in self.given.items()}
         # nothing is known before the first look
@@ -179,7 +181,7 @@ class Search(Sharing):
         steady = inputs_of(self.system, {name: least for name, (least, _) in self.executions.items()})
         for on, names in order.items():
             one = self.alone(on, names, parts, {name: streams[name] or steady[name] for name in names})
-            if len(one["source"]) > MOST_ENTRIES or len(one["path"]) > MOST_ENTRIES:
+            if any(len(one[part]) > MOST_ENTRIES[part] for part in ("source", "path")):
                 continue
             file = write(os.path.join(self.room, "one.toml"), toml_of(one))
             found = re.findall(r"^priority (\S+) \d+$", written_by(self.program, "assign", file, on), re.M)
@@ -196,15 +198,16 @@ class Search(Sharing):
         for name in reversed(names):
             after = [f"s.{len(sources) + k}" for k in range(len(streams[name]))]
             for source, (period, jitter, distance) in zip(after, streams[name]):
-                model = {"period": period, "jitter": min(jitter, MOST_TIME), "distance": min(distance, period)}
+                model = {"period": period, "jitter": min(jitter, MOST_TICKS), "distance": min(distance, period)}
                 sources.append({"name": source} | model)
             best, worst = self.executions[name]
             numbers = {"best": best, "worst": worst, "priority": len(tasks)}
-            tasks.append({"name": name, "on": on, "after": after} | numbers)
+            region = {key: it for key, it in self.tasks[name].items() if key == "region"}
+            tasks.append({"name": name, "on": on, "after": after} | numbers | region)
             if name in parts:
-                deadline = max(1, min(MOST_TIME, int(parts[name])))
+                deadline = max(1, min(MOST_TICKS, int(parts[name])))
                 paths.append({"name": f"p.{len(paths)}", "tasks": [name], "deadline": deadline})
-        return {"format": 2, "resource": [self.resources[on]], "source": sources, "task": tasks, "path": paths}
+        return {"format": 3, "resource": [self.resources[on]], "source": sources, "task": tasks, "path": paths}
 
     def rounds(self, count: int) -> None:
         """Parts of deadlines that move to where time is missing."""

@@ -25,12 +25,13 @@ def percent(share: Fraction | float) -> str:
 
 def rank(task: Values, resource: Values, scale: Scale) -> Values:
     """What tells who goes first, as a word, a number and how that is told: an identifier of a frame that takes more
-    than 11 bits is told in hexadecimal, as other tools do."""
+    than 11 bits is told in hexadecimal, as other tools do. A region of more than a tick stands beside it."""
     if "priority" not in task:
         return {"by": "slot", "turn": task["slot"], "told": scale.text(task["slot"])}
-    number = task["priority"]
+    number, region = task["priority"], task.get("region", 1)
     is_long = resource["kind"] == "can" and number > 0x7FF
-    return {"by": "priority", "turn": number, "told": f"0x{number:X}" if is_long else str(number)}
+    found = {"by": "priority", "turn": number, "told": f"0x{number:X}" if is_long else str(number)}
+    return found | ({"region": scale.text(region)} if region > 1 else {})
 
 
 def label(name: str, bound: str, share: Fraction) -> str:

@@ -13,7 +13,8 @@ HATCHES = {"blocking": "////", "slot": "....", "gap": "....", "turns": "\\\\\\\\
 LEGEND = {
     "own": ("own executions", {"facecolor": PALE, "edgecolor": INK}),
     "rival": ("jobs of others", {"facecolor": "#9aa5b1"}),
-    "blocking": ("a lower frame, under way", {"facecolor": PALE, "hatch": HATCHES["blocking"]}),
+    "frame": ("a lower frame, under way", {"facecolor": PALE, "hatch": HATCHES["blocking"]}),
+    "region": ("the rest of a lower region", {"facecolor": PALE, "hatch": HATCHES["blocking"]}),
     "turns": ("turns of others", {"facecolor": PALE, "hatch": HATCHES["turns"]}),
     "slot": ("slots of others", {"facecolor": GREY, "hatch": HATCHES["slot"]}),
     "gap": ("gap of the cycle", {"facecolor": GREY, "hatch": HATCHES["gap"]}),
@@ -169,7 +170,7 @@ class Bars:
         axes.text(start + it["bound"], place, f" {it['bound']}", va="center", fontsize=7)
 
     def legend(self, axes: Any, tasks: list[dict]) -> None:
-        kinds = {part["kind"] for it in tasks for part in it["parts"]}
+        kinds = {part["under"] or part["kind"] for it in tasks for part in it["parts"]}
         several = [(Patch(**look), text) for kind, (text, look) in LEGEND.items() if kind in kinds]
         patches, texts = zip(*several)
         where = {"loc": "lower right", "bbox_to_anchor": (1.01, 0.99), "borderaxespad": 0.2}

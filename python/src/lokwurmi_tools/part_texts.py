@@ -6,16 +6,18 @@ from lokwurmi_tools.times import TICKS, Scale
 
 # how wide a bar is in letters, and how many loads are listed
 BAR, FEW = 48, 12
-# what a part is, where it isn't jobs
+# what a part is, where it isn't jobs; of what blocks by what is under way
 NOTES = {
-    "blocking": "a frame of lower priority, under way",
+    "frame": "a frame of lower priority, under way",
+    "region": "the rest of a region of lower priority",
     "turns": "its turns, with more to do",
     "slot": "its slot in each cycle",
     "gap": "the gap of each cycle",
 }
 WAITS = {
     "own": "earlier jobs of ",
-    "blocking": "lower frame ",
+    "frame": "lower frame ",
+    "region": "region of ",
     "gap": "gap of ",
     "turns": "turns of ",
     "slot": "slot of ",
@@ -62,11 +64,16 @@ def stream_text(stream: dict, scale: Scale = TICKS) -> str:
     return " → ".join([stream["source"], *stream["way"]]) + ": " + ", ".join(words)
 
 
+def text_for(part: dict, texts: dict[str, str]) -> str:
+    """The text for the kind of a part, or for what is under way."""
+    return texts.get(part["under"] or part["kind"], "")
+
+
 def note_of(part: dict) -> str:
     """What is said beside a part."""
     if part["kind"] == "rival":
         return f"{part['burst']} of them by its jitter" if part["burst"] else ""
-    return NOTES.get(part["kind"], "")
+    return text_for(part, NOTES)
 
 
 def which_of(job: dict, scale: Scale = TICKS) -> str:
@@ -202,7 +209,7 @@ def waits_text(task: dict, scale: Scale = TICKS) -> str:
     own, *others = task["parts"]
     earlier = (own["count"] - 1) * worst
     several = [f"earlier jobs {show(earlier)}"] if earlier else []
-    several += [f"{WAITS.get(part['kind'], '')}{part['of']} {show(part['ticks'])}" for part in others]
+    several += [f"{text_for(part, WAITS)}{part['of']} {show(part['ticks'])}" for part in others]
     came = f", less {show(job['came'])}" if job["came"] else ""
     return f"own {show(worst)}" + (f", waits for {', '.join(several)}{came}" if several else "")
 
@@ -211,7 +218,7 @@ def lines_of_waits(told: dict, scale: Scale = TICKS) -> list[str]:
     """By whom a path waits in all."""
     waits = sum(part["ticks"] for part in told["waits"]) - told["before"]
     lines = [f"  in all: own work {scale.text(told['own'])}, waiting {scale.text(waits)}"]
-    several = [f"{WAITS.get(part['kind'], '')}{part['of']} {scale.text(part['ticks'])}" for part in told["waits"]]
+    several = [f"{text_for(part, WAITS)}{part['of']} {scale.text(part['ticks'])}" for part in told["waits"]]
     if several:
         before = f", less {scale.text(told['before'])} before the jobs came" if told["before"] else ""
         lines.append(f"  waits for {', '.join(several)}{before}")

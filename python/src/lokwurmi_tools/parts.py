@@ -10,7 +10,7 @@ from typing import NamedTuple
 
 from lokwurmi.frames import execution
 from lokwurmi_tools.sharing import Sharing
-from lokwurmi_tools.system import inputs_of, least_time, most_events, ways_to
+from lokwurmi_tools.system import inputs_of, least_time, longest_region, most_events, ways_to
 
 # a period, a jitter and a distance
 Stream = tuple[int, int, int]
@@ -26,14 +26,16 @@ class Endless(Exception):
 
 class Part(NamedTuple):
     """What fills a part of the window: `count` times `each` ticks. The kind is `own`, `rival` (jobs of a task that goes
-    before), `turns` (the turns of another, which has more to do), `blocking` (a frame that is under way), `slot`
-    (another's slot in a cycle) or `gap`. Of the jobs of a rival `burst` come only because of its jitter."""
+    before), `turns` (the turns of another, which has more to do), `blocking` (a job of lower priority that isn't
+    interrupted: by `under` a `frame` that is under way, or a `region` that has begun), `slot` (another's slot in a
+    cycle) or `gap`. Of the jobs of a rival `burst` come only because of its jitter."""
 
     kind: str
     of: str
     count: int  # type: ignore[assignment]
     each: int
     burst: int = 0
+    under: str = ""
 
     @property
     def ticks(self) -> int:
@@ -126,12 +128,17 @@ class Parts(Sharing):
         streams = None if bound is None else self.inputs[name]
         return Rival(name, self.executions[name][1], streams, bound or 0, self.tasks[name]["slot"])
 
-    def blocking(self, name: str) -> str | None:
-        """On a bus the longest frame of lower priority, that may be under way."""
-        if self.kind(name) != "can":
-            return None
-        lower = [it for it in self.beside(name) if self.tasks[it]["priority"] > self.tasks[name]["priority"]]
-        return max(lower, key=lambda it: self.executions[it][1], default=None)
+    def blocking(self, name: str) -> Part | None:
+        """The task of lower priority that may hold one up for longest: on a bus the longest frame, that may be under
+        way, on a preemptive processor the longest region, of which a tick has gone by."""
+        is_bus = self.kind(name) == "can"
+        found: Part | None = None
+        for it in self.lower(name):
+            worst = self.executions[it][1]
+            ticks = worst if is_bus else longest_region(self.tasks[it], worst) - 1
+            if ticks > (found.each if found else 0):
+                found = Part("blocking", it, 1, ticks, under="frame" if is_bus else "region")
+        return found
 
     def cycle(self, name: str) -> list[tuple[str, str, int]]:
         """On TDMA the slots of the others and the gap: what a cycle takes away."""
@@ -149,7 +156,7 @@ class Parts(Sharing):
     def fixed(self, name: str, jobs: int) -> list[Part]:
         """What goes before so many jobs of a task in a window of any length, but for these."""
         blocked, rounds = self.blocking(name), self.rounds(name, jobs)
-        found = [Part("blocking", blocked, 1, self.executions[blocked][1])] if blocked else []
+        found = [blocked] if blocked else []
         return found + [Part(kind, it, rounds, ticks) for kind, it, ticks in self.cycle(name)]
 
     def shared(self, rival: Rival, rounds: int, window: int) -> Part:

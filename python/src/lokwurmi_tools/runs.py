@@ -37,6 +37,21 @@ def parts_in(segments: list[Segment], executions: list[int], greatest: int) -> l
     return [(parts, left == 0 or place + 1 < len(jobs)) for place, parts in enumerate(jobs)]
 
 
+def points_in(system: Values, schedule: Schedule, trace: Trace) -> dict[str, list[int]]:
+    """When each task was between two regions of a job of it that went on: there it might have been preempted."""
+    _, executions, _ = trace
+    tasks = {it["name"]: it for it in system.get("task", []) if it.get("region", 1) > 1}
+    segments = segments_of([row for row in schedule if row[0] in tasks], tasks)
+    found: dict[str, list[int]] = {name: [] for name in tasks}
+    for name, task in tasks.items():
+        for parts, _ in parts_in(segments[name], executions.get(name, []), task["worst"]):
+            had, region = 0, task["region"]
+            for start, end in parts:
+                found[name] += range(start + region - had % region, end, region)
+                had += end - start
+    return found
+
+
 def ends_in(segments: list[Segment], executions: list[int], greatest: int) -> list[int]:
     """When the jobs of a task were done, by its segments."""
     return [parts[-1][1] for parts, is_done in parts_in(segments, executions, greatest) if is_done]

@@ -2,21 +2,22 @@
 `overload`.
 
 It moves the greatest execution of each task (longer), the period (shorter) and the jitter (longer) of each source, the
-speed of each resource (all greatest executions of its tasks longer by one share) and each deadline (shorter), and shows
-the tightest first. What is first missed, or without a bound, beyond that stands beside it. Each is moved alone: two
-that both move as far as is told may miss a deadline together. With --goal a path is held against another deadline than
-that of the file, or against one where the file has none. With --deadlines paths with a deadline count alone, as for
-`lokwurmi slack`, and a bound that is `overload` only where such a path goes through its task.
+speed of each resource (all greatest executions of its tasks longer by one share), the region of each task that has one
+(longer, up to its greatest execution) and each deadline (shorter), and shows the tightest first. With --only region
+tasks without one have one of a tick. What is first missed, or without a bound, beyond that stands beside it. Each is
+moved alone: two that both move as far as is told may miss a deadline together. With --goal a path is held against
+another deadline than that of the file, or against one where the file has none. With --deadlines paths with a deadline
+count alone, as for `lokwurmi slack`, and a bound that is `overload` only where such a path goes through its task.
 
 Both ends of each answer are reports of the proved program: with the number at the value that is told all holds, and one
 step beyond it doesn't. In between the tool halves the range. That nothing holds further on is proved of each single
-step for executions, periods, jitters and speeds, since no bound falls where more is asked for; that the halving follows
-from collections.abc import Callable
-from it is argued in docs/SENSITIVITY.md, and not proved. Of executions under --deadlines `lokwurmi slack` is proved to
-give the very number.
+step for executions, regions, periods, jitters and speeds, since no bound falls where more is asked for; that the
+halving follows from it is argued in docs/SENSITIVITY.md, and not proved. Of executions under --deadlines `lokwurmi
+slack` is proved to give the very number.
 
-Edits of many numbers go in one script of `lokwurmi session`, so that there are few calls, --jobs of them at a time. The
-status is 0, and 3 where a deadline is missed already, or a bound `overload`.
+Edits of many numbers go in one script of `lokwurmi session`, so that there are few calls, --jobs of them at a time; for
+a region, which no edit changes, a file is analysed each time. The status is 0, and 3 where a deadline is missed
+already, or a bound `overload`.
 """
 import argparse
 import concurrent.futures
@@ -24,12 +25,14 @@ import json
 import os
 import re
 import sys
+import tempfile
 import threading
 import time
 from collections.abc import Callable
 from typing import Any, NamedTuple
 
 from lokwurmi.frames import execution
+from lokwurmi.limits import MOST_EXECUTION, MOST_TICKS
 from lokwurmi_tools.accepted import read_system
 from lokwurmi_tools.faults import Fault
 from lokwurmi_tools.packages import need
@@ -38,7 +41,9 @@ from lokwurmi_tools.plotting import Patch, bare, begun, check_name, save
 from lokwurmi_tools.program import add_program, often, written_by
 from lokwurmi_tools.progress import Progress
 from lokwurmi_tools.report import reports_in
+from lokwurmi_tools.sharing import Sharing
 from lokwurmi_tools.times import TICKS, Scale
+from lokwurmi_tools.toml_text import toml_of
 from lokwurmi_tools.trials import Trial, reports_after
 from lokwurmi_tools.words import reader_of
 
@@ -57,10 +62,10 @@ LAWS = {
     "period": "IsStreamNoDenser of cpa_events, IsRaising and RaisingLiftsLeast of cpa_local",
     "jitter": "IsStreamNoDenser of cpa_events, IsRaising and RaisingLiftsLeast of cpa_local",
     "speed": "IsRaising and RaisingLiftsLeast of cpa_local; that more thousandths are no fewer ticks is argued",
+    "region": "IsRaising and RaisingLiftsLeast of cpa_local",
     "deadline": "no search: no bound depends on a deadline",
 }
 KINDS = tuple(LAWS)
-MOST_EXECUTION, MOST_JITTER = 1_000_000, 1_000_000_000
 # how long a script may get, which takes 10,000 lines, and how many reports are asked for at a time
 MOST_LINES, MOST_PROBES = 9_000, 400
 # the speed of a resource moves by thousandths
@@ -70,11 +75,19 @@ WORDS = {
     "period": "period of",
     "jitter": "jitter of",
     "speed": "executions on",
+    "region": "region of",
     "deadline": "deadline of",
 }
 # the tightest that are drawn
 MOST_DRAWN = 40
-HUES = {"execution": "#1b6ca8", "period": "#2e7d4f", "jitter": "#a3862a", "speed": "#7b4fa3", "deadline": "#b5541c"}
+HUES = {
+    "execution": "#1b6ca8",
+    "period": "#2e7d4f",
+    "jitter": "#a3862a",
+    "speed": "#7b4fa3",
+    "region": "#2a8c8c",
+    "deadline": "#b5541c",
+}
 
 
 class Number(NamedTuple):
@@ -152,14 +165,30 @@ class Question:
         for name, it in self.sources.items():
             period, jitter = it["period"], it.get("jitter", 0)
             found.append(Number("period", name, period, period - 1, period // 4))
-            most = MOST_JITTER - jitter
+            most = MOST_TICKS - jitter
             found.append(Number("jitter", name, jitter, most, min(most, period // 2)))
         for name in self.resources:
             worst = max((self.executions[it][1] for it in self.tasks if self.tasks[it]["on"] == name), default=0)
             if worst:
                 most = (MOST_EXECUTION * PARTS) // worst - PARTS
                 found.append(Number("speed", name, PARTS, most, min(most, PARTS // 4)))
+        # a region of a tick is none: it moves where regions are asked for
+        least = 2 if kinds == KINDS else 1
+        found += [self.number_of_region(name) for name in self.tasks if self.has_region(name, least)]
         return [it for it in found if it.kind in kinds]
+
+    def has_region(self, name: str, least: int) -> bool:
+        """Whether a task has a region of so many ticks at least, which may be longer and then hold up another."""
+        sharing, region = Sharing(self.system), self.tasks[name].get("region", 1)
+        holds_up = sharing.kind(name) == "preemptive" and bool(sharing.rivals(name))
+        return holds_up and least <= region < self.executions[name][1]
+
+    def number_of_region(self, name: str) -> Number:
+        """A region as long as the greatest execution is never preempted, and a longer one says no more."""
+        region = self.tasks[name].get("region", 1)
+        most = self.executions[name][1] - region
+        rooms = [self.room(it) for it in Sharing(self.system).rivals(name)]
+        return Number("region", name, region, most, min([most, *(it for it in rooms if it is not None)]))
 
     def number_of_task(self, name: str) -> Number:
         worst, room = self.executions[name][1], self.room(name)
@@ -167,7 +196,9 @@ class Question:
         return Number("execution", name, worst, most, min(most, worst if room is None else room))
 
     def edits(self, number: Number, steps: int) -> list[str]:
-        """The lines of a script that move a number by so many steps."""
+        """The lines of a script that move a number by so many steps; none for a region, which no edit moves."""
+        if number.kind == "region":
+            return []
         if number.kind == "execution":
             return [f"exec {number.name} {self.executions[number.name][0]} {number.value + steps}"]
         if number.kind == "speed":
@@ -188,10 +219,22 @@ class Question:
 
     def asked(self, probes: list[tuple[Number, int]]) -> list[Found]:
         """What the program says of the system with each of some moves alone."""
-        trials = [Trial(self.edits(number, steps), self.edits(number, 0)) for number, steps in probes]
-        reports = reports_after(self.program, self.file, trials, self.text)
-        self.calls, self.probes = self.calls + 1, self.probes + len(probes)
-        return [Found(it, self.goals, self.deadlines) for it in reports]
+        by_edits = [(number, steps) for number, steps in probes if number.kind != "region"]
+        trials = [Trial(self.edits(number, steps), self.edits(number, 0)) for number, steps in by_edits]
+        reports = iter(reports_after(self.program, self.file, trials, self.text) if trials else [])
+        self.calls += bool(trials) + len(probes) - len(trials)
+        self.probes += len(probes)
+        texts = [self.with_region(*it) if it[0].kind == "region" else next(reports) for it in probes]
+        return [Found(it, self.goals, self.deadlines) for it in texts]
+
+    def with_region(self, number: Number, steps: int) -> str:
+        """The report of a file in which a region is longer."""
+        longer = {name: it | {"region": number.value + steps} for name, it in self.tasks.items() if name == number.name}
+        system = self.system | {"format": 3, "task": [longer.get(name, it) for name, it in self.tasks.items()]}
+        with tempfile.NamedTemporaryFile("w", suffix=".toml", encoding="utf-8") as file:
+            file.write(toml_of(system))
+            file.flush()
+            return written_by(self.program, "analyse", file.name)
 
     def lines_of(self, number: Number) -> int:
         return 1 + 2 * len(self.edits(number, 0))
@@ -293,8 +336,12 @@ def answers_of(question: Question, kinds: tuple[str, ...], jobs: int) -> list[tu
 
 def row_of(question: Question, number: Number, answer: Answer) -> dict:
     """A number as it is told: its value, the last one that holds, and by what share it moves, a jitter held against the
-    period of its source."""
-    whole = question.sources[number.name]["period"] if number.kind == "jitter" else number.value
+    period of its source, and a region against the greatest execution of its task."""
+    whole = number.value
+    if number.kind == "jitter":
+        whole = question.sources[number.name]["period"]
+    elif number.kind == "region":
+        whole = question.executions[number.name][1]
     return {
         "kind": number.kind,
         "name": number.name,
@@ -342,7 +389,7 @@ def share_text(row: dict) -> str:
 def then_of(row: dict) -> str:
     """What comes first beyond the last value that holds."""
     if row["limit"]:
-        return "nothing: as far as the number goes"
+        return "nothing: " + ("it is never preempted" if row["kind"] == "region" else "as far as the number goes")
     more = len(row["first"]) - 2
     return ", ".join(row["first"][:2]) + (f" and {more} more" if more > 0 else "")
 
@@ -378,7 +425,10 @@ def draw(rows: list[dict], picture: str, title: str) -> None:
 def label(axes: Any, drawn: list[dict], title: str) -> None:
     """What the bars are."""
     axes.tick_params(axis="x", labelsize=8)
-    axes.set_xlabel("by how many % it may move alone; a jitter in % of the period of its source", fontsize=8)
+    text = "by how many % it may move alone; a jitter in % of the period of its source"
+    if any(it["kind"] == "region" for it in drawn):
+        text += ", a region in % of the execution"
+    axes.set_xlabel(text, fontsize=8)
     bare(axes)
     axes.set_title(title, fontsize=9, loc="left")
     kinds = [it for it in KINDS if any(row["kind"] == it for row in drawn)]

@@ -1,5 +1,5 @@
 """Which tasks of a system share a resource, for the tools beside it."""
-from lokwurmi_tools.kinds import Values
+from lokwurmi_tools.kinds import WITH_PRIORITIES, Values
 
 # the greatest length of a window where the file names none
 LIMIT = 1_000_000
@@ -34,3 +34,9 @@ class Sharing:
         if kind == "round-robin":
             return self.beside(name)
         return [it for it in self.beside(name) if self.tasks[it]["priority"] < self.tasks[name]["priority"]]
+
+    def lower(self, name: str) -> list[str]:
+        """The tasks that this one may go before, where there are priorities."""
+        if self.kind(name) not in WITH_PRIORITIES:
+            return []
+        return [it for it in self.beside(name) if self.tasks[it]["priority"] > self.tasks[name]["priority"]]

@@ -10,6 +10,11 @@ def activators(task: Values) -> list[str]:
     return [task["after"]] if isinstance(task["after"], str) else task["after"]
 
 
+def longest_region(task: Values, worst: int) -> int:
+    """For how long a job is not preempted at most, where its greatest execution is `worst`."""
+    return min(task.get("region", 1), worst)
+
+
 def sources_of(system: Values, name: str) -> list[str]:
     """The source of each stream that starts a task, in the order of its streams. There is no ring in a system."""
     tasks = {it["name"]: it for it in system.get("task", [])}

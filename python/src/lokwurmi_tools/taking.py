@@ -8,13 +8,13 @@ from fractions import Fraction
 from typing import Any, Optional
 
 from lokwurmi.frames import SIZES, Bits, classical, error, flexible, padded
+from lokwurmi.limits import MOST_BIT, MOST_EXECUTION, MOST_TICKS
 from lokwurmi.units import bit_of
 from lokwurmi_tools.faults import Fault
 from lokwurmi_tools.lengths import ticks
 from lokwurmi_tools.networks import ERRORS, QUEUED, Bus, Frame
 from lokwurmi_tools.times import UNITS, common, text_of
 
-MOST_TICKS, MOST_EXECUTION, MOST_BIT, MOST_LIMIT = 1_000_000_000, 1_000_000, 1_000, 10_000_000
 # how many words of canmatrix there are in a report
 MOST_SAID = 3
 

@@ -5,8 +5,8 @@ from collections.abc import Iterable, Mapping
 
 from lokwurmi.frames import execution
 from lokwurmi_tools.accepted import read_system
-from lokwurmi_tools.kinds import Bounds, Times
-from lokwurmi_tools.system import activators
+from lokwurmi_tools.kinds import WITH_PRIORITIES, Bounds, Times
+from lokwurmi_tools.system import activators, longest_region
 
 LATEST = 10_000_000
 MOST_ROWS = 20_000
@@ -46,16 +46,24 @@ class System:
         """The TDMA resources that have tasks."""
         return [name for name, it in self.resources.items() if it["kind"] == "tdma" and self.on(name)]
 
+    def stretch(self, name: str) -> int:
+        """For how long a job that has begun isn't interrupted."""
+        task = self.tasks[name]
+        is_bus = self.resources[task["on"]]["kind"] == "can"
+        return task["worst"] if is_bus else longest_region(task, task["worst"])
+
     def rivals(self, name: str) -> tuple[list[str], list[str]]:
-        """The tasks that may delay this one, and of them those of lower priority on a bus."""
+        """The tasks that may delay this one: those that go before it, and those of lower priority that hold it up, by a
+        frame that is under way or by a region."""
         task = self.tasks[name]
         others = [other for other in self.on(task["on"]) if other != name]
         kind = self.resources[task["on"]]["kind"]
-        if kind in ("preemptive", "can"):
+        if kind in WITH_PRIORITIES:
             order = list(self.tasks)
             rank = {one: (self.tasks[one]["priority"], order.index(one)) for one in [*others, name]}
             lower = [other for other in others if rank[other] > rank[name]]
-            return [other for other in others if other not in lower], lower if kind == "can" else []
+            higher = [other for other in others if other not in lower]
+            return higher, [other for other in lower if self.stretch(other) > 1]
         return (others if kind == "round-robin" else []), []
 
 
@@ -138,9 +146,9 @@ def travel_of(system: System, bounds: Bounds, way: list[str], which: str) -> int
 
 def known_plans(system: System, target: str, bounds: Bounds) -> list[Plan]:
     """Plans that are known to be bad for a task: its rivals come with it, jitter is used up first, all take their
-    greatest; a frame of lower priority has just begun; the slot has just ended. Where tasks come along chains, these
-    are started before, so that they arrive then, with first jobs that take long and later ones that don't, or with all
-    that take as long."""
+    greatest; a frame of lower priority has just begun, or a region; the slot has just ended. Where tasks come along
+    chains, these are started before, so that they arrive then, with first jobs that take long and later ones that
+    don't, or with all that take as long."""
     task = system.tasks[target]
     kind = system.resources[task["on"]]["kind"]
     higher, lower = system.rivals(target)
@@ -170,9 +178,9 @@ def arriving(system: System, target: str, bounds: Bounds, higher: list[str]) -> 
 
 
 def blocked(system: System, plan: Plan, bounds: Bounds, bus: str, lower: list[str]) -> list[Plan]:
-    """The plan with a frame of lower priority that has just begun."""
+    """The plan with a frame of lower priority that has just begun, or a region."""
     found = []
-    for blocker in sorted(lower, key=lambda one: -system.tasks[one]["worst"])[:3]:
+    for blocker in sorted(lower, key=lambda one: -system.stretch(one))[:3]:
         for ahead in {1, system.resources[bus].get("bit", 1)}:
             more = plan.copy()
             for source, way in system.streams(blocker):
@@ -198,8 +206,8 @@ def path_plan(
     system: System, links: list[str], bounds: Bounds, busy: set[str], which: str, late: bool
 ) -> tuple[dict[str, int], set[str]]:
     """A plan in which the passage of a path finds those tasks of it that are busy at their worst: their rivals come
-    with it, and a frame of lower priority a tick before; or the rivals come late, just before that frame has ended.
-    What is already bound to come elsewhere stays there."""
+    with it, and a frame or a region of lower priority a tick before; or the rivals come late, just before that has
+    ended. What is already bound to come elsewhere stays there."""
     source, way = system.streams(links[0])[0]
     start, at, ways = {source: -travel_of(system, bounds, way, "worst")}, 0, set(way)
     for name in links:
@@ -210,9 +218,9 @@ def path_plan(
         higher, lower = system.rivals(name)
         lower = sorted(
             (one for one in lower if all(source not in start for source, _ in system.streams(one))),
-            key=lambda one: -system.tasks[one]["worst"],
+            key=lambda one: -system.stretch(one),
         )
-        later = max(0, system.tasks[lower[0]]["worst"] - 2) if late and lower else 0
+        later = max(0, system.stretch(lower[0]) - 2) if late and lower else 0
         for rival, ahead in [(one, 1) for one in lower[:1]] + [(one, -later) for one in higher]:
             for source, way in system.streams(rival):
                 start.setdefault(source, at - ahead - travel_of(system, bounds, way, which))

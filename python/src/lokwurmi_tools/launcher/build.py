@@ -267,7 +267,7 @@ def build(crate: str, words: list[str], before: Callable[[], None] = lambda: Non
         call = shlex.join(["lokwurmi", "--unproved", *words])
         hint = f". For a first look without proofs, in a minute or so: {call}"
         build_for(graph, why, ["run", "--", *PROGRAMS[crate]], program(crate), hint)
-    graph.keep_folders()
+    graph.keep_list()
 
 
 def build_noted(crate: str) -> None:
@@ -278,7 +278,7 @@ def build_noted(crate: str) -> None:
         why = f"{program(crate).relative_to(TOP)} wasn't built by this script, which builds it anew"
     if why:
         build_for(graph, why, ["run", "--", *PROGRAMS[crate]], program(crate))
-    graph.keep_folders()
+    graph.keep_list()
 
 
 def build_for(graph: Graph, why: str, last: list[str], product: Path, hint: str = "") -> None:

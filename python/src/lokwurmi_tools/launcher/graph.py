@@ -2,7 +2,6 @@
 from __future__ import annotations
 
 import os
-from collections.abc import Iterator
 from pathlib import Path
 
 from lokwurmi_tools.launcher.places import TOP, built_from, program
@@ -63,10 +62,13 @@ class Graph:
         """What a build reads, as paths below the repository."""
         return ["crates.txt", *(f"crates/{it}/{part}" for it in self.order for part in PARTS)]
 
-    def keep_folders(self) -> None:
-        """Writes that list beside the program, for the script; where that can't be, it asks Python each time."""
+    def keep_list(self) -> None:
+        """Lists beside the program what is in them, and what isn't there, for the script; where that can't be written,
+        it asks Python each time."""
+        found = [it for folder in self.folders() for it in (paths_below(TOP / folder) or [TOP / folder])]
+        listed = [str(it.relative_to(TOP)) for it in (*found, program(self.top))]
         try:
-            built_from(self.top).write_text("\n".join(self.folders()) + "\n", encoding="utf-8")
+            built_from(self.top).write_text("".join(it + "\0" for it in listed), encoding="utf-8")
         except OSError:
             pass
 
@@ -83,12 +85,12 @@ class Graph:
         return f"{newer.relative_to(TOP)} is newer than {called}" if newer else ""
 
 
-def paths_below(folder: Path) -> Iterator[Path]:
+def paths_below(folder: Path) -> list[Path]:
     """A file, or a folder and all that is in it; nothing where it isn't there."""
-    if folder.exists():
-        yield folder
+    found = [folder] if folder.exists() else []
     for root, folders, files in os.walk(folder):
-        yield from (Path(root, it) for it in (*folders, *files))
+        found += [Path(root, it) for it in (*folders, *files)]
+    return found
 
 
 def first_newer(folders: list[Path], than: int) -> Path | None:

@@ -1,7 +1,6 @@
 """Where things are: in the repository, or in an installed copy, which has the same folders without the sources."""
 from __future__ import annotations
 
-import hashlib
 from pathlib import Path
 
 # the folder of the repository, or of an installed copy
@@ -36,6 +35,9 @@ def record_of(crate: str) -> Path:
 
 def digest(file: Path) -> str:
     """The checksum of a file; none where it can't be read."""
+    # loaded here, since few calls need it
+    import hashlib
+
     try:
         return hashlib.sha256(file.read_bytes()).hexdigest()
     except OSError:

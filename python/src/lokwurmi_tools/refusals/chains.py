@@ -5,9 +5,9 @@ from __future__ import annotations
 import tomllib
 from collections.abc import Callable, Iterator, Sequence
 
-from lokwurmi.chains import KEYS, MOST_CHAINS, MOST_TICKS
 from lokwurmi.documents import Document
-from lokwurmi_tools.refusals.keys import MOST_IN_CHAIN, MOST_IN_NAME, is_integer, is_name, is_texts
+from lokwurmi.limits import CHAIN_KEYS, MOST_CHAINS, MOST_IN_CHAIN, MOST_IN_NAME, MOST_TICKS
+from lokwurmi_tools.refusals.keys import is_integer, is_name, is_texts
 from lokwurmi_tools.refusals.names import entry_name
 from lokwurmi_tools.refusals.remark import File, Note, Remark, listed, mean, nearest, printable
 
@@ -92,8 +92,8 @@ def of_form(chains: Document) -> Found:
             )
             continue
         for key, value in entry.items():
-            if key not in KEYS:
-                near = OTHER_KEYS.get(key.lower().replace("-", "_")) or nearest(key, KEYS)
+            if key not in CHAIN_KEYS:
+                near = OTHER_KEYS.get(key.lower().replace("-", "_")) or nearest(key, CHAIN_KEYS)
                 says = f"{chain_name(chains, at)}: the key `{printable(key)}` isn't known"
                 says += f"; did you mean `{near}`?" if near else ""
                 yield at, Remark(

@@ -7,14 +7,15 @@ from dataclasses import dataclass
 
 from lokwurmi.documents import Document
 from lokwurmi.frames import execution
-from lokwurmi_tools.refusals.keys import KEYS, MOST_ENTRIES, MOST_IN_CHAIN
+from lokwurmi.limits import MOST_ENTRIES, MOST_IN_CHAIN
+from lokwurmi_tools.kinds import WITH_PRIORITIES
+from lokwurmi_tools.refusals.keys import KEYS
 from lokwurmi_tools.refusals.names import Names
 from lokwurmi_tools.refusals.remark import File, Remark, mean
 from lokwurmi_tools.refusals.script import Line, is_form, lines_in
 from lokwurmi_tools.system import activators
 
 MORE = "Edits that are refused"
-WITH_PRIORITIES = ("preemptive", "can")
 
 
 @dataclass(frozen=True)

@@ -9,13 +9,17 @@ from lokwurmi_tools.refusals.names import entry_name
 from lokwurmi_tools.refusals.remark import Note, Remark, listed, nearest
 
 FORM = "1: the form"
+# the key of tasks that format 3 has alone
+REGION = "region"
+# the keys whose safe side is below
+ROUNDED_DOWN = ("best", "period", "distance", "deadline")
 AN = {"resource": "a resource", "source": "a source", "task": "a task", "path": "a path"}
 TYPES = {
     "text": "a text in quotes",
     "integer": "a whole number",
     "truth": "true or false",
     "texts": 'an array of texts, as ["a", "b"]',
-    "after": "a text, or with `format = 2` an array of texts",
+    "after": "a text, or with `format = 2` or 3 an array of texts",
 }
 
 
@@ -29,11 +33,14 @@ def kind_of(value: object) -> str:
 
 def other_format(document: Document) -> Remark | None:
     value = document.values.get("format")
-    if not is_integer(value) or value in (1, 2):
+    if not is_integer(value) or value in (1, 2, 3):
         return None
-    helps = "write `format = 1`, or `format = 2` so that a task's `after` may be a list"
+    helps = (
+        "write `format = 1`, `format = 2` so that a task's `after` may be a list, or `format = 3` so that a task may"
+        " have a `region` too"
+    )
     return Remark(
-        f"the format {value} isn't known: it is 1 or 2",
+        f"the format {value} isn't known: it is 1, 2 or 3",
         document.root.values["format"].span,
         (),
         helps,
@@ -80,11 +87,16 @@ def no_array(document: Document, part: str) -> Remark:
     )
 
 
+def wanted_format(document: Document) -> int:
+    """The least format with what the tasks have."""
+    tasks = [it for it in document.entries["task"] if isinstance(it, dict)]
+    if any(REGION in it for it in tasks):
+        return 3
+    return 2 if any(isinstance(it.get("after"), list) for it in tasks) else 1
+
+
 def format_of(document: Document) -> Remark | None:
-    value = document.values.get("format")
-    wanted = (
-        2 if any(isinstance(it, dict) and isinstance(it.get("after"), list) for it in document.entries["task"]) else 1
-    )
+    value, wanted = document.values.get("format"), wanted_format(document)
     helps = f"write `format = {wanted}` as the first line"
     if value is None:
         inside = [
@@ -105,7 +117,7 @@ def format_of(document: Document) -> Remark | None:
         )
     if not is_integer(value):
         return Remark(
-            f"`format` is {kind_of(value)}, and has to be the whole number 1 or 2",
+            f"`format` is {kind_of(value)}, and has to be the whole number 1, 2 or 3",
             document.root.values["format"].span,
             (),
             helps,
@@ -127,7 +139,7 @@ def entry(document: Document, part: str, at: int) -> Remark | None:
             FORM,
         )
     for key in value:
-        if key not in KEYS[part]:
+        if key not in keys_of(document, part):
             return unknown_key(document, part, at, key)
     for key in value:
         if not holds(KEYS[part][key], value[key], document.has_lists):
@@ -140,9 +152,14 @@ def entry(document: Document, part: str, at: int) -> Remark | None:
     return executions(document, at) if part == "task" else None
 
 
-def key_meant(part: str, key: str, value: Entry) -> str | None:
+def keys_of(document: Document, part: str) -> list[str]:
+    """The keys that an entry may have in the format of the file."""
+    return [it for it in KEYS[part] if it != REGION or document.has_regions]
+
+
+def key_meant(key: str, known: list[str], value: Entry) -> str | None:
     """The key of an entry that was most likely meant, if the entry hasn't that as well."""
-    left = [it for it in KEYS[part] if it not in value]
+    left = [it for it in known if it not in value]
     meant = OTHER_KEYS.get(bare(key))
     if meant in left:
         return meant
@@ -150,22 +167,36 @@ def key_meant(part: str, key: str, value: Entry) -> str | None:
 
 
 def unknown_key(document: Document, part: str, at: int, key: str) -> Remark:
-    value = document.entries[part][at]
-    near = key_meant(part, key, value)
+    value, known = document.entries[part][at], keys_of(document, part)
+    near = key_meant(key, known, value)
     guess = f"; did you mean `{near}`?" if near else ""
-    helps = f"the keys of {AN[part]} are {listed(list(KEYS[part]))}"
+    helps = f"the keys of {AN[part]} are {listed(known)}"
+    if part == "task" and key == REGION:
+        return old_format(document, at)
     if part == "task" and key == "deadline":
         name = value.get("name", "..")
         guess, helps = "", f'a deadline belongs to a path: [[path]] name = "{name}", tasks = ["{name}"], deadline = ..'
     elif key in TOP_KEYS and not near:
         guess, helps = "", f"`{key}` belongs to the top of the file, above all headings in [[ ]]"
     elif not near and (owners := [it for it in KEYS if key in KEYS[it]]):
-        helps = f"`{key}` is a key of {AN[owners[0]]}; those of {AN[part]} are {listed(list(KEYS[part]))}"
+        helps = f"`{key}` is a key of {AN[owners[0]]}; those of {AN[part]} are {listed(known)}"
     return Remark(
         f"{entry_name(document, part, at)}: the key `{key}` isn't known{guess}",
         document.key_span(part, at, key),
         (),
         helps,
+        FORM,
+    )
+
+
+def old_format(document: Document, at: int) -> Remark:
+    """Of a task with a region in a file whose format has none."""
+    number = document.values["format"]
+    return Remark(
+        f"{entry_name(document, 'task', at)}: it has a `{REGION}`, which format {number} hasn't",
+        document.key_span("task", at, REGION),
+        [Note("the format of this file", document.root.values["format"].span)],
+        f"write `format = 3`, which has all that format {number} has",
         FORM,
     )
 
@@ -209,7 +240,7 @@ def remedy(wanted: str, value: object, key: str, written: str) -> str:
     if wanted == "integer" and isinstance(value, float):
         if value.is_integer():
             return f"write it without a point: {key} = {int(value)}"
-        way = {"best": "down", "period": "down", "distance": "down", "deadline": "down"}.get(key, "up")
+        way = "up and add a tick" if key == REGION else "down" if key in ROUNDED_DOWN else "up"
         return f"take a finer tick, of which it is a multiple; or round it {way}, which is the safe side of `{key}`"
     if wanted == "integer" and isinstance(value, list):
         return f"one number stands for all jobs of an entry: write {key} = N"

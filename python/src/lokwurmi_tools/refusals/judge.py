@@ -6,17 +6,10 @@ from collections.abc import Callable, Iterator
 from dataclasses import dataclass
 
 from lokwurmi.documents import Document, Entry
+from lokwurmi.limits import MOST_ENTRIES, MOST_IN_CHAIN, MOST_IN_NAME, MOST_STREAMS
+from lokwurmi_tools.kinds import WITH_PRIORITIES
 from lokwurmi_tools.refusals import form
-from lokwurmi_tools.refusals.keys import (
-    KEYS,
-    MOST_ENTRIES,
-    MOST_IN_CHAIN,
-    MOST_IN_NAME,
-    MOST_STREAMS,
-    PARTS,
-    is_name,
-    is_name_letter,
-)
+from lokwurmi_tools.refusals.keys import KEYS, PARTS, is_name, is_name_letter
 from lokwurmi_tools.refusals.names import Names, entry_name
 from lokwurmi_tools.refusals.remark import Note, Remark, listed, mean
 from lokwurmi_tools.system import activators
@@ -35,7 +28,12 @@ SECTIONS = {
     12: "12: too many entries",
     14: "14: no activator, or too many",
 }
-WITH_PRIORITIES = ("preemptive", "can")
+# why a task has no region, by the kind of its resource
+NO_REGION = {
+    "can": "no job is preempted there",
+    "round-robin": "how long a job goes on is told by its `slot`",
+    "tdma": "how long a job goes on is told by its `slot`",
+}
 
 
 @dataclass(frozen=True)
@@ -82,6 +80,7 @@ MEANINGS = {
     "payload": " bytes; a longer frame, as of CAN FD, can't be told by its payload",
     "bit": " ticks: it is the time of a bit, as 2 at 500 kbit/s where a tick is a microsecond",
     "limit": " ticks: the longest busy window that is looked at",
+    "region": " ticks: 1 is as without it, and a job with one of at least `worst` is never preempted",
 }
 
 
@@ -378,6 +377,14 @@ def misfit(document: Document) -> Found:
                 document.key_span("task", at, "payload"),
                 (),
                 "write `best` and `worst` in its place",
+                SECTIONS[9],
+            )
+        if "region" in task and kind != "preemptive":
+            yield "task", at, Remark(
+                f"{called}: `region` is for preemptive resources, and {where}",
+                document.key_span("task", at, "region"),
+                (),
+                "leave it out: " + NO_REGION[kind],
                 SECTIONS[9],
             )
 

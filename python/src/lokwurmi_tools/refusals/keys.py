@@ -4,18 +4,12 @@ from __future__ import annotations
 from collections.abc import Sequence
 from dataclasses import dataclass
 
-from lokwurmi.chains import MOST_TASKS
 from lokwurmi.documents import PARTS
-from lokwurmi.entries import Kind
 from lokwurmi.frames import MOST_CLASSICAL
-from lokwurmi.units import MOST_BIT, TIMES
+from lokwurmi.limits import MOST_BIT, MOST_IN_NAME, TIMES, Kind
 
 TOP_KEYS = ("format", *PARTS)
 KINDS = tuple(it.value for it in Kind)
-MOST_ENTRIES = {"resource": 64, "source": 128, "task": 512, "path": 128}
-MOST_IN_CHAIN = MOST_TASKS
-MOST_STREAMS = 32
-MOST_IN_NAME = 64
 # what one bus compares first, and the greatest identifier of 11 bits
 MOST_SHORT = 0x7FF
 # how many bits of an identifier of 29 come behind those 11
@@ -63,6 +57,7 @@ KEYS: dict[str, dict[str, Key]] = {
         "extended": Key("truth"),
         "priority": Key("integer", 0, 536_870_911),
         "slot": time("task", "slot"),
+        "region": time("task", "region"),
     },
     "path": {
         "name": Key("text", is_required=True),
@@ -108,6 +103,8 @@ OTHER_KEYS = {
     "timeslice": "slot",
     "slice": "slot",
     "budget": "slot",
+    "npr": "region",
+    "nonpreemptiveregion": "region",
     "cycle": "period",
     "cycletime": "period",
     "interval": "period",
@@ -146,6 +143,7 @@ OTHER_KINDS = {
     "fixedpriority": "preemptive",
     "priority": "preemptive",
     "osek": "preemptive",
+    "cooperative": "preemptive",
     "autosar": "preemptive",
     "rm": "preemptive",
     "dm": "preemptive",

@@ -19,7 +19,7 @@ REASONS = {
     10: "`best` is above `worst`",
     11: "it has no task, or one that doesn't come after the one before it",
     12: "there are too many",
-    13: "the format is 1 or 2",
+    13: "the format is 1, 2 or 3",
     14: "it has no activator, one twice, or more than 32 streams",
 }
 MORE = {1: "1: the form", 13: "13: another format", **SECTIONS}
