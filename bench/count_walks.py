@@ -1,11 +1,12 @@
 #!/usr/bin/env python3
-"""Counts what a search does where two chains climb to overload, and whether it would do less from the windows of the round before.
+"""Counts what a search does where two chains climb to overload, and whether it would do less from the windows of the
+round before.
 
-Follows the rounds of the system `cycle-climbs-slowly` of time_analyse.py (two preemptive resources, two tasks each, whose
-bounds drive each other up by some ninety ticks a round) and counts, for the less urgent task of each resource, the jobs of
-its busy windows and how often the demand of a window is asked for. Each job's window is looked for in three ways: from
-where the program begins, a job longer than the window before; from the window of the same job in the round before, which is
-never longer than the new one; and from the longer of the two.
+Follows the rounds of the system `cycle-climbs-slowly` of time_analyse.py (two preemptive resources, two tasks each,
+whose bounds drive each other up by some ninety ticks a round) and counts, for the less urgent task of each resource,
+the jobs of its busy windows and how often the demand of a window is asked for. Each job's window is looked for in three
+ways: from where the program begins, a job longer than the window before; from the window of the same job in the round
+before, which is never longer than the new one; and from the longer of the two.
 
     python3 bench/count_walks.py
     python3 bench/count_walks.py --limit 1000000 --first 45 --second 50
@@ -16,7 +17,8 @@ PERIOD = 100
 
 
 def least_window(demand, start, limit):
-    """The least window from a length on that has room, or none up to the limit, and how often the demand was asked for."""
+    """The least window from a length on that has room, or none up to the limit, and how often the demand was asked
+    for."""
     asked, window = 0, start
     while window <= limit:
         asked += 1
@@ -36,10 +38,13 @@ class Walk:
 
     def start(self, job, end):
         near, old = end + self.worst, self.before[job] if job < len(self.before) else 0
-        return {"the window before": near, "the round before": max(old, self.worst), "the longer": max(near, old)}[self.way]
+        return {"the window before": near, "the round before": max(old, self.worst), "the longer": max(near, old)}[
+            self.way
+        ]
 
     def bound(self, jitter):
-        """The greatest response, where the rival's events are late by up to so much; none where a window passes the limit."""
+        """The greatest response, where the rival's events are late by up to so much; none where a window passes the
+        limit."""
         ends, end, greatest = [], 0, 0
         while True:
             count = len(ends) + 1
@@ -56,7 +61,8 @@ class Walk:
 
 
 def climb(way, first, second, limit):
-    """Both resources are alike, so that one walk a round stands for both: the bound of a task is the jitter of the next."""
+    """Both resources are alike, so that one walk a round stands for both: the bound of a task is the jitter of the
+    next."""
     walk, jitter, rounds = Walk(way, first, second, limit), 0, 0
     while True:
         rounds += 1
@@ -74,7 +80,10 @@ def main():
     chosen = parser.parse_args()
     for way in ("the window before", "the round before", "the longer"):
         rounds, walk = climb(way, chosen.first, chosen.second, chosen.limit)
-        print(f"from {way}: {rounds} rounds, {walk.jobs} jobs, demand asked for {walk.asked} times, {walk.asked / walk.jobs:.2f} a job")
+        print(
+            f"from {way}: {rounds} rounds, {walk.jobs} jobs, demand asked for {walk.asked} times,"
+            f" {walk.asked / walk.jobs:.2f} a job"
+        )
 
 
 if __name__ == "__main__":

@@ -9,24 +9,25 @@ Makes systems of 512 tasks, each with up to 32 streams, on 64 resources that dep
 - sources: 512 tasks, each after 32 sources; here no resource depends on another one;
 - one: the chains with one source each, in format 1, beside which the others may be seen.
 
-The busiest resource is used by --load per cent: at 30 all of them settle, at 50 the ladders climb until they are overloaded.
-`session` makes edits of one task's execution that rise and fall in turn, with a report at the end; `simulate` replays as many
-events of all sources as 2,000,000 jobs allow. `analyse` and `session` run by each number of workers. Prints a line a call:
-seconds of processors and of the clock, both the least of some calls, peak memory, the last line of the text.
+The busiest resource is used by --load per cent: at 30 all of them settle, at 50 the ladders climb until they are
+overloaded. `session` makes edits of one task's execution that rise and fall in turn, with a report at the end;
+`simulate` replays as many events of all sources as 2,000,000 jobs allow. `analyse` and `session` run by each number of
+workers. Prints a line a call: seconds of processors and of the clock, both the least of some calls, peak memory, the
+last line of the text.
 
     python3 bench/time_activators.py                                   all systems and commands
     python3 bench/time_activators.py chains trees --kind can           two of them, on CAN buses
     python3 bench/time_activators.py ladders --load 60 --workers 1 2 4 8
     python3 bench/time_activators.py one chains --commands simulate --calls 1
-    python3 bench/time_activators.py chains --write FOLDER             writes system, script and trace, and calls nothing
+    python3 bench/time_activators.py chains --write FOLDER             writes its files, and calls nothing
 """
 import argparse
 import os
 import sys
 import tempfile
 
-from timing import TOP, spent
 from time_analyse import KINDS, place_in_cycles
+from timing import TOP, spent
 
 PROGRAM = os.path.join(TOP, "crates/cpa_cli/out/cpa_cli")
 RESOURCES, SOURCES, TASKS, MOST_JOBS = 64, 128, 512, 2_000_000
@@ -111,7 +112,10 @@ def system(rows, kind, period):
         names = ", ".join(f'"{name}"' for name in after)
         worst = worst_of(task)
         turn = f"slot = {worst}" if kind in ("round-robin", "tdma") else f"priority = {task}"
-        text.append(f'{{ name = "t{task}", on = "r{resource}", after = {names if len(after) == 1 else f"[{names}]"}, best = {worst // 2}, worst = {worst}, {turn} }},')
+        text.append(
+            f'{{ name = "t{task}", on = "r{resource}", after = {names if len(after) == 1 else f"[{names}]"},'
+            f" best = {worst // 2}, worst = {worst}, {turn} }},"
+        )
     return "\n".join(text + ["]"]) + "\n"
 
 
@@ -129,18 +133,28 @@ def trace(rows, period):
 def measure(label, command, calls):
     runs = [spent(command) for _ in range(calls)]
     processor, clock = (min(run[place] for run in runs) for place in (0, 1))
-    print(f"{label:34} {processor:8.3f} s of processors, {clock:8.3f} s, {runs[0][2]:7.1f} MB  {runs[0][3]}", flush=True)
+    print(
+        f"{label:34} {processor:8.3f} s of processors, {clock:8.3f} s, {runs[0][2]:7.1f} MB  {runs[0][3]}", flush=True
+    )
 
 
 def words():
     parser = argparse.ArgumentParser(description=__doc__, formatter_class=argparse.RawDescriptionHelpFormatter)
     parser.add_argument("systems", nargs="*", metavar="SYSTEM", help="of " + ", ".join(SHAPES) + "; all if absent")
     parser.add_argument("--kind", choices=KINDS, default="preemptive", help="of all resources (default: %(default)s)")
-    parser.add_argument("--load", type=int, default=30, metavar="PER_CENT", help="of the busiest resource (default: %(default)s)")
-    parser.add_argument("--commands", nargs="+", choices=("analyse", "session", "simulate"), default=["analyse", "session", "simulate"])
-    parser.add_argument("--workers", nargs="+", type=int, default=[1, 4], metavar="N", help="of analyse and session (default: 1 4)")
+    parser.add_argument(
+        "--load", type=int, default=30, metavar="PER_CENT", help="of the busiest resource (default: %(default)s)"
+    )
+    parser.add_argument(
+        "--commands", nargs="+", choices=("analyse", "session", "simulate"), default=["analyse", "session", "simulate"]
+    )
+    parser.add_argument(
+        "--workers", nargs="+", type=int, default=[1, 4], metavar="N", help="of analyse and session (default: 1 4)"
+    )
     parser.add_argument("--edits", type=int, default=200, metavar="N", help="of a session (default: %(default)s)")
-    parser.add_argument("--calls", type=int, default=5, metavar="N", help="of which the least time is told (default: %(default)s)")
+    parser.add_argument(
+        "--calls", type=int, default=5, metavar="N", help="of which the least time is told (default: %(default)s)"
+    )
     parser.add_argument("--write", metavar="FOLDER", help="write the files there, and call nothing")
     chosen = parser.parse_args()
     if not set(chosen.systems) <= set(SHAPES):
@@ -153,13 +167,20 @@ def write_files(folder, name, chosen):
     rows = SHAPES[name]()
     streams = streams_of(rows)
     period = period_of(rows, streams, chosen.load)
-    texts = {"toml": system(rows, chosen.kind, period), "script.txt": script(chosen.edits), "trace.csv": trace(rows, period)}
+    texts = {
+        "toml": system(rows, chosen.kind, period),
+        "script.txt": script(chosen.edits),
+        "trace.csv": trace(rows, period),
+    }
     paths = []
     for ending, text in texts.items():
         paths.append(os.path.join(folder, f"{name}.{ending}"))
         with open(paths[-1], "w", encoding="ascii") as file:
             file.write(text)
-    print(f"{name}: {len(rows)} tasks, {sum(streams)} streams, at most {max(streams)} of a task; periods from {period} on", flush=True)
+    print(
+        f"{name}: {len(rows)} tasks, {sum(streams)} streams, at most {max(streams)} of a task; periods from {period}",
+        flush=True,
+    )
     return paths
 
 

@@ -1,11 +1,12 @@
 #!/usr/bin/env python3
 """Measures how long `lokwurmi analyse` takes from a system file to its report, and how much memory.
 
-Makes the largest allowed systems of each kind and of all kinds mixed (64 resources, 512 tasks in chains of 8), once with
-chains that follow the order of the resources and once with chains that cross in cycles, and three cycles of two chains on
-two resources with a limit of 10,000,000 ticks: one that settles, and two that climb until they are overloaded, in leaps
-and by some ninety ticks a round. With them go systems with all 512 tasks on one resource of each kind, in chains of 32, and the
-car network of examples/. Prints a line a system: the least time of some calls, the peak memory, the last line.
+Makes the largest allowed systems of each kind and of all kinds mixed (64 resources, 512 tasks in chains of 8), once
+with chains that follow the order of the resources and once with chains that cross in cycles, and three cycles of two
+chains on two resources with a limit of 10,000,000 ticks: one that settles, and two that climb until they are
+overloaded, in leaps and by some ninety ticks a round. With them go systems with all 512 tasks on one resource of each
+kind, in chains of 32, and the car network of examples/. Prints a line a system: the least time of some calls, the peak
+memory, the last line.
 
     python3 bench/time_analyse.py [NAME ..]
 """
@@ -44,7 +45,10 @@ def largest(kinds, place):
             worst = 100 + 7 * ((c + k) % 30)
             kind = kinds[r % len(kinds)]
             turn = f"slot = {worst}" if kind in ("round-robin", "tdma") else f"priority = {10 * k + c}"
-            text.append(f'{{ name = "t{c}.{k}", on = "r{r}", after = "{after}", best = {worst // 2}, worst = {worst}, {turn} }},')
+            text.append(
+                f'{{ name = "t{c}.{k}", on = "r{r}", after = "{after}", best = {worst // 2},'
+                f" worst = {worst}, {turn} }},"
+            )
     text += ["]", "path = ["]
     for c in range(64):
         tasks = ", ".join(f'"t{c}.{k}"' for k in range(8))
@@ -61,14 +65,20 @@ def on_one(kind):
         for k in range(32):
             after = f"t{c}.{k - 1}" if k else f"s{c}"
             turn = "slot = 3" if kind in ("round-robin", "tdma") else f"priority = {16 * k + c}"
-            text.append(f'{{ name = "t{c}.{k}", on = "r", after = "{after}", best = 1, worst = {1 + (c + k) % 3}, {turn} }},')
+            text.append(
+                f'{{ name = "t{c}.{k}", on = "r", after = "{after}", best = 1, worst = {1 + (c + k) % 3}, {turn} }},'
+            )
     return "\n".join(text + ["]"]) + "\n"
 
 
 def crossing(first, second):
-    """Two chains that cross on two preemptive resources, with these greatest executions of their first and second tasks."""
+    """Two chains that cross on two preemptive resources, with these greatest executions of their first and second
+    tasks."""
     return f"""format = 1
-resource = [{{ name = "p", kind = "preemptive", limit = 10000000 }}, {{ name = "q", kind = "preemptive", limit = 10000000 }}]
+resource = [
+  {{ name = "p", kind = "preemptive", limit = 10000000 }},
+  {{ name = "q", kind = "preemptive", limit = 10000000 }},
+]
 source = [{{ name = "sa", period = 100 }}, {{ name = "sb", period = 100 }}]
 task = [
   {{ name = "a1", on = "p", after = "sa", best = 1, worst = {first}, priority = 2 }},
@@ -109,7 +119,11 @@ def call(path):
 def main():
     made = systems()
     names = names_of(__doc__, "time_analyse.py", list(made))
-    subprocess.run([os.path.join(TOP, "lokwurmi"), "analyse", os.path.join(TOP, "examples", "two_tasks.toml")], capture_output=True, check=False)
+    subprocess.run(
+        [os.path.join(TOP, "lokwurmi"), "analyse", os.path.join(TOP, "examples", "two_tasks.toml")],
+        capture_output=True,
+        check=False,
+    )
     print(f"processors: {os.cpu_count()}")
     with tempfile.TemporaryDirectory() as folder:
         for name in names:

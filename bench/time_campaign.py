@@ -1,11 +1,15 @@
 #!/usr/bin/env python3
-"""Times a campaign of hammer on 1, 2, .. processors, up to all of this machine, beside one call of hammer. Outside the gate.
+"""Times a campaign of hammer on 1, 2, .. processors, up to all of this machine, beside one call of hammer. Outside the
+gate.
 
-    python3 bench/time_campaign.py [--traces N] [--call K] [--rounds R] [--program PROGRAM] [FILE, examples/car_network.toml if absent]
+    python3 bench/time_campaign.py [--traces N] [--call K] [--rounds R] [--program PROGRAM] [FILE]
 
-Each line has the processors, which scheduler, workers and calls share; the least seconds of R campaigns over N traces in calls of
-K, and of R calls of hammer over as many traces, at most 10,000; and how many times as fast each is as on one processor. The last
-line is what a campaign of one trace takes on all of them, which is the start and the end of the workers.
+FILE is examples/car_network.toml if absent.
+
+Each line has the processors, which scheduler, workers and calls share; the least seconds of R campaigns over N traces
+in calls of K, and of R calls of hammer over as many traces, at most 10,000; and how many times as fast each is as on
+one processor. The last line is what a campaign of one trace takes on all of them, which is the start and the end of the
+workers.
 """
 import argparse
 import os
@@ -23,7 +27,9 @@ def seconds(places, command):
 
 
 def main():
-    reader = argparse.ArgumentParser(description="Times a campaign of hammer on 1, 2, .. processors, beside one call of hammer.")
+    reader = argparse.ArgumentParser(
+        description="Times a campaign of hammer on 1, 2, .. processors, beside one call of hammer."
+    )
     reader.add_argument("file", nargs="?", default=os.path.join(TOP, "examples", "car_network.toml"))
     reader.add_argument("--traces", type=int, default=10000)
     reader.add_argument("--call", type=int, default=250)
@@ -41,11 +47,19 @@ def main():
         for count in counts:
             found[count, "campaign"].append(seconds(places[:count], campaign))
             found[count, "one"].append(seconds(places[:count], one))
-    print("| Processors | A campaign, seconds | times as fast | One call, seconds | times as fast |\n|---|---|---|---|---|")
+    print(
+        "| Processors | A campaign, seconds | times as fast | One call, seconds | times as fast |\n"
+        "|---|---|---|---|---|"
+    )
     for count in counts:
-        figures = [(min(found[count, name]), min(found[1, name]) / min(found[count, name])) for name in ("campaign", "one")]
+        figures = [
+            (min(found[count, name]), min(found[1, name]) / min(found[count, name])) for name in ("campaign", "one")
+        ]
         print(f"| {count} | " + " | ".join(f"{took:.1f} | {fast:.2f}" for took, fast in figures) + " |")
-    print(f"a campaign of one trace: {seconds(places, [*hammer, '--traces', '1']):.1f} s; load after it: {os.getloadavg()[0]:.1f}")
+    print(
+        f"a campaign of one trace: {seconds(places, [*hammer, '--traces', '1']):.1f} s;"
+        f" load after it: {os.getloadavg()[0]:.1f}"
+    )
 
 
 main()

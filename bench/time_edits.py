@@ -1,10 +1,10 @@
 #!/usr/bin/env python3
 """Measures how long large scripts take to read, and how long edits take to apply.
 
-Makes a system of 512 tasks after 128 sources with 128 paths, all with names of 64 bytes that differ at their ends alone,
-and scripts over it: of 1,048,576 bytes with 10,000 edits, of 1,048,576 bytes in one line of short words, and of many
-edits of one sort. `cpa_bench edits` loads each alone, reads it, and applies its edits. Prints a line a script and way:
-the least time of five calls, and the peak memory of a call.
+Makes a system of 512 tasks after 128 sources with 128 paths, all with names of 64 bytes that differ at their ends
+alone, and scripts over it: of 1,048,576 bytes with 10,000 edits, of 1,048,576 bytes in one line of short words, and of
+many edits of one sort. `cpa_bench edits` loads each alone, reads it, and applies its edits. Prints a line a script and
+way: the least time of five calls, and the peak memory of a call.
 
     python3 bench/time_edits.py [FOLDER for the files]
 """
@@ -34,7 +34,8 @@ def system():
     lines += [f'[[resource]]\nname = "{name("r", r)}"\nkind = "preemptive"' for r in range(64)]
     lines += [f'[[source]]\nname = "{name("s", k)}"\nperiod = 1000' for k in range(SOURCES)]
     lines += [
-        f'[[task]]\nname = "{name("t", i)}"\non = "{name("r", i % 64)}"\nafter = "{after(i)}"\nbest = 1\nworst = 9\npriority = {i}'
+        f'[[task]]\nname = "{name("t", i)}"\non = "{name("r", i % 64)}"\nafter = "{after(i)}"\nbest = 1\n'
+        f"worst = 9\npriority = {i}"
         for i in range(TASKS)
     ]
     chains = TASKS // CHAIN - 1
@@ -55,14 +56,17 @@ def full():
 
 
 def edits(sort):
-    """As many edits of a sort as a script can have. Each `remove` takes the task at place 480, and an `add` brings it back at the end."""
+    """As many edits of a sort as a script can have. Each `remove` takes the task at place 480, and an `add` brings it
+    back at the end."""
     moved = [TASKS - CHAIN + k % CHAIN for k in range(3_500)]
     rows = {
         "exec": f'exec {name("t", TASKS - 1)} 1 9\n' * EDITS,
         "priority": f'priority {name("t", TASKS - 1)} {TASKS - 1}\n' * EDITS,
         "swap": f'swap {name("t", TASKS - 1)} {name("t", TASKS - 65)}\n' * 7_500,
         "source": f'source {name("s", SOURCES - 1)} 1000 5 3\n' * EDITS,
-        "move": "".join(f'remove {name("t", i)}\nadd {name("t", i)} {name("r", i % 64)} {after(i)} 1 9 {i}\n' for i in moved),
+        "move": "".join(
+            f'remove {name("t", i)}\nadd {name("t", i)} {name("r", i % 64)} {after(i)} 1 9 {i}\n' for i in moved
+        ),
     }
     return rows[sort]
 

@@ -1,14 +1,14 @@
 #!/usr/bin/env python3
 """Takes the time of each part of the gate: the proofs of a crate, those of its tests, and its edits that must fail.
 
-Runs `rt ci` in the repository's top folder, on as many processors as are asked for, looks every second at the provers that
-run, and prints a row a crate as docs/MAP.md has them: seconds of one processor for the proofs, the tests and all edits. What an
-earlier run on this machine has proved takes no time and has no row: `--anew` has everything proved. Where `rt ci` has no such
-word, as that of rattle-kit-13b, it proves everything each time, and takes no names of crates either.
-With `--edits` a line for each edit follows, the dearest first: what one costs is what it takes to read the crate, and to search
-for what it makes false. The last lines have the time by the clock and that of all processors, and how fast the machine was: the
-seconds that a short loop took one processor before, every five minutes on one that isn't measured, where there is one, and after.
-Times of two runs can be compared only as far as these are alike.
+Runs `rt ci` in the repository's top folder, on as many processors as are asked for, looks every second at the provers
+that run, and prints a row a crate as docs/MAP.md has them: seconds of one processor for the proofs, the tests and all
+edits. What an earlier run on this machine has proved takes no time and has no row: `--anew` has everything proved.
+Where `rt ci` has no such word, as that of rattle-kit-13b, it proves everything each time, and takes no names of crates
+either. With `--edits` a line for each edit follows, the dearest first: what one costs is what it takes to read the
+crate, and to search for what it makes false. The last lines have the time by the clock and that of all processors, and
+how fast the machine was: the seconds that a short loop took one processor before, every five minutes on one that isn't
+measured, where there is one, and after. Times of two runs can be compared only as far as these are alike.
 
     python3 bench/time_gate.py --processors 2 --anew
     python3 bench/time_gate.py --log gate.log --edits cpa_units cpa_io
@@ -135,7 +135,9 @@ def look(root, parts):
 
 def words_of_gate(anew, crates):
     """The words that start the gate: by the help of `rt` it is seen whether its `ci` takes any of its own."""
-    told = subprocess.run(["rt", "help"], stdout=subprocess.PIPE, stderr=subprocess.STDOUT, text=True, check=False).stdout
+    told = subprocess.run(
+        ["rt", "help"], stdout=subprocess.PIPE, stderr=subprocess.STDOUT, text=True, check=False
+    ).stdout
     if "--anew" in told:
         return ["rt", "ci", *(["--anew"] if anew else []), *crates]
     if crates:
@@ -149,14 +151,19 @@ def main():
     parser = argparse.ArgumentParser(description=__doc__, formatter_class=argparse.RawDescriptionHelpFormatter)
     parser.add_argument("crates", nargs="*", help="the crates to prove, with those below them; all without")
     parser.add_argument("--processors", type=int, default=os.cpu_count(), help="on how many processors")
-    parser.add_argument("--anew", action="store_true", help="prove all, also what an earlier run on this machine has proved")
+    parser.add_argument(
+        "--anew", action="store_true", help="prove all, also what an earlier run on this machine has proved"
+    )
     parser.add_argument("--edits", action="store_true", help="tell each edit's time too")
     parser.add_argument("--log", default="gate.log", help="where the words of `rt ci` go (gate.log)")
     chosen = parser.parse_args()
     words = ["taskset", "-c", f"0-{chosen.processors - 1}", *words_of_gate(chosen.anew, chosen.crates)]
     before = seconds_of([start_loop(0)])
     parts, begun, shown, looped, beside = {}, time.monotonic(), 0, time.monotonic(), []
-    with open(chosen.log, "w", encoding="utf-8") as log, subprocess.Popen(words, cwd=TOP, stdout=log, stderr=log) as gate:
+    with (
+        open(chosen.log, "w", encoding="utf-8") as log,
+        subprocess.Popen(words, cwd=TOP, stdout=log, stderr=log) as gate,
+    ):
         while gate.poll() is None:
             look(gate.pid, parts)
             if time.monotonic() - shown > 60:
@@ -179,8 +186,14 @@ def main():
         print(f"| `{name}` | " + " | ".join(cells) + " |")
     for edit, seconds in each.most_common() if chosen.edits else []:
         print(f"{seconds:6.0f} {edit}")
-    print(f"{clock / 60:.1f} minutes by the clock on {chosen.processors} processors, {sum(spent.values()) / 60:.1f} of one processor, status {gate.returncode}")
-    print(f"a short loop took {before} s before, {seconds_of(beside)} beside the run, {seconds_of([start_loop(0)])} after it")
+    print(
+        f"{clock / 60:.1f} minutes by the clock on {chosen.processors} processors, "
+        f"{sum(spent.values()) / 60:.1f} of one processor, status {gate.returncode}"
+    )
+    print(
+        f"a short loop took {before} s before, {seconds_of(beside)} beside the run,"
+        f" {seconds_of([start_loop(0)])} after it"
+    )
     return gate.returncode
 
 

@@ -1,10 +1,10 @@
 #!/usr/bin/env python3
 """Measures how long the program takes to judge system files of the greatest size.
 
-Makes files of at most 1,048,576 bytes with as many tasks as fit, all on one resource, or with one long list of activators, alone
-and with as many paths as fit that need its last name, and runs `lokwurmi analyse` on each. The time is that of the whole call:
-start, reading, TOML, judging. Prints a line a file: its shape, its tasks, its bytes, the least time of five calls in seconds,
-and the line that refuses it.
+Makes files of at most 1,048,576 bytes with as many tasks as fit, all on one resource, or with one long list of
+activators, alone and with as many paths as fit that need its last name, and runs `lokwurmi analyse` on each. The time
+is that of the whole call: start, reading, TOML, judging. Prints a line a file: its shape, its tasks, its bytes, the
+least time of five calls in seconds, and the line that refuses it.
 
     python3 bench/time_large_files.py [FOLDER for the files]
 """
@@ -82,7 +82,9 @@ def main():
             start = time.perf_counter()
             done = subprocess.run([program, "analyse", path], capture_output=True, text=True)
             times.append(time.perf_counter() - start)
-        print(f"{name}: {n} tasks, {len(whole)} bytes, {min(times):.3f} s, {done.returncode} {done.stdout.strip()[:60]}")
+        print(
+            f"{name}: {n} tasks, {len(whole)} bytes, {min(times):.3f} s, {done.returncode} {done.stdout.strip()[:60]}"
+        )
 
 
 if __name__ == "__main__":

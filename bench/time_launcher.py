@@ -2,13 +2,13 @@
 """Times calls by the script `lokwurmi` beside calls of the program itself, and beside an earlier version of the script.
 
 The calls take turns, so that what else runs on the machine meets all alike; told are the medians, by the clock and of
-the time that processors worked, what each takes beyond the program, and the ratios. The program has to be built. Outside the gate.
+the time that processors worked, what each takes beyond the program, and the ratios. The program has to be built.
+Outside the gate.
 
     python3 bench/time_launcher.py --calls 200 --than 132bc4f
 """
 from __future__ import annotations
 
-import argparse
 import os
 import shutil
 import statistics
@@ -18,7 +18,8 @@ import tempfile
 import time
 from dataclasses import dataclass, field
 
-TOP = os.path.dirname(os.path.dirname(os.path.abspath(__file__)))
+from timing import NEEDS_PROGRAM, TOP, reader_of, written
+
 PROGRAM = os.path.join(TOP, "crates", "cpa_cli", "out", "cpa_cli")
 REFUSED = 'format = 1\nsource = [{ name = "s", perod = 10 }]\n'
 UNUSED = 'format = 1\nsource = [{ name = "s", period = 10 }]\n'
@@ -67,18 +68,13 @@ def earlier(folder: str, revision: str) -> str:
     # with its time, so that it isn't newer than the program
     shutil.copy2(os.path.join(TOP, "crates.txt"), folder)
     git = ["git", "-C", TOP]
-    there = subprocess.run([*git, "ls-tree", "--name-only", revision], capture_output=True, text=True, check=True).stdout.split()
+    there = subprocess.run(
+        [*git, "ls-tree", "--name-only", revision], capture_output=True, text=True, check=True
+    ).stdout.split()
     parts = [it for it in ("lokwurmi", "tools", "python") if it in there]
     archive = subprocess.run([*git, "archive", revision, *parts], stdout=subprocess.PIPE, check=True)
     subprocess.run(["tar", "-x", "-C", folder], input=archive.stdout, check=True)
     return os.path.join(folder, "lokwurmi")
-
-
-def written(folder: str, name: str, text: str) -> str:
-    path = os.path.join(folder, name)
-    with open(path, "w", encoding="utf-8") as it:
-        it.write(text)
-    return path
 
 
 def ways_in(folder: str, revision: str | None) -> list[Way]:
@@ -100,11 +96,7 @@ def ways_in(folder: str, revision: str | None) -> list[Way]:
 
 
 def main() -> None:
-    reader = argparse.ArgumentParser(
-        description=__doc__.split("\n", 1)[0],
-        epilog="python3 bench/time_launcher.py --calls 200 --than 132bc4f",
-        formatter_class=argparse.RawDescriptionHelpFormatter,
-    )
+    reader = reader_of(__doc__, "python3 bench/time_launcher.py --calls 200 --than 132bc4f", NEEDS_PROGRAM)
     reader.add_argument("--calls", metavar="N", type=int, default=200, help="how many calls each; 200 if absent")
     reader.add_argument("--than", metavar="REVISION", help="an earlier commit, whose script is called too")
     words = reader.parse_args()

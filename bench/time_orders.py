@@ -1,13 +1,13 @@
 #!/usr/bin/env python3
 """Times `lokwurmi assign` on 64 and on 512 tasks of one resource, and `lokwurmi slack` of the tasks of the car network.
 
-The deadlines are the bounds under the order of the file, of all 64 tasks, or of 128 of the 512, since there are at most 128
-paths. In one form the tasks stand in the file in the order of their priorities, so that at each place nearly all tasks that
-have none yet are tried in vain; in the other they stand the other way round, and the first that is tried is in time. In a
-third, in the order of the first, the second of the tasks with a deadline meets it nowhere, which shows where the lower places
-are all taken. Two systems more ask for more than there is, so that the windows of the lower places grow up to the limit, and
-the tasks with a deadline are the first of the file: one with the limit that a resource has by default, one with the greatest.
-Prints the least seconds of some whole calls, the peak memory, and the last line.
+The deadlines are the bounds under the order of the file, of all 64 tasks, or of 128 of the 512, since there are at most
+128 paths. In one form the tasks stand in the file in the order of their priorities, so that at each place nearly all
+tasks that have none yet are tried in vain; in the other they stand the other way round, and the first that is tried is
+in time. In a third, in the order of the first, the second of the tasks with a deadline meets it nowhere, which shows
+where the lower places are all taken. Two systems more ask for more than there is, so that the windows of the lower
+places grow up to the limit, and the tasks with a deadline are the first of the file: one with the limit that a resource
+has by default, one with the greatest. Prints the least seconds of some whole calls, the peak memory, and the last line.
 
     python3 bench/time_orders.py [FORM ..]
 """
@@ -22,11 +22,14 @@ PROGRAM = built("cpa_cli")
 
 
 def system(kind, count, turned, deadlines, share=6, limit=10_000_000):
-    """So many tasks on a resource, with executions of 1 to 10 ticks. With a share of 6 the load is 87 % with 64 tasks and 85 % with
-    512, with a share of 5 it is 100.3 % with 512."""
+    """So many tasks on a resource, with executions of 1 to 10 ticks. With a share of 6 the load is 87 % with 64 tasks
+    and 85 % with 512, with a share of 5 it is 100.3 % with 512."""
     sources = min(count, 128)
     text = ["format = 1", f'resource = [{{ name = "r", kind = "{kind}", limit = {limit} }}]', "source = ["]
-    text += [f'{{ name = "s{k}", period = {share * count + k * count // 128}, jitter = {50 * (k % 9)} }},' for k in range(sources)]
+    text += [
+        f'{{ name = "s{k}", period = {share * count + k * count // 128}, jitter = {50 * (k % 9)} }},'
+        for k in range(sources)
+    ]
     tasks = [
         f'{{ name = "t{k}", on = "r", after = "s{k % sources}", best = 1, worst = {1 + k * 7 % 10}, priority = {k} }},'
         for k in range(count)
@@ -78,7 +81,9 @@ def main():
             text = made[name]
             with open(path, "w", encoding="utf-8") as file:
                 file.write(text)
-            seconds, peak, last = least([PROGRAM, "assign", path, "r"], 5 if "64" in name else 1 if "long" in name else 2)
+            seconds, peak, last = least(
+                [PROGRAM, "assign", path, "r"], 5 if "64" in name else 1 if "long" in name else 2
+            )
             print(f"{name}: {seconds:.4f} s, {peak:.1f} MB, {last}", flush=True)
     car = os.path.join(TOP, "examples/car_network.toml")
     with open(car, encoding="utf-8") as file:

@@ -2,9 +2,9 @@
 """Measures how long large system files take to read, and how much memory that takes.
 
 Makes a file of nearly 1,048,576 bytes with 512 tasks and long comments, the largest allowed system with names of 64
-bytes, and a file with as many tasks as fit. `cpa_bench reading` loads each file alone, reads it as TOML alone, and reads it
-as a system, and `lokwurmi analyse` does all of its work. Prints a line a file and way: the least
-time of five calls, and the peak memory of a call.
+bytes, and a file with as many tasks as fit. `cpa_bench reading` loads each file alone, reads it as TOML alone, and
+reads it as a system, and `lokwurmi analyse` does all of its work. Prints a line a file and way: the least time of five
+calls, and the peak memory of a call.
 
     python3 bench/time_reading.py [FOLDER for the files]
 """
@@ -22,7 +22,8 @@ def comments():
     lines += [f'[[source]]\nname = "source{k}"\nperiod = {1000 + k}' for k in range(128)]
     text = "\n".join(lines) + "\n"
     tasks = [
-        f'[[task]]\nname = "task{i}"\non = "cpu{i % 64}"\nafter = "source{i % 128}"\nbest = 1\nworst = {1 + i % 90}\npriority = {i}\n'
+        f'[[task]]\nname = "task{i}"\non = "cpu{i % 64}"\nafter = "source{i % 128}"\nbest = 1\n'
+        f"worst = {1 + i % 90}\npriority = {i}\n"
         for i in range(512)
     ]
     room = (MOST - len(text) - sum(map(len, tasks))) // 512 - 3
@@ -37,15 +38,34 @@ def largest():
     """All lists full: chains of 32 tasks, and paths over whole chains."""
     chains = 16
     text = "format = 1\n"
-    kinds = ['"preemptive", limit = 10000000', '"round-robin", limit = 10000000', '"tdma", gap = 1000000', '"can", bit = 1000']
-    text += "resource = [\n" + "".join(f'{{ name = "{name("r", r)}", kind = {kinds[r % 4]} }},\n' for r in range(64)) + "]\n"
-    text += "source = [\n" + "".join(f'{{ name = "{name("s", k)}", period = 1000000000, jitter = 1000000000, distance = 1000000 }},\n' for k in range(128)) + "]\n"
+    kinds = [
+        '"preemptive", limit = 10000000',
+        '"round-robin", limit = 10000000',
+        '"tdma", gap = 1000000',
+        '"can", bit = 1000',
+    ]
+    text += (
+        "resource = [\n"
+        + "".join(f'{{ name = "{name("r", r)}", kind = {kinds[r % 4]} }},\n' for r in range(64))
+        + "]\n"
+    )
+    text += (
+        "source = [\n"
+        + "".join(
+            f'{{ name = "{name("s", k)}", period = 1000000000, jitter = 1000000000, distance = 1000000 }},\n'
+            for k in range(128)
+        )
+        + "]\n"
+    )
     text += "task = [\n"
     for i in range(512):
         after = name("t", i - 1) if i % 32 else name("s", i // 32)
         kind = i % 64 % 4
         turn = f"slot = {1 + i}" if kind in (1, 2) else f"priority = {i}"
-        text += f'{{ name = "{name("t", i)}", on = "{name("r", i % 64)}", after = "{after}", best = 1, worst = 1000000, {turn} }},\n'
+        text += (
+            f'{{ name = "{name("t", i)}", on = "{name("r", i % 64)}", after = "{after}", best = 1,'
+            f" worst = 1000000, {turn} }},\n"
+        )
     text += "]\npath = [\n"
     for k in range(128):
         begin = 32 * (k % chains)

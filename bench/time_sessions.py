@@ -7,8 +7,8 @@ Prints a line a case, from the least time of 5 to 200 calls: the peak memory, th
   resources, and 100 reports;
 - one of 64: 512 tasks on 64 processors, 63 of which depend on each other by chains; edits of the last one. What an edit
   costs is the difference between a session of 1,000 edits and one of none, divided by them; what an analysis costs is a
-  session of none less a call that refuses the same file with a fault at its end: so the making of the system and one report
-  count with the analysis.
+  session of none less a call that refuses the same file with a fault at its end: so the making of the system and one
+  report count with the analysis.
 
     python3 bench/time_sessions.py
 """
@@ -40,9 +40,14 @@ def largest(worst):
     text += [f'[[source]]\nname = "s{k}"\nperiod = {9973 + 2 * k}' for k in range(128)]
     for i in range(504):
         after = f"t{i - 1}" if i % 32 else f"s{i // 32}"
-        text.append(f'[[task]]\nname = "t{i}"\non = "r{i % 63}"\nafter = "{after}"\nbest = 1\nworst = {worst}\npriority = {i // 63}')
+        text.append(
+            f'[[task]]\nname = "t{i}"\non = "r{i % 63}"\nafter = "{after}"\nbest = 1\nworst = {worst}\n'
+            f"priority = {i // 63}"
+        )
     for i in range(8):
-        text.append(f'[[task]]\nname = "u{i}"\non = "r63"\nafter = "s{100 + i}"\nbest = 1\nworst = {worst}\npriority = {i}')
+        text.append(
+            f'[[task]]\nname = "u{i}"\non = "r63"\nafter = "s{100 + i}"\nbest = 1\nworst = {worst}\npriority = {i}'
+        )
     return "\n".join(text) + "\n"
 
 
@@ -59,8 +64,11 @@ def main():
     rows = "\n".join(f"exec u1 1 {299 - k % 2}" for k in range(EDITS)) + "\n"
     many, _, _ = timed(system, rows, 20)
     analysis, edit = none - reading, (many - none) / EDITS
-    print(f"one of 64    fresh call {none * 1e3:.1f} ms, of it analysis {analysis * 1e3:.1f} ms; edit {edit * 1e3:.3f} ms, "
-          f"which is 1/{none / edit:.0f} of the call and 1/{analysis / edit:.0f} of the analysis  {last}")
+    print(
+        f"one of 64    fresh call {none * 1e3:.1f} ms, of it analysis {analysis * 1e3:.1f} ms; "
+        f"edit {edit * 1e3:.3f} ms, "
+        f"which is 1/{none / edit:.0f} of the call and 1/{analysis / edit:.0f} of the analysis  {last}"
+    )
 
 
 if __name__ == "__main__":

@@ -1,29 +1,31 @@
 #!/usr/bin/env python3
-"""Measures how long `simulate`, `buffers`, `audit` and `schedule` take from their files to the text, and how much memory.
+"""Measures how long `simulate`, `buffers`, `audit` and `schedule` take from their files to the text, and how much
+memory.
 
 Makes traces as text and prints a line a case: the least time of some calls, the peak memory, the last line.
 
-- chain: 200,000 events of one source through a chain of ten tasks over eight resources of all kinds, which are 2,000,000
-  jobs and end at the horizon or before;
+- chain: 200,000 events of one source through a chain of ten tasks over eight resources of all kinds, which are
+  2,000,000 jobs and end at the horizon or before;
 - far event and near events: a TDMA resource with two events, 10,000,000 ticks apart, and with two that are near; their
   times differ by what the reading of a few bytes takes, as no step is made for a tick in which nothing changes;
 - burst: 3,900 events of one source at once, which 512 tasks of one processor follow: 1,996,800 jobs that all wait;
 - car network: the network of a car with all its sources at their periods, over 1,000,000 ticks.
 
-Each case goes to `simulate` and to `buffers`; the chain also to `audit`, with the first 200,000 segments of its run as the
-schedule, as many as one may have, and with one of which the first is wrong. So that it is seen what an audit takes beside its
-trace and its schedule, chains of ten tasks and of one and the burst go to it with an empty schedule.
+Each case goes to `simulate` and to `buffers`; the chain also to `audit`, with the first 200,000 segments of its run as
+the schedule, as many as one may have, and with one of which the first is wrong. So that it is seen what an audit takes
+beside its trace and its schedule, chains of ten tasks and of one and the burst go to it with an empty schedule.
 
-The chain goes to `schedule` too, and so do (apart) tasks on 2, 8, 32 and 64 processors that have nothing to do with each other: its
-time grows with the number of resources. These lines tell the seconds of a processor that one call takes.
+The chain goes to `schedule` too, and so do (apart) tasks on 2, 8, 32 and 64 processors that have nothing to do with
+each other: its time grows with the number of resources. These lines tell the seconds of a processor that one call
+takes.
 
     python3 bench/time_simulate.py [NAME ..]
 """
 import os
 import tomllib
 
-from timing import NEEDS_PROGRAMS, TOP, built, least_over, names_of, spent_over
 from check_runs import Run
+from timing import NEEDS_PROGRAMS, TOP, built, least_over, names_of, spent_over
 
 PROGRAM = os.path.join(TOP, "crates/cpa_cli/out/cpa_cli")
 SCHEDULE = built("cpa_schedule")
@@ -78,7 +80,8 @@ def burst():
 
 
 def apart(resources):
-    """Five tasks, one after the other, on each of so many processors: some 950,000 jobs, which don't wait for other processors."""
+    """Five tasks, one after the other, on each of so many processors: some 950,000 jobs, which don't wait for other
+    processors."""
     text = ["format = 1", "resource = ["]
     text += [f'{{ name = "r{r}", kind = "preemptive" }},' for r in range(resources)]
     text += ["]", "source = ["]
@@ -87,7 +90,10 @@ def apart(resources):
     for r in range(resources):
         for k in range(5):
             after = f"t{r}_{k - 1}" if k else f"s{r}"
-            text.append(f'{{ name = "t{r}_{k}", on = "r{r}", after = "{after}", best = 1, worst = {1 + r % 3}, priority = {k} }},')
+            text.append(
+                f'{{ name = "t{r}_{k}", on = "r{r}", after = "{after}", best = 1, worst = {1 + r % 3},'
+                f" priority = {k} }},"
+            )
     rows = [f"event,s{r},{50 * n + r % 7}\n" for r in range(resources) for n in range(190_000 // resources)]
     return "\n".join(text) + "\n]\n", "".join(rows)
 

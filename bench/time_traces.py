@@ -4,7 +4,8 @@
 Makes a system of 512 tasks after 128 sources, all with names of 64 bytes, and traces over it: one of 16,777,216 bytes
 with 200,000 rows, which names all sources and tasks, one of 16,777,216 bytes in one row, and traces with up to 200,000
 events of one source, of which one breaks the rule at the last two events alone. `cpa_bench traces` loads each alone,
-reads it, and judges it once or a hundred times. Prints a line a file and way: the least time of five calls, and the peak memory of a call.
+reads it, and judges it once or a hundred times. Prints a line a file and way: the least time of five calls, and the
+peak memory of a call.
 
     python3 bench/time_traces.py [FOLDER for the files]
 """
@@ -28,7 +29,8 @@ def system():
     lines += [f'[[source]]\nname = "{name("s", k)}"\nperiod = 1\njitter = 1000000000' for k in range(SOURCES - 1)]
     lines += [f'[[source]]\nname = "{name("s", SOURCES - 1)}"\nperiod = 50\njitter = 1000\ndistance = 4']
     lines += [
-        f'[[task]]\nname = "{name("t", i)}"\non = "{name("r", i % 64)}"\nafter = "{name("s", i % SOURCES)}"\nbest = 1\nworst = 9\npriority = {i}'
+        f'[[task]]\nname = "{name("t", i)}"\non = "{name("r", i % 64)}"\nafter = "{name("s", i % SOURCES)}"\n'
+        f"best = 1\nworst = 9\npriority = {i}"
         for i in range(TASKS)
     ]
     return "\n".join(lines) + "\n"

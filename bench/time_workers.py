@@ -1,12 +1,11 @@
 #!/usr/bin/env python3
 """Measures how long the search for the least solution takes by so many workers, and how long a shared board takes.
 
-Takes the systems of time_analyse.py that settle soon, and more of 64 processors with 512 tasks in cycles, which leave so many
-of 1000 ticks to spare: with one to spare the least urgent tasks have busy windows of thousands of jobs. `cpa_bench searches`
-reads each once, and searches by one thread without
-a board, and by 1, 2 and 4 workers. Prints a line a system: the least microseconds of a search of many, taken in turns, and
-how many times as fast two workers are as one. The last line is the least time in which a board of 512 words opens, has
-64 seats and closes.
+Takes the systems of time_analyse.py that settle soon, and more of 64 processors with 512 tasks in cycles, which leave
+so many of 1000 ticks to spare: with one to spare the least urgent tasks have busy windows of thousands of jobs.
+`cpa_bench searches` reads each once, and searches by one thread without a board, and by 1, 2 and 4 workers. Prints a
+line a system: the least microseconds of a search of many, taken in turns, and how many times as fast two workers are as
+one. The last line is the least time in which a board of 512 words opens, has 64 seats and closes.
 
     python3 bench/time_workers.py [NAME ..]
     python3 bench/time_workers.py count [NAME ..]
@@ -38,7 +37,10 @@ def heavy(spare):
         for k in range(8):
             after = f"t{c}.{k - 1}" if k else f"s{c}"
             worst = (1000 - spare - k + 7) // 8
-            text.append(f'{{ name = "t{c}.{k}", on = "r{place_in_cycles(c, k)}", after = "{after}", best = 60, worst = {worst}, priority = {64 * k + c} }},')
+            text.append(
+                f'{{ name = "t{c}.{k}", on = "r{place_in_cycles(c, k)}", after = "{after}", best = 60, worst = {worst},'
+                f" priority = {64 * k + c} }},"
+            )
     return "\n".join(text + ["]"]) + "\n"
 
 
@@ -51,7 +53,9 @@ def made():
 
 def least(workers, times, path):
     """The least nanoseconds of a search."""
-    done = subprocess.run([PROGRAM, "searches", str(times), str(workers), *path], capture_output=True, text=True, check=True)
+    done = subprocess.run(
+        [PROGRAM, "searches", str(times), str(workers), *path], capture_output=True, text=True, check=True
+    )
     words = done.stdout.split()
     assert words[1] == "true", done.stdout
     return int(words[3])
@@ -113,11 +117,17 @@ def main():
             with open(path, "w") as file:
                 file.write(make())
             if counting:
-                print(f"{name}: " + ", ".join(f"{number / 1e6:.3f}" for number in count_search(path, folder)), flush=True)
+                print(
+                    f"{name}: " + ", ".join(f"{number / 1e6:.3f}" for number in count_search(path, folder)), flush=True
+                )
                 continue
             found = time_search(path)
-            print(f"{name}: " + ", ".join(f"{workers} workers {found[workers] / 1000:.0f}" for workers in WORKERS)
-                  + f"; 1 of none {found[1] / found[0]:.2f}, 2 as fast as 1 {found[1] / found[2]:.2f}", flush=True)
+            print(
+                f"{name}: "
+                + ", ".join(f"{workers} workers {found[workers] / 1000:.0f}" for workers in WORKERS)
+                + f"; 1 of none {found[1] / found[0]:.2f}, 2 as fast as 1 {found[1] / found[2]:.2f}",
+                flush=True,
+            )
     if not counting:
         print(f"board: {least(0, 1000, []) / 1000:.1f} microseconds")
 

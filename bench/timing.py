@@ -1,4 +1,5 @@
-"""Calls of programs, timed: shared by the scripts of this folder. What they share with those of tests/ is found from here too."""
+"""Calls of programs, timed: shared by the scripts of this folder. What they share with those of tests/ is found from
+here too."""
 
 import contextlib
 import os
@@ -11,7 +12,7 @@ from collections.abc import Iterator, Sequence
 
 sys.path.append(os.path.join(os.path.dirname(os.path.dirname(os.path.abspath(__file__))), "tests"))
 
-from calls import NEEDS_PROGRAM, NEEDS_PROGRAMS, TOP, built, reader_of, tool  # noqa: E402
+from calls import NEEDS_PROGRAM, NEEDS_PROGRAMS, TOP, built, reader_of, tool, written  # noqa: E402
 
 __all__ = [
     "NEEDS_PROGRAM",
@@ -28,6 +29,7 @@ __all__ = [
     "spent",
     "spent_over",
     "tool",
+    "written",
 ]
 NEEDS_BENCH = "the program cpa_bench, which is built where it isn't there"
 
@@ -58,7 +60,8 @@ def call(command: Sequence[str]) -> tuple[float, str, str]:
 
 
 def spent(command: Sequence[str]) -> tuple[float, float, float, str]:
-    """Seconds of processors and of the clock that a call takes, its peak memory in megabytes, and the last line that it writes."""
+    """Seconds of processors and of the clock that a call takes, its peak memory in megabytes, and the last line that it
+    writes."""
     done = subprocess.run(["/usr/bin/time", "-f", "%U %S %e %M", *command], capture_output=True, text=True, check=False)
     user, system, clock, peak = map(float, done.stderr.split()[-4:])
     lines = done.stdout.splitlines() or [""]
@@ -95,7 +98,8 @@ def files_of(texts: Sequence[str]) -> Iterator[list[str]]:
 
 
 def least_over(call: Sequence[str], texts: Sequence[str], calls: int) -> tuple[float, float, str]:
-    """What `least` tells of a program, with the words before its files if there are any, over files with these texts."""
+    """What `least` tells of a program, with the words before its files if there are any, over files with these
+    texts."""
     with files_of(texts) as files:
         return least([*call, *files], calls)
 

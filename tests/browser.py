@@ -1,4 +1,5 @@
-"""Headless Chromium by Selenium, for the scripts of this folder that look at pages: what they ask of it, in few words."""
+"""Headless Chromium by Selenium, for the scripts of this folder that look at pages: what they ask of it, in few
+words."""
 from __future__ import annotations
 
 import base64
@@ -72,7 +73,9 @@ class Browser:
         self.complaints()
         wanted = Path(file).absolute().as_uri()
         self.driver.get(wanted)
-        WebDriverWait(self.driver, PATIENCE).until(lambda it: it.execute_script("return document.readyState") == "complete")
+        WebDriverWait(self.driver, PATIENCE).until(
+            lambda it: it.execute_script("return document.readyState") == "complete"
+        )
 
     def run(self, text: str) -> Any:
         """The value of a text of JavaScript."""
@@ -88,9 +91,7 @@ class Browser:
         ActionChains(self.driver, duration=0).move_to_element(element).click().perform()
 
     def size(self, width: int, height: int = 900) -> None:
-        self.ask(
-            "Emulation.setDeviceMetricsOverride", width=width, height=height, deviceScaleFactor=1, mobile=False
-        )
+        self.ask("Emulation.setDeviceMetricsOverride", width=width, height=height, deviceScaleFactor=1, mobile=False)
 
     def look(self, scheme: str, media: str = "") -> None:
         features = [{"name": "prefers-color-scheme", "value": scheme}]
@@ -109,7 +110,8 @@ class Browser:
         return base64.b64decode(self.ask("Page.printToPDF", printBackground=True, preferCSSPageSize=True)["data"])
 
     def complaints(self) -> list[str]:
-        """Errors of the console and of scripts since the page was opened, and whatever is asked for beside the page itself."""
+        """Errors of the console and of scripts since the page was opened, and whatever is asked for beside the page
+        itself."""
         found = [it["message"] for it in self.driver.get_log("browser") if it["level"] in ("WARNING", "SEVERE")]
         for entry in self.driver.get_log("performance"):
             it = json.loads(entry["message"])["message"]

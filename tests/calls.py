@@ -1,4 +1,5 @@
-"""Calls of programs and tools, what is tried, and words: shared by the scripts of this folder, and by those of bench/."""
+"""Calls of programs and tools, what is tried, and words: shared by the scripts of this folder, and by those of
+bench/."""
 import argparse
 import glob
 import os
@@ -109,8 +110,8 @@ def tool(name: str, python: str = sys.executable) -> list[str]:
 def run(
     name: str, *words: object, python: str = sys.executable, given: str | None = None, env: dict[str, str] | None = None
 ) -> subprocess.CompletedProcess[str]:
-    """A call of such a command: its status, and what it writes on both streams. `given` is its standard input, and `env`
-    is added to the environment."""
+    """A call of such a command: its status, and what it writes on both streams. `given` is its standard input, and
+    `env` is added to the environment."""
     return subprocess.run(
         [*tool(name, python), *map(str, words)],
         input=given,

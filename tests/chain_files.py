@@ -101,4 +101,4 @@ def edited(draw, text, kind):
         old, several = EDITS[kind]
         return text.replace(old, draw.choice(several), 1)
     place = draw.randrange(len(text))
-    return text[:place] + draw.choice(("", "]", "}", '"', ",")) + text[place + 1:]
+    return text[:place] + draw.choice(("", "]", "}", '"', ",")) + text[place + 1 :]

@@ -1,5 +1,6 @@
 #!/usr/bin/env python3
-"""Tries what the Python tools tell and draw of chains that read registers. Outside the gate; needs matplotlib, and no network.
+"""Tries what the Python tools tell and draw of chains that read registers. Outside the gate; needs matplotlib, and no
+network.
 
 `lokwurmi` is a stand-in by the plain rules of effect_rules.py and check_runs.py, so that nothing is built. What
 `lokwurmi effects` tells of runs of a small system must be what the rules see of them, by each rule of reading; where a
@@ -17,16 +18,15 @@ import sys
 import tempfile
 import tomllib
 
+import effect_rules
 from calls import TOP, hold, python_with, reader_of, run, tell, written
+from check_reports import activators_of
+from check_runs import replayed, system_in
+from check_runs import trace_in as plain_trace
+
+from lokwurmi_tools.seen import READINGS
 
 os.chdir(TOP)
-import effect_rules
-from check_runs import replayed
-from lokwurmi_tools.runs import read_trace
-from lokwurmi_tools.seen import READINGS, gaps_in
-from lokwurmi_tools.accepted import read_system
-from lokwurmi_tools.system import activators
-
 ENDS = (".toml", ".chains.toml", ".schedule.csv", ".trace.csv")
 FILE, CHAINS, SCHEDULE, TRACE = (f"examples/camera_brake{end}" for end in ENDS)
 # a system whose runs are short enough to be followed tick by tick, and its chains that are tried
@@ -38,7 +38,7 @@ PYTHON = python_with("matplotlib") or sys.exit("check_chain_tools.py: the packag
 def stand_in(command, *words):
     """What the program would write, by the plain rules."""
     if command == "schedule":
-        run = replayed(read_system(words[0]), read_trace(words[1]))
+        run = replayed(*words)
         return "".join(f"{task},{start},{end}\n" for task, start, end in run.segments), 0
     with open(words[0], encoding="utf-8") as it:
         bounds = effect_rules.Bounds(it.read())
@@ -65,7 +65,7 @@ def check_told(program, trace, tasks):
     """The table of effects: the numbers by each rule of reading, and the bounds."""
     done = called("effects", SMALL, trace, *tasks, "--program", program)
     hold(done.returncode == 0 and "all sources stay near" in done.stdout, f"effects {tasks}: {done.stderr}")
-    seen = replayed(read_system(SMALL), read_trace(trace))
+    seen = replayed(SMALL, trace)
     for reading, words in READINGS.items():
         most = effect_rules.Observed(seen.system, seen, reading).greatest(tasks)[0]
         row = re.search(rf"^  jobs read {words}  +(\d+) \S+ +(\d+) \S+ +(\d+) \S+$", done.stdout, re.M)
@@ -97,12 +97,12 @@ def check_effects(room, program):
 def check_pictures(room, program):
     with open(CHAINS, "rb") as it:
         chains = tomllib.load(it)["chain"]
-    after = {it["name"]: activators(it) for it in read_system(FILE)["task"]}
+    after = {it["name"]: activators_of(it) for it in system_in(FILE)["task"]}
     steps = {step for it in chains for step in zip(it["tasks"], it["tasks"][1:]) if step[0] not in after[step[1]]}
     text = called("graph", "--registers", CHAINS, FILE).stdout
     hold(set(re.findall(r'"task (\S+)" -> "task (\S+)" \[style = "dotted"', text)) == steps, "graph --registers")
     picture, trace = os.path.join(room, "chain.svg"), trace_in(room)
-    seen = replayed(read_system(SMALL), read_trace(trace))
+    seen = replayed(SMALL, trace)
     for reading, words in READINGS.items():
         asked = ["--chain", ",".join(SMALL_CHAINS[0]), "--reading", reading, "--program", program, "--to", picture]
         done = called("gantt", SMALL, "--trace", trace, *asked)
@@ -120,14 +120,16 @@ def check_pictures(room, program):
 def check_worst(room, program):
     trace, tasks = os.path.join(room, "late.csv"), SMALL_CHAINS[0]
     words = [SMALL, "--chain", ",".join(tasks), "--tries", "30", "--to", trace, "--program", program]
-    system = read_system(words[0])
+    sources = system_in(SMALL)["source"]
     for what in effect_rules.ASKED:
         done = called("worst", *words, "--what", what)
-        seen = replayed(system, read_trace(trace))
+        seen = replayed(SMALL, trace)
         most = effect_rules.Observed(seen.system, seen, "whenever").greatest(tasks)[0][what]
         told = f" {what} seen {most} bound " in done.stdout
         hold(told, f"worst --what {what}: {done.stdout}{done.stderr}, in the trace {most}")
-        hold(gaps_in(system, read_trace(trace)[0]) == [], f"worst --what {what}: a source doesn't stay near")
+        events = plain_trace(trace)[0]
+        near = all(effect_rules.stays_near(it, events.get(it["name"], [])) for it in sources)
+        hold(near, f"worst --what {what}: a source doesn't stay near")
 
 
 def check_refused(room, program):

@@ -1,17 +1,17 @@
 #!/usr/bin/env python3
-"""Tries what the pages show: each call of ./lokwurmi with its output, each system that docs/FILES.md
-shows as refused, and each edit that it shows as refused. docs/TUTORIAL.md is followed from its first line to its last: the files that it has a
-reader write are written, added to and changed, and each call is made with the files as they are by then; at its end they are
-those of examples/. Each call of a Python command in a block of a page, that writes a picture or a page of docs/, is made once
-more, and must write what stands there: the same tables, and pictures that say the same. The tables of docs/TIGHTNESS.md are
-worked out from the traces of examples/worst/, which are replayed; those of chains must have sources that stay near. Outside
-the gate.
+"""Tries what the pages show: each call of ./lokwurmi with its output, each system that docs/FILES.md shows as refused,
+and each edit that it shows as refused. docs/TUTORIAL.md is followed from its first line to its last: the files that it
+has a reader write are written, added to and changed, and each call is made with the files as they are by then; at its
+end they are those of examples/. Each call of a Python command in a block of a page, that writes a picture or a page of
+docs/, is made once more, and must write what stands there: the same tables, and pictures that say the same. The tables
+of docs/TIGHTNESS.md are worked out from the traces of examples/worst/, which are replayed; those of chains must have
+sources that stay near. Outside the gate.
 
-Of docs/TUTORIAL.md, and of the sections that tell of examples with several activators, the figures in the text are held too:
-each number above 10 stands in a block or a table of its section of the page, in the files of those examples, or in what
-docs/FILES.md says of keys, or is told by a sum before it; what is summed up, or told in milliseconds, stands somewhere on the
-page; and each sum that ends with `=` and a number is right. The one stream of examples/gateway_one_stream.toml, and what
-docs/ANALYSIS.md says of it, are worked out again.
+Of docs/TUTORIAL.md, and of the sections that tell of examples with several activators, the figures in the text are held
+too: each number above 10 stands in a block or a table of its section of the page, in the files of those examples, or in
+what docs/FILES.md says of keys, or is told by a sum before it; what is summed up, or told in milliseconds, stands
+somewhere on the page; and each sum that ends with `=` and a number is right. The one stream of
+examples/gateway_one_stream.toml, and what docs/ANALYSIS.md says of it, are worked out again.
 
     python3 tests/check_docs.py
 """
@@ -24,10 +24,11 @@ import tempfile
 import tomllib
 
 from calls import TOP, example_systems, hold, python_with, run, tell, tool, without_progress, written
+
+from lokwurmi_tools.accepted import read_system
 from lokwurmi_tools.commands import command_of
 from lokwurmi_tools.runs import read_trace, schedule_in
 from lokwurmi_tools.seen import Run, gaps_in, seen_of
-from lokwurmi_tools.accepted import read_system
 
 os.chdir(TOP)
 # what is said beside the output of a call is tried by check_messages.py
@@ -92,7 +93,9 @@ def follow(page, text, room):
         elif how == "Add to":
             files[name] += "\n" + block
         elif how == "Change in":
-            old, new = ("".join(line[1:] for line in block.splitlines(True) if line[0] in kept) for kept in (" -", " +"))
+            old, new = (
+                "".join(line[1:] for line in block.splitlines(True) if line[0] in kept) for kept in (" -", " +")
+            )
             hold_same(f"{page}: how often what changes is there", files[name].count(old), 1)
             files[name] = files[name].replace(old, new)
         elif block.startswith("$ "):
@@ -107,11 +110,15 @@ def follow(page, text, room):
 
 def events(streams, window):
     """The most events that streams of a period, a jitter and a distance have together in a window."""
-    return sum(min(-(-(window + jitter) // period), -(-window // distance) if distance else window + jitter) for period, jitter, distance in streams)
+    return sum(
+        min(-(-(window + jitter) // period), -(-window // distance) if distance else window + jitter)
+        for period, jitter, distance in streams
+    )
 
 
 def least_jitter(period, streams):
-    """The least jitter with which one stream of a period, without a distance, has as many events in each window as some have."""
+    """The least jitter with which one stream of a period, without a distance, has as many events in each window as some
+    have."""
     # what comes after the longest jitter repeats itself with the periods, all of which divide 100000
     longest = max(jitter for _, jitter, _ in streams) + 200000
     return max((events(streams, window) - 1) * period + 1 - window for window in range(1, longest))
@@ -127,7 +134,8 @@ def check_streams(page, section, room):
     source = {it["name"]: it for it in tomllib.loads(read(files[1]))["source"]}
 
     def inputs(report):
-        # what comes out of a frame: jitter by what its response varies, and as far apart as its least execution or what is left of the distance
+        # what comes out of a frame: jitter by what its response varies, and as far apart as its least execution or what
+        # is left of the distance
         for line in map(str.split, report.splitlines()):
             if line[1] in ("wheel_frame", "button_frame"):
                 period, jitter, distance, best, worst = map(int, line[4::2])
@@ -148,7 +156,10 @@ def check_streams(page, section, room):
     jitter = least_jitter(both["period"], list(inputs(reports[0])))
     hold_same(f"{page}: the second jitter", edits[1:], [f"source both {both['period']} {jitter} 0"])
     relayed, forward, watch = ([bounds(report)[name] for report in reports] for name in ("relayed", "forward", "watch"))
-    text = f"`relayed` has the bound {relayed[0]} by two streams and {relayed[1]} by one; `forward` has {forward[0]} by both, and `watch` {watch[0]} and {watch[1]}."
+    text = (
+        f"`relayed` has the bound {relayed[0]} by two streams and {relayed[1]} by one; `forward` has {forward[0]} by"
+        f" both, and `watch` {watch[0]} and {watch[1]}."
+    )
     hold_same(f"{page}: with the edits", forward[0] == forward[1] and text in section, True)
 
 
@@ -159,7 +170,9 @@ def said(text):
     """What a picture or a page of HTML says: the words in its pictures, and all that is outside of them."""
     pictures = PICTURE.findall(text)
     words = [re.findall(r"<(?:text|title)\b[^>]*>([^<]*)<", it) for it in pictures]
-    return [] if len(pictures) == 1 and text.strip().endswith("</svg>") else PICTURE.sub("", text).splitlines(), [sorted(it) for it in words]
+    return [] if len(pictures) == 1 and text.strip().endswith("</svg>") else PICTURE.sub("", text).splitlines(), [
+        sorted(it) for it in words
+    ]
 
 
 def check_drawn(page, text, room, python):
@@ -174,28 +187,38 @@ def check_drawn(page, text, room, python):
             hold_same(f"{page}: {line}", without_progress(done.stderr), "")
             if not done.returncode:
                 for wrote, told in zip(said(read(drawn)), said(read(words[-1]))):
-                    hold_same(f"{page}: {words[-1]}", [it for it in wrote if it not in told], [it for it in told if it not in wrote])
+                    hold_same(
+                        f"{page}: {words[-1]}",
+                        [it for it in wrote if it not in told],
+                        [it for it in told if it not in wrote],
+                    )
                     hold_same(f"{page}: {words[-1]}", wrote == told, True)
 
 
 def check_called(page, text, python):
-    """The calls of Python commands in the blocks of a page, of which several may stand in one, and what they tell: only its
-    beginning where the page goes on with "and so on"."""
+    """The calls of Python commands in the blocks of a page, of which several may stand in one, and what they tell: only
+    its beginning where the page goes on with "and so on"."""
     for block, cut in re.findall(r"^```\n(\$ \./lokwurmi (?:(?!```).*\n)*)```(\n\nand so on)?", text, re.M):
         for part in re.split(r"^\$ \./lokwurmi ", block, flags=re.M)[1:]:
             words, told = part.split("\n", 1)
             if not command_of(shlex.split(words)):
                 continue
-            done = subprocess.run([*tool("", python), *shlex.split(words)], stdout=subprocess.PIPE, text=True, check=False)
+            done = subprocess.run(
+                [*tool("", python), *shlex.split(words)], stdout=subprocess.PIPE, text=True, check=False
+            )
             hold_same(f"{page}: {words}", done.stdout[: len(told)] if cut else done.stdout, told)
 
 
 def check_scripts(page, text, python):
-    """The calls of scripts of examples/python and of the Python package in the blocks of a page, and what they write. What
-    the pages' own scripts print is held by the tests of python/tests."""
-    for words, told in re.findall(r"^```\n\$ python3 ((?:examples/python/|-m lokwurmi ).*)\n((?:(?!```).*\n)*)```", text, re.M):
+    """The calls of scripts of examples/python and of the Python package in the blocks of a page, and what they write.
+    What the pages' own scripts print is held by the tests of python/tests."""
+    for words, told in re.findall(
+        r"^```\n\$ python3 ((?:examples/python/|-m lokwurmi ).*)\n((?:(?!```).*\n)*)```", text, re.M
+    ):
         environment = os.environ | {"PYTHONPATH": os.path.join(TOP, "python", "src")}
-        done = subprocess.run([python, *shlex.split(words)], stdout=subprocess.PIPE, text=True, check=False, env=environment)
+        done = subprocess.run(
+            [python, *shlex.split(words)], stdout=subprocess.PIPE, text=True, check=False, env=environment
+        )
         hold_same(f"{page}: {words}", done.stdout, told)
 
 
@@ -203,14 +226,17 @@ def latest(name):
     """Of an example the bounds that are numbers, and the latest that its traces in examples/worst/ show."""
     found = {}
     for trace in glob.glob(f"examples/worst/{name}.worst*.csv"):
-        for kind, what, worst in re.findall(r"^(task|path) (\S+) .*worst (\d+)$", call("simulate", f"examples/{name}.toml", trace), re.M):
+        for kind, what, worst in re.findall(
+            r"^(task|path) (\S+) .*worst (\d+)$", call("simulate", f"examples/{name}.toml", trace), re.M
+        ):
             found[kind, what] = max(found.get((kind, what), 0), int(worst))
     report = re.findall(r"^(task|path) (\S+) .*?worst (\d+)\b", call("analyse", f"examples/{name}.toml"), re.M)
     return [(kind, what, int(bound), found.get((kind, what), 0)) for kind, what, bound in report]
 
 
 def latest_of_chain(name, tasks, what):
-    """The bound of a chain of an example, and the latest that its traces in examples/worst/ show, all of whose sources stay near."""
+    """The bound of a chain of an example, and the latest that its traces in examples/worst/ show, all of whose sources
+    stay near."""
     file, seen = f"examples/{name}.toml", 0
     system = read_system(file)
     for trace in sorted(glob.glob(f"examples/worst/{name}.chain*.csv")):
@@ -235,15 +261,35 @@ def check_tightness(page, text):
         for name in names.split(", "):
             told |= {(name, *it[:2]): it[2:] for it in latest(name)}
             every += [it[2:] for it in latest(name)]
-        hold_same(f"{page}: {names}", [str(len(every)), str(sum(seen == bound for bound, seen in every)), min(ratio_of(seen, bound) for bound, seen in every)], numbers)
+        hold_same(
+            f"{page}: {names}",
+            [
+                str(len(every)),
+                str(sum(seen == bound for bound, seen in every)),
+                min(ratio_of(seen, bound) for bound, seen in every),
+            ],
+            numbers,
+        )
         rest = re.search(rf"^\| {names} \|.*$", text, re.M)[0]
         for kind, what, seen, bound in re.findall(r"(task|path) `(\w+)`: (\d+) of (\d+)", rest):
             hold_same(f"{page}: {names}, {kind} {what}", told.get((names, kind, what)), (int(bound), int(seen)))
-    for name, kind, what, bound, seen, ratio in re.findall(r"^\| (\w+) \| (task|path) `([\w.]+)` \| (\d+) \| (\d+) \| (\S+) \|", text, re.M):
-        hold_same(f"{page}: {name}, {kind} {what}", [told.get((name, kind, what)), ratio_of(int(seen), int(bound))], [(int(bound), int(seen)), ratio])
-    for name, chain, what, bound, seen, ratio in re.findall(r"^\| (\w+) \| chain `([\w, ]+)`, (\w+) \| (\d+) \| (\d+) \| (\S+) \|", text, re.M):
+    for name, kind, what, bound, seen, ratio in re.findall(
+        r"^\| (\w+) \| (task|path) `([\w.]+)` \| (\d+) \| (\d+) \| (\S+) \|", text, re.M
+    ):
+        hold_same(
+            f"{page}: {name}, {kind} {what}",
+            [told.get((name, kind, what)), ratio_of(int(seen), int(bound))],
+            [(int(bound), int(seen)), ratio],
+        )
+    for name, chain, what, bound, seen, ratio in re.findall(
+        r"^\| (\w+) \| chain `([\w, ]+)`, (\w+) \| (\d+) \| (\d+) \| (\S+) \|", text, re.M
+    ):
         found = latest_of_chain(name, chain.split(", "), what)
-        hold_same(f"{page}: {name}, {what} of {chain}", [found, ratio_of(int(seen), int(bound))], [(int(bound), int(seen)), ratio])
+        hold_same(
+            f"{page}: {name}, {what} of {chain}",
+            [found, ratio_of(int(seen), int(bound))],
+            [(int(bound), int(seen)), ratio],
+        )
     # each example is in a row
     rows = {name for names in re.findall(r"^\| ([a-z_, ]+) \| \d+ \|", text, re.M) for name in names.split(", ")}
     hold_same(f"{page}: its examples", sorted(rows), sorted(os.path.basename(it)[:-5] for it in example_systems()))
@@ -264,10 +310,18 @@ with tempfile.TemporaryDirectory() as room:
     for system, told in re.findall(r"```toml\n((?:(?!```).*\n)*)```\n\n`(system refused .*?)`", page):
         hold_same(f"docs/FILES.md: {told}", call("analyse", written(room, "file", system)), told + "\n")
     # the table's edits are of the system of two tasks, with a round robin resource beside
-    system = read("examples/two_tasks.toml").replace('kind = "preemptive" }]', 'kind = "preemptive" }, { name = "ring", kind = "round-robin" }]')
-    for number, examples in re.findall(r"^\| (\d) \| [^|]* \| (`.*`) \| [^|]* \|$", page.split("### Edits that are refused")[1], re.M):
+    system = read("examples/two_tasks.toml").replace(
+        'kind = "preemptive" }]', 'kind = "preemptive" }, { name = "ring", kind = "round-robin" }]'
+    )
+    for number, examples in re.findall(
+        r"^\| (\d) \| [^|]* \| (`.*`) \| [^|]* \|$", page.split("### Edits that are refused")[1], re.M
+    ):
         # the last of `one` after `other` comes first
-        for example in [re.findall(r"`(.*?)`", examples)[::-1]] if "after" in examples else [[it] for it in re.findall(r"`(.*?)`", examples)]:
+        for example in (
+            [re.findall(r"`(.*?)`", examples)[::-1]]
+            if "after" in examples
+            else [[it] for it in re.findall(r"`(.*?)`", examples)]
+        ):
             script = written(room, "script", "\n".join(example))
             line = call("session", written(room, "file", system), script).split("\n")[0]
             hold_same(f"docs/FILES.md: {example}", line, f"line {len(example)} refused {number}")
@@ -277,7 +331,9 @@ with tempfile.TemporaryDirectory() as room:
     files = follow("docs/TUTORIAL.md", page, room)
     for name, kept in (("run.csv", "pedal.trace.csv"), ("schedule.csv", "pedal.schedule.csv")):
         hold_same(f"docs/TUTORIAL.md: {name}", files[name], read(f"examples/{kept}"))
-    hold_same("docs/TUTORIAL.md: pedal.toml", tomllib.loads(files["pedal.toml"]), tomllib.loads(read("examples/pedal.toml")))
+    hold_same(
+        "docs/TUTORIAL.md: pedal.toml", tomllib.loads(files["pedal.toml"]), tomllib.loads(read("examples/pedal.toml"))
+    )
     keys = read("docs/FILES.md").split("## The system")[1].split("### Several activators")[0]
     told, wide = numbers(keys), numbers(keys) | shown(page)
     # a heading begins with the number of its step
@@ -286,7 +342,11 @@ with tempfile.TemporaryDirectory() as room:
 section = {}
 for page, title in (("examples/README.md", "## Several activators"), ("docs/ANALYSIS.md", "## Several streams")):
     section[page] = read(page).split(title + "\n")[1].split("\n## ")[0]
-    known = [read(file) for name in ("gateway", "gateway_one_stream", "sensor_fusion") for file in glob.glob(f"examples/{name}.*")]
+    known = [
+        read(file)
+        for name in ("gateway", "gateway_one_stream", "sensor_fusion")
+        for file in glob.glob(f"examples/{name}.*")
+    ]
     known += [read("bench/RESULTS.md").split("### Several activators\n")[1].split("\n## ")[0]]
     known = shown(section[page]).union(*map(numbers, known), *(re.findall(r"\d+", text) for text in known))
     # what comes of two edits is held below

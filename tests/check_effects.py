@@ -5,8 +5,8 @@ Random small systems of all four kinds and both formats get random traces that o
 stay near: any two are at most as far apart as its period and jitter say. A chain is a list of tasks, mostly none of
 which starts the next. Of each run the greatest reaction, latency, age and time for which data is held are found over
 ALL reading times of its jobs, and none may be beyond the bound; for jobs that read in ticks in which they run, none
-beyond those of --while-running. So are those of jobs that read at their arrival, start or end, where lokwurmi_tools/seen.py must
-find the same as the plain rules here do. How many are the bound to the tick is counted.
+beyond those of --while-running. So are those of jobs that read at their arrival, start or end, where
+lokwurmi_tools/seen.py must find the same as the plain rules here do. How many are the bound to the tick is counted.
 
 Text and status of the program must be those of the rules, for chains and for files of chains with deadlines and
 without, and each fault of words and files must be refused. With --no-program the rules alone are held against runs, and
@@ -207,7 +207,9 @@ def check_system(draw, traces, programs, tally):
 
 def asked_for():
     reader = argparse.ArgumentParser(description=__doc__, formatter_class=argparse.RawDescriptionHelpFormatter)
-    reader.add_argument("--no-program", action="store_true", help="only the rules against runs, and lokwurmi_tools/seen.py")
+    reader.add_argument(
+        "--no-program", action="store_true", help="only the rules against runs, and lokwurmi_tools/seen.py"
+    )
     reader.add_argument("--systems", type=int, default=500, help="how many systems (500)")
     reader.add_argument("--traces", type=int, default=3, help="how many traces of each (3)")
     reader.add_argument("--seed", type=int, default=1, help="another number makes other systems (1)")

@@ -1,15 +1,17 @@
 #!/usr/bin/env python3
-"""Tries `lokwurmi explain` over random systems. Outside the gate; takes about a minute for 5,000 of them, and no network.
+"""Tries `lokwurmi explain` over random systems. Outside the gate; takes about a minute for 5,000 of them, and no
+network.
 
-The systems are those of check_reports.py: all four kinds, chains that come back, jitter, paths, and in every other one tasks
-with up to three activators. Of each task with a bound the parts, less when the job came, must be the bound that the
-proved program has written, and of each path its greatest time. Each part is worked out here once more, by the rules as
-check_reports.py has them: how many jobs of a rival come in the window, which frame blocks, how many turns and slots there
-are, and when the job came. That no job of the window answers later is told by the bound itself; that none before it is
-as late is tried on preemptive and TDMA resources. Of a task whose own busy window has no end the rival since which it
-hasn't is tried by the proved program: on a resource of its own, with the streams of the report as sources, the task has
-the bounds that are told with the rivals before that one, and none with it. What the program prints and draws of the
-examples is looked at, a report with another bound must be told as an error, and what isn't taken is refused in a line.
+The systems are those of check_reports.py: all four kinds, chains that come back, jitter, paths, and in every other one
+tasks with up to three activators. Of each task with a bound the parts, less when the job came, must be the bound that
+the proved program has written, and of each path its greatest time. Each part is worked out here once more, by the rules
+as check_reports.py has them: how many jobs of a rival come in the window, which frame blocks, how many turns and slots
+there are, and when the job came. That no job of the window answers later is told by the bound itself; that none before
+it is as late is tried on preemptive and TDMA resources. Of a task whose own busy window has no end the rival since
+which it hasn't is tried by the proved program: on a resource of its own, with the streams of the report as sources, the
+task has the bounds that are told with the rivals before that one, and none with it. What the program prints and draws
+of the examples is looked at, a report with another bound must be told as an error, and what isn't taken is refused in a
+line.
 
     python3 tests/check_explain.py [NUMBER of systems, 5000 if absent] [NUMBER to begin with, 0 if absent]
 """
@@ -24,7 +26,6 @@ import tempfile
 import check_reports as plain
 from calls import TOP, answer, built, example_systems, faults, hold, python_with, range_of, run, tell, written
 
-
 from lokwurmi_tools.explained import explained_by
 from lokwurmi_tools.part_texts import lines_of_path, lines_of_task
 from lokwurmi_tools.toml_text import toml_of
@@ -38,11 +39,23 @@ def mates_of(told, rules):
     return [it for it in rules.tasks if it != told["task"] and rules.tasks[it]["on"] == told["on"]]
 
 
+def blocked_by(told, rules):
+    """The tasks of lower priority that may hold up a task, and for how long: a frame on a bus, or a region after its
+    first tick."""
+    mates, mine = {it: rules.tasks[it] for it in mates_of(told, rules)}, rules.tasks[told["task"]].get("priority")
+    if told["kind"] not in ("preemptive", "can"):
+        return {}
+    lower = {it: task for it, task in mates.items() if task["priority"] > mine}
+    if told["kind"] == "can":
+        return {it: task["worst"] for it, task in lower.items()}
+    return {it: plain.stretch_of(task) - 1 for it, task in lower.items() if plain.stretch_of(task) > 1}
+
+
 def wanted_by_priority(told, rules, bounds, window):
-    """The frame that blocks, and the jobs of those that go before, the most urgent first."""
+    """What blocks, and the jobs of those that go before, the most urgent first."""
     is_bus, resource = told["kind"] == "can", rules.resources[told["on"]]
     mates, mine = {it: rules.tasks[it] for it in mates_of(told, rules)}, rules.tasks[told["task"]]["priority"]
-    lower = {it: task["worst"] for it, task in mates.items() if task["priority"] > mine} if is_bus else {}
+    lower = blocked_by(told, rules)
     longest = max(lower.values(), default=0)
     wanted = [("blocking", it, 1, longest) for it in lower if lower[it] == longest][:1]
     ahead = resource.get("bit", 1) if is_bus else 0
@@ -91,6 +104,9 @@ def check_parts(what, told, rules, bounds):
     same = [(it["kind"], it["of"], it["count"], it["each"]) for it in parts] == wanted
     hold(same, f"{what}: {parts}, and not {wanted}", "parts")
     hold(all(0 <= it["burst"] <= it["count"] for it in parts), f"{what}: {parts}", "parts")
+    under = {"can": "frame", "preemptive": "region"}
+    same = [it["under"] == (under[told["kind"]] if it["kind"] == "blocking" else "") for it in parts]
+    hold(all(same), f"{what}: {parts}", "parts")
     streams = told["streams"]
     same = [(it["period"], it["jitter"], it["distance"]) for it in streams] == model
     hold(same and [it["source"] for it in streams] == rules.sources_of(name), f"{what}: {streams}", "streams")
@@ -104,10 +120,11 @@ def is_first(told, rules, bounds):
     task, resource, model = rules.tasks[name], rules.resources[told["on"]], rules.input_of(name, bounds)
     mates = [it for it in rules.tasks if it != name and rules.tasks[it]["on"] == told["on"]]
     higher = [it for it in mates if kind == "preemptive" and rules.tasks[it]["priority"] < task["priority"]]
+    blocking = max(blocked_by(told, rules).values(), default=0)
     away = resource.get("gap", 0) + sum(rules.tasks[it]["slot"] for it in mates) if kind == "tdma" else 0
     for jobs in range(1, told["job"]["number"]):
         own = jobs * task["worst"]
-        fixed = own + (plain.ceiling(own, task["slot"]) * away if away else 0)
+        fixed = blocking + own + (plain.ceiling(own, task["slot"]) * away if away else 0)
         window = plain.least_window(lambda w: fixed + rules.work(higher, bounds, w), 0, told["job"]["done"])
         if window - plain.least_time(model, jobs) >= told["bound"]:
             return False
@@ -116,11 +133,11 @@ def is_first(told, rules, bounds):
 
 def alone(explained, name, rivals):
     """What the proved program says of a task with some rivals on a resource of its own, each after its streams as
-    sources. On a bus the frames below it block it still."""
+    sources. The frames or the regions below it block it still."""
     parts = explained.parts
     mine, is_bus = parts.tasks[name]["priority"], parts.kind(name) == "can"
-    lower = [it for it in parts.beside(name) if is_bus and parts.tasks[it]["priority"] > mine]
-    system = {"format": 2, "resource": [parts.resource(name) | {"name": "r"}], "source": [], "task": []}
+    lower = [it for it in parts.beside(name) if parts.tasks[it]["priority"] > mine]
+    system = {"format": 3, "resource": [parts.resource(name) | {"name": "r"}], "source": [], "task": []}
     for it in [name, *rivals, *lower]:
         several = [(1_000_000_000, 0, 0)] if it in lower else parts.inputs[it]
         names = [f"{it}.s{k}" for k in range(len(several))]
@@ -128,7 +145,8 @@ def alone(explained, name, rivals):
             model = {"period": period, "jitter": jitter, "distance": min(distance, period)}
             system["source"].append({"name": source} | model)
         numbers = {"best": 1, "worst": parts.executions[it][1], "priority": parts.tasks[it]["priority"]}
-        system["task"].append({"name": it, "on": "r", "after": names} | numbers)
+        region = {} if is_bus else {"region": parts.tasks[it].get("region", 1)}
+        system["task"].append({"name": it, "on": "r", "after": names} | numbers | region)
     return re.search(rf"^task {name} .* worst (\S+)$", answer(PROGRAM, toml_of(system), "analyse")[1], re.M)[1]
 
 
@@ -185,15 +203,19 @@ def check_system(number, text, room):
 
 
 def check_random(numbers, room):
-    latest, several = collections.Counter(), 0
+    latest, several, regions = collections.Counter(), 0, 0
     for number in numbers:
         text = plain.made_system(number)
-        several += text.startswith("format = 2") and "after = [" in text
+        several += "after = [" in text
+        regions += "region = " in text
         latest.update(check_system(number, text, room))
         if len(faults) > 5:
             break
     which = ", ".join(f"{kind} {which} {latest[kind, which]}" for kind, which in sorted(latest))
-    print(f"{len(numbers)} random systems, {several} with several activators; whose job is the latest: {which}")
+    print(
+        f"{len(numbers)} random systems, {several} with several activators, {regions} with regions;"
+        f" whose job is the latest: {which}"
+    )
 
 
 def ticks_of(word):
@@ -290,7 +312,7 @@ def check_told(python, room):
         ([two, "c"], "there is no task c; it has a, b"),
         ([two, "--path", "p"], "there is no path p; it has none"),
         ([two, "a", "--to", "picture.gif"], "a picture's name ends with .svg, .png or .pdf"),
-        ([written(room, "bad.toml", "format = 3\n"), "--all"], "status 14: system refused reason 13 file 0"),
+        ([written(room, "bad.toml", "format = 4\n"), "--all"], "status 14: system refused reason 13 file 0"),
     ):
         done = called(python, *words)
         is_told = done.returncode > 0 and said in done.stderr and "Traceback" not in done.stderr

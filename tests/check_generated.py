@@ -1,9 +1,11 @@
 #!/usr/bin/env python3
-"""Compares `generate`, `load` and `hammer` with what docs/FILES.md says of generated systems and generated traces. Outside the gate.
+"""Compares `generate`, `load` and `hammer` with what docs/FILES.md says of generated systems and generated traces.
+Outside the gate.
 
-Systems and traces are made here once more, by the generator written down plainly. Of each generated system `generate` must write a
-file that says the same, and `load` the sum of the bounds that `analyse` writes of it. Of each example, and of random systems
-whose tasks have up to three activators, `hammer` must write what `simulate` does of each generated trace, taken together.
+Systems and traces are made here once more, by the generator written down plainly. Of each generated system `generate`
+must write a file that says the same, and `load` the sum of the bounds that `analyse` writes of it. Of each example, and
+of random systems whose tasks have up to three activators, `hammer` must write what `simulate` does of each generated
+trace, taken together.
 
     python3 tests/check_generated.py [NUMBER to begin with, 0 if absent]
 """
@@ -46,13 +48,39 @@ def made_system(number, size):
     sources, tasks, paths = [], [], []
     for k in range(size):
         period = (10000, 20000, 50000, 100000)[numbers.draw(4)]
-        jitter, first, payload, last = numbers.draw(1000), numbers.draw(400) + 100, numbers.draw(9), numbers.draw(400) + 100
+        jitter, first, payload, last = (
+            numbers.draw(1000),
+            numbers.draw(400) + 100,
+            numbers.draw(9),
+            numbers.draw(400) + 100,
+        )
         processor = numbers.draw(processors)
         sources.append({"name": f"s{k}", "period": period, "jitter": jitter, "distance": 0})
         tasks += [
-            {"name": f"t{k}a", "on": f"p{k % processors}", "after": f"s{k}", "best": first // 2, "worst": first, "priority": 2 * k},
-            {"name": f"t{k}f", "on": f"b{k % buses}", "after": f"t{k}a", "best": (47 + 8 * payload) * 2, "worst": (55 + 10 * payload) * 2, "priority": k},
-            {"name": f"t{k}b", "on": f"p{processor}", "after": f"t{k}f", "best": last // 2, "worst": last, "priority": 2 * k + 1},
+            {
+                "name": f"t{k}a",
+                "on": f"p{k % processors}",
+                "after": f"s{k}",
+                "best": first // 2,
+                "worst": first,
+                "priority": 2 * k,
+            },
+            {
+                "name": f"t{k}f",
+                "on": f"b{k % buses}",
+                "after": f"t{k}a",
+                "best": (47 + 8 * payload) * 2,
+                "worst": (55 + 10 * payload) * 2,
+                "priority": k,
+            },
+            {
+                "name": f"t{k}b",
+                "on": f"p{processor}",
+                "after": f"t{k}f",
+                "best": last // 2,
+                "worst": last,
+                "priority": 2 * k + 1,
+            },
         ]
         paths.append({"name": f"c{k}", "tasks": [f"t{k}a", f"t{k}f", f"t{k}b"], "deadline": period})
     return {"format": 1, "resource": resources, "source": sources, "task": tasks, "path": paths}
@@ -77,7 +105,9 @@ def made_trace(system, number, place):
 
     def first_events(task):
         several = [task["after"]] if isinstance(task["after"], str) else task["after"]
-        return [time for after in several for time in (events[after] if after in events else first_events(tasks[after]))]
+        return [
+            time for after in several for time in (events[after] if after in events else first_events(tasks[after]))
+        ]
 
     for task in tasks.values() if is_drawn else ():
         best, worst = task.get("best"), task.get("worst")

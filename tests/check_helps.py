@@ -2,11 +2,12 @@
 """Tries what `lokwurmi explain` tells to help a path, over random systems. Outside the gate; takes some minutes, and no
 network.
 
-The systems are those of check_reports.py: all four kinds, and in every other one tasks with up to three activators. Which
-changes have to be tried for a path is worked out here once more: each number by which its tasks wait, a tenth less or
-more, or one place. Each of them must be there once, and what is told of it is what `analyse` says of a file of its own
-with that number: the path's time, and which paths miss their deadline or have no bound that hadn't missed it or had
-one.
+The systems are those of check_reports.py: all four kinds, in every other one tasks with up to three activators, and in
+every other pair regions.
+Which changes have to be tried for a path is worked out here once more: each number by which its tasks wait, a tenth
+less or more, or one place. Each of them must be there once, and what is told of it is what `analyse` says of a file of
+its own with that number: the path's time, and which paths miss their deadline or have no bound that hadn't missed it or
+had one.
 
     python3 tests/check_helps.py [NUMBER of systems, 400 if absent] [NUMBER to begin with, 0 if absent]
 """
@@ -18,7 +19,6 @@ import tomllib
 
 import check_reports as plain
 from calls import TOP, answer, built, faults, hold, range_of, run, tell
-
 
 from lokwurmi_tools.explained import explained_by
 from lokwurmi_tools.helps import helps_for, lines_of_helps
@@ -83,10 +83,14 @@ def wanted_for(system, rules, name):
     mates = [it for it in system["task"] if it["on"] == task["on"] and it is not task]
     ranked = kind in ("preemptive", "can")
     before = [it for it in mates if kind == "round-robin" or ranked and it["priority"] < task["priority"]]
-    lower = [it for it in mates if kind == "can" and it["priority"] > task["priority"]]
+    lower = [it for it in mates if ranked and it["priority"] > task["priority"]]
     found = {("worst", it["name"]): shorter(system, it["name"]) for it in [task, *before]}
-    for it in sorted(lower, key=lambda it: -it["worst"])[:1]:
-        found["worst", it["name"]] = shorter(system, it["name"])
+    is_bus = kind == "can"
+    for it in sorted(lower, key=lambda it: -(it["worst"] if is_bus else plain.stretch_of(it)))[:1]:
+        other = shorter(system, it["name"])
+        # one that is shorter and still as long as its region holds up others as before
+        if is_bus or other and plain.stretch_of(entry(other, "task", it["name"])) < plain.stretch_of(it):
+            found["worst", it["name"]] = other
     for source in {source for it in before for source in rules.sources_of(it["name"])}:
         found["period", source] = slower(system, source)
     if ranked and before:

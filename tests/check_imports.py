@@ -12,12 +12,24 @@ import glob
 import os
 import random
 import tempfile
+import tomllib
 from fractions import Fraction
 
-from calls import NEEDS_PROGRAM, add_number, hold, reader_of, tell, written
-from databases import analysed, called, canmatrix, dumped, imported, least_and_greatest, matrix_of, obeys, random_frames, said_by
 import lxml.etree
-import tomllib
+from calls import NEEDS_PROGRAM, add_number, hold, reader_of, tell, written
+from databases import (
+    analysed,
+    called,
+    canmatrix,
+    dumped,
+    imported,
+    least_and_greatest,
+    matrix_of,
+    obeys,
+    random_frames,
+    said_by,
+)
+
 from lokwurmi.frames import classical, execution
 from lokwurmi_tools.networks import named, plain
 from lokwurmi_tools.times import common, text_of, time_of
@@ -194,7 +206,8 @@ BA_DEF_ BO_ "GenMsgCycleTimeFast" INT 0 3600000;
 BA_DEF_ BO_ "GenMsgDelayTime" INT 0 3600000;
 BA_DEF_ BO_ "DeadlineMs" INT 0 3600000;
 BA_DEF_ BO_ "GenMsgSendType" ENUM "Cyclic","Spontaneous","CyclicAndSpontaneous";
-BA_DEF_ BO_ "VFrameFormat" ENUM "StandardCAN","ExtendedCAN","reserved","J1939PG","reserved","reserved","reserved","reserved","reserved","reserved","reserved","reserved","reserved","reserved","StandardCAN_FD","ExtendedCAN_FD";
+BA_DEF_ BO_ "VFrameFormat" ENUM "StandardCAN","ExtendedCAN","reserved","J1939PG",\
+"reserved","reserved","reserved","reserved","reserved","reserved","reserved","reserved","reserved","reserved","StandardCAN_FD","ExtendedCAN_FD";
 BA_DEF_ SG_ "GenSigCycleTime" INT 0 3600000;
 BA_DEF_DEF_ "GenMsgCycleTime" %s;
 BA_DEF_DEF_ "GenMsgCycleTimeFast" 0;
@@ -623,7 +636,9 @@ def check_words():
         )
         for extended in (False, True):
             found = tuple(it.nominal for it in classical(size, extended))
-            hold(found == least_and_greatest(size, extended), f"the lengths of a frame of {size} bytes in lokwurmi_tools")
+            hold(
+                found == least_and_greatest(size, extended), f"the lengths of a frame of {size} bytes in lokwurmi_tools"
+            )
     # k frames in each cycle, at any times within the jitter, are what --multiplexed each makes of them
     draw = random.Random(6)
     for _ in range(200):
@@ -642,7 +657,9 @@ def check_words():
 
 
 def main():
-    reader = reader_of(__doc__, "python3 tests/check_imports.py 12", NEEDS_PROGRAM + ", and the packages that databases.py names")
+    reader = reader_of(
+        __doc__, "python3 tests/check_imports.py 12", NEEDS_PROGRAM + ", and the packages that databases.py names"
+    )
     add_number(reader, "count", 60, "how many generated systems of a kind")
     count = reader.parse_args().count
     check_words()

@@ -317,6 +317,7 @@ PATH=$room/none call analyse two.toml
 hold "no rt in PATH: says so" said 'command rt of the toolchain .* has to be in the search path'
 
 # ---- a first build, written to a log
+rmdir "$work/crates/cpa_io/specs"
 LOKWURMI_JOBS=3 call analyse two.toml
 hold "a first call: status of the program" is "$status" 0
 hold "a first call: its text" is "$(cat "$room/text")" "called analyse two.toml"
@@ -332,6 +333,23 @@ hold "sources that aren't committed are told" said "note: sources have changes t
 call analyse two.toml
 hold "the second call builds nothing" is "$(wc -l <"$room/calls")" 3
 hold "the second call says nothing more" [ ! -s "$room/said" ]
+start=$work/python/src/lokwurmi_tools/launcher/start.py below=$work/crates/cpa_cli/out/lokwurmi.below
+mv "$start" "$start.away"
+call analyse two.toml
+hold "the second call needs no Python" is "$status $(cat "$room/text")" "0 called analyse two.toml"
+tr '\0' '\n' <"$below" >"$below.lines" && mv "$below.lines" "$below"
+call analyse two.toml
+hold "a list in another form: Python decides" is "$status" 2
+rm "$below"
+call analyse two.toml
+hold "no list: Python decides" is "$status" 2
+mv "$start.away" "$start"
+call analyse two.toml
+hold "no list: nothing is built, and it is written anew" is "$status $(tr '\0' '\n' <"$below" | grep -c cpa_fix/src/lib.rt) $(wc -c <"$room/said")" "0 1 0"
+mkdir "$work/crates/cpa_io/specs"
+call analyse two.toml
+hold "a folder that wasn't there" said 'crates/cpa_io/specs is newer than the program'
+touch -d '1 hour ago' "$work/crates/cpa_io/specs"
 in_terminal "'$work/lokwurmi' loda 1 2"
 hold "built: the nearest command" said 'the nearest is load '
 in_terminal "'$work/lokwurmi' load 1"
@@ -735,7 +753,7 @@ if command -v cc >/dev/null; then
   hold "build-library: status" is "$status" 0
   hold "build-library: proves what it depends on" said '^lokwurmi: the library isn.t built yet: it is proved and built first, 5 crates, of which [0-9] are proved already'
   hold "build-library: the archive" is "$(ar t "$work/library/out/liblokwurmi.a" | sort | tr '\n' ' ')" "one.o two.o "
-  hold "build-library: the shared object shows its functions alone" is "$(nm -D --defined-only "$work/library/out/liblokwurmi.so" | awk '{ print $3 }' | tr '\n' ' ')" "lokwurmi_version "
+  hold "build-library: the shared object shows its functions alone" is "$(nm -D --defined-only "$work/library/out/liblokwurmi.so" | awk '$2 != "A" { print $3 }' | tr '\n' ' ')" "lokwurmi_version@@LOKWURMI_2 "
   hold "build-library: the wheel's platform" is "$(cd "$work/library/out" && echo ./*.whl | sed 's/[0-9.]*-py3/VERSION-py3/')" "./lokwurmi-VERSION-py3-none-linux_$(uname -m).whl"
   hold "build-library: the wheel has the library" is "$(python3 -m zipfile -l "$work/library/out"/*.whl | grep -c 'lokwurmi/liblokwurmi.so')" 1
   : >"$room/calls"
@@ -774,7 +792,7 @@ hold "from its own folder" is "$(cat "$room/text")" "called analyse x"
 (cd "$work/docs" && CDPATH=/ PATH=..:$PATH lokwurmi analyse x) >"$room/text" 2>"$room/said"
 hold "by the search path" is "$(cat "$room/text")" "called analyse x"
 if command -v shellcheck >/dev/null; then
-  (cd "$top" && shellcheck -x lokwurmi library/build python/src/lokwurmi_tools/launcher/completion.bash tests/check_launcher.sh tests/check_completion.sh) >"$room/said" 2>&1
+  (cd "$top" && shellcheck -x lokwurmi python/src/lokwurmi_tools/launcher/completion.bash tests/check_launcher.sh tests/check_completion.sh) >"$room/said" 2>&1
   hold "shellcheck finds nothing" is $? 0
 fi
 exit "$wrong"

@@ -1,5 +1,5 @@
 #!/usr/bin/env bash
-# Tries the library of docs/LIBRARY.md, which library/build has built, and the Python package: the C examples beside the program over all
+# Tries the library of docs/LIBRARY.md, which ./lokwurmi build-library has built, and the Python package: the C examples beside the program over all
 # examples, by each C and C++ compiler that is there, static and shared; each function under valgrind where that is installed; each allocation
 # refused in turn; sessions of eight threads; and the tests of the package.
 #
@@ -13,7 +13,7 @@ fault() {
   echo "check_library: $1" >&2
   faults=$((faults + 1))
 }
-[ -e $library ] || { fault "library/build builds $library, which isn't there" && exit 1; }
+[ -e $library ] || { fault "./lokwurmi build-library builds $library, which isn't there" && exit 1; }
 # each C compiler, over the static and the shared library, and each C++ compiler
 try_examples() {
   "$1" -std=c11 -Wall -Wextra -pedantic -Werror -Ilibrary library/report.c "${@:2}" -o "$room/report" || return

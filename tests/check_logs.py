@@ -15,6 +15,7 @@ import subprocess
 import tempfile
 import tomllib
 
+import can
 from calls import NEEDS_PROGRAMS, add_number, built, hold, reader_of, tell, written
 from databases import (
     PROGRAM,
@@ -29,7 +30,6 @@ from databases import (
     said_by,
     system_of,
 )
-import can
 
 SCHEDULE = os.path.abspath(built("cpa_schedule"))
 

@@ -1,11 +1,11 @@
 #!/usr/bin/env python3
 """Tries what `lokwurmi` says of refusals and notices.
 
-Each case of tests/messages/*.txt is a call, of files that differ from those of tests/messages/base in some lines; what the
-program writes, its status, and the whole text beside it are compared with those that are kept there. With --keep they are
-written anew, to be read. With --random so many system files, scripts, traces, schedules and sessions are damaged at random,
-from examples/ and from generated systems: what lokwurmi_tools/refusals finds in each has to be the program's own line, and nothing in a file
-that is accepted. Outside the gate; the program has to be built.
+Each case of tests/messages/*.txt is a call, of files that differ from those of tests/messages/base in some lines; what
+the program writes, its status, and the whole text beside it are compared with those that are kept there. With --keep
+they are written anew, to be read. With --random so many system files, scripts, traces, schedules and sessions are
+damaged at random, from examples/ and from generated systems: what lokwurmi_tools/refusals finds in each has to be the
+program's own line, and nothing in a file that is accepted. Outside the gate; the program has to be built.
 
 A case has a title, what is changed, the call, what the program writes after its status, and what is said:
 
@@ -17,11 +17,11 @@ A case has a title, what is changed, the call, what the program writes after its
     14 system refused reason 1 task 1
     | system.toml:31:1: ..
 
-Lines with `-` that stand together in a file give way to those with `+`; `+` alone is put at its end; `>` begins a file anew.
+Lines with `-` that stand together in a file give way to those with `+`; `+` alone is put at its end; `>` begins a file
+anew.
 """
 from __future__ import annotations
 
-import argparse
 import glob
 import os
 import random
@@ -35,8 +35,8 @@ from collections.abc import Iterator
 from concurrent.futures import ThreadPoolExecutor
 from dataclasses import dataclass, field
 
-from calls import TOP, example_systems
-from damage import damaged, damaged_rows, damaged_script
+from calls import TOP, example_systems, reader_of
+from damage import damaged, damaged_rows, damaged_script, with_regions
 
 from lokwurmi.documents import Document
 from lokwurmi_tools.refusals import edits, front, notices, schedule, script
@@ -198,6 +198,7 @@ class Room:
         paths.append(os.path.join(CASES, "base", "system.toml"))
         self.systems = [read(it) for it in paths]
         self.systems += ["\n".join(wrote("generate", str(number), str(number % 5))) + "\n" for number in range(8)]
+        self.systems += [with_regions(self.draw, it) for it in self.systems]
 
     def write(self, name: str, text: str) -> str:
         path = os.path.join(self.folder, name)
@@ -316,7 +317,8 @@ def check_random(count: int, seed: int) -> int:
 
 
 def check_look(room: str) -> int:
-    """Colours in a terminal alone, nothing where it is to be quiet, and no letter of a file that a terminal would obey."""
+    """Colours in a terminal alone, nothing where it is to be quiet, and no letter of a file that a terminal would
+    obey."""
     wrong = 0
     file = os.path.join(room, "s.toml")
     with open(file, "w", encoding="utf-8") as it:
@@ -325,31 +327,22 @@ def check_look(room: str) -> int:
     plain = {key: value for key, value in os.environ.items() if key not in ("LOKWURMI_QUIET", "NO_COLOR")} | {
         "TERM": "xterm"
     }
-    for what, change_, wanted in (
+
+    def called(words: list[str], more: dict[str, str]) -> subprocess.CompletedProcess[str]:
+        nothing = subprocess.DEVNULL
+        return subprocess.run(words, capture_output=True, text=True, env=plain | more, stdin=nothing, check=False)
+
+    for what, more, wanted in (
         ("in a terminal", {}, True),
         ("with NO_COLOR", {"NO_COLOR": "1"}, False),
         ("in a dumb terminal", {"TERM": "dumb"}, False),
     ):
-        said = subprocess.run(
-            ["script", "-qec", call, "/dev/null"],
-            capture_output=True,
-            text=True,
-            env=plain | change_,
-            stdin=subprocess.DEVNULL,
-            check=False,
-        ).stdout
+        said = called(["script", "-qec", call, "/dev/null"], more).stdout
         good = ("\033[1m" in said) == wanted and "help:" in said and "\033[31m" not in said
         wrong += not good
         print(f"{'ok   ' if good else 'WRONG'} {what}: colours {wanted}")
-    for what, words, change_ in (("--quiet", ["--quiet"], {}), ("LOKWURMI_QUIET=1", [], {"LOKWURMI_QUIET": "1"})):
-        done = subprocess.run(
-            [os.path.join(TOP, "lokwurmi"), *words, "analyse", file],
-            capture_output=True,
-            text=True,
-            env=plain | change_,
-            stdin=subprocess.DEVNULL,
-            check=False,
-        )
+    for what, words, more in (("--quiet", ["--quiet"], {}), ("LOKWURMI_QUIET=1", [], {"LOKWURMI_QUIET": "1"})):
+        done = called([os.path.join(TOP, "lokwurmi"), *words, "analyse", file], more)
         good = done.stderr == "" and done.stdout == "system refused reason 3 source 1\n" and done.returncode == 14
         wrong += not good
         print(f"{'ok   ' if good else 'WRONG'} {what}: nothing but the line")
@@ -357,11 +350,8 @@ def check_look(room: str) -> int:
 
 
 def main() -> None:
-    reader = argparse.ArgumentParser(
-        description=__doc__.split("\n", 1)[0],
-        epilog="python3 tests/check_messages.py --random 3000 --seed 7",
-        formatter_class=argparse.RawDescriptionHelpFormatter,
-    )
+    needs = "the programs, built by ./lokwurmi analyse, ./lokwurmi schedule and ./lokwurmi chain"
+    reader = reader_of(__doc__, "python3 tests/check_messages.py --random 3000 --seed 7", needs)
     reader.add_argument("--keep", action="store_true", help="write what is said now into the cases")
     reader.add_argument("--only", metavar="PART", default="", help="only files of cases whose name begins so")
     reader.add_argument(

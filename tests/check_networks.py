@@ -241,8 +241,8 @@ class Faults:
 
 
 def responses(draw, system, until, faults):
-    """The greatest response of each frame of a bus: the waiting frames go by priority, none is interrupted, and one that
-    is hit is sent again after 31 bits."""
+    """The greatest response of each frame of a bus: the waiting frames go by priority, none is interrupted, and one
+    that is hit is sent again after 31 bits."""
     tasks = {it["name"]: it for it in system["task"] if "payload" in it}
     sources = {it["name"]: it for it in system["source"]}
     queue = sorted(it for task in tasks.values() for it in queued(draw, task, sources[task["after"]], until))

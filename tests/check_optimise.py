@@ -2,12 +2,12 @@
 """Tries `lokwurmi optimise` over random systems, and counts how often it finds an order where others fail. Outside the
 gate.
 
-Small systems have three or four chains over two processors and a CAN bus, with jitter and deadlines; where there are up
-to 20,000 orders of all resources together, all are tried by sessions of the proved program, each an exchange of two
-priorities from the one before. So it is known whether there is an order under which all deadlines are met; where there
-is none, none may be found. Large systems have ten to sixteen chains, and deadlines that are met by an order that the
-search isn't told. The edits of each order that is found must make a system that `analyse` accepts with status 0. Ends
-with 1 at the first answer that can't be.
+Small systems have three or four chains over two processors and a CAN bus, with jitter and deadlines, and every other
+system has tasks with regions; where there are up to 20,000 orders of all resources together, all are tried by sessions
+of the proved program, each an exchange of two priorities from the one before. So it is known whether there is an order
+under which all deadlines are met; where there is none, none may be found. Large systems have ten to sixteen chains, and
+deadlines that are met by an order that the search isn't told. The edits of each order that is found must make a system
+that `analyse` accepts with status 0. Ends with 1 at the first answer that can't be.
 
     python3 tests/check_optimise.py [SMALL systems, 100 if absent] [LARGE ones of each kind, 20] [first, 0]
 """
@@ -24,7 +24,7 @@ import tempfile
 from typing import NamedTuple
 
 from calls import NEEDS_PROGRAM, TOP, add_number, answer, built, reader_of, run
-
+from check_reports import some_region
 
 from lokwurmi_tools import optimise, progress
 from lokwurmi_tools.toml_text import toml_of
@@ -37,7 +37,7 @@ MOST = 20_000
 TIGHT = (0.8, 0.95, 1.0)
 
 
-def chained(pick, large):
+def chained(pick, large, has_regions):
     """A random system of chains over processors and a bus, with priorities at random and without deadlines."""
     processors, chains = (pick.randint(3, 5), pick.randint(10, 16)) if large else (2, pick.randint(3, 4))
     resources = [{"name": f"p{k}", "kind": "preemptive", "limit": 20000} for k in range(processors)] + [
@@ -64,7 +64,10 @@ def chained(pick, large):
         paths.append({"name": f"c{k}", "tasks": [it["name"] for it in tasks[-len(way) :]]})
     for it, priority in zip(tasks, pick.sample(range(len(tasks)), len(tasks))):
         it["priority"] = priority
-    return {"format": 1, "resource": resources, "source": sources, "task": tasks, "path": paths}
+    for it in tasks if has_regions else ():
+        if it["on"] != "b":
+            it["region"] = some_region(pick, it["worst"])
+    return {"format": 3 if has_regions else 1, "resource": resources, "source": sources, "task": tasks, "path": paths}
 
 
 def made(number, large, tight):
@@ -73,7 +76,7 @@ def made(number, large, tight):
     that an order meets."""
     pick = random.Random(number)
     while True:
-        system = chained(pick, large)
+        system = chained(pick, large, number % 2 == 1)
         worst = dict(
             re.findall(r"^path (\S+) best \d+ worst (\d+) ", answer(PROGRAM, toml_of(system), "analyse")[1], re.M)
         )

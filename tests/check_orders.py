@@ -1,14 +1,15 @@
 #!/usr/bin/env python3
 """Holds the answers of `lokwurmi assign` against all orders there are, over small random systems.
 
-Each system has 3 to 6 tasks on a preemptive or a CAN resource, with jitter and deadlines; in every third one some tasks come
-after two or three sources. Every order of them is written into the file as priorities and given to `lokwurmi analyse`, the best
-first: an order is better than another where the task in the last place, or else in the last place in which they differ, stands
-earlier in the file. The answer has to be the first order under which each path over one of the tasks is met, with status 0, or
-`none` with status 3 where there is no such order. Counts too where the order of rising deadlines misses one and another order
-meets. The same is tried of examples/deadline_order.toml, and of the SAE benchmark: that its answer is met, that it is the
-published order where the tasks are listed from the least urgent on, and that there is none where a bit takes 9 ticks. Ends with
-1 at the first answer that is another.
+Each system has 3 to 6 tasks on a preemptive or a CAN resource, with jitter and deadlines; in every third one some tasks
+come after two or three sources, and in every other one those of a preemptive resource have regions. Every order of them
+is written into the file as priorities and given to `lokwurmi analyse`, the best first: an order is better than another
+where the task in the last place, or else in the last place in which they differ, stands earlier in the file. The answer
+has to be the first order under which each path over one of the tasks is met, with status 0, or `none` with status 3
+where there is no such order. Counts too where the order of rising deadlines misses one and another order meets. The
+same is tried of examples/deadline_order.toml, and of the SAE benchmark: that its answer is met, that it is the
+published order where the tasks are listed from the least urgent on, and that there is none where a bit takes 9 ticks.
+Ends with 1 at the first answer that is another.
 
     python3 tests/check_orders.py [NUMBER of systems, 300 if absent] [NUMBER to begin with, 0 if absent]
 """
@@ -19,6 +20,7 @@ import re
 import sys
 
 from calls import TOP, answer, built, range_of
+from check_reports import some_region
 
 PROGRAM = built("cpa_cli")
 
@@ -33,19 +35,27 @@ def made_system(number):
     after = [[k] for k in range(count)]
     if number % 3 == 2:
         after = [pick.sample(range(count), min(count, pick.randint(1, 3))) for _ in range(count)]
-    lines = [f"format = {1 if all(len(several) == 1 for several in after) else 2}"]
+    # by a draw of their own
+    draw, has_regions = random.Random(f"regions of {number}"), kind == "preemptive" and number % 2 == 1
+    regions = [f", region = {some_region(draw, worst[k])}" if has_regions else "" for k in range(count)]
+    lines = [f"format = {3 if has_regions else 1 if all(len(several) == 1 for several in after) else 2}"]
     lines += [f'resource = [{{ name = "r", kind = "{kind}", limit = 20000 }}]', "source = ["]
     for k in range(count):
         # what all tasks after it ask for at each event, of which each is to use about its part of the time
         asked = sum(worst[i] for i in range(count) if k in after[i])
         period = round(max(asked, 1) * count * pick.uniform(1, 2.2))
         jitter = pick.choice([0, 0, pick.randint(0, period), pick.randint(0, 2 * period)])
-        lines.append(f'{{ name = "s{k}", period = {period}, jitter = {jitter}, distance = {pick.choice([0, period // 3])} }},')
+        lines.append(
+            f'{{ name = "s{k}", period = {period}, jitter = {jitter}, distance = {pick.choice([0, period // 3])} }},'
+        )
     lines += ["]", "task = ["]
     for k in range(count):
         names = ", ".join(f'"s{j}"' for j in after[k])
         names = names if len(after[k]) == 1 else f"[{names}]"
-        lines.append(f'{{ name = "t{k}", on = "r", after = {names}, best = 1, worst = {worst[k]}, priority = {numbers[k]} }},')
+        lines.append(
+            f'{{ name = "t{k}", on = "r", after = {names}, best = 1, worst = {worst[k]}, priority = {numbers[k]}'
+            f"{regions[k]} }},"
+        )
     lines += ["]", "path = ["]
     for k in range(count):
         # at times none, and at times two, of which the least counts
@@ -129,19 +139,23 @@ def main():
     print(f"deadline_order.toml: of all orders there meet {[' '.join(order) for order in meeting]}")
     hold("deadline_order.toml", text, "cpu", best_order(text, "cpu")[0])
     sae()
-    none, several, tried, failing, first = 0, 0, 0, 0, None
+    none, several, regions, tried, failing, first = 0, 0, 0, 0, 0, None
     for number in numbers:
         text, deadlines = made_system(number)
         order, looked = best_order(text, "r")
         hold(f"system {number}", text, "r", order)
         tried += looked
         none += order is None
-        several += text.startswith("format = 2")
+        several += "after = [" in text
+        regions += "region = " in text
         rising = sorted(tasks_of(text, "r"), key=lambda name: deadlines.get(name, float("inf")))
         if order is not None and not meets(text, "r", rising):
             failing += 1
             first = number if first is None else first
-    print(f"{len(numbers)} answers as by trying all orders, {none} of them that none meets, {several} of tasks after several sources; {tried} orders tried")
+    print(
+        f"{len(numbers)} answers as by trying all orders, {none} of them that none meets, {several} of tasks after"
+        f" several sources, {regions} of tasks with regions; {tried} orders tried"
+    )
     print(f"rising deadlines miss one where another order meets: {failing} times, first in system {first}")
 
 

@@ -1,19 +1,19 @@
 #!/usr/bin/env python3
 """Tries the pages of `lokwurmi page` in headless Chromium. Outside the gate; takes a minute or some, and no network.
 
-For some of the examples a page is made, with a trace, a schedule and a script where there are some. It must load without an
-error and without asking for anything else, show the numbers of the report, of `simulate` and of `session`, and the load of
-each resource and of slots, open the parts of each bound and of each path, which add up to it and are as long as they should be,
-sort each column both ways by mouse and by keyboard, also where parts are open, filter, fit into a narrow window, be light and
-dark, and print. In windows of five widths the first column of Paths leaves room for the others, the tables of a page with long
-names aren't cut from 1366 on, and the lines between their rows go on under the fixed column. Pages of overloaded systems must
-tell what lies behind; what is told of random systems that are overloaded must be so: with a limit a hundred times as high a
-task that has too much work has no bound still, and each task without one has a cause. A page with a file of chains shows their
-bounds and verdicts, what they are the sum of, and where a source of the run stays away. What page doesn't take is refused in
-a line.
+For some of the examples a page is made, with a trace, a schedule and a script where there are some. It must load
+without an error and without asking for anything else, show the numbers of the report, of `simulate` and of `session`,
+and the load of each resource and of slots, open the parts of each bound and of each path, which add up to it and are as
+long as they should be, sort each column both ways by mouse and by keyboard, also where parts are open, filter, fit into
+a narrow window, be light and dark, and print. In windows of five widths the first column of Paths leaves room for the
+others, the tables of a page with long names aren't cut from 1366 on, and the lines between their rows go on under the
+fixed column. Pages of overloaded systems must tell what lies behind; what is told of random systems that are overloaded
+must be so: with a limit a hundred times as high a task that has too much work has no bound still, and each task without
+one has a cause. A page with a file of chains shows their bounds and verdicts, what they are the sum of, and where a
+source of the run stays away. What page doesn't take is refused in a line.
 
-A schedule that isn't among the examples is made by the step rules of check_runs.py. With --keep pictures of the pages, in
-light and dark, wide and narrow, the documents that they print, and the pages themselves stay in a folder.
+A schedule that isn't among the examples is made by the step rules of check_runs.py. With --keep pictures of the pages,
+in light and dark, wide and narrow, the documents that they print, and the pages themselves stay in a folder.
 
     python3 tests/check_page.py [--program PROGRAM] [--keep FOLDER]
 """
@@ -32,23 +32,31 @@ from fractions import Fraction
 try:
     import matplotlib.image
 except ImportError:
-    sys.exit("check_page.py: the package matplotlib isn't here: apt-get install python3-matplotlib, for /usr/bin/python3")
+    sys.exit(
+        "check_page.py: the package matplotlib isn't here: apt-get install python3-matplotlib, for /usr/bin/python3"
+    )
 
 import effect_rules
 from browser import Browser
 from calls import TOP, hold, run, tell, without_progress, written
 from check_runs import file_of, made, plain, replayed
 
-
+from lokwurmi_tools.accepted import read_system
 from lokwurmi_tools.behind import Behind
 from lokwurmi_tools.report import reports_in
 from lokwurmi_tools.runs import jobs_in, read_schedule, read_trace
 from lokwurmi_tools.seen import Run, seen_of
-from lokwurmi_tools.accepted import read_system
 
 EXAMPLES = os.path.join(TOP, "examples")
 # the examples, and whether they have a trace and a script
-PAGES = [("car_network", True, True), ("crossing_chains", True, True), ("sensor_fusion", True, True), ("gateway", True, False), ("tdma", False, False), ("overload", False, False)]
+PAGES = [
+    ("car_network", True, True),
+    ("crossing_chains", True, True),
+    ("sensor_fusion", True, True),
+    ("gateway", True, False),
+    ("tdma", False, False),
+    ("overload", False, False),
+]
 RANDOM = 150
 
 
@@ -68,7 +76,7 @@ def told(text):
 
 def schedule_of(file, trace):
     """The schedule of a run, by the step rules followed tick by tick."""
-    return "".join(f"{task},{start},{end}\n" for task, start, end in replayed(read_system(file), read_trace(trace)).segments)
+    return "".join(f"{task},{start},{end}\n" for task, start, end in replayed(file, trace).segments)
 
 
 class Page:
@@ -85,7 +93,10 @@ class Page:
 
     def rows(self, table):
         """The cells of a table, row by row."""
-        return self.run(f"[...document.querySelectorAll('#{table} tbody tr')].map((row) => [...row.cells].map((it) => it.innerText.trim()))")
+        return self.run(
+            f"[...document.querySelectorAll('#{table} tbody tr')]"
+            ".map((row) => [...row.cells].map((it) => it.innerText.trim()))"
+        )
 
     def table(self, table):
         """The rows of a table, each by the names of its columns; of a path's name the first line."""
@@ -94,10 +105,16 @@ class Page:
 
     def shown(self, table):
         """The names of the rows that are to be seen."""
-        return self.run(f"[...document.querySelectorAll('#{table} tbody tr')].filter((it) => it.offsetParent !== null).map((it) => it.dataset.name)")
+        return self.run(
+            f"[...document.querySelectorAll('#{table} tbody tr')]"
+            ".filter((it) => it.offsetParent !== null).map((it) => it.dataset.name)"
+        )
 
     def choose(self, table, name, value):
-        self.run(f"(() => {{ const it = document.querySelector('.tools[data-of={table}] select[name={name}]'); it.value = {json.dumps(value)}; it.dispatchEvent(new Event('input', {{bubbles: true}})); }})()")
+        self.run(
+            f"(() => {{ const it = document.querySelector('.tools[data-of={table}] select[name={name}]');"
+            f" it.value = {json.dumps(value)}; it.dispatchEvent(new Event('input', {{bubbles: true}})); }})()"
+        )
 
     def clear(self, table):
         self.run(f"document.querySelector('.tools[data-of={table}] input').focus()")
@@ -110,45 +127,78 @@ def check_numbers(page, program, with_trace):
     rows = page.table("task-table")
     page.hold([it["Task"] for it in rows] == [it[1] for it in tasks], "the tasks aren't those of the report")
     for row, line in zip(rows, tasks):
-        page.hold((row["Resource"], row["Best"], row["Bound"]) == (line[2], line[-3], line[-1]), f"task {line[1]}: {row}")
+        page.hold(
+            (row["Resource"], row["Best"], row["Bound"]) == (line[2], line[-3], line[-1]), f"task {line[1]}: {row}"
+        )
         if line[3] == "period":
-            page.hold((row["Period"], row["Jitter"], row["Distance"]) == (line[4], line[6], line[8]), f"the input of {line[1]}: {row}")
+            page.hold(
+                (row["Period"], row["Jitter"], row["Distance"]) == (line[4], line[6], line[8]),
+                f"the input of {line[1]}: {row}",
+            )
         else:
             page.hold(row["Period"] == f"{line[4]} streams", f"the streams of {line[1]}: {row}")
     rows = page.table("path-table") if paths else []
     page.hold(len(rows) == len(paths), f"there are {len(rows)} paths")
     for row, line in zip(rows, paths):
         room = str(int(line[7]) - int(line[5])) if line[7] != "-" and line[5] != "overload" else "–"
-        page.hold([row["Path"], row["Best"], row["Worst"], row["Deadline"].replace("–", "-"), row["Room"], row["Verdict"]] == [line[1], line[3], line[5], line[7], room.replace("-", "−"), line[8]], f"path {line[1]}: {row}")
+        page.hold(
+            [row["Path"], row["Best"], row["Worst"], row["Deadline"].replace("–", "-"), row["Room"], row["Verdict"]]
+            == [line[1], line[3], line[5], line[7], room.replace("-", "−"), line[8]],
+            f"path {line[1]}: {row}",
+        )
     if with_trace:
         seen = told(call(program, "simulate", file, example(page.name, ".trace.csv")))
         for kind, lines, key in (("task", seen[0], "Task"), ("path", seen[1], "Path")):
             by_name = {it[key]: it for it in page.table(f"{kind}-table")} if lines else {}
             for line in lines:
-                page.hold(by_name[line[1]]["Seen"].replace("–", "none") == line[-1], f"what is seen of {line[1]}: {by_name[line[1]]}")
+                page.hold(
+                    by_name[line[1]]["Seen"].replace("–", "none") == line[-1],
+                    f"what is seen of {line[1]}: {by_name[line[1]]}",
+                )
                 if kind == "task":
                     row = by_name[line[1]]
                     # 100 % only where the bound is reached
-                    page.hold(row["Of bound"] == (f"{100 * int(row['Seen']) // int(row['Bound'])} %" if row["Seen"] != "–" and row["Bound"] != "overload" else "–"), f"what is seen of the bound of {line[1]}: {row}")
+                    page.hold(
+                        row["Of bound"]
+                        == (
+                            f"{100 * int(row['Seen']) // int(row['Bound'])} %"
+                            if row["Seen"] != "–" and row["Bound"] != "overload"
+                            else "–"
+                        ),
+                        f"what is seen of the bound of {line[1]}: {row}",
+                    )
 
 
 def check_bars(page):
-    """The parts of each path's bar are as long as the bounds of its tasks, which are told, and the deadline is where it should be."""
+    """The parts of each path's bar are as long as the bounds of its tasks, which are told, and the deadline is where it
+    should be."""
     bounds = {it["Task"]: it["Bound"] for it in page.table("task-table")}
     system = read_system(example(page.name, ".toml"))
     for path in system.get("path", []):
         row = f"document.querySelector('#path-table tr[data-name=\"{path['name']}\"]')"
         label = page.run(f"{row}.querySelector('.chain').getAttribute('aria-label')")
         on = {it["name"]: it["on"] for it in system["task"]}
-        page.hold(label == ", ".join(f"{it} on {on[it]} {bounds[it]}" for it in path["tasks"]), f"the bar of {path['name']} says {label}")
+        page.hold(
+            label == ", ".join(f"{it} on {on[it]} {bounds[it]}" for it in path["tasks"]),
+            f"the bar of {path['name']} says {label}",
+        )
         widths = page.run(f"[...{row}.querySelectorAll('.chain i')].map((it) => it.getBoundingClientRect().width)")
         text = page.run(f"{row}.cells[{row}.cells.length - 1].innerText")
         known = [(width, int(bounds[it])) for it, width in zip(path["tasks"], widths) if bounds[it] != "overload"]
-        page.hold(all(it in text for it in path["tasks"]) and all(str(bound) in text for _, bound in known), f"the bar of {path['name']} doesn't tell each bound: {text}")
+        page.hold(
+            all(it in text for it in path["tasks"]) and all(str(bound) in text for _, bound in known),
+            f"the bar of {path['name']} doesn't tell each bound: {text}",
+        )
         if "deadline" in path and len(known) == len(widths):
-            at = page.run(f"(() => {{ const it = {row}.querySelector('.chain'); return it.querySelector('u').getBoundingClientRect().left - it.getBoundingClientRect().left; }})()")
+            at = page.run(
+                f"(() => {{ const it = {row}.querySelector('.chain');"
+                " return it.querySelector('u').getBoundingClientRect().left - it.getBoundingClientRect().left; })()"
+            )
             per = at / path["deadline"]
-            page.hold(all(abs(width - bound * per) < 2 for width, bound in known), f"the parts of {path['name']}: {known}, and the deadline is at {at}")
+            page.hold(
+                all(abs(width - bound * per) < 2 for width, bound in known),
+                f"the parts of {path['name']}: {known}, and the deadline is at {at}",
+            )
 
 
 def check_loads(page):
@@ -162,9 +212,15 @@ def check_loads(page):
 
     for row in page.table("resource-table"):
         load = sum(rate(name) * it["worst"] for name, it in tasks.items() if it["on"] == row["Resource"])
-        page.hold(row["Load"] == f"{float(load) * 100:.1f} %", f"the load of {row['Resource']}: {row['Load']}, and not {float(load):.4f}")
+        page.hold(
+            row["Load"] == f"{float(load) * 100:.1f} %",
+            f"the load of {row['Resource']}: {row['Load']}, and not {float(load):.4f}",
+        )
     for row in page.table("task-table"):
-        page.hold(row["Load"] == f"{float(rate(row['Task']) * tasks[row['Task']]['worst']) * 100:.1f} %", f"the load of {row['Task']}: {row['Load']}")
+        page.hold(
+            row["Load"] == f"{float(rate(row['Task']) * tasks[row['Task']]['worst']) * 100:.1f} %",
+            f"the load of {row['Task']}: {row['Load']}",
+        )
 
 
 def check_chart(page, program, schedule):
@@ -173,13 +229,23 @@ def check_chart(page, program, schedule):
     texts = page.run("[...document.querySelectorAll('.chart svg text')].map((it) => it.textContent.trim())")
     system = read_system(file)
     used = {it["on"] for it in system["task"]}
-    page.hold(all(any(it["name"] in text for text in texts) == (it["name"] in used) for it in system["resource"]), f"the lanes of the chart: {texts}")
-    page.hold("a job comes" in texts and not any("later than" in it for it in texts), f"the marks of the chart: {texts}")
-    page.hold("none of them takes longer than its bound" in page.run("document.getElementById('run').innerText"), "late jobs")
+    page.hold(
+        all(any(it["name"] in text for text in texts) == (it["name"] in used) for it in system["resource"]),
+        f"the lanes of the chart: {texts}",
+    )
+    page.hold(
+        "a job comes" in texts and not any("later than" in it for it in texts), f"the marks of the chart: {texts}"
+    )
+    page.hold(
+        "none of them takes longer than its bound" in page.run("document.getElementById('run').innerText"), "late jobs"
+    )
     jobs = jobs_in(system, read_schedule(schedule, system), read_trace(trace))
     for line in told(call(program, "simulate", file, trace))[0]:
         greatest = max((end - came for came, end in jobs[line[1]] if end is not None), default="none")
-        page.hold((str(len(jobs[line[1]])), str(greatest)) == (line[3], line[-1]), f"the jobs of {line[1]} on the chart: {jobs[line[1]]}")
+        page.hold(
+            (str(len(jobs[line[1]])), str(greatest)) == (line[3], line[-1]),
+            f"the jobs of {line[1]} on the chart: {jobs[line[1]]}",
+        )
 
 
 def check_column(page, table, place, press):
@@ -188,16 +254,31 @@ def check_column(page, table, place, press):
     start = len(page.rows(table))
     for way in ("ascending", "descending"):
         press(f"#{table} thead th:nth-child({place + 1}) button")
-        page.hold(page.run(f"document.querySelectorAll('#{table} thead th')[{place}].getAttribute('aria-sort')") == way, f"{table}, column {place}: it isn't {way}")
-        values = page.run(f"[...document.querySelectorAll('#{table} tbody tr')].map((it) => {cell}.dataset.v ?? {cell}.textContent.trim())")
+        page.hold(
+            page.run(f"document.querySelectorAll('#{table} thead th')[{place}].getAttribute('aria-sort')") == way,
+            f"{table}, column {place}: it isn't {way}",
+        )
+        values = page.run(
+            f"[...document.querySelectorAll('#{table} tbody tr')]"
+            f".map((it) => {cell}.dataset.v ?? {cell}.textContent.trim())"
+        )
         known = [it for it in values if it != ""]
-        page.hold(len(values) == start and values[: len(known)] == known, f"{table}, column {place}: rows are lost, or those without a value aren't last: {values}")
+        page.hold(
+            len(values) == start and values[: len(known)] == known,
+            f"{table}, column {place}: rows are lost, or those without a value aren't last: {values}",
+        )
         if all(re.fullmatch(r"-?[\d.]+(e[+-]?\d+)?", it) for it in known):
             numbers = [float(it) for it in known]
-            page.hold(numbers == sorted(numbers, reverse=way == "descending"), f"{table}, column {place}: it isn't {way}: {numbers}")
+            page.hold(
+                numbers == sorted(numbers, reverse=way == "descending"),
+                f"{table}, column {place}: it isn't {way}: {numbers}",
+            )
         else:
             pairs = [(b, a) if way == "descending" else (a, b) for a, b in zip(known, known[1:])]
-            page.hold(page.run(f"{json.dumps(pairs)}.every(([a, b]) => a.localeCompare(b, 'en', {{numeric: true}}) <= 0)"), f"{table}, column {place}: it isn't {way}: {known}")
+            page.hold(
+                page.run(f"{json.dumps(pairs)}.every(([a, b]) => a.localeCompare(b, 'en', {{numeric: true}}) <= 0)"),
+                f"{table}, column {place}: it isn't {way}: {known}",
+            )
 
 
 def check_sorting(page):
@@ -206,7 +287,9 @@ def check_sorting(page):
         page.browser.key("Enter", "\r")
 
     for table in page.run("[...document.querySelectorAll('table')].map((it) => it.id)"):
-        heads = page.run(f"[...document.querySelectorAll('#{table} thead th')].map((it) => it.hasAttribute('aria-sort'))")
+        heads = page.run(
+            f"[...document.querySelectorAll('#{table} thead th')].map((it) => it.hasAttribute('aria-sort'))"
+        )
         for place, sorts in enumerate(heads):
             if sorts:
                 check_column(page, table, place, by_key if place % 2 else page.browser.click)
@@ -218,20 +301,33 @@ def check_filters(page):
     wanted = sorted(it["Task"] for it in tasks if it["Resource"] == resource)
     page.choose("task-table", "on", resource)
     page.hold(sorted(page.shown("task-table")) == wanted, f"the filter of the resource {resource}")
-    page.hold(page.run("document.querySelector('.tools[data-of=task-table] output').textContent") == f"{len(wanted)} of {len(tasks)}", "the count of what is shown")
+    page.hold(
+        page.run("document.querySelector('.tools[data-of=task-table] output').textContent")
+        == f"{len(wanted)} of {len(tasks)}",
+        "the count of what is shown",
+    )
     page.clear("task-table")
     page.hold(len(page.shown("task-table")) == len(tasks), "Escape doesn't show all again")
     word = tasks[-1]["Task"]
     for letter in word:
         page.browser.key(letter, letter)
     shown = page.shown("task-table")
-    words = page.run("Object.fromEntries([...document.querySelectorAll('#task-table tbody tr')].map((it) => [it.dataset.name, it.dataset.words]))")
-    page.hold(word in shown and sorted(shown) == sorted(it for it, text in words.items() if word in text), f"what is typed, {word}, shows {shown}")
+    words = page.run(
+        "Object.fromEntries([...document.querySelectorAll('#task-table tbody tr')]"
+        ".map((it) => [it.dataset.name, it.dataset.words]))"
+    )
+    page.hold(
+        word in shown and sorted(shown) == sorted(it for it, text in words.items() if word in text),
+        f"what is typed, {word}, shows {shown}",
+    )
     page.clear("task-table")
     page.choose("task-table", "is", "overload")
-    page.hold(sorted(page.shown("task-table")) == sorted(it["Task"] for it in tasks if it["Bound"] == "overload"), "the filter of what has no bound")
+    page.hold(
+        sorted(page.shown("task-table")) == sorted(it["Task"] for it in tasks if it["Bound"] == "overload"),
+        "the filter of what has no bound",
+    )
     page.clear("task-table")
-    page.browser.click(f"button[data-show=\"{resource}\"]")
+    page.browser.click(f'button[data-show="{resource}"]')
     page.hold(sorted(page.shown("task-table")) == wanted, f"the number of the tasks of {resource} leads to them")
     page.clear("task-table")
 
@@ -240,11 +336,12 @@ OPENED = "document.querySelector('#task-table tr[data-name=\"%s\"]').nextElement
 
 
 def check_made(page, keep):
-    """Each bound opens what it is made of, by mouse and by keyboard, and closes it again; the parts stay behind their task."""
+    """Each bound opens what it is made of, by mouse and by keyboard, and closes it again; the parts stay behind their
+    task."""
     tasks = page.table("task-table")
     for place, it in enumerate(tasks):
         name, opened = it["Task"], OPENED % it["Task"]
-        button = f"#task-table button[data-made=\"{name}\"]"
+        button = f'#task-table button[data-made="{name}"]'
 
         def press():
             if place % 2:
@@ -254,38 +351,91 @@ def check_made(page, keep):
                 page.browser.key("Enter", "\r")
 
         press()
-        page.hold(page.run(f"{opened}.className + document.querySelector({json.dumps(button)}).getAttribute('aria-expanded')") == "partstrue", f"the bound of {name} doesn't open")
-        lines = page.run(f"[...{opened}.querySelectorAll('dl > div')].map((line) => [...line.children].map((it) => it.textContent))")
+        page.hold(
+            page.run(f"{opened}.className + document.querySelector({json.dumps(button)}).getAttribute('aria-expanded')")
+            == "partstrue",
+            f"the bound of {name} doesn't open",
+        )
+        lines = page.run(
+            f"[...{opened}.querySelectorAll('dl > div')].map((line) => [...line.children].map((it) => it.textContent))"
+        )
         text = page.run(f"{opened}.innerText")
         if it["Bound"] == "overload":
             page.hold("of the time" in text and not lines, f"what {name} has no bound for: {text}")
         else:
-            parts = [(int(line[1].split(" · ")[0]), int(line[1].split(" · ")[1]), int(line[2])) for line in lines if line[1]]
+            parts = [
+                (int(line[1].split(" · ")[0]), int(line[1].split(" · ")[1]), int(line[2])) for line in lines if line[1]
+            ]
             came = sum(int(line[2].lstrip("−")) for line in lines if line[2].startswith("−"))
-            page.hold(all(count * each == ticks for count, each, ticks in parts) and sum(ticks for _, _, ticks in parts) - came == int(it["Bound"]) == int(lines[-1][2]), f"the parts of {name}: {lines}")
-            page.hold(lines[0][0] == name and "in the busy window" in text and "started by" in text, f"what is told of {name}: {text}")
-            bar = page.run(f"(() => {{ const it = {opened}.querySelector('.stack'); return [it.clientWidth, [...it.querySelectorAll('i')].map((part) => part.getBoundingClientRect().width), it.querySelector('u')?.getBoundingClientRect().left - it.getBoundingClientRect().left]; }})()")
+            page.hold(
+                all(count * each == ticks for count, each, ticks in parts)
+                and sum(ticks for _, _, ticks in parts) - came == int(it["Bound"]) == int(lines[-1][2]),
+                f"the parts of {name}: {lines}",
+            )
+            page.hold(
+                lines[0][0] == name and "in the busy window" in text and "started by" in text,
+                f"what is told of {name}: {text}",
+            )
+            bar = page.run(
+                f"(() => {{ const it = {opened}.querySelector('.stack');"
+                " return [it.clientWidth,"
+                " [...it.querySelectorAll('i')].map((part) => part.getBoundingClientRect().width),"
+                " it.querySelector('u')?.getBoundingClientRect().left - it.getBoundingClientRect().left]; })()"
+            )
             whole = int(it["Bound"]) + came
-            page.hold(all(abs(width - bar[0] * ticks / whole) < 2 for width, (_, _, ticks) in zip(bar[1], parts)) and len(bar[1]) == len(parts), f"the bar of {name}: {bar}, {parts}")
-            page.hold(not came or abs(bar[2] - bar[0] * came / whole) < 2, f"the mark in the bar of {name}: {bar}, {came}")
+            page.hold(
+                all(abs(width - bar[0] * ticks / whole) < 2 for width, (_, _, ticks) in zip(bar[1], parts))
+                and len(bar[1]) == len(parts),
+                f"the bar of {name}: {bar}, {parts}",
+            )
+            page.hold(
+                not came or abs(bar[2] - bar[0] * came / whole) < 2, f"the mark in the bar of {name}: {bar}, {came}"
+            )
         if place >= 4:
             press()
-            page.hold(page.run(f"!{opened}?.classList.contains('parts') && document.querySelector({json.dumps(button)}).getAttribute('aria-expanded')") == "false", f"the bound of {name} doesn't close")
-    behind = f"[...document.querySelectorAll('#task-table tr.parts')].map((it) => [it.previousElementSibling.dataset.name, it.offsetParent !== null])"
+            page.hold(
+                page.run(
+                    f"!{opened}?.classList.contains('parts') &&"
+                    f" document.querySelector({json.dumps(button)}).getAttribute('aria-expanded')"
+                )
+                == "false",
+                f"the bound of {name} doesn't close",
+            )
+    behind = (
+        "[...document.querySelectorAll('#task-table tr.parts')]"
+        ".map((it) => [it.previousElementSibling.dataset.name, it.offsetParent !== null])"
+    )
     wanted = [it["Task"] for it in tasks[:4]]
     page.hold(sorted(page.run(behind)) == sorted([name, True] for name in wanted), f"open are {page.run(behind)}")
     for _ in range(2):
         page.browser.click("#task-table thead th:nth-child(11) button")
-        page.hold(sorted(page.run(behind)) == sorted([name, True] for name in wanted), f"sorted, the open parts are {page.run(behind)}")
+        page.hold(
+            sorted(page.run(behind)) == sorted([name, True] for name in wanted),
+            f"sorted, the open parts are {page.run(behind)}",
+        )
     page.run("document.querySelector('.tools[data-of=task-table] input').value = 'no such word'")
-    page.run("document.querySelector('.tools[data-of=task-table] input').dispatchEvent(new Event('input', {bubbles: true}))")
+    page.run(
+        "document.querySelector('.tools[data-of=task-table] input').dispatchEvent(new Event('input', {bubbles: true}))"
+    )
     page.hold(all(not shown for _, shown in page.run(behind)), "parts of a task that isn't shown are")
-    page.hold(page.run("document.querySelector('.tools[data-of=task-table] output').textContent") == f"0 of {len(tasks)}", "the count of what is shown, with open parts")
+    page.hold(
+        page.run("document.querySelector('.tools[data-of=task-table] output').textContent") == f"0 of {len(tasks)}",
+        "the count of what is shown, with open parts",
+    )
     page.clear("task-table")
     for width in (1400, 420):
         page.browser.size(width)
-        page.hold(page.run("document.documentElement.scrollWidth <= innerWidth"), f"with open parts it is wider than a window of {width}")
-        page.hold(page.run("[...document.querySelectorAll('tr.parts .stack')].every((it) => it.getBoundingClientRect().right <= innerWidth)"), f"with open parts a bar ends beyond a window of {width}")
+        page.hold(
+            page.run("document.documentElement.scrollWidth <= innerWidth"),
+            f"with open parts it is wider than a window of {width}",
+        )
+        page.hold(
+            page.run(
+                "[...document.querySelectorAll('tr.parts .stack')]"
+                ".every((it) => it.getBoundingClientRect().right <= innerWidth)"
+            ),
+            f"with open parts a bar ends beyond a window of {width}",
+        )
         for scheme in ("light", "dark") if keep else ():
             page.browser.look(scheme)
             page.browser.picture(os.path.join(keep, f"{page.name}.parts.{scheme}.{width}.png"), width)
@@ -295,7 +445,11 @@ def check_made(page, keep):
         page.browser.click(f'#task-table button[data-made="{name}"]')
     page.hold(page.run(behind) == [], f"not all are closed: {page.run(behind)}")
     # in the order of the file again
-    page.run("(() => { const body = document.querySelector('#task-table').tBodies[0]; const names = %s; body.append(...names.map((it) => document.querySelector(`#task-table tr[data-name=\"${it}\"]`))); })()" % json.dumps([it["Task"] for it in tasks]))
+    page.run(
+        "(() => { const body = document.querySelector('#task-table').tBodies[0]; const names = %s;"
+        ' body.append(...names.map((it) => document.querySelector(`#task-table tr[data-name="${it}"]`))); })()'
+        % json.dumps([it["Task"] for it in tasks])
+    )
 
 
 def check_made_paths(page):
@@ -305,7 +459,9 @@ def check_made_paths(page):
         button = f'#path-table button[data-made="{name}"]'
         page.browser.click(button)
         opened = f"document.querySelector('{button}').closest('tr').nextElementSibling"
-        lines = page.run(f"[...{opened}.querySelectorAll('dl > div')].map((line) => [...line.children].map((it) => it.textContent))")
+        lines = page.run(
+            f"[...{opened}.querySelectorAll('dl > div')].map((line) => [...line.children].map((it) => it.textContent))"
+        )
         if it["Worst"] == "overload":
             page.hold(any(line[2] == "overload" for line in lines), f"along the path {name}: {lines}")
         else:
@@ -313,27 +469,48 @@ def check_made_paths(page):
             page.hold(sum(bounds) == last == int(it["Worst"]), f"along the path {name}: {lines}")
             page.hold("own work" in page.run(f"{opened}.innerText"), f"whom the path {name} waits for")
         page.browser.click(button)
-        page.hold(page.run("document.querySelectorAll('#path-table tr.parts').length") == 0, f"what {name} waits for doesn't close")
+        page.hold(
+            page.run("document.querySelectorAll('#path-table tr.parts').length") == 0,
+            f"what {name} waits for doesn't close",
+        )
 
 
 def check_searches(program, page_of):
-    """How far numbers may move is what `lokwurmi sensitivity` tells, and the priorities are those of `lokwurmi optimise`."""
+    """How far numbers may move is what `lokwurmi sensitivity` tells, and the priorities are those of `lokwurmi
+    optimise`."""
     page = page_of("two_tasks", example("two_tasks", ".toml"), "--sensitivity", "--optimise")
     done = run("sensitivity", "--program", program, example("two_tasks", ".toml"))
     lines = done.stdout.split("\n\n")[0].splitlines()[1:]
     rows = [" ".join(it).replace("−", "-") for it in page.rows("margin-table")]
     page.hold(rows == [" ".join(it.split()) for it in lines], f"how far numbers may move: {rows}")
-    page.hold("All deadlines are met by the priorities of the file" in page.run("document.querySelector('#priorities').innerText"), "its priorities")
+    page.hold(
+        "All deadlines are met by the priorities of the file"
+        in page.run("document.querySelector('#priorities').innerText"),
+        "its priorities",
+    )
     page.choose("margin-table", "kind", "jitter")
-    page.hold(page.run("document.querySelector('.tools[data-of=margin-table] output').textContent") == f"2 of {len(rows)}", "the jitters")
+    page.hold(
+        page.run("document.querySelector('.tools[data-of=margin-table] output').textContent") == f"2 of {len(rows)}",
+        "the jitters",
+    )
     page = page_of("overload", example("overload", ".toml"), "--sensitivity", "--optimise")
-    page.hold("Nothing may move, as this doesn't hold now: path pa" in page.run("document.querySelector('#margins').innerText"), "nothing may move")
+    page.hold(
+        "Nothing may move, as this doesn't hold now: path pa"
+        in page.run("document.querySelector('#margins').innerText"),
+        "nothing may move",
+    )
     said = page.run("document.querySelector('#priorities').innerText")
-    page.hold("p, the most urgent first: a1, b2" in said and "q, the most urgent first: b1, a2" in said, f"the priorities: {said}")
+    page.hold(
+        "p, the most urgent first: a1, b2" in said and "q, the most urgent first: b1, a2" in said,
+        f"the priorities: {said}",
+    )
     edits = page.run("document.querySelector('#priorities pre').textContent")
     with tempfile.TemporaryDirectory() as room:
         script = written(room, "edits", edits)
-        page.hold(call(program, "session", example("overload", ".toml"), script).endswith("overload 0 missed 0\n"), f"the edits: {edits}")
+        page.hold(
+            call(program, "session", example("overload", ".toml"), script).endswith("overload 0 missed 0\n"),
+            f"the edits: {edits}",
+        )
 
 
 def check_changes(page, program):
@@ -354,15 +531,30 @@ def check_changes(page, program):
             first, now = values[0].get(key, "-"), values[place].get(key, "-")
             page.hold(cell.split()[0].replace("–", "-") == now, f"the change of {key}, report {place}: {cells}")
             change = int(now) - int(first) if first.isdigit() and now.isdigit() else 0
-            page.hold(re.findall(r"[+−]\d+", cell) == ([f"{change:+d}".replace("-", "−")] if change else []), f"by how much {key} changes, report {place}: {cells}")
+            page.hold(
+                re.findall(r"[+−]\d+", cell) == ([f"{change:+d}".replace("-", "−")] if change else []),
+                f"by how much {key} changes, report {place}: {cells}",
+            )
     for key in set().union(*values):
         page.hold(key in rows or len({it.get(key) for it in values}) == 1, f"the change of {key} isn't shown")
-    refused = re.findall(r"^line (\d+) refused", call(program, "session", example(page.name, ".toml"), example(page.name, ".script.txt")), re.M)
-    page.hold(re.findall(r"line (\d+) refused", page.run("document.getElementById('changes').innerText")) == refused, f"the refused edits are {refused}")
+    refused = re.findall(
+        r"^line (\d+) refused",
+        call(program, "session", example(page.name, ".toml"), example(page.name, ".script.txt")),
+        re.M,
+    )
+    page.hold(
+        re.findall(r"line (\d+) refused", page.run("document.getElementById('changes').innerText")) == refused,
+        f"the refused edits are {refused}",
+    )
 
 
 def is_dark(page):
-    paper, ink = (sum(map(int, re.findall(r"\d+", it)[:3])) for it in page.run("(() => { const it = getComputedStyle(document.body); return [it.backgroundColor, it.color]; })()"))
+    paper, ink = (
+        sum(map(int, re.findall(r"\d+", it)[:3]))
+        for it in page.run(
+            "(() => { const it = getComputedStyle(document.body); return [it.backgroundColor, it.color]; })()"
+        )
+    )
     return True if paper < 200 and ink > 400 else False if paper > 600 and ink < 200 else None
 
 
@@ -380,11 +572,21 @@ def check_views(page, keep):
     page.hold(is_dark(page) is True, "the button doesn't make it dark again")
     for width in (1400, 420):
         browser.size(width)
-        page.hold(page.run("document.documentElement.scrollWidth <= innerWidth"), f"it is wider than a window of {width}")
+        page.hold(
+            page.run("document.documentElement.scrollWidth <= innerWidth"), f"it is wider than a window of {width}"
+        )
     browser.size(1400)
     browser.look("dark", "print")
-    page.hold(page.run("getComputedStyle(document.body).backgroundColor") == "rgb(255, 255, 255)" and is_dark(page) is False, "its print isn't light")
-    page.hold(all(page.run(f"getComputedStyle(document.querySelector('{it}')).display") == "none" for it in ("nav", ".tools")), "its print has what only a screen wants")
+    page.hold(
+        page.run("getComputedStyle(document.body).backgroundColor") == "rgb(255, 255, 255)" and is_dark(page) is False,
+        "its print isn't light",
+    )
+    page.hold(
+        all(
+            page.run(f"getComputedStyle(document.querySelector('{it}')).display") == "none" for it in ("nav", ".tools")
+        ),
+        "its print has what only a screen wants",
+    )
     document = browser.printed()
     page.hold(document.startswith(b"%PDF") and len(document) > 5000, "it doesn't print")
     if keep:
@@ -395,20 +597,54 @@ def check_views(page, keep):
 
 def check_names(page):
     """What can be reached by keyboard has a name, and no two elements have one id."""
-    page.hold(page.run("[...document.querySelectorAll('button, a, [tabindex]')].every((it) => (it.getAttribute('aria-label') || it.textContent.trim()))"), "an element has no name")
-    page.hold(page.run("[...document.querySelectorAll('input, select')].every((it) => it.labels.length === 1)"), "a field has no label")
-    page.hold(page.run("new Set([...document.querySelectorAll('[id]')].map((it) => it.id)).size === document.querySelectorAll('[id]').length"), "an id stands twice")
-    page.hold(page.run("[...document.querySelectorAll('nav a, a.skip')].every((it) => document.getElementById(it.hash.slice(1)))"), "a link within the page leads nowhere")
+    page.hold(
+        page.run(
+            "[...document.querySelectorAll('button, a, [tabindex]')]"
+            ".every((it) => (it.getAttribute('aria-label') || it.textContent.trim()))"
+        ),
+        "an element has no name",
+    )
+    page.hold(
+        page.run("[...document.querySelectorAll('input, select')].every((it) => it.labels.length === 1)"),
+        "a field has no label",
+    )
+    page.hold(
+        page.run(
+            "new Set([...document.querySelectorAll('[id]')].map((it) => it.id)).size"
+            " === document.querySelectorAll('[id]').length"
+        ),
+        "an id stands twice",
+    )
+    page.hold(
+        page.run(
+            "[...document.querySelectorAll('nav a, a.skip')].every((it) => document.getElementById(it.hash.slice(1)))"
+        ),
+        "a link within the page leads nowhere",
+    )
     page.run("document.activeElement.blur()")
     page.browser.key("Tab")
-    page.hold(page.run("document.activeElement.className") == "skip", "the key Tab doesn't begin at the link to the tasks")
+    page.hold(
+        page.run("document.activeElement.className") == "skip", "the key Tab doesn't begin at the link to the tasks"
+    )
 
 
 WIDTHS = (375, 500, 1024, 1366, 1920)
 # names, numbers and paths that take much room, a frame of 29 bits, slots
-WIDE = '''format = 2
-resource = [{ name = "unit_front", kind = "preemptive" }, { name = "backbone", kind = "tdma", gap = 500 }, { name = "can_front", kind = "can", bit = 2 }, { name = "unit_rear", kind = "preemptive" }]
-source = [{ name = "wheel_pulses", period = 800, jitter = 1600, distance = 100 }, { name = "sampling", period = 5000, jitter = 200 }, { name = "wheel_frames", period = 10000 }, { name = "radar", period = 20000, jitter = 2500 }, { name = "diagnosis", period = 100000 }, { name = "images", period = 16667 }]
+WIDE = """format = 2
+resource = [
+  { name = "unit_front", kind = "preemptive" },
+  { name = "backbone", kind = "tdma", gap = 500 },
+  { name = "can_front", kind = "can", bit = 2 },
+  { name = "unit_rear", kind = "preemptive" },
+]
+source = [
+  { name = "wheel_pulses", period = 800, jitter = 1600, distance = 100 },
+  { name = "sampling", period = 5000, jitter = 200 },
+  { name = "wheel_frames", period = 10000 },
+  { name = "radar", period = 20000, jitter = 2500 },
+  { name = "diagnosis", period = 100000 },
+  { name = "images", period = 16667 },
+]
 task = [
   { name = "wheel_isr", on = "unit_front", after = "wheel_pulses", best = 12, worst = 35, priority = 1 },
   { name = "pedal", on = "unit_front", after = "sampling", best = 250, worst = 450, priority = 2 },
@@ -419,19 +655,34 @@ task = [
   { name = "diag_f", on = "can_front", after = "diagnose", payload = 8, extended = true, priority = 416940273 },
   { name = "camera_t", on = "backbone", after = "images", best = 200, worst = 240, slot = 250 },
   { name = "joined_t", on = "backbone", after = "join", best = 60, worst = 180, slot = 350 },
-  { name = "join", on = "unit_rear", after = ["pedal_f", "wheel_f", "radar_f"], best = 20, worst = 80, priority = 4096 },
+  { name = "join", on = "unit_rear", after = ["pedal_f", "wheel_f", "radar_f"], best = 9, worst = 80, priority = 4096 },
   { name = "brake", on = "unit_rear", after = "joined_t", best = 120, worst = 300, priority = 5000 },
 ]
 path = [
   { name = "pedal_brake", tasks = ["pedal", "pedal_f", "join", "joined_t", "brake"], deadline = 12000 },
   { name = "radar_brake", tasks = ["radar_f", "join", "joined_t", "brake"], deadline = 15000 },
 ]
-'''
+"""
 WIDE_TRACE = "event,wheel_pulses,0\nevent,sampling,0\nevent,radar,0\nevent,images,0\n"
-# what tells the turn of each task, and of those with a slot what they use of it: the greatest execution over the period, by the
-# share of the cycle, of 250 + 350 + 500 ticks; what comes to joined_t has three periods
-TURNS_TOLD = ["priority 1", "priority 2", "priority 3", "priority 16", "priority 2047", "priority 0x800", "priority 0x18DA00F1", "slot 250", "slot 350", "priority 4096", "priority 5000"]
-OF_SLOT = {"camera_t": Fraction(240, 16667) / Fraction(250, 1100), "joined_t": 180 * (Fraction(1, 5000) + Fraction(1, 10000) + Fraction(1, 20000)) / Fraction(350, 1100)}
+# what tells the turn of each task, and of those with a slot what they use of it: the greatest execution over the
+# period, by the share of the cycle, of 250 + 350 + 500 ticks; what comes to joined_t has three periods
+TURNS_TOLD = [
+    "priority 1",
+    "priority 2",
+    "priority 3",
+    "priority 16",
+    "priority 2047",
+    "priority 0x800",
+    "priority 0x18DA00F1",
+    "slot 250",
+    "slot 350",
+    "priority 4096",
+    "priority 5000",
+]
+OF_SLOT = {
+    "camera_t": Fraction(240, 16667) / Fraction(250, 1100),
+    "joined_t": 180 * (Fraction(1, 5000) + Fraction(1, 10000) + Fraction(1, 20000)) / Fraction(350, 1100),
+}
 
 
 def near(one, other):
@@ -439,18 +690,31 @@ def near(one, other):
 
 
 def check_lines(page, width, room):
-    """The lines between rows go on under the fixed column, also where the table is moved beneath it: in a picture, by their colour."""
-    colour = [int(it, 16) / 255 for it in re.findall(r"[0-9a-f]{2}", page.run("getComputedStyle(document.documentElement).getPropertyValue('--line').trim()"))]
+    """The lines between rows go on under the fixed column, also where the table is moved beneath it: in a picture, by
+    their colour."""
+    colour = [
+        int(it, 16) / 255
+        for it in re.findall(
+            r"[0-9a-f]{2}", page.run("getComputedStyle(document.documentElement).getPropertyValue('--line').trim()")
+        )
+    ]
     for table in ("path-table", "task-table"):
         page.run(f"document.querySelector('#{table}').parentElement.scrollLeft = 60")
         picture = os.path.join(room, "lines.png")
         page.browser.picture(picture, width)
         pixels = matplotlib.image.imread(picture)
-        boxes = page.run(f"[...document.querySelectorAll('#{table} tbody th')].map((it) => {{ const box = it.getBoundingClientRect(); return [box.left + scrollX, box.bottom + scrollY, box.width]; }})")
+        boxes = page.run(
+            f"[...document.querySelectorAll('#{table} tbody th')]"
+            ".map((it) => { const box = it.getBoundingClientRect();"
+            " return [box.left + scrollX, box.bottom + scrollY, box.width]; })"
+        )
         for place, (left, bottom, wide) in enumerate(boxes):
             # at the fixed column's start, and right behind it
             for x in (int(left) + 2, int(left + wide) + 2):
-                page.hold(x < width and near(pixels[round(bottom) - 1][x], colour), f"{table} in a window of {width}: no line below row {place} at {x}")
+                page.hold(
+                    x < width and near(pixels[round(bottom) - 1][x], colour),
+                    f"{table} in a window of {width}: no line below row {place} at {x}",
+                )
         page.run(f"document.querySelector('#{table}').parentElement.scrollLeft = 0")
 
 
@@ -458,11 +722,19 @@ def check_widths(page, room):
     """What there is room for, at five widths."""
     for width in WIDTHS:
         page.browser.size(width)
-        page.hold(page.run("document.documentElement.scrollWidth <= innerWidth"), f"it is wider than a window of {width}")
-        wide, first = page.run("(() => { const it = document.querySelector('#path-table'); return [it.parentElement.clientWidth, it.querySelector('tbody th').getBoundingClientRect().width]; })()")
+        page.hold(
+            page.run("document.documentElement.scrollWidth <= innerWidth"), f"it is wider than a window of {width}"
+        )
+        wide, first = page.run(
+            "(() => { const it = document.querySelector('#path-table');"
+            " return [it.parentElement.clientWidth, it.querySelector('tbody th').getBoundingClientRect().width]; })()"
+        )
         page.hold(first <= 0.45 * wide, f"the first column of Paths takes {first} of {wide} in a window of {width}")
         for table in ("path-table", "task-table") if width >= 1300 else ():
-            wide, needs = page.run(f"(() => {{ const it = document.querySelector('#{table}').parentElement; return [it.clientWidth, it.scrollWidth]; }})()")
+            wide, needs = page.run(
+                f"(() => {{ const it = document.querySelector('#{table}').parentElement;"
+                " return [it.clientWidth, it.scrollWidth]; })()"
+            )
             page.hold(needs <= wide, f"{table} is cut in a window of {width}: {needs} of {wide}")
         check_lines(page, width, room)
     page.browser.size(1400)
@@ -478,24 +750,60 @@ def check_wide(room, page_of):
     rows = page.rows("task-table")
     page.hold([row[2] for row in rows] == TURNS_TOLD, f"the turns of its tasks: {[row[2] for row in rows]}")
     loads = {row[0]: row[9].split("\n")[1:] for row in rows}
-    page.hold(loads == {row[0]: [f"{float(OF_SLOT[row[0]]) * 100:.1f} % of slot"] if row[0] in OF_SLOT else [] for row in rows}, f"what is used of slots: {loads}")
+    page.hold(
+        loads
+        == {row[0]: [f"{float(OF_SLOT[row[0]]) * 100:.1f} % of slot"] if row[0] in OF_SLOT else [] for row in rows},
+        f"what is used of slots: {loads}",
+    )
     page.hold("the tightest path" in page.run("document.querySelector('.figures').innerText"), "the tightest path")
-    file = written(room, "endless.toml", WIDE.replace("slot = 250", "slot = 5").replace("deadline = 15000 },", 'deadline = 15000 }, { name = "camera", tasks = ["camera_t"] },'))
+    file = written(
+        room,
+        "endless.toml",
+        WIDE.replace("slot = 250", "slot = 5").replace(
+            "deadline = 15000 },", 'deadline = 15000 }, { name = "camera", tasks = ["camera_t"] },'
+        ),
+    )
     page = page_of("endless", file)
     tiles = page.run("document.querySelector('.figures').innerText")
-    page.hold("tightest" not in tiles and re.search(r"1\nof 3 paths without a bound", tiles), f"a path without a bound: {tiles}")
+    page.hold(
+        "tightest" not in tiles and re.search(r"1\nof 3 paths without a bound", tiles),
+        f"a path without a bound: {tiles}",
+    )
     for it in page.browser.complaints():
         page.hold(False, it)
 
 
-PRIORITY = 'format = 1\nresource = [{ name = "cpu", kind = "preemptive", limit = LIMIT }]\nsource = [{ name = "s", period = PERIOD }]\n'
-TWO = '{ name = "a", on = "cpu", after = "s", best = 6, worst = 6, priority = 1 }, { name = "b", on = "cpu", after = "s", best = 6, worst = 6, priority = 2 }'
+PRIORITY = (
+    'format = 1\nresource = [{ name = "cpu", kind = "preemptive", limit = LIMIT }]\n'
+    'source = [{ name = "s", period = PERIOD }]\n'
+)
+TWO = (
+    '{ name = "a", on = "cpu", after = "s", best = 6, worst = 6, priority = 1 }, '
+    '{ name = "b", on = "cpu", after = "s", best = 6, worst = 6, priority = 2 }'
+)
 AFTER_B = ', { name = "c", on = "cpu", after = "b", best = 1, worst = 1, priority = 3 }'
-TDMA = 'format = 1\nresource = [{ name = "ring", kind = "tdma", gap = 8 }]\nsource = [{ name = "s", period = PERIOD }]\ntask = [{ name = "t", on = "ring", after = "s", best = 3, worst = 3, slot = 2 }]\n'
-TURNS = 'format = 1\nresource = [{ name = "rr", kind = "round-robin" }]\nsource = [{ name = "s", period = 10 }, { name = "l", period = 1000 }]\ntask = [{ name = "a", on = "rr", after = "s", best = 6, worst = 6, slot = 2 }, { name = "b", on = "rr", after = "s", best = 9, worst = 9, slot = 2 }, { name = "c", on = "rr", after = "l", best = 1, worst = 1, slot = 2 }]\n'
+TDMA = (
+    'format = 1\nresource = [{ name = "ring", kind = "tdma", gap = 8 }]\nsource = [{ name = "s", period = PERIOD }]\n'
+    'task = [{ name = "t", on = "ring", after = "s", best = 3, worst = 3, slot = 2 }]\n'
+)
+TURNS = (
+    'format = 1\nresource = [{ name = "rr", kind = "round-robin" }]\n'
+    'source = [{ name = "s", period = 10 }, { name = "l", period = 1000 }]\n'
+    'task = [{ name = "a", on = "rr", after = "s", best = 6, worst = 6, slot = 2 }, '
+    '{ name = "b", on = "rr", after = "s", best = 9, worst = 9, slot = 2 }, '
+    '{ name = "c", on = "rr", after = "l", best = 1, worst = 1, slot = 2 }]\n'
+)
 CASES = [
-    ("too_much", PRIORITY.replace("LIMIT", "1000").replace("PERIOD", "10") + f"task = [{TWO}{AFTER_B}]\n", ["Too much work on cpu", "120.0 %", "Further tasks without a bound because of it: c"]),
-    ("short_limit", PRIORITY.replace("LIMIT", "8").replace("PERIOD", "100") + f"task = [{TWO}]\n", ["A long busy window on cpu", "limit of 8 ticks", "12.0 %"]),
+    (
+        "too_much",
+        PRIORITY.replace("LIMIT", "1000").replace("PERIOD", "10") + f"task = [{TWO}{AFTER_B}]\n",
+        ["Too much work on cpu", "120.0 %", "Further tasks without a bound because of it: c"],
+    ),
+    (
+        "short_limit",
+        PRIORITY.replace("LIMIT", "8").replace("PERIOD", "100") + f"task = [{TWO}]\n",
+        ["A long busy window on cpu", "limit of 8 ticks", "12.0 %"],
+    ),
     ("short_slot", TDMA.replace("PERIOD", "10"), ["Too much work on ring", "its slot is 20.0 %"]),
     ("turns", TURNS, ["Too much work on rr", "each for its turns"]),
     ("empty", "format = 1\n", ["each task has a bound"]),
@@ -522,14 +830,26 @@ def check_causes(room, program):
             it["period"] = draw.randint(10, 90)
             it["distance"] = min(it["distance"], it["period"])
         texts = [file_of(system).replace("limit = 2000", f"limit = {limit}") for limit in (300, 30000)]
-        low, high = (reports_in(call(program, "analyse", written(*os.path.split(file), text)).splitlines(), file)[-1][0] for text in texts)
+        low, high = (
+            reports_in(call(program, "analyse", written(*os.path.split(file), text)).splitlines(), file)[-1][0]
+            for text in texts
+        )
         causes, over = Behind(tomllib.loads(texts[0]), low).causes()
-        hold({it["name"] for it in over} == {name for name, it in low.items() if it["worst"] is None}, f"system {number}: not each task without a bound is told of")
+        hold(
+            {it["name"] for it in over} == {name for name, it in low.items() if it["worst"] is None},
+            f"system {number}: not each task without a bound is told of",
+        )
         covered = {name for it in causes for name in it["tasks"] + it["leaves"]}
-        hold(covered == {it["name"] for it in over}, f"system {number}: {covered} have a cause, and {[it['name'] for it in over]} no bound")
+        hold(
+            covered == {it["name"] for it in over},
+            f"system {number}: {covered} have a cause, and {[it['name'] for it in over]} no bound",
+        )
         for it in causes:
             found[it["kind"]] = found.get(it["kind"], 0) + 1
-            hold(it["kind"] != "load" or all(high[name]["worst"] is None for name in it["tasks"]), f"system {number}: {it['tasks']} have a bound with a higher limit\n{texts[0]}")
+            hold(
+                it["kind"] != "load" or all(high[name]["worst"] is None for name in it["tasks"]),
+                f"system {number}: {it['tasks']} have a bound with a higher limit\n{texts[0]}",
+            )
     hold(all(found.get(kind, 0) >= 5 for kind in ("load", "limit", "circle")), f"causes of each kind: {found}")
 
 
@@ -546,7 +866,11 @@ def check_refusals(room, program):
         (1, "can't be called", [two, "--to", page, "--program", os.path.join(room, "nothing")]),
         (14, "bad.toml:1:10: the format 3 isn't known: it is 1 or 2", [bad, "--to", page]),
         (16, "status 16", [two, "--to", page, "--trace", trace]),
-        (1, "chain 1 names a task capture, which the system doesn't have", [two, "--to", page, "--chains", example("camera_brake", ".chains.toml")]),
+        (
+            1,
+            "chain 1 names a task capture, which the system doesn't have",
+            [two, "--to", page, "--chains", example("camera_brake", ".chains.toml")],
+        ),
         (1, "the system has no task a", [chains, "--to", page, "--trace", trace, "--schedule", schedule]),
     ):
         words += [] if "--program" in words else ["--program", program]
@@ -556,8 +880,8 @@ def check_refusals(room, program):
 
 
 def check_chains(room, page_of):
-    """A page with chains: their bounds, deadlines and verdicts by the plain rules, the parts of each bar, what the run shows, and
-    that it is told where a source stays away."""
+    """A page with chains: their bounds, deadlines and verdicts by the plain rules, the parts of each bar, what the run
+    shows, and that it is told where a source stays away."""
     file, listed, trace = (example("camera_brake", end) for end in (".toml", ".chains.toml", ".trace.csv"))
     with open(file, encoding="utf-8") as it:
         bounds = effect_rules.Bounds(it.read())
@@ -602,7 +926,10 @@ def check_parts(page, rows):
         widths = page.run(f"[...{bar}.querySelectorAll('i')].map((it) => it.getBoundingClientRect().width)")
         page.hold(sum(ticks) == int(row["Bound"]), f"the parts of {row['Chain']}, {row['Of']}: {ticks}")
         per = sum(widths) / sum(ticks)
-        page.hold(all(abs(width - it * per) < 2 for it, width in zip(ticks, widths)), f"the bar of {row['Chain']}, {row['Of']}: {widths}")
+        page.hold(
+            all(abs(width - it * per) < 2 for it, width in zip(ticks, widths)),
+            f"the bar of {row['Chain']}, {row['Of']}: {widths}",
+        )
 
 
 def time_of(ticks, tick):
@@ -610,15 +937,28 @@ def time_of(ticks, tick):
     if not ticks:
         return "0"
     time = decimal.Decimal(abs(ticks)) * decimal.Decimal(tick)
-    unit, size = next(((unit, size) for unit, size in (("s", 10**9), ("ms", 10**6), ("us", 10**3)) if time >= size), ("ns", 1))
+    unit, size = next(
+        ((unit, size) for unit, size in (("s", 10**9), ("ms", 10**6), ("us", 10**3)) if time >= size), ("ns", 1)
+    )
     return ("−" if ticks < 0 else "") + format((time / size).normalize(), "f") + unit
 
 
 def check_times(program, page_of):
-    """Pages of which a tick has a time: each number of ticks is shown as exactly that time, and tables are sorted by it."""
-    for name, tick, shown in (("pedal", "1000", "1us"), ("crossing_chains", "2500", "2.5us"), ("gateway", "333.3", "333.3ns")):
+    """Pages of which a tick has a time: each number of ticks is shown as exactly that time, and tables are sorted by
+    it."""
+    for name, tick, shown in (
+        ("pedal", "1000", "1us"),
+        ("crossing_chains", "2500", "2.5us"),
+        ("gateway", "333.3", "333.3ns"),
+    ):
         file = example(name, ".toml")
-        more = ["--trace", example(name, ".trace.csv")] if name == "pedal" else ["--session", example(name, ".script.txt")] if name == "crossing_chains" else []
+        more = (
+            ["--trace", example(name, ".trace.csv")]
+            if name == "pedal"
+            else ["--session", example(name, ".script.txt")]
+            if name == "crossing_chains"
+            else []
+        )
         page = page_of(f"{name}_{shown}", file, "--tick", shown, *more)
         page.browser.size(1400)
         head = page.run("document.getElementById('tick').innerText")
@@ -628,15 +968,26 @@ def check_times(program, page_of):
         paths = re.findall(r"^path (\S+) best (\d+) worst (\d+) deadline (\S+)", report, re.M)
         rows = {row["Task"]: row["Bound"].split()[0] for row in page.table("task-table")}
         page.hold(rows == {task: time_of(worst, tick) for task, worst in bounds.items()}, f"the bounds are {rows}")
-        found = [[row[key].split()[0] for key in ("Path", "Best", "Worst", "Deadline", "Room")] for row in page.table("path-table")]
+        found = [
+            [row[key].split()[0] for key in ("Path", "Best", "Worst", "Deadline", "Room")]
+            for row in page.table("path-table")
+        ]
         wanted = [
-            [path, time_of(int(best), tick), time_of(int(worst), tick), *(["–", "–"] if limit == "-" else [time_of(int(limit), tick), time_of(int(limit) - int(worst), tick)])]
+            [
+                path,
+                time_of(int(best), tick),
+                time_of(int(worst), tick),
+                *(["–", "–"] if limit == "-" else [time_of(int(limit), tick), time_of(int(limit) - int(worst), tick)]),
+            ]
             for path, best, worst, limit in paths
         ]
         page.hold(found == wanted, f"the paths are {found}, and not {wanted}")
         first = page.run("document.querySelector('#task-table button[data-made]').dataset.made")
         page.browser.click(f"#task-table button[data-made='{first}']")
-        lines = page.run("[...document.querySelectorAll('#task-table tr.parts dl > div')].map((line) => [...line.children].map((it) => it.textContent))")
+        lines = page.run(
+            "[...document.querySelectorAll('#task-table tr.parts dl > div')]"
+            ".map((line) => [...line.children].map((it) => it.textContent))"
+        )
         page.hold(lines[-1][2] == time_of(bounds[first], tick), f"the parts of {first}: {lines}")
         page.browser.click("#task-table thead th:nth-child(11) button")
         order = [bounds[it] for it in page.shown("task-table") if it]
@@ -647,16 +998,26 @@ def check_times(program, page_of):
             marks = page.run("[...document.querySelectorAll('.chart text')].map((it) => it.textContent)")
             page.hold("ms, where a tick is 1us" in marks, f"the chart says {marks}")
     page = page_of("two_tasks", example("two_tasks", ".toml"))
-    page.hold(page.run("document.getElementById('tick').innerText") == "All times are in ticks.", "its head says what a number is")
+    page.hold(
+        page.run("document.getElementById('tick').innerText") == "All times are in ticks.",
+        "its head says what a number is",
+    )
 
 
 def check_helps(program, page_of):
-    """What would help a path on a page: each change of a number, which the edit of a script makes, and the greatest time with it
-    by the program."""
+    """What would help a path on a page: each change of a number, which the edit of a script makes, and the greatest
+    time with it by the program."""
     file = example("crossing_chains", ".toml")
     page = page_of("helps", file, "--helps")
-    rows = page.run("[...document.querySelectorAll('#helps tbody tr')].map((row) => [...row.cells].map((it) => it.innerText.trim()))")
-    page.hold(len(rows) >= 1 and page.run("[...document.querySelectorAll('#helps table')].map((it) => it.dataset.path)") == ["pb"], f"the changes are {rows}")
+    rows = page.run(
+        "[...document.querySelectorAll('#helps tbody tr')]"
+        ".map((row) => [...row.cells].map((it) => it.innerText.trim()))"
+    )
+    page.hold(
+        len(rows) >= 1
+        and page.run("[...document.querySelectorAll('#helps table')].map((it) => it.dataset.path)") == ["pb"],
+        f"the changes are {rows}",
+    )
     with open(file, encoding="utf-8") as it:
         executions = {task["name"]: task["best"] for task in tomllib.loads(it.read())["task"]}
     for what, worst, _ in rows:
@@ -673,7 +1034,9 @@ def check_examples(room, words, page_of):
         more, schedule = [], example(name, ".schedule.csv")
         if with_trace:
             if not os.path.exists(schedule):
-                schedule = written(room, name + ".csv", schedule_of(example(name, ".toml"), example(name, ".trace.csv")))
+                schedule = written(
+                    room, name + ".csv", schedule_of(example(name, ".toml"), example(name, ".trace.csv"))
+                )
             more += ["--trace", example(name, ".trace.csv"), "--schedule", schedule]
         if with_script:
             more += ["--session", example(name, ".script.txt")]

@@ -1,10 +1,10 @@
 #!/usr/bin/env python3
 """Compares the reports of `lokwurmi analyse` with those of the rules written down plainly, over random systems.
 
-The rules stand in docs/DEFINITIONS.md; here they are followed word for word, one analysis of every task in each round, with
-no thought of speed. Systems have all four kinds, chains that come back to a resource, jitter of several periods, and paths;
-in every other one tasks have up to three activators.
-Prints the first file whose report or status differs, else how many were alike.
+The rules stand in docs/DEFINITIONS.md; here they are followed word for word, one analysis of every task in each round,
+with no thought of speed. Systems have all four kinds, chains that come back to a resource, jitter of several periods,
+and paths; in every other one tasks have up to three activators, and in every other pair regions. Prints the first file
+whose report or status differs, else how many were alike.
 
     python3 tests/check_reports.py [NUMBER of systems, 1000 if absent] [NUMBER to begin with, 0 if absent]
 """
@@ -44,7 +44,9 @@ def least_time(model, events):
     if events < 2:
         return 0
     # the least window that has room for them once it is a tick longer, by halving: most_events rises with the window
-    low, high = 0, max(max((events - 1) * distance, (events - 1) * period - jitter, 0) for period, jitter, distance in model)
+    low, high = 0, max(
+        max((events - 1) * distance, (events - 1) * period - jitter, 0) for period, jitter, distance in model
+    )
     while low < high:
         middle = (low + high) // 2
         low, high = (low, middle) if most_events(model, middle + 1) >= events else (middle + 1, high)
@@ -62,27 +64,53 @@ def least_window(demand, first, limit):
     return OVERLOAD
 
 
+def activators_of(task):
+    """The activators of a task, as its entry names them."""
+    return [task["after"]] if isinstance(task["after"], str) else task["after"]
+
+
+def stretch_of(task):
+    """For how many ticks a job isn't preempted at most, on a preemptive resource."""
+    return min(task.get("region", 1), task["worst"])
+
+
+def some_region(pick, worst):
+    """A region for a task: a tick, some ticks, or as long as any of its jobs, or longer."""
+    return pick.choice([1, 2, 3, pick.randint(1, worst), worst, worst + 3, 1_000_000])
+
+
+def execution_of(task, resource):
+    """The least and the greatest execution of a task: those of a frame follow from its payload."""
+    if "payload" not in task:
+        return task["best"], task["worst"]
+    least, greatest = (67, 80) if task.get("extended") else (47, 55)
+    return tuple(
+        bits * resource.get("bit", 1) for bits in (least + 8 * task["payload"], greatest + 10 * task["payload"])
+    )
+
+
 class System:
     def __init__(self, text):
         read = tomllib.loads(text)
         self.resources = {r["name"]: r for r in read.get("resource", [])}
-        self.sources = {s["name"]: (s["period"], s.get("jitter", 0), s.get("distance", 0)) for s in read.get("source", [])}
+        self.sources = {
+            s["name"]: (s["period"], s.get("jitter", 0), s.get("distance", 0)) for s in read.get("source", [])
+        }
         self.tasks = {t["name"]: t for t in read.get("task", [])}
         self.paths = read.get("path", [])
         for task in self.tasks.values():
-            if "payload" in task:
-                bit = self.resources[task["on"]].get("bit", 1)
-                least, greatest = (67, 80) if task.get("extended") else (47, 55)
-                task["best"] = (least + 8 * task["payload"]) * bit
-                task["worst"] = (greatest + 10 * task["payload"]) * bit
+            task["best"], task["worst"] = execution_of(task, self.resources[task["on"]])
 
     def sources_of(self, name):
         """The sources of the task's streams."""
-        return [source for after in self.activators_of(name) for source in ([after] if after in self.sources else self.sources_of(after))]
+        return [
+            source
+            for after in self.activators_of(name)
+            for source in ([after] if after in self.sources else self.sources_of(after))
+        ]
 
     def activators_of(self, name):
-        after = self.tasks[name]["after"]
-        return [after] if isinstance(after, str) else after
+        return activators_of(self.tasks[name])
 
     def sent_by(self, after, bounds):
         """The streams that a source or a task sends; none where one is unbounded."""
@@ -126,7 +154,14 @@ class System:
 
     def preemptive(self, name, task, resource, model, mates, bounds):
         higher = [n for n in mates if self.tasks[n]["priority"] < task["priority"]]
-        return self.busy_window(model, resource.get("limit", 1000000), lambda q, w: q * task["worst"] + self.work(higher, bounds, w))
+        lower = [n for n in mates if self.tasks[n]["priority"] > task["priority"]]
+        # of a region that has begun before a tick has gone by
+        blocking = max((stretch_of(self.tasks[n]) - 1 for n in lower), default=0)
+        return self.busy_window(
+            model,
+            resource.get("limit", 1000000),
+            lambda q, w: blocking + q * task["worst"] + self.work(higher, bounds, w),
+        )
 
     def round_robin(self, name, task, resource, model, mates, bounds):
         def share(other, rounds, window):
@@ -154,7 +189,9 @@ class System:
     def can(self, name, task, resource, model, mates, bounds):
         limit, bit, own = resource.get("limit", 1000000), resource.get("bit", 1), task["worst"]
         higher = [n for n in mates if self.tasks[n]["priority"] < task["priority"]]
-        blocking = max((self.tasks[n]["worst"] for n in mates if self.tasks[n]["priority"] > task["priority"]), default=0)
+        blocking = max(
+            (self.tasks[n]["worst"] for n in mates if self.tasks[n]["priority"] > task["priority"]), default=0
+        )
         busy = least_window(lambda w: blocking + self.work(higher + [name], bounds, w), 1, limit)
         if busy == OVERLOAD:
             return OVERLOAD
@@ -182,15 +219,30 @@ class System:
             model = self.input_of(name, bounds)
             first, *more = self.sources_of(name)
             jitter, distance = ("overload", "overload") if model is None else model[0][1:]
-            received = f"streams {1 + len(more)}" if more else f"period {self.sources[first][0]} jitter {jitter} distance {distance}"
+            received = (
+                f"streams {1 + len(more)}"
+                if more
+                else f"period {self.sources[first][0]} jitter {jitter} distance {distance}"
+            )
             lines.append(f"task {name} {task['on']} {received} best {task['best']} worst {said(bounds[name])}")
         for path in self.paths:
             best = sum(self.tasks[n]["best"] for n in path["tasks"])
             worst = sum(bounds[n] for n in path["tasks"])
             deadline = path.get("deadline")
-            word = "none" if deadline is None else "unknown" if worst == OVERLOAD else "met" if worst <= deadline else "missed"
+            word = (
+                "none"
+                if deadline is None
+                else "unknown"
+                if worst == OVERLOAD
+                else "met"
+                if worst <= deadline
+                else "missed"
+            )
             missed += word == "missed"
-            lines.append(f"path {path['name']} best {best} worst {said(worst)} deadline {'-' if deadline is None else deadline} {word}")
+            lines.append(
+                f"path {path['name']} best {best} worst {said(worst)}"
+                f" deadline {'-' if deadline is None else deadline} {word}"
+            )
         overloaded = sum(bound == OVERLOAD for bound in bounds.values())
         lines.append(f"summary tasks {len(self.tasks)} overload {overloaded} missed {missed}")
         return "\n".join(lines) + "\n", 2 if overloaded else 1 if missed else 0
@@ -201,22 +253,32 @@ def said(bound):
 
 
 def made_system(number):
-    """A random system: its size grows with the number."""
-    pick = random.Random(number)
+    """A random system: its size grows with the number. In two of four tasks on preemptive resources have regions."""
+    pick, regions = random.Random(number), random.Random(f"regions of {number}")
+    has_regions = number // 2 % 2 == 1
     kinds = ["preemptive", "round-robin", "tdma", "can"]
     resources, tasks = pick.randint(1, 2 + number % 7), pick.randint(1, 3 + number % 25)
-    lines, on_kind, chains, streams = [f"format = {1 + number % 2}"], [], [], []
+    lines, on_kind, chains, streams = [f"format = {3 if has_regions else 1 + number % 2}"], [], [], []
     for r in range(resources):
         kind = pick.choice(kinds)
         on_kind.append(kind)
         extra = {"tdma": f", gap = {pick.randint(0, 20)}", "can": f", bit = {pick.randint(1, 4)}"}.get(kind, "")
-        lines.append(f'[[resource]]\nname = "r{r}"\nkind = "{kind}"\nlimit = {pick.choice([60, 300, 2000, 20000])}{extra.replace(", ", chr(10))}')
+        lines.append(
+            f'[[resource]]\nname = "r{r}"\nkind = "{kind}"\n'
+            f'limit = {pick.choice([60, 300, 2000, 20000])}{extra.replace(", ", chr(10))}'
+        )
     for s in range(3):
         period = pick.randint(10, 400) * (1 + tasks // 6)
-        lines.append(f'[[source]]\nname = "s{s}"\nperiod = {period}\njitter = {pick.choice([0, 0, period // 3, 3 * period])}\ndistance = {pick.choice([0, 0, period // 4])}')
+        lines.append(
+            f'[[source]]\nname = "s{s}"\nperiod = {period}\n'
+            f"jitter = {pick.choice([0, 0, period // 3, 3 * period])}\ndistance = {pick.choice([0, 0, period // 4])}"
+        )
     for t in range(tasks):
         r = pick.randrange(resources)
-        after = [pick.randrange(t) if t and pick.random() < 0.6 else -1 - pick.randrange(3) for _ in range(pick.choice((1, 1, 2, 3)) if number % 2 else 1)]
+        after = [
+            pick.randrange(t) if t and pick.random() < 0.6 else -1 - pick.randrange(3)
+            for _ in range(pick.choice((1, 1, 2, 3)) if number % 2 else 1)
+        ]
         after = list(dict.fromkeys(after))
         depth = 1 + max(chains[k] if k >= 0 else 0 for k in after)
         several = sum(streams[k] if k >= 0 else 1 for k in after)
@@ -225,12 +287,23 @@ def made_system(number):
         chains.append(depth)
         streams.append(several)
         worst = pick.randint(1, 30)
-        turn = f"slot = {pick.randint(1, 20)}" if on_kind[r] in ("round-robin", "tdma") else f"priority = {pick.randint(0, 9) * 100 + t}"
+        turn = (
+            f"slot = {pick.randint(1, 20)}"
+            if on_kind[r] in ("round-robin", "tdma")
+            else f"priority = {pick.randint(0, 9) * 100 + t}"
+        )
         names = [f'"s{-1 - k}"' if k < 0 else f'"t{k}"' for k in after]
         name = names[0] if len(names) == 1 else "[" + ", ".join(names) + "]"
-        lines.append(f'[[task]]\nname = "t{t}"\non = "r{r}"\nafter = {name}\nbest = {pick.randint(1, worst)}\nworst = {worst}\n{turn}')
+        lines.append(
+            f'[[task]]\nname = "t{t}"\non = "r{r}"\nafter = {name}\nbest = {pick.randint(1, worst)}\n'
+            f"worst = {worst}\n{turn}"
+        )
+        if has_regions and on_kind[r] == "preemptive" and regions.random() < 0.8:
+            lines[-1] += f"\nregion = {some_region(regions, worst)}"
     for task in tomllib.loads("\n".join(lines))["task"]:
-        earlier = [it for it in ([task["after"]] if isinstance(task["after"], str) else task["after"]) if it.startswith("t")]
+        earlier = [
+            it for it in ([task["after"]] if isinstance(task["after"], str) else task["after"]) if it.startswith("t")
+        ]
         if earlier and pick.random() < 0.4:
             first, second = pick.choice(earlier)[1:], task["name"][1:]
             deadline = pick.choice(["", f"\ndeadline = {pick.randint(1, 300)}"])
@@ -240,7 +313,11 @@ def made_system(number):
 
 def main():
     numbers = range_of(__doc__, "check_reports.py", 1000)
-    subprocess.run([os.path.join(TOP, "lokwurmi"), "analyse", os.path.join(TOP, "examples", "two_tasks.toml")], capture_output=True, check=False)
+    subprocess.run(
+        [os.path.join(TOP, "lokwurmi"), "analyse", os.path.join(TOP, "examples", "two_tasks.toml")],
+        capture_output=True,
+        check=False,
+    )
     statuses = [0, 0, 0]
     with tempfile.TemporaryDirectory() as folder:
         path = os.path.join(folder, "system.toml")
@@ -251,7 +328,10 @@ def main():
             report, status = System(text).report()
             done = subprocess.run([PROGRAM, "analyse", path], capture_output=True, check=False)
             if (done.stdout.decode(), done.returncode) != (report, status):
-                print(f"system {number} differs:\n{text}\nby the rules, status {status}:\n{report}\nby the program, status {done.returncode}:\n{done.stdout.decode()}")
+                print(
+                    f"system {number} differs:\n{text}\nby the rules, status {status}:\n{report}\n"
+                    f"by the program, status {done.returncode}:\n{done.stdout.decode()}"
+                )
                 sys.exit(1)
             statuses[status] += 1
     print(f"{len(numbers)} reports alike, with status 0, 1, 2: {statuses}")

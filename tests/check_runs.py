@@ -1,25 +1,28 @@
 #!/usr/bin/env python3
-"""Compares `simulate`, `buffers`, `audit` and `schedule` with runs that are followed plainly, tick by tick. Outside the gate.
+"""Compares `simulate`, `buffers`, `audit` and `schedule` with runs that are followed plainly, tick by tick. Outside the
+gate.
 
-Random systems with all four kinds of resource get random traces that obey. The step rules of docs/FILES.md and
-docs/DEFINITIONS.md are followed here once more: what is seen of each task, how many jobs are pending at each time, and who
-gets which tick, and from which job each one comes. `buffers` must tell those peaks, none of them above its bound, and each bound must be
-the most events of the task's streams in its greatest response; no response is above that. `audit` must take the schedule that was recorded here, and of one with a
-row changed, left out, added or exchanged it must tell the first place that differs, with what is expected there. `schedule` must
-write the schedule that was recorded here, and of that `audit` must say that it is the run's.
+Random systems with all four kinds of resource, in every other one of which tasks have regions, get random traces that
+obey. The step rules of docs/FILES.md and docs/DEFINITIONS.md are followed here once more, regions by the ticks that a
+job has had: what is seen of each task, how many jobs are pending at each time, and
+who gets which tick, and from which job each one comes. `buffers` must tell those peaks, none of them above its bound,
+and each bound must be the most events of the task's streams in its greatest response; no response is above that.
+`audit` must take the schedule that was recorded here, and of one with a row changed, left out, added or exchanged it
+must tell the first place that differs, with what is expected there. `schedule` must write the schedule that was
+recorded here, and of that `audit` must say that it is the run's.
 
     python3 tests/check_runs.py [COUNT, 300 if absent] [SEED, 1 if absent]
 """
+import csv
 import os
 import random
 import subprocess
 import sys
 import tempfile
+import tomllib
 
+import check_reports as reports
 from calls import NEEDS_PROGRAMS, add_number, built, reader_of
-
-from lokwurmi.frames import execution
-from lokwurmi_tools.system import activators
 
 # another script may take the step rules from here, and call no program
 PROGRAM = built("cpa_cli") if __name__ == "__main__" else None
@@ -27,32 +30,85 @@ SCHEDULE = built("cpa_schedule") if __name__ == "__main__" else None
 KINDS = ("preemptive", "round-robin", "tdma", "can")
 
 
-def made(draw):
-    """A system: its resources, sources, tasks and paths; a task comes after sources and earlier tasks, mostly after one."""
-    resources = [{"name": f"r{k}", "kind": draw.choice(KINDS)} for k in range(draw.randint(1, 4))]
+def some_resources(draw, most, kinds, gap):
+    """Resources of some kinds; one of TDMA has a gap up to this."""
+    resources = [{"name": f"r{k}", "kind": draw.choice(kinds)} for k in range(draw.randint(1, most))]
     for it in resources:
-        it["gap"] = draw.randint(0, 5) if it["kind"] == "tdma" else 0
+        it["gap"] = draw.randint(0, gap) if it["kind"] == "tdma" else 0
+    return resources
+
+
+def draw_priorities(draw, tasks):
+    """Gives each task a priority of its own."""
+    order = list(range(len(tasks)))
+    draw.shuffle(order)
+    for task, priority in zip(tasks, order):
+        task["priority"] = priority
+
+
+def draw_regions(draw, tasks):
+    """Gives tasks regions in every other system, which count on preemptive resources alone."""
+    has_regions = draw.random() < 0.5
+    for task in tasks:
+        task["region"] = reports.some_region(draw, task["worst"]) if has_regions else 1
+
+
+def some_phases(draw, system):
+    """Where each TDMA resource is in its cycle as a run begins."""
+    phases = {}
+    for it in system["resource"]:
+        slots = [task["slot"] for task in system["task"] if task["on"] == it["name"]]
+        if it["kind"] == "tdma":
+            phases[it["name"]] = draw.randrange(sum(slots) + it["gap"]) if slots else 0
+    return phases
+
+
+def made(draw):
+    """A system: its resources, sources, tasks and paths; a task comes after sources and earlier tasks, mostly after
+    one."""
+    resources = some_resources(draw, 4, KINDS, 5)
     sources = []
     for k in range(draw.randint(1, 3)):
         period = draw.randint(4, 40)
-        sources.append({"name": f"s{k}", "period": period, "jitter": draw.choice((0, 0, draw.randint(0, 60))), "distance": draw.choice((0, draw.randint(0, period)))})
+        sources.append(
+            {
+                "name": f"s{k}",
+                "period": period,
+                "jitter": draw.choice((0, 0, draw.randint(0, 60))),
+                "distance": draw.choice((0, draw.randint(0, period))),
+            }
+        )
     tasks = []
     for k in range(draw.randint(1, 8)):
         on, several = draw.choice(resources), sources + tasks[-3:]
         after = [it["name"] for it in draw.sample(several, min(len(several), draw.choice((1, 1, 1, 2, 3))))]
         worst = draw.randint(1, 9)
-        tasks.append({"name": f"t{k}", "on": on["name"], "after": after, "streams": 0, "best": draw.randint(1, worst), "worst": worst, "priority": k, "slot": draw.randint(1, 4)})
+        tasks.append(
+            {
+                "name": f"t{k}",
+                "on": on["name"],
+                "after": after,
+                "streams": 0,
+                "best": draw.randint(1, worst),
+                "worst": worst,
+                "priority": k,
+                "slot": draw.randint(1, 4),
+            }
+        )
         streams = {it["name"]: it["streams"] for it in tasks} | {it["name"]: 1 for it in sources}
         while sum(streams[name] for name in after) > 32:
             after.pop()
         if not after:
             after.append(sources[0]["name"])
         tasks[-1]["streams"] = sum(streams[name] for name in after)
-    order = list(range(len(tasks)))
-    draw.shuffle(order)
-    for task, priority in zip(tasks, order):
-        task["priority"] = priority
-    return {"resource": resources, "source": sources, "task": tasks, "path": [path_of(draw, tasks, k) for k in range(draw.randint(0, 2))]}
+    draw_priorities(draw, tasks)
+    draw_regions(draw, tasks)
+    return {
+        "resource": resources,
+        "source": sources,
+        "task": tasks,
+        "path": [path_of(draw, tasks, k) for k in range(draw.randint(0, 2))],
+    }
 
 
 def path_of(draw, tasks, place):
@@ -73,14 +129,25 @@ def quoted(names):
 
 def file_of(system):
     kinds = {it["name"]: it["kind"] for it in system["resource"]}
-    rows = [f"format = {1 if all(len(it['after']) == 1 for it in system['task']) else 2}"]
+    has_region = {it["name"] for it in system["task"] if kinds[it["on"]] == "preemptive" and it["region"] > 1}
+    rows = [f"format = {3 if has_region else 1 if all(len(it['after']) == 1 for it in system['task']) else 2}"]
     for it in system["resource"]:
-        rows += ["[[resource]]", f"name = \"{it['name']}\"", f"kind = \"{it['kind']}\"", "limit = 2000"] + ([f"gap = {it['gap']}"] if it["kind"] == "tdma" else [])
+        rows += ["[[resource]]", f"name = \"{it['name']}\"", f"kind = \"{it['kind']}\"", "limit = 2000"] + (
+            [f"gap = {it['gap']}"] if it["kind"] == "tdma" else []
+        )
     for it in system["source"]:
-        rows += ["[[source]]", f"name = \"{it['name']}\"", *(f"{key} = {it[key]}" for key in ("period", "jitter", "distance"))]
+        rows += [
+            "[[source]]",
+            f"name = \"{it['name']}\"",
+            *(f"{key} = {it[key]}" for key in ("period", "jitter", "distance")),
+        ]
     for it in system["task"]:
         turn = "priority" if kinds[it["on"]] in ("preemptive", "can") else "slot"
-        rows += ["[[task]]", *(f"{key} = \"{it[key]}\"" for key in ("name", "on")), *(f"{key} = {it[key]}" for key in ("best", "worst", turn))]
+        rows += [
+            "[[task]]",
+            *(f'{key} = "{it[key]}"' for key in ("name", "on")),
+            *(f"{key} = {it[key]}" for key in ("best", "worst", turn, *(["region"] * (it["name"] in has_region)))),
+        ]
         rows.append(f"after = {quoted(it['after'])}" if len(it["after"]) > 1 else f"after = \"{it['after'][0]}\"")
     for it in system["path"]:
         rows += ["[[path]]", f"name = \"{it['name']}\"", f"tasks = {quoted(it['tasks'])}"]
@@ -101,13 +168,10 @@ def traced(draw, system):
             least = max(least, times[-1] if times else 0)
             times.append(least + draw.choice((0, 0, draw.randint(0, 30))))
         events[it["name"]] = times
-    executions = {it["name"]: [draw.randint(it["best"], it["worst"]) for _ in range(draw.randint(0, 9))] for it in system["task"]}
-    phases = {}
-    for it in system["resource"]:
-        slots = [task["slot"] for task in system["task"] if task["on"] == it["name"]]
-        if it["kind"] == "tdma":
-            phases[it["name"]] = draw.randrange(sum(slots) + it["gap"]) if slots else 0
-    return events, executions, phases
+    executions = {
+        it["name"]: [draw.randint(it["best"], it["worst"]) for _ in range(draw.randint(0, 9))] for it in system["task"]
+    }
+    return events, executions, some_phases(draw, system)
 
 
 def rows_of(trace):
@@ -125,8 +189,11 @@ class Run:
         self.system, (self.events, self.executions, self.phases) = system, trace
         self.tasks = {it["name"]: it for it in system["task"]}
         self.jobs = {name: [] for name in self.tasks}
-        self.on = {it["name"]: [task["name"] for task in system["task"] if task["on"] == it["name"]] for it in system["resource"]}
-        self.holder = {name: (several[-1] if several else None) for name, several in self.on.items()}
+        self.on = {
+            it["name"]: [task["name"] for task in system["task"] if task["on"] == it["name"]]
+            for it in system["resource"]
+        }
+        self.holder = {name: several[-1] if several else None for name, several in self.on.items()}
         self.left = dict.fromkeys(self.on, 0)
         self.frame = dict.fromkeys(self.on)
         self.peaks = dict.fromkeys(self.tasks, 0)
@@ -139,7 +206,7 @@ class Run:
         several = self.jobs[task]
         given = self.executions[task]
         needs = given[len(several)] if len(several) < len(given) else self.tasks[task]["worst"]
-        several.append({"arrival": self.time, "needs": needs, "end": None, "cause": cause})
+        several.append({"arrival": self.time, "needs": needs, "had": 0, "end": None, "cause": cause})
 
     def activate(self, name, number):
         for task in self.tasks.values():
@@ -179,9 +246,15 @@ class Run:
             return self.holder[name]
         if resource["kind"] == "can" and self.frame[name]:
             return self.frame[name]
+        if resource["kind"] == "preemptive" and (within := [task for task in waiting if self.is_within(task)]):
+            return within[0]
         first = min(waiting, key=lambda task: self.tasks[task]["priority"])
         self.frame[name] = first
         return first
+
+    def is_within(self, task):
+        """Whether the job of a task that is next is within a region: it has had a part of one."""
+        return self.jobs[task][self.pending(task)[0]]["had"] % self.tasks[task]["region"] > 0
 
     def see(self):
         for task in self.tasks:
@@ -190,7 +263,9 @@ class Run:
             self.peaks_on[name] = max(self.peaks_on[name], sum(len(self.pending(task)) for task in several))
 
     def goes_on(self):
-        return any(self.pending(task) for task in self.tasks) or any(time >= self.time for times in self.events.values() for time in times)
+        return any(self.pending(task) for task in self.tasks) or any(
+            time >= self.time for times in self.events.values() for time in times
+        )
 
     def tick(self, going):
         ended = []
@@ -206,7 +281,7 @@ class Run:
                 going.pop(name, None)
             if job:
                 it = self.jobs[task][job[1]]
-                it["needs"] -= 1
+                it["needs"], it["had"] = it["needs"] - 1, it["had"] + 1
                 if it["needs"] == 0:
                     ended.append((name, it, task))
         self.time += 1
@@ -231,14 +306,35 @@ def plain(system):
     resources = {it["name"]: it | {"gap": it.get("gap", 0)} for it in system.get("resource", [])}
     tasks = []
     for it in system.get("task", []):
-        best, worst = execution(it, resources[it["on"]])
-        tasks.append(it | {"after": activators(it), "best": best, "worst": worst})
-    return {"resource": list(resources.values()), "source": system.get("source", []), "task": tasks, "path": system.get("path", [])}
+        best, worst = reports.execution_of(it, resources[it["on"]])
+        region = it.get("region", 1)
+        tasks.append(it | {"after": reports.activators_of(it), "best": best, "worst": worst, "region": region})
+    return {
+        "resource": list(resources.values()),
+        "source": system.get("source", []),
+        "task": tasks,
+        "path": system.get("path", []),
+    }
 
 
-def replayed(system, trace):
-    """The run of a system, as a file has it, under what a trace has: events, executions and phases."""
-    it, parts = plain(system), zip(("source", "task", "resource"), trace, ([], [], 0))
+def system_in(file):
+    """The values of a system file, read without the package."""
+    with open(file, "rb") as it:
+        return tomllib.load(it)
+
+
+def trace_in(file):
+    """What a trace has, read without the package: events, executions and phases."""
+    found = {"event": {}, "exec": {}, "phase": {}}
+    with open(file, encoding="utf-8") as it:
+        for kind, name, number in csv.reader(it):
+            found[kind].setdefault(name, []).append(int(number))
+    return found["event"], found["exec"], {name: ticks for name, (ticks,) in found["phase"].items()}
+
+
+def replayed(file, trace):
+    """The run of a system file under a trace."""
+    it, parts = plain(system_in(file)), zip(("source", "task", "resource"), trace_in(trace), ([], [], 0))
     return Run(it, [{one["name"]: given.get(one["name"], none) for one in it[part]} for part, given, none in parts])
 
 
@@ -267,47 +363,23 @@ def tell(system, run):
     return text + f"summary jobs {every} done {every} end {run.time}\n"
 
 
-def streams_of(system, bounds, name):
-    """The streams that a source or a task sends, none where one is unbounded."""
-    for it in system["source"]:
-        if it["name"] == name:
-            return [(it["period"], it["jitter"], it["distance"])]
-    best, bound = next(it["best"] for it in system["task"] if it["name"] == name), bounds[name]
-    streams = input_of(system, bounds, name)
-    if streams is None or bound == "overload":
-        return None
-    return [(period, jitter + bound - best, max(distance - (bound - best), best)) for period, jitter, distance in streams]
-
-
-def input_of(system, bounds, task):
-    several = [streams_of(system, bounds, name) for name in next(it["after"] for it in system["task"] if it["name"] == task)]
-    return None if None in several else sum(several, [])
-
-
-def most_events(streams, window):
-    """The most events of some streams in a window."""
-    most = 0
-    for period, jitter, distance in streams:
-        own = -(-(window + jitter) // period)
-        most += min(own, -(-window // distance)) if distance else own
-    return most
-
-
 def tell_buffers(system, run, report):
-    lines = {line[1]: line for line in (row.split() for row in report.splitlines()) if line[0] == "task"}
-    least = {name: line[-1] if line[-1] == "overload" else int(line[-1]) for name, line in lines.items()}
-    bounds = {name: "overload" if bound == "overload" else most_events(input_of(system, least, name), bound) for name, bound in least.items()}
-    for it in system["task"]:
-        if least[it["name"]] != "overload":
-            assert all(job["end"] - job["arrival"] <= least[it["name"]] for job in run.jobs[it["name"]]), it["name"]
-    text = ""
-    for name, bound in bounds.items():
-        text += f"buffer {name} bound {bound} peak {run.peaks[name]}\n"
-        assert bound == "overload" or run.peaks[name] <= bound
-    for it in system["resource"]:
-        several = [bounds[task] for task in run.on[it["name"]]]
-        text += f"resource {it['name']} bound {'overload' if 'overload' in several else sum(several)} peak {run.peaks_on[it['name']]}\n"
-    return text + f"summary tasks {len(bounds)} overload {list(bounds.values()).count('overload')}\n"
+    """What `buffers` writes, by the bounds of a report."""
+    lines = [row.split() for row in report.splitlines() if row.startswith("task ")]
+    least = {line[1]: reports.OVERLOAD if line[-1] == "overload" else int(line[-1]) for line in lines}
+    rules = reports.System(file_of(system))
+    bounds = {}
+    for name, bound in least.items():
+        assert all(job["end"] - job["arrival"] <= bound for job in run.jobs[name]), name
+        is_bounded = bound != reports.OVERLOAD
+        bounds[name] = reports.most_events(rules.input_of(name, least), bound) if is_bounded else bound
+        assert run.peaks[name] <= bounds[name], name
+    text = "".join(
+        f"buffer {name} bound {reports.said(bound)} peak {run.peaks[name]}\n" for name, bound in bounds.items()
+    )
+    for name, several in run.on.items():
+        text += f"resource {name} bound {reports.said(sum(bounds[it] for it in several))} peak {run.peaks_on[name]}\n"
+    return text + f"summary tasks {len(bounds)} overload {list(bounds.values()).count(reports.OVERLOAD)}\n"
 
 
 def changed(draw, segments, tasks):
@@ -367,7 +439,10 @@ def main():
             done = subprocess.run([*call, *words], capture_output=True, text=True, check=False)
             if (done.stdout, done.returncode) != told:
                 with open(file, encoding="ascii") as system, open(rows, encoding="ascii") as trace:
-                    sys.exit(f"{command} differs:\n{system.read()}\n{trace.read()}\nby the rules:\n{told}\nby the program:\n{done.stdout}{done.returncode}")
+                    sys.exit(
+                        f"{command} differs:\n{system.read()}\n{trace.read()}\nby the rules:\n{told}\n"
+                        f"by the program:\n{done.stdout}{done.returncode}"
+                    )
             return done.stdout
 
         for _ in range(count):

@@ -1,11 +1,11 @@
 #!/usr/bin/env python3
-"""Holds docs/lokwurmi.schema.json against what else says how a system file looks, and docs/lokwurmi.units.schema.json, of
-files whose times have units, against it. Outside the gate.
+"""Holds docs/lokwurmi.schema.json against what else says how a system file looks, and docs/lokwurmi.units.schema.json,
+of files whose times have units, against it. Outside the gate.
 
 Each system of examples/ names the schema in its first line and is accepted by it. Ranges and defaults are those of the
-table in docs/FILES.md, and a number just outside its range is refused. Of the files that docs/FILES.md shows as refused,
-the schema refuses those whose reason it can say, and no other. The schema with units is this one with a text as another
-form of each time; --write writes it.
+table in docs/FILES.md, and a number just outside its range is refused. Of the files that docs/FILES.md shows as
+refused, the schema refuses those whose reason it can say, and no other. The schema with units is this one with a text
+as another form of each time; --write writes it.
 
     python3 tests/check_schema.py [--write]
 """
@@ -21,10 +21,14 @@ from calls import TOP, example_systems, hold, reader_of, tell
 try:
     import jsonschema
 except ImportError:
-    sys.exit("check_schema.py: the package jsonschema isn't here: pip install jsonschema, or apt-get install python3-jsonschema")
+    sys.exit(
+        "check_schema.py: the package jsonschema isn't here: pip install jsonschema, or apt-get install"
+        " python3-jsonschema"
+    )
 
 FIRST_LINE = "#:schema ../docs/lokwurmi.schema.json\n"
-# what a JSON schema can say; the other examples are refused for several keys or entries together, as a distance above its period
+# what a JSON schema can say; the other examples are refused for several keys or entries together, as a distance above
+# its period
 SAID = {"13", "1", "3", "9", "11", "14"}
 reader = reader_of(__doc__, "python3 tests/check_schema.py", "the package jsonschema, and nothing that is built")
 reader.add_argument("--write", action="store_true", help="writes the schema with units anew, from that of ticks")
@@ -49,7 +53,10 @@ for name in examples:
 
 page = read("docs", "FILES.md")
 for reason, text in re.findall(r"### (\d+): [^\n]*\n\n```toml\n(.*?)```", page, re.S):
-    hold(validator.is_valid(tomllib.loads(text)) == (reason not in SAID), f"docs/FILES.md: the example of reason {reason}")
+    hold(
+        validator.is_valid(tomllib.loads(text)) == (reason not in SAID),
+        f"docs/FILES.md: the example of reason {reason}",
+    )
     if reason == "1":
         # the section has a second one
         second = page.split("### 1: ")[1].split("```toml\n")[2].split("```")[0]
@@ -57,25 +64,50 @@ for reason, text in re.findall(r"### (\d+): [^\n]*\n\n```toml\n(.*?)```", page, 
 
 # one entry of each kind that is accepted, with all keys that go together
 WHOLE = {
-    "resource": [{"name": "r", "kind": "tdma", "gap": 1}, {"name": "c", "kind": "can", "bit": 1, "limit": 1}],
+    "resource": [
+        {"name": "r", "kind": "tdma", "gap": 1},
+        {"name": "c", "kind": "can", "bit": 1, "limit": 1},
+        {"name": "p", "kind": "preemptive"},
+    ],
     "source": [{"name": "s", "period": 1000000000, "jitter": 1, "distance": 1}],
     "task": [
         {"name": "t", "on": "r", "after": "s", "best": 1, "worst": 1, "slot": 1},
         {"name": "f", "on": "c", "after": "s", "payload": 1, "extended": True, "priority": 1},
+        {"name": "g", "on": "p", "after": "s", "best": 1, "worst": 1, "priority": 1, "region": 1},
     ],
     "path": [{"name": "p", "tasks": ["t"], "deadline": 1}],
 }
 
 
 def accepts(part, place, key, value):
-    file = {"format": 1, **copy.deepcopy(WHOLE)}
+    file = {"format": 3, **copy.deepcopy(WHOLE)}
     file[part][place][key] = value
     return validator.is_valid(file)
 
 
-hold(validator.is_valid({"format": 1, **WHOLE}), "a file with all keys isn't accepted")
-for number, names, is_in in ((1, ["s"], False), (2, "s", True), (2, ["s", "t"], True), (2, [], False), (2, ["s", "s"], False), (2, [1], False)):
+def in_format(number):
+    """A file with all keys that a format has."""
     file = {"format": number, **copy.deepcopy(WHOLE)}
+    if number < 3:
+        del file["task"][2]["region"]
+    return file
+
+
+for number in (1, 2, 3):
+    hold(validator.is_valid(in_format(number)), f"format {number}: a file with all keys isn't accepted")
+    hold(not number < 3 or not validator.is_valid(in_format(3) | {"format": number}), f"format {number} has a region")
+for place in (0, 1):
+    hold(not accepts("task", place, "region", 1), f"a region beside {'slot' if place == 0 else 'payload'} is accepted")
+for number, names, is_in in (
+    (1, ["s"], False),
+    (2, "s", True),
+    (2, ["s", "t"], True),
+    (2, [], False),
+    (2, ["s", "s"], False),
+    (2, [1], False),
+    (3, ["s", "t"], True),
+):
+    file = in_format(number)
     file["task"][1]["after"] = names
     hold(validator.is_valid(file) == is_in, f"format {number} with after = {names!r}")
 told = {}
@@ -87,7 +119,9 @@ for row in re.findall(r"^\| (\w*) ?\| (`.*?) \| (.*?) \| (.*?) \| (.*?) \|$", pa
 hold(set(told) == set(WHOLE), "docs/FILES.md: the table of keys wasn't found")
 for part, keys in told.items():
     said = schema["definitions"][part]["properties"]
-    hold(set(keys) == set(said), f"{part}: its keys are {sorted(keys)} in docs/FILES.md and {sorted(said)} in the schema")
+    hold(
+        set(keys) == set(said), f"{part}: its keys are {sorted(keys)} in docs/FILES.md and {sorted(said)} in the schema"
+    )
     for key, (kind, within, absent) in keys.items():
         place = next(k for k, entry in enumerate(WHOLE[part]) if key in entry)
         hold("description" in said[key], f"{part}.{key}: no description")
@@ -95,11 +129,20 @@ for part, keys in told.items():
             continue
         low, high = re.match(r"([\d,]+) to ([\d,]+|the period)", within).groups()
         low, high = int(low.replace(",", "")), 1000000000 if high == "the period" else int(high.replace(",", ""))
-        hold((said[key]["minimum"], said[key]["maximum"]) == (low, high), f"{part}.{key}: its range isn't {low} to {high}")
+        hold(
+            (said[key]["minimum"], said[key]["maximum"]) == (low, high),
+            f"{part}.{key}: its range isn't {low} to {high}",
+        )
         for value, is_in in ((low - 1, False), (low, True), (high, True), (high + 1, False), (str(low), False)):
-            hold(accepts(part, place, key, value) == is_in, f"{part}.{key} = {value!r}: should be {'accepted' if is_in else 'refused'}")
+            hold(
+                accepts(part, place, key, value) == is_in,
+                f"{part}.{key} = {value!r}: should be {'accepted' if is_in else 'refused'}",
+            )
         number = absent.replace(",", "")
-        hold(said[key].get("default") == (int(number) if number.isdigit() else None), f"{part}.{key}: its default isn't {absent}")
+        hold(
+            said[key].get("default") == (int(number) if number.isdigit() else None),
+            f"{part}.{key}: its default isn't {absent}",
+        )
     hold(not accepts(part, 0, "unknown", 1), f"{part}: a key that isn't known is accepted")
 for name, is_in in (("a-b_c.Dx", True), ("", False), ("left wheel", False), ("n" * 64, True), ("n" * 65, False)):
     hold(accepts("resource", 0, "name", name) == is_in, f"the name {name!r}")
@@ -108,27 +151,35 @@ for name, is_in in (("a-b_c.Dx", True), ("", False), ("left wheel", False), ("n"
 UNITS_FILE = os.path.join("docs", "lokwurmi.units.schema.json")
 UNITS_LINE = "#:schema ../../docs/lokwurmi.units.schema.json\n"
 TIMES = {
-    "resource": ("limit", "gap", "bit"), "source": ("period", "jitter", "distance"), "task": ("best", "worst", "slot"), "path": ("deadline",)
+    "resource": ("limit", "gap", "bit"),
+    "source": ("period", "jitter", "distance"),
+    "task": ("best", "worst", "slot", "region"),
+    "path": ("deadline",),
 }
 # what a time may be beside a number of ticks; of bits only where a resource has a bit rate
-ON_RESOURCES = {"resource": ("limit", "gap"), "task": ("best", "worst", "slot")}
+ON_RESOURCES = {"resource": ("limit", "gap"), "task": ("best", "worst", "slot", "region")}
 
 
 def with_units(whole):
     """The schema with a text as another form of each time."""
     whole = copy.deepcopy(whole)
     whole["title"] += " with units"
-    whole["description"] = "A system of resources, sources, tasks and paths. A time is a number of ticks, or a text with a unit, which `lokwurmi ticks` turns into ticks."
+    whole["description"] = (
+        "A system of resources, sources, tasks and paths. A time is a number of ticks, or a text with a unit, which"
+        " `lokwurmi ticks` turns into ticks."
+    )
     for part, keys in TIMES.items():
         for key in keys:
             entry = whole["definitions"][part]["properties"][key]
             number = {word: entry.pop(word) for word in ("type", "minimum", "maximum")}
             units = "(ns|us|ms|s|bits?|bytes?)" if key in ON_RESOURCES.get(part, ()) else "(ns|us|ms|s)"
-            entry["description"] += " Or a text with a unit, as \"250 us\"."
+            entry["description"] += ' Or a text with a unit, as "250 us".'
             entry["anyOf"] = [number, {"type": "string", "pattern": f"^[0-9]+([.][0-9]+)? ?{units}$"}]
     properties = whole["definitions"]["resource"]["properties"]
     properties["bitrate"] = {
-        "description": "Bits per second, in place of bit; times of its tasks may then be of bits and bytes.", "type": "integer", "minimum": 1
+        "description": "Bits per second, in place of bit; times of its tasks may then be of bits and bytes.",
+        "type": "integer",
+        "minimum": 1,
     }
     whole["definitions"]["resource"]["allOf"].append({"not": {"required": ["bit", "bitrate"]}})
     return whole
@@ -139,7 +190,10 @@ if WORDS.write:
     with open(os.path.join(TOP, UNITS_FILE), "w", encoding="utf-8") as file:
         file.write(wanted)
 units = json.loads(read(UNITS_FILE))
-hold(json.loads(wanted) == units, f"{UNITS_FILE} isn't what the schema of ticks gives: python3 tests/check_schema.py --write")
+hold(
+    json.loads(wanted) == units,
+    f"{UNITS_FILE} isn't what the schema of ticks gives: python3 tests/check_schema.py --write",
+)
 jsonschema.Draft7Validator.check_schema(units)
 validator = jsonschema.Draft7Validator(units)
 with_unit = sorted(it for it in os.listdir(os.path.join(TOP, "examples", "units")) if it.endswith(".toml"))
@@ -154,11 +208,25 @@ for part, keys in TIMES.items():
     for key in keys:
         place = next(k for k, entry in enumerate(WHOLE[part]) if key in entry)
         for value, is_in in (
-            ("250 us", True), ("16.667ms", True), ("1 s", True), ("5", False), ("1 week", False), ("-1 us", False), (1, True), (1.5, False),
-            ("8 bit", key in ON_RESOURCES.get(part, ())), ("84 bytes", key in ON_RESOURCES.get(part, ())),
+            ("250 us", True),
+            ("16.667ms", True),
+            ("1 s", True),
+            ("5", False),
+            ("1 week", False),
+            ("-1 us", False),
+            (1, True),
+            (1.5, False),
+            ("8 bit", key in ON_RESOURCES.get(part, ())),
+            ("84 bytes", key in ON_RESOURCES.get(part, ())),
         ):
-            hold(accepts(part, place, key, value) == is_in, f"{UNITS_FILE}: {part}.{key} = {value!r}: should be {'accepted' if is_in else 'refused'}")
+            hold(
+                accepts(part, place, key, value) == is_in,
+                f"{UNITS_FILE}: {part}.{key} = {value!r}: should be {'accepted' if is_in else 'refused'}",
+            )
 hold(not accepts("resource", 1, "bitrate", 500000), "bit and bitrate together are accepted")
-hold(validator.is_valid({"format": 1, "resource": [{"name": "c", "kind": "can", "bitrate": 500000}]}), "a bit rate isn't accepted")
+hold(
+    validator.is_valid({"format": 1, "resource": [{"name": "c", "kind": "can", "bitrate": 500000}]}),
+    "a bit rate isn't accepted",
+)
 
 tell(f"{len(examples) + len(with_unit)} examples; ")

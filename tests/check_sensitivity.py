@@ -1,13 +1,13 @@
 #!/usr/bin/env python3
 """Tries `lokwurmi sensitivity` over random systems. Outside the gate; takes a minute or two, and no network.
 
-The systems are those of check_reports.py with longer periods, in every other one with tasks that have up to three activators,
-and with deadlines that are met, with more or less to spare. What is told of each number is tried by files of their own,
-which say the system with that number moved, and by `analyse` of each: at the value that is told, and at some in
-between, all holds, and one step beyond it, and at some further ones, it doesn't, where there are such values; what is
-told to come first beyond it is what the report says. With --deadlines what is told of an execution is what `lokwurmi
-slack` says. Of a bus whose executions take longer the bit is as before. With a goal a path is held against that. Then
-the tool is called as it is from outside.
+The systems are those of check_reports.py with longer periods, in every other one with tasks that have up to three
+activators, in every other pair with regions, and with deadlines that are met, with more or less to spare. What is told
+of each number is tried by files of their own, which say the system with that number moved, and by `analyse` of each: at
+the value that is told, and at some in between, all holds, and one step beyond it, and at some further ones, it doesn't,
+where there are such values; what is told to come first beyond it is what the report says. With --deadlines what is told
+of an execution is what `lokwurmi slack` says. Of a bus whose executions take longer the bit is as before. With a goal a
+path is held against that. Then the tool is called as it is from outside.
 
     python3 tests/check_sensitivity.py [NUMBER of systems, 150 if absent] [NUMBER to begin with, 0 if absent]
 """
@@ -21,7 +21,6 @@ import tomllib
 
 import check_reports as plain
 from calls import TOP, answer, built, faults, hold, python_with, range_of, run, tell, without_progress
-
 
 from lokwurmi_tools import progress, sensitivity
 from lokwurmi_tools.toml_text import toml_of
@@ -62,6 +61,9 @@ def moved(system, number, steps):
     other = tomllib.loads(toml_of(system))
     if number.kind == "execution":
         next(it for it in other["task"] if it["name"] == number.name)["worst"] += steps
+    elif number.kind == "region":
+        it = next(it for it in other["task"] if it["name"] == number.name)
+        other["format"], it["region"] = 3, it.get("region", 1) + steps
     elif number.kind == "speed":
         for it in other["task"]:
             if it["on"] == number.name:
@@ -89,6 +91,18 @@ def judged(system, goals, deadlines):
     )
 
 
+def check_regions(what, system, rows, least):
+    """The tasks whose regions move: those that may hold up another, and by more than now."""
+    kinds, wanted = {it["name"]: it["kind"] for it in system["resource"]}, {}
+    for it in system["task"]:
+        mates = [one for one in system["task"] if one["on"] == it["on"] and kinds[it["on"]] == "preemptive"]
+        has_above = any(one["priority"] < it["priority"] for one in mates)
+        if has_above and least <= it.get("region", 1) < it["worst"]:
+            wanted[it["name"]] = it["worst"]
+    found = {it.name: it.value + it.most for it in rows}
+    hold(found == wanted, f"{what}: regions {found}, and not {wanted}", "regions")
+
+
 def check_system(number, system, room, deadlines, goals):
     """Each number of a system, by files of its own."""
     file = os.path.join(room, "system.toml")
@@ -103,7 +117,12 @@ def check_system(number, system, room, deadlines, goals):
     if first:
         return False
     pick = random.Random(number)
-    for it, told in sensitivity.answers_of(question, sensitivity.KINDS, 1):
+    answers = sensitivity.answers_of(question, sensitivity.KINDS, 1)
+    # those that are asked for by themselves, of a tick too
+    regions = sensitivity.answers_of(question, ("region",), 1)
+    for rows, least in ((answers, 2), (regions, 1)):
+        check_regions(f"system {number}", system, [it for it, _ in rows if it.kind == "region"], least)
+    for it, told in answers + regions:
         what = f"system {number}, {it.kind} {it.name}, deadlines {deadlines}, goals {goals}: {told}\n{toml_of(system)}"
         good = {told.steps, *(pick.randint(0, told.steps) for _ in range(2))}
         hold(

@@ -1,11 +1,11 @@
 #!/usr/bin/env python3
 """Holds the answers of `lokwurmi slack` against `lokwurmi analyse`, over random systems.
 
-The systems are those of check_reports.py, with all four kinds and paths over two tasks, in every other one with tasks that have up to
-three activators, and every task of each is asked for. In three of four the deadlines are made anew, so that all are met, with
-more or less to spare. With as many ticks as are told all
-deadlines have to be met, with one more not, or the execution is the greatest there is; and where there is none, one has to be
-missed already. One worker and two have to answer alike. Ends with 1 at the first answer that doesn't fit.
+The systems are those of check_reports.py, with all four kinds and paths over two tasks, in every other one with tasks
+that have up to three activators, and every task of each is asked for. In three of four the deadlines are made anew, so
+that all are met, with more or less to spare. With as many ticks as are told all deadlines have to be met, with one more
+not, or the execution is the greatest there is; and where there is none, one has to be missed already. One worker and
+two have to answer alike. Ends with 1 at the first answer that doesn't fit.
 
     python3 tests/check_slack.py [NUMBER of systems, 300 if absent] [NUMBER to begin with, 0 if absent]
 """
@@ -67,7 +67,10 @@ def main():
                 print(f"system {number}, task {task}: {got}\n{text}")
                 sys.exit(1)
             ends[got[1].split()[-1]] += 1
-    print(f"{len(numbers)} systems, {several} with several activators; answers that end with missed, limit and none: {list(ends.values())}")
+    print(
+        f"{len(numbers)} systems, {several} with several activators; answers that end with missed, limit and none:"
+        f" {list(ends.values())}"
+    )
 
 
 if __name__ == "__main__":

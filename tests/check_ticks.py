@@ -25,8 +25,10 @@ SAFE = {
     "deadline": "down",
     "jitter": "up",
     "worst": "up",
+    "region": "up",
     "gap": "up",
 }
+MOST_REGION = 1_000_000
 KINDS = ("resource", "source", "task", "path")
 
 
@@ -45,9 +47,9 @@ def nanoseconds(text, bit=Fraction(0)):
     return Fraction(number) * (UNITS[unit] if unit in UNITS else bit if unit == "bit" else 8 * bit)
 
 
-def made_system(draw):
+def made_system(draw, has_regions):
     """A system with units, of a processor and a bus, with times that are multiples of 50 ns."""
-    lines = ["# a generated system", "format = 1", "resource = ["]
+    lines = ["# a generated system", f"format = {3 if has_regions else 1}", "resource = ["]
     rate = draw.choice((1_000_000, 500_000, 800_000))
     lines += [
         '  { name = "cpu", kind = "preemptive" }, # a processor',
@@ -65,9 +67,12 @@ def made_system(draw):
         )
         worst = draw.randrange(1000, 4000) * 50
         best = draw.randrange(500, worst // 50) * 50
+        # a part of an execution, about all of it, or more than any
+        region = draw.choice((draw.randrange(0, 2000) * 50, worst + 50 * draw.randint(-3, 3), 10**12))
         tasks.append(
             f'  {{ name = "t{place}", on = "cpu", after = "s{place}", best = {text_of(draw, best)}, worst ='
-            f" {text_of(draw, worst)}, priority = {place} }},"
+            f" {text_of(draw, worst)}, priority = {place}"
+            + (f", region = {text_of(draw, region)} }}," if has_regions else " },")
         )
         length = draw.choice(("payload = 3", 'best = "60 bit", worst = "12 byte"', "payload = 8, extended = true"))
         tasks.append(
@@ -88,6 +93,16 @@ def converted(room, text, tick):
     return (tomllib.loads(done.stdout) if done.returncode == 0 else {}), done.stdout, done.stderr
 
 
+def tick_more(entry, key, tick, bit):
+    """A region has a tick more, and so has an execution that isn't longer than its region."""
+    if key == "region":
+        return 1
+    if key != "worst" or "region" not in entry:
+        return 0
+    region, worst = (-(-nanoseconds(entry[it], bit) // tick) for it in ("region", "worst"))
+    return int(region >= worst)
+
+
 def check_rounded(before, after, tick, told):
     """Each time of a system beside what became of it."""
     bit = Fraction(10**9, before["resource"][1]["bitrate"])
@@ -96,6 +111,10 @@ def check_rounded(before, after, tick, told):
             for key in (it for it in old if it in SAFE):
                 exact = nanoseconds(old[key], bit) / tick
                 wanted = -(-exact // 1) if SAFE[key] == "up" else exact // 1
+                wanted += tick_more(old, key, tick, bit)
+                if key == "region" and wanted >= MOST_REGION:
+                    hold(new[key] == MOST_REGION, f"{kind} {old['name']}: {new[key]}, and not the most")
+                    continue
                 hold(
                     new[key] == wanted, f"{kind} {old['name']}: {key} of {old[key]} is {new[key]} of {float(tick):g} ns"
                 )
@@ -126,11 +145,12 @@ def bounds_in(room, text, tick):
 def check_made(room, count):
     draw = random.Random(21)
     for number in range(count):
-        text = made_system(draw)
+        text = made_system(draw, number % 2 == 1)
         before = tomllib.loads(text)
         exact, exact_text, told = converted(room, text, "50ns")
         hold("rounded" not in told, f"system {number} with ticks of 50 ns: {told}")
-        finest = bounds_in(room, exact_text.replace("format = 1", "format = 1", 1), Fraction(50))
+        # where a job begins between two ticks a region holds up others for no longer than with these ticks
+        finest = bounds_in(room, exact_text, Fraction(50))
         for tick in draw.sample(("1us", "700ns", "3us", "250 ns", "10us"), 2):
             ticks = nanoseconds(tick)
             after, after_text, told = converted(room, text, tick)
@@ -226,7 +246,9 @@ def check_examples(room):
 
 
 def main():
-    reader = reader_of(__doc__, "python3 tests/check_ticks.py 12", NEEDS_PROGRAM + ", and the packages that databases.py names")
+    reader = reader_of(
+        __doc__, "python3 tests/check_ticks.py 12", NEEDS_PROGRAM + ", and the packages that databases.py names"
+    )
     add_number(reader, "count", 60, "how many generated systems of a kind")
     count = reader.parse_args().count
     with tempfile.TemporaryDirectory() as room:

@@ -1,12 +1,12 @@
 #!/usr/bin/env python3
 """Tries `lokwurmi worst`. Outside the gate; takes some minutes, and no network.
 
-For the examples whose bounds are known to be reached it has to find them. What it prints is what `simulate` sees under the
-trace that it writes, and of all tasks and paths under the traces that it keeps; the job and the ticks that it tells are those
-of the run by the step rules of check_runs.py, followed tick by tick. A path by itself is seen to take as long as in the table
-of all, and the trace of one target is as short as what is kept of it. Rows come while the search goes on, and how far it is
-comes into a pipe too; after an interrupt what was found is there, and the status is 130. The same call gives the same answer,
-and what it can't take is told in a line.
+For the examples whose bounds are known to be reached it has to find them. What it prints is what `simulate` sees under
+the trace that it writes, and of all tasks and paths under the traces that it keeps; the job and the ticks that it tells
+are those of the run by the step rules of check_runs.py, followed tick by tick. A path by itself is seen to take as long
+as in the table of all, and the trace of one target is as short as what is kept of it. Rows come while the search goes
+on, and how far it is comes into a pipe too; after an interrupt what was found is there, and the status is 130. The same
+call gives the same answer, and what it can't take is told in a line.
 
     python3 tests/check_worst.py [--program PROGRAM]
 """
@@ -19,9 +19,7 @@ import subprocess
 import tempfile
 
 from calls import TOP, hold, run, tell, tool
-from check_runs import replayed
-from lokwurmi_tools.runs import read_trace
-from lokwurmi_tools.accepted import read_system
+from check_runs import replayed, system_in
 
 TOOL = "worst"
 # Whose bound has to be reached, or which ratio it has to have at least.
@@ -49,7 +47,9 @@ COMPARED = ["crossing_chains.toml", "pycpa_first.toml", "two_activators.toml", "
 ROW = re.compile(r"^((?:task|path) \S+) seen (\d+) ", re.M)
 LATE_TASK = re.compile(r"^late task (\S+) job (\d+) from (\d+) to (\d+) trace (.*)$", re.M)
 LATE_PATH = re.compile(r"^late path (\S+) passage (\d+) from (\d+) to (\d+) jobs (\S+) trace (.*)$", re.M)
-PROGRESS = re.compile(r"^lokwurmi worst: \d+ of \d+, (task|path) \S+: seen \d+ of \d+, \d+ of \d+ tries, some \S+ (s|min|h) to go$")
+PROGRESS = re.compile(
+    r"^lokwurmi worst: \d+ of \d+, (task|path) \S+: seen \d+ of \d+, \d+ of \d+ tries, some \S+ (s|min|h) to go$"
+)
 
 
 def example(name):
@@ -92,22 +92,37 @@ def traces_in(folder):
 
 def check_late(name, told):
     """The jobs and ticks that are told, by the step rules: each row of the table has its line."""
-    system, rows, late = read_system(example(name)), rows_in(told), []
-    run_of = functools.cache(lambda trace: replayed(system, read_trace(trace)))
+    system, rows, late = system_in(example(name)), rows_in(told), []
+    run_of = functools.cache(lambda trace: replayed(example(name), trace))
     for task, number, came, done, trace in LATE_TASK.findall(told):
         job = run_of(trace).jobs[task][int(number) - 1]
-        hold((job["arrival"], job["end"]) == (int(came), int(done)), f"{name}: job {number} of {task}: {job}, and not {came} {done}")
-        hold(int(done) - int(came) == rows[f"task {task}"], f"{name}: {task} was seen to take {rows[f'task {task}']}: {came} {done}")
+        hold(
+            (job["arrival"], job["end"]) == (int(came), int(done)),
+            f"{name}: job {number} of {task}: {job}, and not {came} {done}",
+        )
+        hold(
+            int(done) - int(came) == rows[f"task {task}"],
+            f"{name}: {task} was seen to take {rows[f'task {task}']}: {came} {done}",
+        )
         late.append(f"task {task}")
     for path, number, came, done, numbers, trace in LATE_PATH.findall(told):
         run = run_of(trace)
         steps = [(task, int(place) - 1) for task, place in (it.split(":") for it in numbers.split(","))]
         way = next(it["tasks"] for it in system["path"] if it["name"] == path)
         linked = all(run.jobs[task][place]["cause"] == before for before, (task, place) in zip(steps, steps[1:]))
-        hold([it[0] for it in steps] == way and linked and steps[0][1] == int(number) - 1, f"{name}: the jobs of {path}: {numbers}")
+        hold(
+            [it[0] for it in steps] == way and linked and steps[0][1] == int(number) - 1,
+            f"{name}: the jobs of {path}: {numbers}",
+        )
         first, last = (run.jobs[task][place] for task, place in (steps[0], steps[-1]))
-        hold((first["arrival"], last["end"]) == (int(came), int(done)), f"{name}: passage {number} of {path}: {came} {done}")
-        hold(int(done) - int(came) == rows[f"path {path}"], f"{name}: {path} was seen to take {rows[f'path {path}']}: {came} {done}")
+        hold(
+            (first["arrival"], last["end"]) == (int(came), int(done)),
+            f"{name}: passage {number} of {path}: {came} {done}",
+        )
+        hold(
+            int(done) - int(came) == rows[f"path {path}"],
+            f"{name}: {path} was seen to take {rows[f'path {path}']}: {came} {done}",
+        )
         late.append(f"path {path}")
     hold(sorted(late) == sorted(rows), f"{name}: {late} are told of as late, and the rows are {sorted(rows)}")
 
@@ -127,7 +142,10 @@ def check_one(program):
         first, second = call(words, program), call(words, program)
         hold(first[:2] == second[:2], f"two calls differ: {first} {second}")
         seen = seen_in(words[0], [trace], program)
-        hold(rows_in(first[1]) == {"task report": seen.get("task report")}, f"the trace doesn't show what was seen: {first[1]} {seen}")
+        hold(
+            rows_in(first[1]) == {"task report": seen.get("task report")},
+            f"the trace doesn't show what was seen: {first[1]} {seen}",
+        )
         check_late(words[0], first[1])
 
 
@@ -136,7 +154,9 @@ def check_page(program):
     with open(os.path.join(TOP, "docs", "TIGHTNESS.md"), encoding="utf-8") as it:
         shown = re.search(r"^```\n(task b seen .*\n(?:late .*\n)+)```", it.read(), re.M)
     with tempfile.TemporaryDirectory() as folder:
-        told = call(["long_window.toml", "b", "--to", os.path.join(folder, "worst.trace.csv")], program)[1].replace(folder + "/", "")
+        told = call(["long_window.toml", "b", "--to", os.path.join(folder, "worst.trace.csv")], program)[1].replace(
+            folder + "/", ""
+        )
     hold(shown and told == shown[1], f"docs/TIGHTNESS.md shows {shown and shown[1]}, and it is {told}")
 
 
@@ -146,7 +166,9 @@ def check_all(name, program):
         kept, trace = os.path.join(folder, "kept"), os.path.join(folder, "trace.csv")
         told = call([name, "--all", "--tries", "100", "--keep", kept], program)[1]
         rows, traces = rows_in(told), traces_in(kept)
-        hold(rows and rows == seen_in(name, traces, program), f"{name}: what is kept doesn't show what was seen: {told}")
+        hold(
+            rows and rows == seen_in(name, traces, program), f"{name}: what is kept doesn't show what was seen: {told}"
+        )
         check_late(name, told)
         for what, seen in rows.items():
             kind, one = what.split()
@@ -156,8 +178,14 @@ def check_all(name, program):
             shown = [it for it in traces if seen_in(name, [it], program).get(what) == seen]
             if rows_in(alone)[what] == seen:
                 least = min(len(lines_of(it)) for it in shown)
-                hold(len(lines_of(trace)) <= least, f"{name}: {what} has {len(lines_of(trace))} rows alone, and kept it has {least}")
-            hold(seen_in(name, [trace], program)[what] == rows_in(alone)[what], f"{name}: {what}: its trace doesn't show {alone}")
+                hold(
+                    len(lines_of(trace)) <= least,
+                    f"{name}: {what} has {len(lines_of(trace))} rows alone, and kept it has {least}",
+                )
+            hold(
+                seen_in(name, [trace], program)[what] == rows_in(alone)[what],
+                f"{name}: {what}: its trace doesn't show {alone}",
+            )
             check_late(name, alone)
 
 
@@ -167,14 +195,23 @@ def check_interrupt(number, program):
         words = called(["car_network.toml", "--all", "--keep", folder], program)
         with subprocess.Popen(words, stdout=subprocess.PIPE, stderr=subprocess.PIPE, text=True) as it:
             told = "".join(it.stdout.readline() for _ in range(3))
-            hold(len(rows_in(told)) == 3 and it.poll() is None, f"{number.name}: rows don't come while it looks for more: {told}")
+            hold(
+                len(rows_in(told)) == 3 and it.poll() is None,
+                f"{number.name}: rows don't come while it looks for more: {told}",
+            )
             it.send_signal(number)
             rest, said = it.communicate()
         hold(it.returncode == 130, f"{number.name}: status {it.returncode}")
         last = said.splitlines()[-1] if said else ""
-        hold("Traceback" not in said and last.startswith("lokwurmi worst: interrupted in search "), f"{number.name}: {said}")
+        hold(
+            "Traceback" not in said and last.startswith("lokwurmi worst: interrupted in search "),
+            f"{number.name}: {said}",
+        )
         rows, seen = rows_in(told + rest), seen_in("car_network.toml", traces_in(folder), program)
-        hold(all(seen.get(what) == worst for what, worst in rows.items()), f"{number.name}: what is kept doesn't show the table: {rows}")
+        hold(
+            all(seen.get(what) == worst for what, worst in rows.items()),
+            f"{number.name}: what is kept doesn't show the table: {rows}",
+        )
         check_late("car_network.toml", told + rest)
 
 
@@ -182,14 +219,20 @@ def check_progress(program):
     """How far it is, into a pipe; then an interrupt: what one target has by then is written."""
     with tempfile.TemporaryDirectory() as folder:
         trace = os.path.join(folder, "trace.csv")
-        words = called(["pycpa_first.toml", "--path", "polled", "--tries", "1000000", "--seconds", "600", "--to", trace], program)
+        words = called(
+            ["pycpa_first.toml", "--path", "polled", "--tries", "1000000", "--seconds", "600", "--to", trace], program
+        )
         with subprocess.Popen(words, stdout=subprocess.PIPE, stderr=subprocess.PIPE, text=True) as it:
             lines = [it.stderr.readline().rstrip("\n") for _ in range(2)]
             hold(all(PROGRESS.match(line) for line in lines), f"how far it is: {lines}")
             it.send_signal(signal.SIGINT)
             told, _ = it.communicate()
         hold(it.returncode == 130, f"one target: status {it.returncode}")
-        hold(rows_in(told) == {} or rows_in(told)["path polled"] == seen_in("pycpa_first.toml", [trace], program)["path polled"], told)
+        hold(
+            rows_in(told) == {}
+            or rows_in(told)["path polled"] == seen_in("pycpa_first.toml", [trace], program)["path polled"],
+            told,
+        )
         done = call(["pycpa_first.toml", "--path", "polled", "--tries", "1000000", "--seconds", "2"], program)
         hold(done[0] == 0 and "the clock ended the search of " in done[2], f"the clock: {done}")
 

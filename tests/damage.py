@@ -3,65 +3,35 @@ from __future__ import annotations
 
 import random
 import re
+import tomllib
 
-KEYS = [
-    "name",
-    "kind",
-    "limit",
-    "gap",
-    "bit",
-    "period",
-    "jitter",
-    "distance",
-    "on",
-    "after",
-    "best",
-    "worst",
-    "payload",
-    "extended",
-    "priority",
-    "slot",
-    "tasks",
-    "deadline",
-    "wcet",
-    "format",
-    "nane",
-]
+KEYS = (
+    "name kind limit gap bit period jitter distance on after best worst payload extended"
+    " priority slot region tasks deadline wcet format nane"
+).split()
 VALUES = [
-    "0",
-    "1",
-    "2",
-    "-1",
-    "3",
-    "7",
-    "10",
-    "1000001",
-    "1000000",
-    "536870912",
-    "2_000",
-    "0x10",
-    "1.5",
-    "10.0",
-    '""',
-    '"s"',
-    '"a"',
-    '"a b"',
-    "true",
-    "false",
-    "[]",
-    '["a"]',
-    '["s", "s"]',
-    "{}",
-    '"can"',
-    '"tdma"',
-    '"preemptive"',
-    '"round-robin"',
-    '"spp"',
-    "1979-05-27",
-    "'x'",
-    '"ü"',
-    "99999999999",
+    *"0 1 2 -1 3 7 10 1000001 1000000 536870912 2_000 0x10 1.5 10.0 99999999999 1979-05-27 true false [] {}".split(),
+    *'"" "s" "a" "can" "tdma" "preemptive" "round-robin" "spp" ["a"]'.split(),
+    *('"a b"', '["s", "s"]', "'x'", '"ü"'),
 ]
+
+
+def with_regions(draw: random.Random, text: str) -> str:
+    """A system file whose tasks on preemptive resources have regions, most of them small, and some as long as any job."""
+    read = tomllib.loads(text)
+    kinds = {it["name"]: it["kind"] for it in read.get("resource", [])}
+    tasks = iter([it for it in read.get("task", []) if "priority" in it])
+
+    def longer(found: re.Match[str]) -> str:
+        task = next(tasks)
+        if kinds[task["on"]] != "preemptive":
+            return found[0]
+        is_inline = found[2] != "\n"
+        region = draw.choice([1, 2, 3, draw.randint(1, 50), task["worst"], 1_000_000])
+        return found[1] + (f", region = {region}" if is_inline else f"\nregion = {region}") + found[2]
+
+    text = re.sub(r"^format = [12]$", "format = 3", text, count=1, flags=re.M)
+    return re.sub(r"(\bpriority *= *[\dx_A-Fa-f]+)(\D)", longer, text)
 
 
 def words_of(text: str) -> list[tuple[int, int]]:
@@ -94,20 +64,21 @@ def exchange_texts(draw: random.Random, text: str) -> str:
     return text[:start] + text[other:last] + text[end:]
 
 
-def exchange_value(draw: random.Random, text: str) -> str:
-    found = list(re.finditer(r"= *([^\n,}\]]+)", text))
+def exchange(draw: random.Random, text: str, form: str, several: list[str]) -> str:
+    """One of several stands where the group of a form was found."""
+    found = list(re.finditer(form, text))
     if not found:
         return text
     it = draw.choice(found)
-    return text[: it.start(1)] + draw.choice(VALUES) + text[it.end(1) :]
+    return text[: it.start(1)] + draw.choice(several) + text[it.end(1) :]
+
+
+def exchange_value(draw: random.Random, text: str) -> str:
+    return exchange(draw, text, r"= *([^\n,}\]]+)", VALUES)
 
 
 def exchange_key(draw: random.Random, text: str) -> str:
-    found = list(re.finditer(r"(\w+) *=", text))
-    if not found:
-        return text
-    it = draw.choice(found)
-    return text[: it.start(1)] + draw.choice(KEYS) + text[it.end(1) :]
+    return exchange(draw, text, r"(\w+) *=", KEYS)
 
 
 def drop_line(draw: random.Random, text: str) -> str:
@@ -163,26 +134,8 @@ def damaged(draw: random.Random, text: str) -> str:
 
 
 ROW_VALUES = [
-    "0",
-    "1",
-    "5",
-    "-1",
-    "10000001",
-    "1000001",
-    "20000001",
-    "1000000001",
-    "12345678901",
-    "1.5",
-    "",
-    " 1",
-    "x",
-    "event",
-    "exec",
-    "phase",
-    "é",
-    '"a"',
-    '"',
-    "a,b",
+    *"0 1 5 -1 10000001 1000001 20000001 1000000001 12345678901 1.5 x event exec phase é".split(),
+    *("", " 1", '"a"', '"', "a,b"),
 ]
 
 

@@ -17,7 +17,7 @@ if PYTHON != sys.executable:
     os.execv(PYTHON, [PYTHON, *sys.argv])
 
 os.chdir(TOP)
-from lokwurmi_tools.databases import canmatrix
+from lokwurmi_tools.databases import canmatrix  # noqa: E402
 
 PROGRAM = os.path.abspath(built("cpa_cli"))
 # a name, an identifier, whether it has 29 bits, bytes, a cycle in milliseconds, and attributes

@@ -1,13 +1,14 @@
 """The rules of cause-effect chains written down plainly: bounds, what a run shows, and the text of `chain` and
 `chains`.
 
-Nothing here is taken from the program or from the commands in Python: bounds of tasks are the least solution by tests/check_reports.py, runs
-are followed tick by tick by tests/check_runs.py, and what a run shows is looked for among all jobs.
+Nothing here is taken from the program or from the commands in Python: bounds of tasks are the least solution by
+tests/check_reports.py, runs are followed tick by tick by tests/check_runs.py, and what a run shows is looked for among
+all jobs.
 """
 from functools import lru_cache
 
-import check_runs as rules
 import check_reports as compare
+import check_runs as rules
 
 OVERLOAD = compare.OVERLOAD
 ASKED = ("reaction", "age", "held")
@@ -17,9 +18,7 @@ READINGS = ("arrival", "start", "end", "whenever", "running")
 
 def small(draw, kinds=rules.KINDS):
     """A small system: few tasks, with little load, so that most bounds are numbers."""
-    resources = [{"name": f"r{k}", "kind": draw.choice(kinds)} for k in range(draw.randint(1, 3))]
-    for it in resources:
-        it["gap"] = draw.randint(0, 2) if it["kind"] == "tdma" else 0
+    resources = rules.some_resources(draw, 3, kinds, 2)
     sources = []
     for k in range(draw.randint(1, 4)):
         period = draw.randint(4, 24)
@@ -32,10 +31,8 @@ def small(draw, kinds=rules.KINDS):
         worst = draw.choice((1, 1, 2, 3, 5))
         tasks.append({"name": f"t{k}", "on": on["name"], "after": list(dict.fromkeys(after)), "streams": 0})
         tasks[-1] |= {"best": draw.randint(1, worst), "worst": worst, "priority": k, "slot": draw.randint(1, 4)}
-    order = list(range(len(tasks)))
-    draw.shuffle(order)
-    for task, priority in zip(tasks, order):
-        task["priority"] = priority
+    rules.draw_priorities(draw, tasks)
+    rules.draw_regions(draw, tasks)
     return {"resource": resources, "source": sources, "task": tasks, "path": []}
 
 
@@ -48,7 +45,13 @@ def near_events(draw, source, span, mood):
         high = min(times[m] + (n - m) * source["period"] + source["jitter"] for m in range(n))
         assert low <= high
         times.append((low, high, draw.randint(low, high), draw.choice((low, high, draw.randint(low, high))))[mood])
-    return times[:draw.randint(0, 3)] if draw.random() < 0.1 else times
+    return times[: draw.randint(0, 3)] if draw.random() < 0.1 else times
+
+
+def stays_near(source, times):
+    """Whether any two events of a source are no farther apart than its period and jitter say."""
+    period, jitter = source["period"], source.get("jitter", 0)
+    return all(times[n] - times[m] <= (n - m) * period + jitter for n in range(len(times)) for m in range(n))
 
 
 def near_trace(draw, system):
@@ -60,12 +63,7 @@ def near_trace(draw, system):
         kind = draw.randrange(3)
         several = [(it["best"], it["worst"], draw.randint(it["best"], it["worst"]))[kind] for _ in range(60)]
         executions[it["name"]] = several
-    phases = {}
-    for it in system["resource"]:
-        slots = [task["slot"] for task in system["task"] if task["on"] == it["name"]]
-        if it["kind"] == "tdma":
-            phases[it["name"]] = draw.randrange(sum(slots) + it["gap"]) if slots else 0
-    return events, executions, phases
+    return events, executions, rules.some_phases(draw, system)
 
 
 def chains_in(draw, tasks):
@@ -87,8 +85,8 @@ def said(bound):
 
 class Bounds:
     """The bounds of the chains of a system file: where jobs read at any time, or `while_running` alone. Then less is
-    told by two rules: "above" where a writer goes before its reader on one processor, and with "same-source" still less
-    where one source starts both besides. The program has the first of them."""
+    told by two rules: "above" where a writer goes before its reader on one processor, which is preempted at each
+    tick, and with "same-source" still less where one source starts both besides. The program has the first of them."""
 
     def __init__(self, text):
         self.rules = compare.System(text)
@@ -106,10 +104,10 @@ class Bounds:
         return self.gap(name) - 1
 
     def is_above(self, before, name):
-        """Whether a writer goes before its reader on one processor."""
+        """Whether a writer goes before its reader on one processor, at each tick."""
         writer, reader = self.rules.tasks[before], self.rules.tasks[name]
-        preemptive = self.rules.resources[writer["on"]]["kind"] == "preemptive"
-        return preemptive and writer["on"] == reader["on"] and writer["priority"] < reader["priority"]
+        gives_way = self.rules.resources[writer["on"]]["kind"] == "preemptive" and reader.get("region", 1) == 1
+        return gives_way and writer["on"] == reader["on"] and writer["priority"] < reader["priority"]
 
     def is_of_one_source(self, before, name):
         after = self.after(name)
@@ -181,6 +179,7 @@ def told_chains(bounds, chains):
 
 def streams_of_jobs(tasks, run):
     """The stream of each job, by its causes: the place among its task's streams; and how many streams each task has."""
+
     def count(name):
         return sum(count(after) for after in tasks[name]["after"]) if name in tasks else 1
 
@@ -208,7 +207,7 @@ def ticks_of(system, run):
         for number, job in enumerate(jobs):
             given = run.executions[name]
             takes = given[number] if number < len(given) else needs[name]
-            ran[name].append(ticks[at:at + takes])
+            ran[name].append(ticks[at : at + takes])
             at += takes
             assert ran[name][-1][-1] + 1 == job["end"]
     return ran
@@ -234,7 +233,7 @@ class Observed:
     def amidst(self, name, k):
         """Each stream of the task has a job up to and with k, and one from k + 1 on."""
         several = self.streams[name]
-        return k >= 0 and set(several[:k + 1]) == set(range(self.counts[name])) == set(several[k + 1:])
+        return k >= 0 and set(several[: k + 1]) == set(range(self.counts[name])) == set(several[k + 1 :])
 
     def can_be_first(self, name, time):
         """The jobs that can be the first to read no sooner than a time: they can read then, and all before them can
@@ -256,12 +255,14 @@ class Observed:
 
     def forward(self, chain):
         """From each job of the first task the latest end of the last task's first job that knows of it."""
+
         @lru_cache(maxsize=None)
         def ends(place, k):
             if place == len(chain) - 1:
                 return self.jobs[chain[place]][k]["end"]
             known = (ends(place + 1, n) for n in set(self.heard(chain[place], k, chain[place + 1])))
             return max((it for it in known if it is not None), default=None)
+
         return [ends(0, k) for k in range(len(self.jobs[chain[0]]))]
 
     def reactions(self, chain):
@@ -292,6 +293,7 @@ class Observed:
                 return self.jobs[chain[0]][n]["arrival"]
             known = (first(place - 1, k) for k in set(self.taken(chain[place - 1], chain[place], n)))
             return min((it for it in known if it is not None), default=None)
+
         last = self.jobs[chain[-1]]
         for n, job in enumerate(last):
             since = first(len(chain) - 1, n)
