@@ -50,7 +50,11 @@ tell "hammer long_window.toml 1 1" long_window.hammer.txt hammer long_window.tom
 tell "hammer crossing_chains.toml 1 20" crossing_chains.hammer.txt hammer crossing_chains.toml 1 20
 tell "assign deadline_order.toml cpu" deadline_order.assign.txt assign deadline_order.toml cpu
 tell "assign sae_can.toml can" sae_can.assign.txt assign sae_can.toml can
+tell "assign cooperative.toml cpu" cooperative.assign.txt assign cooperative.toml cpu
+tell "assign regions.toml cpu" regions.assign.txt assign regions.toml cpu
 tell "slack sae_can.toml m16" sae_can.slack.txt slack sae_can.toml m16
+tell "slack cooperative.toml log" cooperative.slack.txt slack cooperative.toml log
+tell "slack regions.toml a" regions.slack.txt slack regions.toml a
 tell "slack car_network.toml sense0 --workers 4" car_network.slack.txt slack car_network.toml sense0 --workers 4
 tell "analyse car_network.toml --workers 4" car_network.report.txt analyse car_network.toml --workers 4
 exit "$status"
