@@ -27,11 +27,11 @@ def rank(task: Values, resource: Values, scale: Scale) -> Values:
     """What tells who goes first, as a word, a number and how that is told: an identifier of a frame that takes more
     than 11 bits is told in hexadecimal, as other tools do. A region of more than a tick stands beside it."""
     if "priority" not in task:
-        return {"by": "slot", "turn": task["slot"], "told": scale.text(task["slot"])}
+        return {"by": "slot", "turn": task["slot"], "told": scale.text(task["slot"]), "region": None}
     number, region = task["priority"], task.get("region", 1)
     is_long = resource["kind"] == "can" and number > 0x7FF
-    found = {"by": "priority", "turn": number, "told": f"0x{number:X}" if is_long else str(number)}
-    return found | ({"region": scale.text(region)} if region > 1 else {})
+    told = f"0x{number:X}" if is_long else str(number)
+    return {"by": "priority", "turn": number, "told": told, "region": scale.text(region) if region > 1 else None}
 
 
 def label(name: str, bound: str, share: Fraction) -> str:

@@ -89,7 +89,7 @@ def cluster(words: argparse.Namespace, at_end: contextlib.ExitStack) -> distribu
         raise Failed(f"no scheduler answers at {words.scheduler}; an address is as tcp://host:8786: {fault}") from None
     at_end.callback(close, client)
     try:
-        client.wait_for_workers(1, timeout="60s")
+        client.wait_for_workers(1, timeout=60)
     except OSError:
         raise Failed(
             f"no worker came to the scheduler within 60 seconds: start some by dask-worker {words.scheduler}"

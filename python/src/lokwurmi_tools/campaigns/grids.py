@@ -177,9 +177,9 @@ def script_of(grid: list[Entry], chosen: Sequence[int], system: dict, spare: lis
 VERDICTS = {0: "met", 1: "missed", 2: "overload"}
 
 
-def row_of(status: int, text: str, script: str) -> tuple[str, str, dict[str, int | None]]:
-    """The verdict of a variant, which of its edits was refused first, and its bounds and latencies by the names of
-    their columns."""
+def row_of(status: int, text: str, script: str) -> tuple[str, str, dict[str, int | str]]:
+    """The verdict of a variant, which of its edits was refused first, and its bounds and latencies, or `overload`, by
+    the names of their columns."""
     try:
         tasks, paths, edits = reports_in(text.splitlines())[-1]
     except Unreadable as fault:
@@ -187,9 +187,10 @@ def row_of(status: int, text: str, script: str) -> tuple[str, str, dict[str, int
     refused = ""
     for line, rule in sorted(edits.items())[:1]:
         refused = f"{' '.join(script.split(chr(10))[line - 1].split())}: {rule}"
-    found = {f"task.{name}": it["worst"] for name, it in tasks.items()}
-    found |= {f"path.{name}": it["worst"] for name, it in paths.items()}
-    return ("refused" if refused else VERDICTS[status]), refused, found
+    bounds = {f"task.{name}": it["worst"] for name, it in tasks.items()}
+    bounds |= {f"path.{name}": it["worst"] for name, it in paths.items()}
+    cells = {column: "overload" if it is None else it for column, it in bounds.items()}
+    return ("refused" if refused else VERDICTS[status]), refused, cells
 
 
 def fronted(rows: Iterable[dict[str, Any]], latency: str, cost: str) -> set[int]:

@@ -131,7 +131,8 @@ def work(name: str, calls: list[Call]) -> tuple[str, list[Answer], str | None]:
     worker = distributed.get_worker()
     answers: list[Answer] = []
     try:
-        return worker.address, answers, answers_of(worker.plugins[name], calls, answers)
+        sent: Any = worker.plugins[name]
+        return worker.address, answers, answers_of(sent, calls, answers)
     except KeyError:
         return worker.address, answers, "the program didn't come to this worker"
     except OSError as fault:
