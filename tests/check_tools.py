@@ -454,12 +454,12 @@ def packages_of(files):
 
 
 def check_named():
-    """docs/BUILDING.md names the packages of all commands, and the tutorial too."""
-    for page in ("docs/BUILDING.md", "docs/TUTORIAL.md"):
+    """docs/BUILDING.md names the packages of all commands, and the tutorial those of what it draws."""
+    of_all = packages_of(sorted(glob.glob(f"{SOURCES}/lokwurmi_tools/*.py")))
+    drawing = {"graphviz", "python3-jinja2", "python3-matplotlib"}
+    for page, wanted in (("docs/BUILDING.md", of_all), ("docs/TUTORIAL.md", drawing)):
         with open(page, encoding="utf-8") as it:
-            text = it.read()
-        wanted = packages_of(sorted(glob.glob(f"{SOURCES}/lokwurmi_tools/*.py")))
-        lines = re.findall(r"apt-get install ([a-z0-9 -]+)", text)
+            lines = re.findall(r"apt-get install ([a-z0-9 -]+)", it.read())
         hold(any(wanted <= set(line.split()) for line in lines), f"{page}: it has no line with {sorted(wanted)}")
 
 

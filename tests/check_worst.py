@@ -29,6 +29,7 @@ KNOWN = [
     ("tdma.toml", ["--all"], 1),
     ("round_robin.toml", ["--all"], 1),
     ("crossing_chains.toml", ["--all"], 1),
+    ("regions.toml", ["--all"], 1),
     ("can_bus.toml", ["m3"], 1),
     ("can_bus.toml", ["--path", "d3"], 1),
     ("sae_can.toml", ["--all", "--seconds", "120"], 0.998),
@@ -200,7 +201,8 @@ def check_interrupt(number, program):
                 f"{number.name}: rows don't come while it looks for more: {told}",
             )
             it.send_signal(number)
-            rest, said = it.communicate()
+            # `communicate` would lose a row that was read together with these
+            rest, said = it.stdout.read(), it.stderr.read()
         hold(it.returncode == 130, f"{number.name}: status {it.returncode}")
         last = said.splitlines()[-1] if said else ""
         hold(

@@ -17,7 +17,7 @@ VALUES = [
 
 
 def with_regions(draw: random.Random, text: str) -> str:
-    """A system file whose tasks on preemptive resources have regions, most of them small, and some as long as any job."""
+    """A system file whose tasks on preemptive resources have regions: most small, and some as long as any job."""
     read = tomllib.loads(text)
     kinds = {it["name"]: it["kind"] for it in read.get("resource", [])}
     tasks = iter([it for it in read.get("task", []) if "priority" in it])
