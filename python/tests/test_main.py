@@ -55,7 +55,7 @@ class Main(unittest.TestCase):
         need_engine()
         with tempfile.TemporaryDirectory() as folder:
             file = Path(folder, "net.toml")
-            file.write_text("format = 3\n")
+            file.write_text("format = 4\n")
             self.assertEqual(
                 self.call(file),
                 (

@@ -4,6 +4,7 @@ import warnings
 from pathlib import Path
 
 from engine_for_tests import need_engine
+
 from lokwurmi import RoundingWarning, System, SystemRefused, UnitsRefused, us
 
 EXAMPLES = Path(__file__).resolve().parents[2] / "examples"
@@ -179,7 +180,8 @@ class Times(unittest.TestCase):
     def test_told(self) -> None:
         """A file says which times have a tick more, and roundings are those of times that aren't whole."""
         system = self.ticked(us(20), us(20))
-        more = "# a tick more, since between ticks all of a region may go by: region of task log is 21, worst of task log is 21"
+        more = "# a tick more, since between ticks all of a region may go by: "
+        more += "region of task log is 21, worst of task log is 21"
         self.assertEqual(system.to_toml().splitlines()[:2], ["# A tick is 1us.", more])
         self.assertEqual(system.roundings, [])
         self.assertEqual(

@@ -353,8 +353,8 @@ class Converter:
         return rounded
 
     def more_of(self, item: Entry, key: str, time: Fraction) -> int:
-        """A tick more for a region, and for an execution that is no longer than its region is without that. A job that has
-        begun between two ticks holds up others for all of it, and in ticks it holds them up for a tick less."""
+        """A tick more for a region, and for an execution that is no longer than its region is without that. A job that
+        has begun between two ticks holds up others for all of it, and in ticks it holds them up for a tick less."""
         if key != "worst":
             return int(key == "region")
         region = item.get("region")

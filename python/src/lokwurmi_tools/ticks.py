@@ -4,10 +4,11 @@
     ./lokwurmi ticks examples/units/switch_port.toml --tick 100ns
 
 A time may be a text, as "16.667 ms" or "250us", with ns, us, ms or s. On a resource with a bit rate, as `bitrate =
-500000`, it may be of bits or bytes too: "84 byte" is the time of 672 bits. Greatest executions, jitters and gaps are
-rounded up; least executions, periods, distances and deadlines down; a slot has no safe side and must be a whole
-number of ticks. Each rounding is told on the standard error and at the head of the file. A number without a unit
-stays a number of ticks. Comments and the order of entries stay.
+500000`, it may be of bits or bytes too: "84 byte" is the time of 672 bits. Greatest executions, regions, jitters and
+gaps are rounded up; least executions, periods, distances and deadlines down; a slot has no safe side and must be a
+whole number of ticks. A region has a tick more, and so has an execution that it covers. Each rounding is told on the
+standard error and at the head of the file. A number without a unit stays a number of ticks. Comments and the order of
+entries stay.
 
 It needs tomlkit: apt-get install python3-tomlkit
 """

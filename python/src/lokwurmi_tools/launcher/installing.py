@@ -31,6 +31,8 @@ PKG_CONFIG = Path("lib") / "pkgconfig" / "lokwurmi.pc"
 # what is copied of the repository, beside the programs
 TAKEN = ("docs", "examples", "python/src/lokwurmi", "python/src/lokwurmi_tools")
 LEFT_OUT = ("__pycache__",)
+# programs in C that docs/LIBRARY.md shows
+EXAMPLES = ("report.c", "edits.c")
 # above the files in the record
 FILES = "files:"
 
@@ -120,7 +122,8 @@ def places(has_library: bool) -> dict[Path, Path]:
     if has_library:
         found |= {Path("lib") / it: LIBRARY / it for it in (ARCHIVE, SHARED)}
         found[Path("include") / "lokwurmi.h"] = TOP / "library" / "lokwurmi.h"
-        found |= {COPY / "library" / it.name: it for it in LIBRARY.glob("*.whl")}
+        beside = [*LIBRARY.glob("*.whl"), *(TOP / "library" / it for it in EXAMPLES)]
+        found |= {COPY / "library" / it.name: it for it in beside}
     return found
 
 
@@ -160,7 +163,7 @@ def copy_all(prefix: Path, has_library: bool) -> Copy:
     copy.text(man_text(), MAN)
     copy.text(completion_text(), COMPLETION)
     if has_library:
-        copy.text(pkg_config(prefix, "lib", "include"), PKG_CONFIG)
+        copy.text(pkg_config("../..", "lib", "include"), PKG_CONFIG)
     # by whoever may write here, for those who may not; what Python has compiled goes with its sources
     compileall.compile_dir(prefix / COPY / "python", quiet=2, invalidation_mode=PycInvalidationMode.CHECKED_HASH)
     remove(prefix, Record([it for it in copy.before.files if it not in set(copy.written)], []))

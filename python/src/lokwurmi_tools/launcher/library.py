@@ -50,10 +50,12 @@ def c_functions() -> Path:
     return found
 
 
-def pkg_config(prefix: Path, libraries: str, headers: str) -> str:
-    """What pkg-config is to say of the library, which lies in two folders of a prefix."""
+def pkg_config(prefix: str, libraries: str, headers: str) -> str:
+    """What pkg-config is to say of the library, which lies in two folders of a prefix. That is told from where the
+    file lies, so that all of it can be moved."""
     text = (TOP / "library" / PKG_CONFIG).read_text(encoding="utf-8")
-    places = {"prefix": str(prefix), "libdir": f"${{prefix}}/{libraries}", "includedir": f"${{prefix}}/{headers}"}
+    places = {"prefix": f"${{pcfiledir}}/{prefix}"}
+    places |= {"libdir": f"${{prefix}}/{libraries}", "includedir": f"${{prefix}}/{headers}"}
     for key, value in places.items():
         text = re.sub(rf"^{key}=.*$", f"{key}={value}", text, flags=re.MULTILINE)
     return text
@@ -72,7 +74,7 @@ def link(archive: Path, cc: str) -> None:
         LIBRARY.mkdir(parents=True, exist_ok=True)
         for name in (ARCHIVE, SHARED):
             shutil.copy(room / name, LIBRARY / name)
-    (LIBRARY / PKG_CONFIG).write_text(pkg_config(TOP / "library", "out", "."), encoding="utf-8")
+    (LIBRARY / PKG_CONFIG).write_text(pkg_config("..", "out", "."), encoding="utf-8")
     shutil.copy(LIBRARY / SHARED, SOURCES / "lokwurmi" / SHARED)
 
 
