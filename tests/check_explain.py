@@ -287,6 +287,23 @@ def check_picture(python, room, file, word, told):
         hold(set(told["overload"]["loads"]) <= set(texts), said, "pictures")
 
 
+def check_worked():
+    """Cases that are worked out by hand: whom a region of lower priority holds up, by how much."""
+    for name, task, wanted in (
+        ("cooperative", "control", [("own", "control", 1, 2), ("blocking", "log", 1, 4)]),
+        ("cooperative", "log", [("own", "log", 1, 20), ("rival", "control", 3, 2)]),
+        ("regions", "a", [("own", "a", 1, 3), ("blocking", "c", 1, 3)]),
+        ("regions", "b", [("own", "b", 1, 4), ("blocking", "c", 1, 3), ("rival", "a", 1, 3)]),
+        ("regions", "c", [("own", "c", 1, 9), ("rival", "a", 3, 3), ("rival", "b", 2, 4)]),
+    ):
+        told = explained_by(PROGRAM, os.path.join(TOP, "examples", f"{name}.toml")).task(task)
+        found = [(it["kind"], it["of"], it["count"], it["each"]) for it in told["parts"]]
+        hold(found == wanted, f"{name}.toml, {task}: {found}, and not {wanted}", "worked")
+        lines = lines_of_task(told)
+        is_told = any("the rest of a region of lower priority" in it for it in lines)
+        hold(is_told == ("blocking" in [it[0] for it in wanted]), f"{name}.toml, {task}: {lines}", "worked")
+
+
 def check_told(python, room):
     """A report that isn't the program's is told as an error, and what isn't taken is refused."""
     two = os.path.join(TOP, "examples", "two_tasks.toml")
@@ -330,6 +347,7 @@ def main():
     python = python_with("matplotlib")
     with tempfile.TemporaryDirectory() as room:
         check_random(numbers, room)
+        check_worked()
         if python:
             check_examples(python, room)
         check_told(python or sys.executable, room)

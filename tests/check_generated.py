@@ -4,8 +4,8 @@ Outside the gate.
 
 Systems and traces are made here once more, by the generator written down plainly. Of each generated system `generate`
 must write a file that says the same, and `load` the sum of the bounds that `analyse` writes of it. Of each example, and
-of random systems whose tasks have up to three activators, `hammer` must write what `simulate` does of each generated
-trace, taken together.
+of random systems whose tasks have up to three activators, and in every other one regions, `hammer` must write what
+`simulate` does of each generated trace, taken together.
 
     python3 tests/check_generated.py [NUMBER to begin with, 0 if absent]
 """

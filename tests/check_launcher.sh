@@ -94,7 +94,7 @@ afresh() {
   rm -rf "$work"
   mkdir -p "$work"/{docs,examples,python/src,library}
   cp "$top/lokwurmi" "$work/" && cp -r "$top"/python/src/{lokwurmi,lokwurmi_tools} "$work/python/src/" || exit 1
-  cp "$top"/library/lokwurmi.{h,map,pc} "$work/library/" && cp "$top"/python/*.{toml,py,md} "$work/python/" || exit 1
+  cp "$top"/library/{lokwurmi.{h,map,pc},report.c,edits.c} "$work/library/" && cp "$top"/python/*.{toml,py,md} "$work/python/" || exit 1
   cp "$top/examples/two_tasks.toml" "$work/examples/" && cp "$top/docs/FILES.md" "$work/docs/" || exit 1
   cat >"$work/crates.txt" <<'END'
 # the crates, and what they use
@@ -762,7 +762,8 @@ if command -v cc >/dev/null; then
   call install "$to"
   hold "install takes the library along" [ -e "$to/lib/liblokwurmi.so" ]
   hold "install takes the library along: what C needs" [ -e "$to/include/lokwurmi.h" ]
-  hold "install takes the library along: what pkg-config needs" grep -q "^prefix=$to$" "$to/lib/pkgconfig/lokwurmi.pc"
+  hold "install takes the library along: what pkg-config needs" is "$(sed -n 's/^prefix=${pcfiledir}//p' "$to/lib/pkgconfig/lokwurmi.pc")" "/../.."
+  hold "install takes the library along: the examples in C" [ -e "$to/lib/lokwurmi/library/report.c" ]
   call uninstall "$to"
   hold "uninstall takes it away" is "$(cd "$to" && find . | sort | tr '\n' ' ')" ". ./bin ./bin/another "
   touch "$work/crates/cpa_c/src/lib.rt"

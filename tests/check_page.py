@@ -856,7 +856,7 @@ def check_causes(room, program):
 def check_refusals(room, program):
     page = os.path.join(room, "refused.html")
     two, trace = example("two_tasks", ".toml"), example("crossing_chains", ".trace.csv")
-    bad = written(room, "bad.toml", "format = 3\n")
+    bad = written(room, "bad.toml", "format = 4\n")
     schedule = written(room, "bad.csv", "a,1,2\nz,3,4\n")
     chains = example("crossing_chains", ".toml")
     for status, said, words in (
@@ -864,7 +864,7 @@ def check_refusals(room, program):
         (1, "--schedule wants --trace", [two, "--to", page, "--schedule", schedule]),
         (1, "has no tick", [two, "--to", page, "--from", "5", "--until", "5"]),
         (1, "can't be called", [two, "--to", page, "--program", os.path.join(room, "nothing")]),
-        (14, "bad.toml:1:10: the format 3 isn't known: it is 1 or 2", [bad, "--to", page]),
+        (14, "bad.toml:1:10: the format 4 isn't known: it is 1, 2 or 3", [bad, "--to", page]),
         (16, "status 16", [two, "--to", page, "--trace", trace]),
         (
             1,

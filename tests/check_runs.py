@@ -254,7 +254,7 @@ class Run:
 
     def is_within(self, task):
         """Whether the job of a task that is next is within a region: it has had a part of one."""
-        return self.jobs[task][self.pending(task)[0]]["had"] % self.tasks[task]["region"] > 0
+        return self.jobs[task][self.pending(task)[0]]["had"] % self.tasks[task].get("region", 1) > 0
 
     def see(self):
         for task in self.tasks:

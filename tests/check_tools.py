@@ -1,5 +1,5 @@
 #!/usr/bin/env python3
-"""Tries the Python commands over the systems of examples/, of both formats. Outside the gate.
+"""Tries the Python commands over the systems of examples/, of all formats. Outside the gate.
 
 Each system is drawn as a graph, with its report and without it, with --chains and without it. Each activator of each
 task that is drawn must have its line, and no other line may be there; tasks with several activators have a double edge,
@@ -488,7 +488,7 @@ with tempfile.TemporaryDirectory() as room:
     check_help()
     check_packages(room)
     check_named()
-    hold(formats == {1, 2}, "examples/ has systems of both formats")
+    hold(formats == {1, 2, 3}, f"examples/ has systems of all formats, and not of {formats} alone")
     for session in sorted(glob.glob("examples/*.session.txt")):
         # the last report is drawn, whose tasks may be others than before
         lines = lines_of(session)

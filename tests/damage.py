@@ -24,7 +24,7 @@ def with_regions(draw: random.Random, text: str) -> str:
 
     def longer(found: re.Match[str]) -> str:
         task = next(tasks)
-        if kinds[task["on"]] != "preemptive":
+        if kinds[task["on"]] != "preemptive" or "region" in task:
             return found[0]
         is_inline = found[2] != "\n"
         region = draw.choice([1, 2, 3, draw.randint(1, 50), task["worst"], 1_000_000])
