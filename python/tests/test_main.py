@@ -61,7 +61,8 @@ class Main(unittest.TestCase):
                 (
                     14,
                     "system refused reason 13 file 0\n",
-                    f"{file}: the file: another format (reason 13): format is 1, or 2 for lists of activators\n",
+                    f"{file}: the file: another format (reason 13): format is 1, 2 for lists of activators, or 3 for"
+                    " regions too\n",
                 ),
             )
             file.write_text("x = [")
