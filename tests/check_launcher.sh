@@ -476,7 +476,8 @@ for signal in INT TERM HUP QUIT; do
     hold "$signal, $jobs at a time: all of them have ended" is "$(left)" 0
     rm "$room/slow"
     LOKWURMI_JOBS=$jobs call analyse two.toml
-    hold "$signal, $jobs at a time: the next call goes on" is "$(tr '\n' ' ' <"$room/proved")" "cpa_units cpa_io cpa_model cpa_fix cpa_cli "
+    # on a busy machine the crate that comes after the libraries may be begun together with them, and then again
+    hold "$signal, $jobs at a time: the next call goes on" is "$(uniq "$room/proved" | tr '\n' ' ')" "cpa_units cpa_io cpa_model cpa_fix cpa_cli "
     hold "$signal, $jobs at a time: and says what is proved already" said '5 crates, of which 2 are proved already'
   done
 done
@@ -762,7 +763,7 @@ if command -v cc >/dev/null; then
   call install "$to"
   hold "install takes the library along" [ -e "$to/lib/liblokwurmi.so" ]
   hold "install takes the library along: what C needs" [ -e "$to/include/lokwurmi.h" ]
-  hold "install takes the library along: what pkg-config needs" is "$(sed -n 's/^prefix=${pcfiledir}//p' "$to/lib/pkgconfig/lokwurmi.pc")" "/../.."
+  hold "install takes the library along: what pkg-config needs" grep -q '^prefix=.{pcfiledir}/\.\./\.\.$' "$to/lib/pkgconfig/lokwurmi.pc"
   hold "install takes the library along: the examples in C" [ -e "$to/lib/lokwurmi/library/report.c" ]
   call uninstall "$to"
   hold "uninstall takes it away" is "$(cd "$to" && find . | sort | tr '\n' ' ')" ". ./bin ./bin/another "
