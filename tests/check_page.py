@@ -629,8 +629,8 @@ def check_names(page):
 
 
 WIDTHS = (375, 500, 1024, 1366, 1920)
-# names, numbers and paths that take much room, a frame of 29 bits, slots
-WIDE = """format = 2
+# names, numbers and paths that take much room, a frame of 29 bits, slots, a region
+WIDE = """format = 3
 resource = [
   { name = "unit_front", kind = "preemptive" },
   { name = "backbone", kind = "tdma", gap = 500 },
@@ -648,7 +648,7 @@ source = [
 task = [
   { name = "wheel_isr", on = "unit_front", after = "wheel_pulses", best = 12, worst = 35, priority = 1 },
   { name = "pedal", on = "unit_front", after = "sampling", best = 250, worst = 450, priority = 2 },
-  { name = "diagnose", on = "unit_front", after = "diagnosis", best = 2000, worst = 8000, priority = 3 },
+  { name = "diagnose", on = "unit_front", after = "diagnosis", best = 2000, worst = 8000, priority = 3, region = 400 },
   { name = "pedal_f", on = "can_front", after = "pedal", payload = 4, priority = 16 },
   { name = "wheel_f", on = "can_front", after = "wheel_frames", payload = 8, priority = 2047 },
   { name = "radar_f", on = "can_front", after = "radar", payload = 6, extended = true, priority = 2048 },
@@ -669,7 +669,7 @@ WIDE_TRACE = "event,wheel_pulses,0\nevent,sampling,0\nevent,radar,0\nevent,image
 TURNS_TOLD = [
     "priority 1",
     "priority 2",
-    "priority 3",
+    "priority 3\nregion 400",
     "priority 16",
     "priority 2047",
     "priority 0x800",
