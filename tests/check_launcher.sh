@@ -794,7 +794,7 @@ hold "from its own folder" is "$(cat "$room/text")" "called analyse x"
 (cd "$work/docs" && CDPATH=/ PATH=..:$PATH lokwurmi analyse x) >"$room/text" 2>"$room/said"
 hold "by the search path" is "$(cat "$room/text")" "called analyse x"
 if command -v shellcheck >/dev/null; then
-  (cd "$top" && shellcheck -x lokwurmi python/src/lokwurmi_tools/launcher/completion.bash tests/check_launcher.sh tests/check_completion.sh) >"$room/said" 2>&1
+  (cd "$top" && shellcheck -x lokwurmi python/src/lokwurmi_tools/launcher/completion.bash tests/check_{launcher,completion,installed}.sh) >"$room/said" 2>&1
   hold "shellcheck finds nothing" is $? 0
 fi
 exit "$wrong"
