@@ -9,7 +9,7 @@ use Rattle.cpa_model.specs.Rules.{RegionFits}
 use Rattle.cpa_model.specs.SystemLists.{SystemLists, tasks_on}
 use Rattle.cpa_sched.specs.Steps.{ResourceState, Choice, most_urgent, region_of, within_region, preemptive_step, kind_of, step}
 use Rattle.cpa_sched.specs.States.{HoldsRegion, KeepsTurn, Belongs}
-use Rattle.cpa_sched.specs.Stretches.{state_later, IsStretch, ticks_of_region, length_of}
+use Rattle.cpa_sched.specs.Stretches.{held_later, state_later, IsStretch, ticks_of_region, length_of}
 use Rattle.cpa_sched.proofs.OptionLaws.{some-injective}
 use Rattle.cpa_sched.proofs.StretchLaws.{choice, stretch-by, stretch-still, stretch-then, step-by_kind, length-by_kind}
 
@@ -38,6 +38,10 @@ within-left j (suc n) = refl
 
 within-again : (j n : ℕ) → within_region j n ≡ within_region j (within_region j n).left
 within-again j n = ap (within_region j) (sym (within-left j n))
+
+region-later : (j left n : ℕ) → held_later Preemptive (within_region j left) (within_region j left).holder n ≡ within_region j (left - n)
+region-later j zero n = let none : zero - n ≡ 0 = omega arith in sym (ap (within_region j) none)
+region-later j (suc left) n = refl
 
 -- some of a region that has begun is left, and not all
 pub region-holds : (s : SystemLists) (r : ℕ) (st : ResourceState) (o : Option ℕ) → kind_of s r ≡ Preemptive → Belongs s r st → st.holder ≡ o → HoldsRegion s st.left o
@@ -134,6 +138,9 @@ module _ (s : SystemLists) (r : ℕ) (waits : ℕ → Bool) (kind : kind_of s r 
     after_begin j zero = st
     after_begin j (suc n) = within_region j (next.left - n)
 
+    is-begun : (j : ℕ) → task ≡ Some j → next ≡ within_region j next.left
+    is-begun j is = leaves ∙ is-within s st st.holder urgent j (runs ∙ is) ∙ ap (λ (x : ResourceState). within_region j x.left) (sym leaves)
+
     within-stretch : (j n : ℕ) → task ≡ Some j → n ≤ next.left → IsStretch s r st waits tick phase (n + 1) task (within_region j (next.left - n))
     unfolding after_begin
     within-stretch j n is enough =
@@ -143,7 +150,7 @@ module _ (s : SystemLists) (r : ℕ) (waits : ℕ → Bool) (kind : kind_of s r 
         begun : next ≡ within_region j (next.left - 0)
         begun =
             let whole : next.left ≡ next.left - 0 = omega arith in
-            leaves ∙ is-within s st st.holder urgent j (runs ∙ is) ∙ ap (λ (x : ResourceState). within_region j x.left) (sym leaves) ∙ ap (within_region j) whole
+            is-begun j is ∙ ap (within_region j) whole
 
         each : (m : ℕ) → m < suc n → step s r (after_begin j m) waits (tick + m) phase ≡ choice task (after_begin j (suc m))
         each zero h = region-step st (tick + 0) ∙ sym e ∙ ap (choice task) begun
@@ -154,10 +161,14 @@ module _ (s : SystemLists) (r : ℕ) (waits : ℕ → Bool) (kind : kind_of s r 
             ∙ ap (λ l. choice (Some j) (within_region j l)) less
             ∙ ap (λ o. choice o (within_region j (next.left - suc m))) (sym is)
 
-    later-free : (j n : ℕ) → next ≡ free → within_region j (next.left - n) ≡ next
-    later-free j n same =
-        let none : next.left - n ≡ 0 = omega (arith, ap (λ (x : ResourceState). x.left) same) in
-        ap (within_region j) none ∙ sym same
+    -- the states of a stretch are those said
+    later-one : (n : ℕ) → next ≡ free → held_later Preemptive next next.holder n ≡ next
+    later-one n same = ap (λ o. held_later Preemptive next o n) (ap (λ (x : ResourceState). x.holder) same)
+
+    later-within : (j n : ℕ) → task ≡ Some j → held_later Preemptive next next.holder n ≡ within_region j (next.left - n)
+    later-within j n is =
+        let begun = is-begun j is in
+        ap (λ (x : ResourceState). held_later Preemptive x x.holder n) begun ∙ region-later j next.left n
 
     -- as long as is said
     pub region-stretch : (most n : ℕ) → Belongs s r st → n < ticks_of_region s most task next.left → IsStretch s r st waits tick phase (n + 1) task (state_later Preemptive task next n)
@@ -170,10 +181,10 @@ module _ (s : SystemLists) (r : ℕ) (waits : ℕ → Bool) (kind : kind_of s r 
             (elim (cases_Bool (eqb (region_of s j) 1)) [
               | inl one ↦
                   let single : region_of s j ≡ 1 = eqb-true (region_of s j) 1 one in
-                  subst (IsStretch s r st waits tick phase (n + 1) task) (sym (later-free j n (next-free j belongs is single))) (one-stretch j (n + 1) belongs is single (omega arith))
+                  subst (IsStretch s r st waits tick phase (n + 1) task) (sym (later-one n (next-free j belongs is single))) (one-stretch j (n + 1) belongs is single (omega arith))
               | inr more ↦
                   let long : ticks_of_region s most task next.left ≡ min most (next.left + 1) = ap (λ o. ticks_of_region s most o next.left) is ∙ cond-false _ _ _ more in
-                  within-stretch j n is (omega (arith, less, long))
+                  subst (IsStretch s r st waits tick phase (n + 1) task) (sym (later-within j n is)) (within-stretch j n is (omega (arith, less, long)))
             ])
 
     pub region-long : (most ticks : ℕ) → ticks ≡ ticks_of_region s most task next.left → ticks ≡ length_of s r st waits tick phase most

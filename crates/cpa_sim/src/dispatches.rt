@@ -145,8 +145,8 @@ pub(crate) fn refresh(system: &System, dispatch: &mut Dispatch, res: ResId)
     dispatch.gone = 0;
 }
 
-/// Foresees what becomes of a resource from now on. Where none of its tasks waits, nobody runs for as long
-/// as that stays so, also past the ends of slots and gaps.
+/// Foresees what becomes of a resource from now on. Where none of its tasks waits, nobody runs and its
+/// state stays the same for as long as that is so, also past the ends of slots and gaps.
 fn foresee(
     system: &System,
     trace: &Trace,
@@ -170,11 +170,9 @@ fn foresee(
 {
     refresh(system, dispatch, ranking.res);
     let most = HORIZON - now;
-    let mut state = dispatch.state;
+    let state = &mut dispatch.state;
     let waiters = &mut dispatch.waiters;
-    let stretch = begin_now(
-        system, trace, queues, ranking, waiters, &mut state, now, most,
-    );
+    let stretch = begin_now(system, trace, queues, ranking, waiters, state, now, most);
     if stretch.task.is_none()
         && stretch.ticks < most
         && !is_busy(queues, system.tasks_on(ranking.res))
@@ -183,7 +181,6 @@ fn foresee(
         dispatch.ticks = most;
         return;
     }
-    dispatch.state = state;
     dispatch.running = stretch.task;
     dispatch.ticks = ticks_within(queues, stretch);
 }

@@ -1,4 +1,4 @@
-use Rattle.std.proofs.Common.{◌≡◌, ◌∙◌, ◌+◌, ◌<◌, option_map, sym, ap, subst, arith}
+use Rattle.std.proofs.Common.{◌≡◌, ◌∙◌, ◌+◌, ◌<◌, option_map, sym, ap, subst}
 use Rattle.cpa_model.specs.declared.entries.Resource.{Resource}
 use Rattle.cpa_model.specs.declared.entries.Kind.TheVariants.{Preemptive, Can}
 use Rattle.cpa_model.specs.SystemLists.{place_of}
@@ -36,7 +36,7 @@ returns-in-Can-clause-stretch g c n less =
     let kind : kind_of s r ≡ Can c.in-Can.bit = sym (ap (λ (x : Resource). x.kind) c.resource.ensures.value) ∙ c.in-Can.is in
     let o = option_map place_of c.frame_by.result in
     subst (λ k. IsStretch s r (seen c.args.state.now) w c.args.tick c.args.phase (n + 1) o (state_later k o (seen c.frame_by.new.state) n)) (sym kind)
-    (frame-stretch s r w (seen c.args.state.now) c.args.tick c.args.phase c.in-Can.bit (n + 1) (option_map place_of c.frame_by.result) (seen c.frame_by.new.state) kind (omega arith) (c.frame_by.ensures.step ∙ ap (can_step (seen c.args.state.now) (seen c.args.state.now).holder) (c.requires.ranking w)))
+    (frame-stretch s r w (seen c.args.state.now) c.args.tick c.args.phase c.in-Can.bit n (option_map place_of c.frame_by.result) (seen c.frame_by.new.state) kind (c.frame_by.ensures.step ∙ ap (can_step (seen c.args.state.now) (seen c.args.state.now).holder) (c.requires.ranking w)))
 
 pub returns-in-Can-clause-length : goal.returns-in-Can-clause-length
 returns-in-Can-clause-length g c =

@@ -1,4 +1,4 @@
-use Rattle.std.proofs.Common.{◌≡◌, ◌∙◌, ◌+◌, false, None, option_map, ap, sym, subst, arith}
+use Rattle.std.proofs.Common.{◌≡◌, ◌∙◌, ◌+◌, ℕ, false, None, option_map, ap, sym, subst, arith}
 use Rattle.std.specs.List.{list_any}
 use Rattle.cpa_model.specs.SystemLists.{place_of}
 use Rattle.cpa_trace.specs.Trace.{phase_of}
@@ -17,9 +17,15 @@ returns-then-not-is_busy-clause-foresees c = λ n less.
     let w = waiting c.args.queues.now in
     let phase = phase_of c.args.trace.now r in
     let st = state_now (kind_of s r) c.args.dispatch.now in
+    let o = option_map place_of c.begin_now-stretch.result.task in
+    let end = seen c.begin_now-stretch.new.state in
     let idle : is_busy s r w ≡ false = ap (list_any w) (sym c.tasks_on.ensures.places) ∙ (sym c.is_busy.ensures ∙ c.if-not-is_busy.true) in
-    let rests = idle-stretch s r w (idle-none s r w idle) st c.args.now phase c.requires.belongs.holder c.requires.frame (n + 1) in
-    subst (IsStretch s r st w c.args.now phase (n + 1) None) (sym (later-none (kind_of s r) (seen c.refresh.new.dispatch.state) (c.refresh.new.dispatch.gone + n) ∙ c.refresh.ensures.state)) rests
+    let rests : (m : ℕ) → IsStretch s r st w c.args.now phase m None st = idle-stretch s r w (idle-none s r w idle) st c.args.now phase c.requires.belongs.holder c.requires.frame in
+    let first = c.begin_now-stretch.ensures.stretch 0 (omega (arith, c.begin_now-stretch.ensures.some)) in
+    let first' = subst (λ x. IsStretch s r x w c.args.now phase 1 o (state_later (kind_of s r) o end 0)) c.refresh.ensures.state first in
+    let none : o ≡ None = grind arith in
+    let same : st ≡ end = sym (rests 1).leaves ∙ (first'.leaves ∙ ap (λ x. state_later (kind_of s r) x end 0) none) in
+    subst (IsStretch s r st w c.args.now phase (n + 1) None) (same ∙ sym (later-none (kind_of s r) end (c.refresh.new.dispatch.gone + n))) (rests (n + 1))
 
 pub returns-clause-foresees : goal.returns-clause-foresees
 returns-clause-foresees c = λ n less.
