@@ -11,11 +11,11 @@ ghost use Rattle.cpa_local.specs.Local.{bound_by_kind, response};
 ghost use Rattle.cpa_local.specs.Solution.{IsVector};
 ghost use Rattle.cpa_local.specs.Inputs.{AreInputs};
 ghost use Rattle.cpa_local.specs.Trails.{IsKept, NewMarksAre, AreMarked};
-ghost use Rattle.cpa_local.specs.Worked.{IsPrepared, HasCycle, HasInputs};
+ghost use Rattle.cpa_local.specs.Worked.{IsPrepared, HasCycle, HasLongest, HasInputs};
 
-use crate::neighbours::{blocking, gather_higher, gather_others};
+use crate::neighbours::{blocking, blocking_by_region, gather_higher, gather_others};
 use crate::prepared_inputs::own_input;
-use crate::scratch::{Scratch, make_rivals};
+use crate::scratch::{Scratch, Shared, make_rivals};
 use crate::trail::Trail;
 use cpa_events::Model;
 use cpa_model::{Kind, System};
@@ -72,7 +72,7 @@ pub(crate) fn respond_prepared(
         task,
         x,
         own,
-        work.cycle,
+        work.shared,
         inputs,
         work.rivals.as_mut_slice(),
     )
@@ -84,7 +84,7 @@ fn bound_by_kind(
     task: TaskId,
     x: &Vector,
     own: &Model,
-    cycle: u64,
+    shared: Shared,
     inputs: &[Option<Model>],
     rivals: &mut [Rival],
 ) -> Bound
@@ -93,26 +93,28 @@ fn bound_by_kind(
     requires vector { IsVector system.now x.now }
     requires own { IsModelInRange own.now }
     requires long { length system.now.tasks ≤ length inputs.now }
-    requires cycle { HasCycle system.now (task_at system.now task.0).res.0 cycle (resource_of system.now task.0).kind }
+    requires cycle { HasCycle system.now (task_at system.now task.0).res.0 shared.cycle (resource_of system.now task.0).kind }
+    requires longest { HasLongest system.now (task_at system.now task.0).res.0 shared.longest (resource_of system.now task.0).kind }
     requires known { HasInputs system.now (task_at system.now task.0).res.0 x.now inputs.now (resource_of system.now task.0).kind }
     requires room { length (tasks_on system.now (task_at system.now task.0).res.0) ≤ length rivals.old }
     ensures value { result ≡ bound_by_kind system.now x.now task.0 own.now (resource_of system.now task.0).kind }
     ensures room { length rivals.new ≡ length rivals.old }
 {
     match system.resource(system.task(task).res).kind {
-        Kind::Preemptive => preemptive(system, task, x, own, inputs, rivals),
+        Kind::Preemptive => preemptive(system, task, x, own, shared.longest, inputs, rivals),
         Kind::RoundRobin => round_robin(system, task, x, own, inputs, rivals),
-        Kind::Tdma { gap: _ } => tdma(system, task, own, cycle),
+        Kind::Tdma { gap: _ } => tdma(system, task, own, shared.cycle),
         Kind::Can { bit } => can(system, task, x, own, bit, inputs, rivals),
     }
 }
 
-/// The bound under preemptive priority.
+/// The bound under preemptive priority, where no task on the resource blocks others by more ticks than the longest.
 fn preemptive(
     system: &System,
     task: TaskId,
     x: &Vector,
     own: &Model,
+    longest: u64,
     inputs: &[Option<Model>],
     rivals: &mut [Rival],
 ) -> Bound
@@ -121,6 +123,7 @@ fn preemptive(
     requires own { IsModelInRange own.now }
     requires long { length system.now.tasks ≤ length inputs.now }
     requires known { AreInputs system.now (task_at system.now task.0).res.0 x.now inputs.now }
+    requires longest { HasLongest system.now (task_at system.now task.0).res.0 longest Preemptive }
     requires room { length (tasks_on system.now (task_at system.now task.0).res.0) ≤ length rivals.old }
     ensures value { result ≡ bound_by_kind system.now x.now task.0 own.now Preemptive }
     ensures room { length rivals.new ≡ length rivals.old }
@@ -128,7 +131,7 @@ fn preemptive(
     let count = gather_higher(system, task, x, inputs, rivals);
     let entry = system.task(task);
     let limit = system.resource(entry.res).limit;
-    let blocking = blocking(system, task, Kind::Preemptive);
+    let blocking = blocking_by_region(system, task, longest);
     cpa_spp::respond(own, entry.worst, blocking, &rivals[..count], limit)
 }
 

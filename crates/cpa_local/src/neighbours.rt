@@ -9,11 +9,13 @@ ghost use Rattle.cpa_local.specs.Blocking.{blocking_by, blocking_of};
 ghost use Rattle.cpa_local.specs.Inputs.{AreInputs, input};
 ghost use Rattle.cpa_local.specs.Local.{rival_of};
 ghost use Rattle.cpa_local.specs.Solution.{IsVector};
+ghost use Rattle.cpa_local.specs.Worked.{HasLongest};
+ghost use Rattle.cpa_model.specs.declared.entries.Kind.TheVariants.{Preemptive};
 
 use crate::prepared_inputs::keep;
 use cpa_events::Model;
 use cpa_model::{Kind, System, Task};
-use cpa_units::{TaskId, Vector};
+use cpa_units::{ResId, TaskId, Vector};
 use cpa_window::Rival;
 
 /// Whether the second task is on the resource of the first, and of higher priority.
@@ -151,4 +153,30 @@ pub(crate) fn blocking(system: &System, task: TaskId, kind: Kind) -> u64
         }
     }
     most
+}
+
+/// The same of a region, where no task on the resource blocks others by more ticks than the longest. Where that is 0, none is
+/// looked at.
+pub(crate) fn blocking_by_region(system: &System, task: TaskId, longest: u64) -> u64
+    requires there { task.0 < length system.now.tasks }
+    requires longest { HasLongest system.now (task_at system.now task.0).res.0 longest Preemptive }
+    ensures value { result ≡ blocking_of system.now Preemptive task.0 }
+    ensures in_range { result ≤ MAX_EXECUTION }
+{
+    if longest == 0 {
+        return 0;
+    }
+    blocking(system, task, Kind::Preemptive)
+}
+
+/// By how many ticks the region of a task on a resource blocks others at most; 0 if each is one tick.
+pub(crate) fn longest_blocking(system: &System, res: ResId) -> u64
+    requires there { res.0 < length system.now.resources }
+    ensures { HasLongest system.now res.0 result Preemptive }
+{
+    let mut longest: u64 = 0;
+    for task in system.tasks_on(res) {
+        longest = longest.max(blocking_by(Kind::Preemptive, system.task(*task)));
+    }
+    longest
 }

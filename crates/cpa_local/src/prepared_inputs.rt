@@ -9,11 +9,12 @@ ghost use Rattle.cpa_events.specs.Events.{IsModelInRange, HasJitterUpTo};
 ghost use Rattle.cpa_model.specs.SystemLists.{task_at, resource_at, resource_of};
 ghost use Rattle.cpa_local.specs.Inputs.{AreInputs, AreKnown, input, output_of, found_if};
 ghost use Rattle.cpa_local.specs.Solution.{IsVector};
-ghost use Rattle.cpa_local.specs.Worked.{IsPrepared, HasCycle, HasInputs};
+ghost use Rattle.cpa_local.specs.Worked.{IsPrepared, HasCycle, HasLongest, HasInputs};
 
 use crate::chain_walks::only_task;
 use crate::gathering::find_along;
 use crate::inputs::find_input;
+use crate::neighbours::longest_blocking;
 use crate::scratch::Scratch;
 use cpa_events::Model;
 use cpa_model::{Kind, System};
@@ -21,7 +22,8 @@ use cpa_units::{Bound, ResId, TaskId, Vector};
 
 impl Scratch {
     /// Works out what the analyses of a resource's tasks at a vector share, in place of what it was
-    /// before: the cycle under TDMA, else the input of each task.
+    /// before: the cycle under TDMA, else the input of each task, and under preemptive priority by how much
+    /// one blocks others at most.
     pub(crate) fn prepare(&mut self, system: &System, res: ResId, x: &Vector)
         requires there { res.0 < length system.now.resources }
         requires vector { IsVector system.now x.now }
@@ -31,7 +33,11 @@ impl Scratch {
     {
         match system.resource(res).kind {
             Kind::Tdma { gap: _ } => {
-                self.cycle = system.cycle(res);
+                self.shared.cycle = system.cycle(res);
+            }
+            Kind::Preemptive => {
+                self.shared.longest = longest_blocking(system, res);
+                learn(system, res, x, &mut self.inputs, &mut self.found);
             }
             _ => learn(system, res, x, &mut self.inputs, &mut self.found),
         }
@@ -43,6 +49,7 @@ impl Scratch {
         requires vector { IsVector system.now x.now }
         requires room { length system.now.tasks ≤ length self.old.inputs }
         requires cycle { HasCycle system.now res.0 self.old.cycle (resource_at system.now res.0).kind }
+        requires longest { HasLongest system.now res.0 self.old.longest (resource_at system.now res.0).kind }
         ensures prepared { IsPrepared system.now res.0 x.now self.new }
         ensures room { length self.new.inputs ≡ length self.old.inputs }
     {

@@ -18,8 +18,17 @@ pub(crate) struct Scratch {
     pub(crate) inputs: Vec<Option<EventModel>>,
     /// An input that isn't kept.
     pub(crate) found: EventModel,
-    /// The cycle that was worked out last, in ticks.
+    /// What else was worked out last.
+    pub(crate) shared: Shared,
+}
+
+/// What the analyses of one resource's tasks share besides the inputs.
+#[derive(Clone, Copy)]
+pub(crate) struct Shared {
+    /// Under TDMA the cycle, in ticks.
     pub(crate) cycle: u64,
+    /// Under preemptive priority, by how many ticks a task blocks others at most: 0 where each region is one tick.
+    pub(crate) longest: u64,
 }
 
 impl Model for Scratch {
@@ -28,7 +37,7 @@ impl Model for Scratch {
 
     ghost Value = { Worked };
 
-    ghost view = { λ w. record { inputs = w.inputs.items; cycle = w.cycle } };
+    ghost view = { λ w. record { inputs = w.inputs.items; cycle = w.shared.cycle; longest = w.shared.longest } };
 
     ghost invariant = { λ w. length w.inputs.items ≤ vec_capacity w.rivals };
 }
@@ -47,7 +56,10 @@ impl Scratch {
             rivals,
             inputs,
             found: no_model(),
-            cycle: 0,
+            shared: Shared {
+                cycle: 0,
+                longest: 0,
+            },
         })
     }
 }

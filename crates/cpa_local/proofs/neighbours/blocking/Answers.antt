@@ -1,6 +1,5 @@
-use Rattle.std.proofs.Common.{◌∙◌, ◌≤◌, take, get_or, sym, ap, arith}
+use Rattle.std.proofs.Common.{◌∙◌, take, get_or, sym, ap, arith}
 use Rattle.std.specs.Prelude.{filter}
-use Rattle.cpa_units.specs.declared.limits.TheConstants.{MAX_EXECUTION}
 use Rattle.cpa_model.specs.declared.entries.Task.{Task}
 use Rattle.cpa_model.specs.SystemLists.{task_at, tasks_on, places_of, is_higher}
 use Rattle.cpa_model.proofs.SystemLaws.{no_id}
