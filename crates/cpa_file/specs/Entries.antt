@@ -68,6 +68,10 @@ abbrev pub task_keys : Format → List (List ℕ)
 task_keys format =
     codes "name" ∷ codes "on" ∷ codes "after" ∷ codes "best" ∷ codes "worst" ∷ codes "payload" ∷ codes "extended" ∷ codes "priority" ∷ codes "slot" ∷ region_key (has_regions format)
 
+-- those that nearly all tasks have, and no others
+abbrev pub usual_keys : List (List ℕ)
+usual_keys = codes "after" ∷ codes "best" ∷ codes "name" ∷ codes "on" ∷ codes "priority" ∷ codes "slot" ∷ codes "worst" ∷ []
+
 -- the keys of a task, each of its type
 unfoldable pub task_fields : Format → Data → Option DraftTask
 task_fields format d = do

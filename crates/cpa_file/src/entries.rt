@@ -5,11 +5,14 @@ ghost use Rattle.toml.specs.View.{view, items_view};
 ghost use Rattle.cpa_file.specs.Lists.{GivesList, read_all};
 ghost use Rattle.toml.specs.Data.{as_str};
 ghost use Rattle.cpa_file.specs.Fields.{Gives, required, optional, has_only};
-ghost use Rattle.cpa_file.specs.Entries.{kind_of_word, as_kind, as_texts, as_after, task_keys, task_fields};
+ghost use Rattle.cpa_file.specs.Entries.{kind_of_word, as_kind, as_texts, as_after, usual_keys, task_keys, task_fields};
 ghost use Rattle.cpa_model.specs.Built.{has_executions};
 
 use crate::fault::ReadFault;
-use crate::fields::{only_has, optional_integer, optional_truth, required_integer, required_text};
+use crate::fields::{
+    only_has, optional_integer, optional_integer_unless, optional_truth_unless, required_integer,
+    required_text,
+};
 use crate::format::Format;
 use cpa_model::{DraftPath, DraftResource, DraftSource, DraftTask, KindWord, Raw, RawList};
 use std::alloc::Global;
@@ -95,10 +98,22 @@ fn has_executions(task: &DraftTask) -> bool
         || (task.payload.is_some() && task.best.is_none() && task.worst.is_none())
 }
 
-/// Whether an entry has no key but those that a task may have.
-fn has_task_keys(format: Format, value: &Value) -> bool
+/// Whether an entry has no key but those that nearly all tasks have.
+fn has_usual_keys(value: &Value) -> bool
+    ensures { result ≡ has_only usual_keys (view value.now) }
+{
+    let usual = ["after", "best", "name", "on", "priority", "slot", "worst"];
+    only_has(value, &usual)
+}
+
+/// Whether an entry has no key but those that a task may have, where it is known whether these are usual ones alone.
+fn has_task_keys(format: Format, value: &Value, usual: bool) -> bool
+    requires { usual ≡ has_only usual_keys (view value.now) }
     ensures { result ≡ has_only (task_keys format) (view value.now) }
 {
+    if usual {
+        return true;
+    }
     if format.has_regions() {
         let known = [
             "name", "on", "after", "best", "worst", "payload", "extended", "priority", "slot",
@@ -117,17 +132,18 @@ fn has_task_keys(format: Format, value: &Value) -> bool
 fn read_task_fields(alloc: Global, format: Format, value: &Value) -> Result<DraftTask, ReadFault>
     ensures { Gives result (task_fields format (view value.now)) }
 {
+    let usual = has_usual_keys(value);
     let name = required_text(alloc, value, "name")?;
     let on = required_text(alloc, value, "on")?;
     let after = required_after(alloc, format.has_lists(), value, "after")?;
     let best = optional_integer(value, "best")?;
     let worst = optional_integer(value, "worst")?;
-    let payload = optional_integer(value, "payload")?;
-    let extended = optional_truth(value, "extended")?;
+    let payload = optional_integer_unless(usual, value, "payload")?;
+    let extended = optional_truth_unless(usual, value, "extended")?;
     let priority = optional_integer(value, "priority")?;
     let slot = optional_integer(value, "slot")?;
-    let region = optional_integer(value, "region")?;
-    if has_task_keys(format, value) {
+    let region = optional_integer_unless(usual, value, "region")?;
+    if has_task_keys(format, value, usual) {
         Ok(DraftTask {
             name,
             on,
