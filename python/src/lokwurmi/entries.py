@@ -74,7 +74,8 @@ class Task:
     ticks."""
     region: Ticks | None = None
     """On `preemptive`: for so many ticks a job isn't preempted once it has begun a region. A time is rounded up, and
-    has a tick more. None: 1 tick, so that a job is preempted at any."""
+    has a tick more. None: 1 tick, so that a job may be preempted at
+    each."""
 
 
 @dataclass(slots=True)

@@ -9,7 +9,7 @@ class Kind(StrEnum):
     """Who runs on a resource."""
 
     PREEMPTIVE = "preemptive"
-    """The smallest priority number runs."""
+    """The smallest priority number is next, and a region that has begun goes on to its end."""
     ROUND_ROBIN = "round-robin"
     """One task after the other, each for up to its slot."""
     TDMA = "tdma"

@@ -154,7 +154,7 @@ class System:
         return self._add(Resource(name, str(kind), limit, gap, bit, bitrate))
 
     def preemptive(self, name: str, *, limit: Ticks | None = None) -> Resource:
-        """Adds a processor on which the smallest priority number runs."""
+        """Adds a processor on which the smallest priority number is next."""
         return self.resource(name, Kind.PREEMPTIVE, limit=limit)
 
     def round_robin(self, name: str, *, limit: Ticks | None = None) -> Resource:

@@ -2,8 +2,8 @@
 `overload`.
 
 It moves the greatest execution of each task (longer), the period (shorter) and the jitter (longer) of each source, the
-speed of each resource (all greatest executions of its tasks longer by one share), the region of each task that has one
-(longer, up to its greatest execution) and each deadline (shorter), and shows the tightest first. With --only region
+greatest executions on each resource (all longer by one share, regions as they are), the region of each task that has
+one (longer, up to its greatest execution) and each deadline (shorter), and shows the tightest first. With --only region
 tasks without one have one of a tick. What is first missed, or without a bound, beyond that stands beside it. Each is
 moved alone: two that both move as far as is told may miss a deadline together. With --goal a path is held against
 another deadline than that of the file, or against one where the file has none. With --deadlines paths with a deadline

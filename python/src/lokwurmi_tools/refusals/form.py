@@ -263,12 +263,15 @@ def unknown_kind(document: Document, at: int) -> Remark:
         or nearest(value, KINDS)
     )
     guess = f'; did you mean "{near}"?' if near else ""
+    helps = "the kinds are preemptive, round-robin, tdma and can"
+    if bare(value) == "cooperative":
+        helps += "; there tasks that cooperate have a region each, with format = 3"
     says = f'{entry_name(document, "resource", at)}: the kind "{value}" isn\'t known{guess}'
     return Remark(
         says,
         document.value_span("resource", at, "kind"),
         (),
-        "the kinds are preemptive, round-robin, tdma and can",
+        helps,
         FORM,
     )
 
