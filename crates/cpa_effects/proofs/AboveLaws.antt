@@ -1,4 +1,4 @@
--- While a job of higher priority is pending, a task doesn't run; so a step from above waits less.
+-- While a job of higher priority is pending, a task whose region is a tick doesn't run; so a step from above waits less.
 use Rattle.std.proofs.Common.{◌≡◌, ◌⊎◌, ℕ, zero, suc, ◌+◌, ◌<◌, ◌≤◌, Bool, true, false, cond, not, eqb, length, List, [], ◌∷◌, Option, Some, None, refl, sym, ◌∙◌, ap, subst, inl, inr, arith}
 use Rattle.std.specs.Prelude.{filter, sum_by, unwrap_or, ◌&&◌}
 use Rattle.std.specs.List.{list_any}

@@ -33,7 +33,7 @@ is_preemptive RoundRobin = false
 is_preemptive (Tdma gap) = false
 is_preemptive (Can bit) = false
 
--- whether a job of task i is preempted at each tick
+-- whether a job of task i may be preempted at each tick
 abbrev pub gives_way : SystemLists → ℕ → Bool
 gives_way s i = is_preemptive (resource_of s i).kind && (task_at s i).region == 1
 

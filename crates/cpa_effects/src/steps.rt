@@ -47,7 +47,8 @@ pub enum Reading {
 pub enum Passage {
     /// By a step of whichever tasks.
     By(Step),
-    /// By a register, from a task of higher priority on the same preemptive resource, to one that reads while it runs.
+    /// By a register, from a task of higher priority on the same preemptive resource, to one whose region is a tick and that
+    /// reads while it runs.
     FromAbove,
     /// So, where one source is the only activator of both.
     OfOneSource,
@@ -75,7 +76,7 @@ fn is_higher(system: &System, task: TaskId, other: TaskId) -> bool
     first.res.0 == second.res.0 && second.turn.priority() < first.turn.priority()
 }
 
-/// Whether a job of a task is preempted at each tick: on a preemptive resource, where its regions are of a tick.
+/// Whether a job of a task may be preempted at each tick: on a preemptive resource, where its regions are of a tick.
 fn gives_way(system: &System, task: TaskId) -> bool
     requires { task.0 < length system.now.tasks }
     ensures { result ≡ gives_way system.now task.0 }

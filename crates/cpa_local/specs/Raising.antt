@@ -1,4 +1,4 @@
--- A system that asks for at least as much as another: no task has a shorter execution range, no source is sparser.
+-- A system that asks for at least as much as another: no task has a shorter execution range or a shorter region, no source is sparser.
 use Rattle.std.specs.Prelude.{ℕ, ◌≡◌, ◌<◌, ◌≤◌, length}
 use Rattle.std.specs.List.{AllZip}
 use Rattle.cpa_events.specs.Events.{IsNoDenser}

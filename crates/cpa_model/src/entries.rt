@@ -19,7 +19,7 @@ use std::marker::Model;
 /// How a resource chooses among its tasks.
 #[derive(Clone, Copy, Debug, PartialEq, Eq)]
 pub enum Kind {
-    /// The pending task with the smallest priority number runs.
+    /// The pending task with the smallest priority number runs, but a region that has begun goes on.
     Preemptive,
     /// The tasks take turns, each for its slot at most.
     RoundRobin,

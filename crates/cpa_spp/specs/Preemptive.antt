@@ -1,5 +1,5 @@
 -- The bound of a task under preemptive priority, whose rivals are the tasks of higher priority: that of Richter's thesis
--- (2005) and of Henia et al. (2005).
+-- (2005) and of Henia et al. (2005), with the blocking of Davis and Bertogna (2012).
 use Rattle.std.specs.Prelude.{ℕ, ◌+◌, ◌*◌, List}
 use Rattle.cpa_units.specs.declared.bound.Bound.{Bound}
 use Rattle.cpa_units.specs.declared.bound.Bound.TheVariants.{Within}
