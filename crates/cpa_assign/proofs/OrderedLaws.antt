@@ -20,11 +20,11 @@ use Rattle.cpa_model.specs.Chains.{activators, streams_step, streams_within}
 use Rattle.cpa_model.specs.SystemLists.{SystemLists, task_at, resource_at, resource_of, task_places, is_higher, higher_tasks, no_task, is_on}
 use Rattle.cpa_model.specs.Rules.{IsSystem}
 use Rattle.cpa_model.specs.Streams.{source_model, source_stream}
-use Rattle.cpa_local.specs.Blocking.{blocking_by, blocking_of}
+use Rattle.cpa_local.specs.Blocking.{blocking_by, blocking_of, greatest_blocking}
 use Rattle.cpa_local.specs.Inputs.{joined, sent_by_all, input_along, input}
 use Rattle.cpa_local.specs.Local.{rival_of, bound_by_kind, response}
 use Rattle.cpa_assign.specs.Orders.{are_sources, is_member, place_in, kth_priority, ordered_task, with_order, HasPriorities, IsOrder, IsOrderable}
-use Rattle.cpa_assign.specs.Placing.{sources_model, rival_at, rivals_at, greatest_blocking, is_below, placed_by_kind, placed_bound}
+use Rattle.cpa_assign.specs.Placing.{sources_model, rival_at, rivals_at, is_below, tasks_below, placed_by_kind, placed_bound}
 use Rattle.cpa_assign.proofs.AbleLaws.{fed-source}
 use Rattle.cpa_assign.proofs.OrderLaws.{is_before, same_place, flip-no, before-place, before-member, place-less, place-own}
 use Rattle.cpa_local.proofs.PassingPlaces.{filter-agree, map-passing, map-map, greatest-passing}
@@ -187,7 +187,7 @@ module _ (s : SystemLists) (r : ℕ) (o : List ℕ) (rules : IsSystem s) (able :
         rw (e, w) refl)
         ∙ sym (map-map load_of (rival_at s) (filter (is_before o i) (task_places s)))
 
-    blocking-same : (kind : Kind) → blocking_of t kind i ≡ greatest_blocking s kind (is_below s r (is_before o i) i)
+    blocking-same : (kind : Kind) → blocking_of t kind i ≡ greatest_blocking s kind (tasks_below s r (is_before o i) i)
     blocking-same kind =
         ap (λ (js : List ℕ). fold (λ most j. max most (blocking_by kind (task_at t j))) 0 (filter (λ j. is_higher t j i) js)) places-same
         ∙ ap (fold (λ most j. max most (blocking_by kind (task_at t j))) 0) (filter-agree (λ j. is_higher t j i) (is_below s r (is_before o i) i) 0 (length s.tasks) (λ j low high. lower-after i mi j (omega arith)))
@@ -196,11 +196,11 @@ module _ (s : SystemLists) (r : ℕ) (o : List ℕ) (rules : IsSystem s) (able :
     by_kind-same : (kind : Kind) → HasPriorities kind → bound_by_kind t x i (sources_model s i) kind ≡ placed_by_kind s r (is_before o i) i kind
     by_kind-same Preemptive h =
         rw (worst-same i (own i mi).0, resource-own i mi, blocking-same Preemptive)
-        (preemptive_bound-same (sources_model s i) (task_at s i).worst (greatest_blocking s Preemptive (is_below s r (is_before o i) i)) (map (rival_of t x) (higher_tasks t i)) (rivals_at s (is_before o i)) (resource_at s r).limit
+        (preemptive_bound-same (sources_model s i) (task_at s i).worst (greatest_blocking s Preemptive (tasks_below s r (is_before o i) i)) (map (rival_of t x) (higher_tasks t i)) (rivals_at s (is_before o i)) (resource_at s r).limit
         (λ w. work_in-same (map (rival_of t x) (higher_tasks t i)) (rivals_at s (is_before o i)) w loads-same))
     by_kind-same (Can bit) h =
         rw (worst-same i (own i mi).0, resource-own i mi, blocking-same (Can bit))
-        (can_bound-same (sources_model s i) (task_at s i).worst (greatest_blocking s (Can bit) (is_below s r (is_before o i) i)) (map (rival_of t x) (higher_tasks t i)) (rivals_at s (is_before o i)) bit (resource_at s r).limit
+        (can_bound-same (sources_model s i) (task_at s i).worst (greatest_blocking s (Can bit) (tasks_below s r (is_before o i) i)) (map (rival_of t x) (higher_tasks t i)) (rivals_at s (is_before o i)) bit (resource_at s r).limit
         (λ w. work_in-same (map (rival_of t x) (higher_tasks t i)) (rivals_at s (is_before o i)) w loads-same))
     by_kind-same RoundRobin h = absurd (false≢true h)
     by_kind-same (Tdma gap) h = absurd (false≢true h)

@@ -30,13 +30,13 @@ use Rattle.cpa_model.specs.declared.entries.Kind.{Kind}
 use Rattle.cpa_model.specs.declared.entries.Kind.TheVariants.{Preemptive, RoundRobin, Tdma, Can}
 use Rattle.cpa_model.specs.SystemLists.{SystemLists, task_at, resource_at, task_places, streams_of, no_resource, no_task}
 use Rattle.cpa_model.specs.Rules.{IsSystem, IsResource, IsTask, KindFits}
-use Rattle.cpa_local.specs.Blocking.{blocking_by}
+use Rattle.cpa_local.specs.Blocking.{blocking_by, greatest_blocking}
 use Rattle.cpa_assign.specs.Orders.{is_task_on}
 use Rattle.cpa_events.specs.Streams.{IsStream}
 use Rattle.cpa_model.proofs.SystemLaws.{streams_of-some}
 use Rattle.cpa_model.specs.Streams.{source_stream}
 use Rattle.cpa_local.proofs.ResponseLaws.{source-is_stream}
-use Rattle.cpa_assign.specs.Placing.{sources_model, rival_at, rivals_at, greatest_blocking, is_below, placed_by_kind, placed_bound}
+use Rattle.cpa_assign.specs.Placing.{sources_model, rival_at, rivals_at, is_below, tasks_below, placed_by_kind, placed_bound}
 
 -- ---- windows of demands that are compared from their first length on
 
@@ -254,7 +254,7 @@ module _ (s : SystemLists) (r i : ℕ) (fewer above : ℕ → Bool) (rules : IsS
 
   -- the blocking and the interference of a window, together
   no_more_together : (kind : Kind) (w : ℕ) → 1 ≤ w
-      → IsAtMost (bound_plus (Within (greatest_blocking s kind (is_below s r fewer i))) (work_in (rivals_at s fewer) w)) (bound_plus (Within (greatest_blocking s kind (is_below s r above i))) (work_in (rivals_at s above) w))
+      → IsAtMost (bound_plus (Within (greatest_blocking s kind (tasks_below s r fewer i))) (work_in (rivals_at s fewer) w)) (bound_plus (Within (greatest_blocking s kind (tasks_below s r above i))) (work_in (rivals_at s above) w))
   unfolding sum_over greatest_over held_of
   no_more_together kind w some =
       rw (work_in-listed w (filter fewer (task_places s)), work_in-listed w (filter above (task_places s)))
@@ -263,10 +263,10 @@ module _ (s : SystemLists) (r i : ℕ) (fewer above : ℕ → Bool) (rules : IsS
   placed_by_kind-fewer : (kind : Kind) → KindFits kind → IsAtMost (placed_by_kind s r fewer i kind) (placed_by_kind s r above i kind)
   placed_by_kind-fewer Preemptive fit =
       let own : IsTask s (task_at s i) = rules.tasks i no_task there in
-      preemptive_bound-trade (sources_model s i) (task_at s i).worst (greatest_blocking s Preemptive (is_below s r fewer i)) (greatest_blocking s Preemptive (is_below s r above i)) (rivals_at s fewer) (rivals_at s above) (resource_at s r).limit
+      preemptive_bound-trade (sources_model s i) (task_at s i).worst (greatest_blocking s Preemptive (tasks_below s r fewer i)) (greatest_blocking s Preemptive (tasks_below s r above i)) (rivals_at s fewer) (rivals_at s above) (resource_at s r).limit
       (omega (arith, own.some_best, own.ordered)) (no_more_together Preemptive)
   placed_by_kind-fewer (Can bit) fit =
-      can_bound-trade (sources_model s i) (task_at s i).worst (greatest_blocking s (Can bit) (is_below s r fewer i)) (greatest_blocking s (Can bit) (is_below s r above i)) (rivals_at s fewer) (rivals_at s above) bit (resource_at s r).limit
+      can_bound-trade (sources_model s i) (task_at s i).worst (greatest_blocking s (Can bit) (tasks_below s r fewer i)) (greatest_blocking s (Can bit) (tasks_below s r above i)) (rivals_at s fewer) (rivals_at s above) bit (resource_at s r).limit
       fit.0 (no_more_together (Can bit))
   placed_by_kind-fewer RoundRobin fit = tt
   placed_by_kind-fewer (Tdma gap) fit = tt

@@ -1,5 +1,5 @@
 -- The bound of a task by the set of tasks above it alone: all other tasks of the resource are below.
-use Rattle.std.specs.Prelude.{ℕ, ◌<◌, ◌≡◌, ◌==◌, ◌&&◌, ◌||◌, not, max, Bool, true, Some, List, filter, fold, map}
+use Rattle.std.specs.Prelude.{ℕ, ◌<◌, ◌≡◌, ◌==◌, ◌&&◌, ◌||◌, not, Bool, true, Some, List, filter, map}
 use Rattle.cpa_units.specs.declared.places.SourceId.{SourceId}
 use Rattle.cpa_units.specs.declared.bound.Bound.{Bound}
 use Rattle.cpa_units.specs.declared.bound.Bound.TheVariants.{Overload}
@@ -11,7 +11,7 @@ use Rattle.cpa_model.specs.declared.entries.Kind.{Kind}
 use Rattle.cpa_model.specs.declared.entries.Kind.TheVariants.{Preemptive, Can}
 use Rattle.cpa_model.specs.SystemLists.{SystemLists, task_at, resource_at, task_places, streams_of}
 use Rattle.cpa_model.specs.Streams.{source_stream}
-use Rattle.cpa_local.specs.Blocking.{blocking_by}
+use Rattle.cpa_local.specs.Blocking.{greatest_blocking}
 use Rattle.cpa_assign.specs.Orders.{is_task_on, IsInTime}
 
 -- the event model of a task that sources alone activate: the streams of these, in their order
@@ -26,19 +26,18 @@ rival_at s j = record { model = Some (sources_model s j); worst = (task_at s j).
 abbrev pub rivals_at : SystemLists → (ℕ → Bool) → List Rival
 rivals_at s test = map (rival_at s) (filter test (task_places s))
 
--- the greatest blocking by one of the tasks that pass a test, 0 where none does
-abbrev pub greatest_blocking : SystemLists → Kind → (ℕ → Bool) → ℕ
-greatest_blocking s kind test = fold (λ most j. max most (blocking_by kind (task_at s j))) 0 (filter test (task_places s))
-
 -- whether j is below task i of the resource, where `above` says which are above
 abbrev pub is_below : SystemLists → ℕ → (ℕ → Bool) → ℕ → ℕ → Bool
 is_below s r above i j = is_task_on s r j && not (above j || j == i)
 
+abbrev pub tasks_below : SystemLists → ℕ → (ℕ → Bool) → ℕ → List ℕ
+tasks_below s r above i = filter (is_below s r above i) (task_places s)
+
 abbrev pub placed_by_kind : SystemLists → ℕ → (ℕ → Bool) → ℕ → Kind → Bound
 placed_by_kind s r above i Preemptive =
-    preemptive_bound (sources_model s i) (task_at s i).worst (greatest_blocking s Preemptive (is_below s r above i)) (rivals_at s above) (resource_at s r).limit
+    preemptive_bound (sources_model s i) (task_at s i).worst (greatest_blocking s Preemptive (tasks_below s r above i)) (rivals_at s above) (resource_at s r).limit
 placed_by_kind s r above i (Can bit) =
-    can_bound (sources_model s i) (task_at s i).worst (greatest_blocking s (Can bit) (is_below s r above i)) (rivals_at s above) bit (resource_at s r).limit
+    can_bound (sources_model s i) (task_at s i).worst (greatest_blocking s (Can bit) (tasks_below s r above i)) (rivals_at s above) bit (resource_at s r).limit
 placed_by_kind s r above i _ = Overload
 
 -- the bound of task i of a resource below those that `above` says

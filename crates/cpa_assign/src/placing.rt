@@ -10,7 +10,8 @@ ghost use Rattle.cpa_model.specs.SystemLists.{path_at, stream_at, streams_of};
 ghost use Rattle.cpa_model.specs.Streams.{source_stream};
 ghost use Rattle.cpa_units.specs.Bounds.{IsAtMost};
 ghost use Rattle.cpa_assign.specs.Orders.{IsInTime, IsPathInTime, IsWithinDeadline};
-ghost use Rattle.cpa_assign.specs.Placing.{sources_model, rival_at, rivals_at, greatest_blocking, is_below, placed_bound, without, Fits, IsLowestOf, NoneIsLowest};
+ghost use Rattle.cpa_local.specs.Blocking.{greatest_blocking};
+ghost use Rattle.cpa_assign.specs.Placing.{sources_model, rival_at, rivals_at, is_below, tasks_below, placed_bound, without, Fits, IsLowestOf, NoneIsLowest};
 
 use cpa_events::{Model, Stream};
 use cpa_local::blocking_by;
@@ -93,7 +94,7 @@ fn stands_below(system: &System, res: ResId, free: &[bool], task: TaskId, other:
 /// The greatest blocking by one of the tasks below one at the lowest free place, on a resource of this kind; 0 if there are none.
 fn blocking(system: &System, res: ResId, kind: Kind, task: TaskId, free: &[bool]) -> u64
     requires marks { length free.now ≡ length system.now.tasks }
-    ensures value { result ≡ greatest_blocking system.now kind (is_below system.now res.0 (without (holds free.now) task.0) task.0) }
+    ensures value { result ≡ greatest_blocking system.now kind (tasks_below system.now res.0 (without (holds free.now) task.0) task.0) }
     ensures in_range { result ≤ MAX_EXECUTION }
 {
     let mut most: u64 = 0;

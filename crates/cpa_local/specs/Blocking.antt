@@ -17,6 +17,10 @@ blocking_by (Can bit) t = t.worst
 abbrev pub lower_tasks : SystemLists → ℕ → List ℕ
 lower_tasks s i = filter (λ j. is_higher s j i) (task_places s)
 
--- the greatest among the tasks of lower priority, 0 if there are none
+-- the greatest blocking by one of some tasks, 0 if there are none
+abbrev pub greatest_blocking : SystemLists → Kind → List ℕ → ℕ
+greatest_blocking s kind js = fold (λ most j. max most (blocking_by kind (task_at s j))) 0 js
+
+-- and by one of lower priority
 abbrev pub blocking_of : SystemLists → Kind → ℕ → ℕ
-blocking_of s kind i = fold (λ most j. max most (blocking_by kind (task_at s j))) 0 (lower_tasks s i)
+blocking_of s kind i = greatest_blocking s kind (lower_tasks s i)
