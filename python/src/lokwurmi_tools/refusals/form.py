@@ -267,13 +267,7 @@ def unknown_kind(document: Document, at: int) -> Remark:
     if bare(value) == "cooperative":
         helps += "; there tasks that cooperate have a region each, with format = 3"
     says = f'{entry_name(document, "resource", at)}: the kind "{value}" isn\'t known{guess}'
-    return Remark(
-        says,
-        document.value_span("resource", at, "kind"),
-        (),
-        helps,
-        FORM,
-    )
+    return Remark(says, document.value_span("resource", at, "kind"), (), helps, FORM)
 
 
 def missing_key(document: Document, part: str, at: int, key: str) -> Remark:
