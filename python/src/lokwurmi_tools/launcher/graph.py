@@ -7,6 +7,8 @@ from pathlib import Path
 from lokwurmi_tools.launcher.places import TOP, built_from, program
 
 PARTS = ("src", "specs", "proofs")
+# what the program is, and what is claimed of it: another proof of the same changes neither
+CLAIMED = ("src", "specs")
 
 
 def listed() -> dict[str, list[str]]:
@@ -59,8 +61,8 @@ class Graph:
         return self.order[count - size :]
 
     def folders(self) -> list[str]:
-        """What a build reads, as paths below the repository."""
-        return ["crates.txt", *(f"crates/{it}/{part}" for it in self.order for part in PARTS)]
+        """What makes a program stale where it is newer, as paths below the repository."""
+        return ["crates.txt", *(f"crates/{it}/{part}" for it in self.order for part in CLAIMED)]
 
     def keep_list(self) -> None:
         """Lists beside the program what is in them, and what isn't there, for the script; where that can't be written,
