@@ -4,15 +4,32 @@ from __future__ import annotations
 import re
 
 from lokwurmi.documents import Document, Entry
-from lokwurmi_tools.refusals.keys import KEYS, KINDS, OTHER_KEYS, OTHER_KINDS, PARTS, TOP_KEYS, bare, holds, is_integer
+from lokwurmi.limits import TIMES
+from lokwurmi_tools.refusals.keys import (
+    KEYS,
+    KINDS,
+    LOCKS,
+    OTHER_KEYS,
+    OTHER_KINDS,
+    PARTS,
+    TOP_KEYS,
+    WITH_REGIONS,
+    WITHOUT_PREEMPTION,
+    bare,
+    holds,
+    is_integer,
+)
 from lokwurmi_tools.refusals.names import entry_name
-from lokwurmi_tools.refusals.remark import Note, Remark, listed, nearest
+from lokwurmi_tools.refusals.remark import Note, Remark, listed, nearest, page
 
 FORM = "1: the form"
 # the key of tasks that format 3 has alone
 REGION = "region"
 # the keys whose safe side is below
 ROUNDED_DOWN = ("best", "period", "distance", "deadline")
+# the keys that may have a unit in a file for `lokwurmi ticks`, and such a time
+WITH_UNITS = ("bit", *(key for keys in TIMES.values() for key in keys))
+UNIT_TIME = re.compile(r"\d+(?:\.\d+)? ?(?:ns|us|ms|s|bits?|bytes?)", re.ASCII)
 AN = {"resource": "a resource", "source": "a source", "task": "a task", "path": "a path"}
 TYPES = {
     "text": "a text in quotes",
@@ -176,6 +193,18 @@ def unknown_key(document: Document, part: str, at: int, key: str) -> Remark:
     if part == "task" and key == "deadline":
         name = value.get("name", "..")
         guess, helps = "", f'a deadline belongs to a path: [[path]] name = "{name}", tasks = ["{name}"], deadline = ..'
+    elif part == "task" and bare(key) in LOCKS:
+        guess, helps = "", f'locks aren\'t modelled: {page("COMING_FROM.md")}, "Cooperative tasks"'
+    elif part == "task" and OTHER_KEYS.get(bare(key)) == REGION and REGION not in value:
+        guess = f"; did you mean `{REGION}`?"
+        helps = "for so many ticks a job isn't preempted; one with a region of at least `worst` never is"
+        if not document.has_regions:
+            helps += "; it needs `format = 3`"
+    elif part == "resource" and bare(key) == "bitrate":
+        guess = ""
+        helps = (
+            "it is for files with units: lokwurmi ticks FILE --tick 1us; or write bit = N, the time of a bit in ticks"
+        )
     elif key in TOP_KEYS and not near:
         guess, helps = "", f"`{key}` belongs to the top of the file, above all headings in [[ ]]"
     elif not near and (owners := [it for it in KEYS if key in KEYS[it]]):
@@ -233,9 +262,19 @@ def wrong_list(document: Document, at: int, says: str) -> Remark:
 
 def remedy(wanted: str, value: object, key: str, written: str) -> str:
     """What to write in place of a value of another type."""
+    if key == REGION and (isinstance(value, bool) or isinstance(value, str) and not re.search(r"\d", value)):
+        return "write ticks: a task that is never preempted has a region of at least `worst`, as region = 1000000"
     if wanted == "integer" and isinstance(value, str):
         if re.fullmatch(r"[+-]?\d+", value.strip()):
             return f"write it without quotes: {key} = {int(value)}"
+        if key not in WITH_UNITS:
+            return f"write a whole number, without quotes: {key} = N"
+        if UNIT_TIME.fullmatch(value):
+            alone = "write ticks alone, one more than the region lasts" if key == REGION else "write ticks alone"
+            return (
+                f"{alone}; or turn the file into one of ticks, rounded to the safe side: lokwurmi ticks FILE --tick 1us"
+                " --to TICKS.toml"
+            )
         return "write ticks alone, without quotes and unit; a tick is whatever you take it for, as a microsecond"
     if wanted == "integer" and isinstance(value, float):
         if value.is_integer():
@@ -264,8 +303,13 @@ def unknown_kind(document: Document, at: int) -> Remark:
     )
     guess = f'; did you mean "{near}"?' if near else ""
     helps = "the kinds are preemptive, round-robin, tdma and can"
-    if bare(value) == "cooperative":
-        helps += "; there tasks that cooperate have a region each, with format = 3"
+    if bare(value) in WITH_REGIONS:
+        helps += "; on preemptive, tasks that cooperate have a region each, with format = 3"
+    elif bare(value) in WITHOUT_PREEMPTION:
+        helps += (
+            "; can, with best and worst, is a whole processor without preemption; single tasks that aren't preempted"
+            " stand on preemptive with a region of at least worst, with format = 3"
+        )
     says = f'{entry_name(document, "resource", at)}: the kind "{value}" isn\'t known{guess}'
     return Remark(says, document.value_span("resource", at, "kind"), (), helps, FORM)
 

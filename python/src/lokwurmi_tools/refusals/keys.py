@@ -105,6 +105,14 @@ OTHER_KEYS = {
     "budget": "slot",
     "npr": "region",
     "nonpreemptiveregion": "region",
+    "schedule": "region",
+    "preemptable": "region",
+    "preemptible": "region",
+    "preemptive": "region",
+    "nonpreemptable": "region",
+    "nonpreemptive": "region",
+    "cooperative": "region",
+    "blocking": "region",
     "cycle": "period",
     "cycletime": "period",
     "interval": "period",
@@ -144,6 +152,8 @@ OTHER_KINDS = {
     "priority": "preemptive",
     "osek": "preemptive",
     "cooperative": "preemptive",
+    "fpds": "preemptive",
+    "limitedpreemptive": "preemptive",
     "autosar": "preemptive",
     "rm": "preemptive",
     "dm": "preemptive",
@@ -156,9 +166,16 @@ OTHER_KINDS = {
     "canbus": "can",
     "can2.0": "can",
     "spnp": "can",
+    "fpnp": "can",
+    "npfp": "can",
     "nonpreemptive": "can",
     "bus": "can",
 }
+# of those kinds the ones of tasks that give way at some places alone, and the ones of tasks that never do
+WITH_REGIONS = ("cooperative", "fpds", "limitedpreemptive")
+WITHOUT_PREEMPTION = ("spnp", "fpnp", "npfp", "nonpreemptive")
+# what others call a lock of a task, or its ceiling
+LOCKS = ("lock", "locks", "ceiling", "threshold")
 
 
 def bare(word: str) -> str:
