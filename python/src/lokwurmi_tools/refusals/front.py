@@ -218,13 +218,24 @@ class Call:
             "slack": "a deadline is missed already, or a path with one has no bound",
         }[self.command]
         helps = {
-            "assign": "look where the time goes, by `lokwurmi analyse`: take work off the resource, or allow more time",
+            "assign": f"look where the time goes, by `lokwurmi analyse`: {self.ways_to_an_order()}",
             "slack": "look for `missed` and `unknown` in what `lokwurmi analyse` writes",
         }[self.command]
         told = self.look.text(
             File(self.words[0], ""), Remark(hint, None, (), helps, "Priority orders and slack", is_notice=True)
         )
         return told + (self.notices() or "")
+
+    def ways_to_an_order(self) -> str:
+        """What may help where `assign` finds no order."""
+        document = document_of(self.words[0]) if is_regular(self.words[0]) else None
+        tasks = document.entries["task"] if document else []
+        if self.command == "assign" and any(it["on"] == self.words[1] and it.get("region", 1) > 1 for it in tasks):
+            return (
+                "take work off the resource, shorten a region (a task may be held up by the longest below it), or allow"
+                " more time"
+            )
+        return "take work off the resource, or allow more time"
 
     def notices(self) -> str | None:
         document = document_of(self.words[0]) if is_regular(self.words[0]) else None

@@ -140,6 +140,12 @@ def unknown_word(line: Line) -> Remark:
         return Remark(
             "a byte order mark stands before the first word", line.spans[0], (), "save the script without it", MORE
         )
+    if word.lower() == "region":
+        helps = (
+            "no edit changes a region: write a file for each, or ask lokwurmi sensitivity FILE --only region how far one"
+            " may grow"
+        )
+        return Remark(f"`{word}` begins no edit", line.spans[0], (), helps, MORE)
     near = OTHER_WORDS.get(word.lower()) or nearest(word, list(FORMS))
     guess = f"; did you mean `{near}`?" if near else ""
     helps = (
