@@ -65,6 +65,12 @@ class Main(unittest.TestCase):
                     " regions too\n",
                 ),
             )
+            file.write_text('format = 1\nresource = [{ name = "cpu", kind = "preemptive", limit = 0 }]\n')
+            self.assertEqual(
+                self.call(file)[2],
+                f"{file}: resource 'cpu': a number out of its range (reason 2): limit is 0, and 1 to 10,000,000 are"
+                " possible\n",
+            )
             file.write_text("x = [")
             self.assertEqual(self.call(file)[:2], (13, f"not TOML {file}\n"))
             self.assertEqual(self.call(Path(folder, "none"))[:2], (11, f"cannot read {folder}/none\n"))

@@ -179,6 +179,25 @@ class Calls(unittest.TestCase):
             (14, 8, "task", 2, "b"),
         )
 
+    def test_out_of_range(self) -> None:
+        """The number and its range are told; where they aren't known, a distance is spoken of only of a source."""
+        for change, told in (
+            (lambda it: setattr(it.tasks["b"], "region", 0), "task 'b': .*: region is 0, and 1 to 1,000,000 are"),
+            (lambda it: setattr(it.tasks["b"], "priority", -1), "task 'b': .*: priority is -1, and 0 to 536,870,911"),
+            (
+                lambda it: setattr(it.sources["sa"], "distance", 10**6),
+                "distance is 1000000, and at most the period, ",
+            ),
+            (lambda it: setattr(it.resources["cpu"], "limit", 0), "resource 'cpu': .*: limit is 0, and 1 to 10,000,"),
+        ):
+            system = two_tasks()
+            change(system)
+            with self.assertRaisesRegex(SystemRefused, told):
+                system.analyse()
+        for part, is_told in (("source", True), ("task", False)):
+            told = str(SystemRefused(14, "", 2, part, 1))
+            self.assertEqual("a distance is at most the period" in told, is_told, told)
+
     def test_each_reason(self) -> None:
         """Each example of docs/FILES.md is refused by its reason."""
         text = (TOP / "docs/FILES.md").read_text(encoding="utf-8")
@@ -227,6 +246,7 @@ class Files(unittest.TestCase):
         for text, why in (
             ("x = [", "isn't TOML: Invalid value"),
             ("format = 4", "the format is 4: write format = 1"),
+            ("format = true", "the format is True: write format = 1"),
             ("format = 1\ntasks = []", "tasks is no key of a system; the keys are format, resource, source"),
             ("format = 1\ntask = 5", r"task is no list of entries: write task = \[{ name"),
             ("format = 1\ntask = [5]", "task 1 is no table"),

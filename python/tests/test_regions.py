@@ -5,7 +5,7 @@ from pathlib import Path
 
 from engine_for_tests import need_engine
 
-from lokwurmi import RoundingWarning, System, SystemRefused, UnitsRefused, us
+from lokwurmi import LokwurmiError, RoundingWarning, System, SystemRefused, UnitsRefused, us
 
 EXAMPLES = Path(__file__).resolve().parents[2] / "examples"
 # the log has just begun as the first control comes
@@ -133,6 +133,17 @@ class Files(unittest.TestCase):
         self.assertTrue(system.to_toml().startswith("format = 3\n"))
         system.tasks["log"].region = None
         self.assertTrue(system.to_toml().startswith("format = 2\n"))
+
+    def test_older_formats(self) -> None:
+        """A file whose format hasn't what its tasks have is refused, as `analyse` does."""
+        for number, wanted in ((1, "line 11: task 2 has a region, which format 1 hasn't"), (2, "write format = 3")):
+            text = logging(5).to_toml().replace("format = 3", f"format = {number}")
+            with self.assertRaisesRegex(LokwurmiError, wanted):
+                System.from_toml(text)
+        system = logging()
+        system.tasks["log"].after = ["often", "seldom"]
+        with self.assertRaisesRegex(LokwurmiError, "a list in after, which format 1 hasn't: write format = 2"):
+            System.from_toml(system.to_toml().replace("format = 2", "format = 1"))
 
     def test_examples(self) -> None:
         system = System.from_file(EXAMPLES / "cooperative.toml")

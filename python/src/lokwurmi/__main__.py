@@ -8,8 +8,10 @@ import sys
 import warnings
 from pathlib import Path
 
+from .documents import Document
 from .engines import Engine, Library, Program, default_engine
-from .errors import LokwurmiError, NoEngine, refusal
+from .entries import out_of_range
+from .errors import LokwurmiError, NoEngine, SystemRefused, refusal
 from .model import System
 from .units import RoundingWarning, Time
 
@@ -64,6 +66,16 @@ def text_of_file(asked: argparse.Namespace) -> bytes:
     return text.encode()
 
 
+def refused(status: int, wrote: str, text: bytes) -> LokwurmiError:
+    """Why a file isn't accepted, with the number that is out of its range."""
+    fault = refusal(status, wrote)
+    if not isinstance(fault, SystemRefused) or fault.reason != 2:
+        return fault
+    entry = Document(text.decode()).entries[fault.part][fault.place - 1]
+    what = out_of_range(fault.part, entry)
+    return SystemRefused(status, wrote, fault.reason, fault.part, fault.place, entry.get("name"), what)
+
+
 def main(words: list[str] | None = None) -> int:
     """Prints the report, and gives the status."""
     asked = asked_for(words)
@@ -82,7 +94,7 @@ def main(words: list[str] | None = None) -> int:
         print(fault, file=sys.stderr)
         return REFUSED_WORDS
     if status >= REFUSED_WORDS:
-        told = str(refusal(status, wrote))
+        told = str(refused(status, wrote, text))
         # the line of the program names the file
         wrote = f"{wrote.removesuffix('system' + chr(10))}{asked.file}\n" if status in (12, 13) else wrote
         print(f"{asked.file}: {told}", file=sys.stderr)

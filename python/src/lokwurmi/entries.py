@@ -9,7 +9,8 @@ from dataclasses import MISSING, dataclass, fields
 from typing import Any
 
 from .errors import LokwurmiError, NoTick
-from .limits import TIMES
+from .frames import MOST_CLASSICAL
+from .limits import MOST_BIT, MOST_PRIORITY, TIMES
 from .toml import value_text
 from .units import Time, amount_of
 
@@ -98,6 +99,10 @@ _PARTS = {
     kind: [(key, f"{key} = ", key in (*TIMES[name], "bit", "bitrate")) for key in _KEYS[kind]]
     for name, kind in KINDS.items()
 }
+# of each kind the range of each number
+_RANGES = {name: {key: (least, most) for key, (_, least, most) in TIMES[name].items()} for name in KINDS}
+_RANGES["resource"]["bit"] = 1, MOST_BIT
+_RANGES["task"] |= {"payload": (0, MOST_CLASSICAL), "priority": (0, MOST_PRIORITY)}
 
 
 def entry_of(key: str, place: int, found: Any) -> Entry:
@@ -120,6 +125,22 @@ def kind_name(it: Entry) -> str:
 def keys_of(it: Entry) -> dict[str, Any]:
     """The keys of an entry that have a value, with it."""
     return {key: value for key in _KEYS[type(it)] if (value := getattr(it, key)) is not None}
+
+
+def out_of_range(kind: str, entry: Mapping[str, Any]) -> str:
+    """Which number of an entry is out of its range, and that range; nothing where none is. Times are in ticks.
+
+    >>> out_of_range("task", {"name": "a", "region": 0})
+    'region is 0, and 1 to 1,000,000 are possible'
+    """
+    for key, (least, most) in _RANGES[kind].items():
+        number = entry.get(key)
+        if isinstance(number, int) and not least <= number <= most:
+            return f"{key} is {number}, and {least:,} to {most:,} are possible"
+    distance, period = entry.get("distance"), entry.get("period")
+    if isinstance(distance, int) and isinstance(period, int) and distance > period:
+        return f"distance is {distance}, and at most the period, {period}, is possible"
+    return ""
 
 
 def is_time(word: Any) -> bool:

@@ -23,7 +23,7 @@ REASONS = {
 HELP = {
     13: "format is 1, 2 for lists of activators, or 3 for regions too",
     1: "a key isn't known or is lacking, or a value has another type",
-    2: "docs/FILES.md has the range of each key; a distance is at most the period",
+    2: "docs/FILES.md has the range of each key",
     3: "a name has 1 to 64 of ASCII letters, digits, _, - and .",
     4: "sources and tasks share one set of names",
     5: "on names a resource, after a source or a task, and a path tasks",
@@ -142,13 +142,18 @@ class SystemRefused(Refused):
     """The file is TOML and no system.
 
     `reason` is the number of the reason, `part` is `resource`, `source`, `task`, `path` or `file`, `place` the place of
-    the entry in its list, from 1, and `name` the entry's name, where the system was built here.
+    the entry in its list, from 1, and `name` the entry's name, where the system was built here. `what` is what is wrong
+    in the entry, where that was found.
     """
 
-    def __init__(self, status: int, text: str, reason: int, part: str, place: int, name: str | None = None):
+    def __init__(
+        self, status: int, text: str, reason: int, part: str, place: int, name: str | None = None, what: str = ""
+    ):
         self.reason, self.part, self.place, self.name = reason, part, place, name
         where = "the file" if part == "file" else f"{part} {name!r}" if name is not None else f"{part} {place}"
-        super().__init__(status, text, f"{where}: {REASONS[reason]} (reason {reason}): {HELP[reason]}")
+        if not what:
+            what = HELP[reason] + ("; a distance is at most the period" if (reason, part) == (2, "source") else "")
+        super().__init__(status, text, f"{where}: {REASONS[reason]} (reason {reason}): {what}")
 
 
 class ScriptRefused(Refused):

@@ -37,6 +37,8 @@ MOST_LIMIT = 10_000_000
 """The longest busy window that is looked at."""
 MOST_BIT = 1_000
 """The most ticks that a bit of a CAN bus may take."""
+MOST_PRIORITY = 536_870_911
+"""The greatest priority number, which is the greatest identifier of 29 bits."""
 
 UP, DOWN, NEITHER = "up", "down", "to neither side"
 TIMES: dict[str, dict[str, tuple[str, int, int]]] = {

@@ -26,6 +26,7 @@ from .entries import (
     entry_of,
     keys_of,
     kind_name,
+    out_of_range,
     text_in_ticks,
 )
 from .errors import ChainsRefused, LokwurmiError, SystemRefused, UnitsRefused
@@ -44,6 +45,24 @@ _Entry = TypeVar("_Entry", Resource, Source, Task, Path)
 
 def _name(it: "str | Entry") -> str:
     return it if isinstance(it, str) else it.name
+
+
+def _check_format(document: Document, form: int) -> None:
+    """Refuses what tasks have and the format of their file hasn't."""
+    for place, entry in enumerate(document.entries["task"]):
+        if not isinstance(entry, dict):
+            continue
+        what, wanted = ("", 0)
+        if form < 3 and "region" in entry:
+            key, what, wanted = "region", "has a region", 3
+        elif form < 2 and isinstance(entry.get("after"), list):
+            key, what, wanted = "after", "has a list in after", 2
+        if what:
+            line = document.text.count("\n", 0, document.key_span("task", place, key)[0]) + 1
+            raise LokwurmiError(
+                f"line {line}: task {place + 1} {what}, which format {form} hasn't: write format = {wanted}, which has"
+                f" all that format {form} has"
+            )
 
 
 def _in_comment(text: str) -> str:
@@ -294,13 +313,15 @@ class System:
         """The system of a system file. Keys that no entry has are no part of a system, and raise an error, as a text
         that isn't TOML. With a tick, times may have units: texts as "250 us", and `bitrate` of a bus."""
         try:
-            read = Document(text).values
+            document = Document(text)
         except tomllib.TOMLDecodeError as fault:
             raise LokwurmiError(f"the text isn't TOML: {fault}") from fault
+        read = dict(document.values)
         system = cls(tick)
         form = read.pop("format", None)
-        if form not in (1, 2, 3):
+        if type(form) is not int or form not in (1, 2, 3):
             raise LokwurmiError(f"the format is {form}: write format = 1, 2 for lists of activators, or 3 for regions")
+        _check_format(document, form)
         if unknown := sorted(set(read) - set(KINDS)):
             raise LokwurmiError(f"{unknown[0]} is no key of a system; the keys are format, {', '.join(KINDS)}")
         for key, part in system._parts().items():
@@ -330,10 +351,14 @@ class System:
     # ---- calls
 
     def _named(self, fault: SystemRefused) -> SystemRefused:
-        """A refusal with the name of the entry."""
-        names = list(self._parts().get(fault.part, {}))
-        name = names[fault.place - 1] if 1 <= fault.place <= len(names) else None
-        return SystemRefused(fault.status, fault.text, fault.reason, fault.part, fault.place, name)
+        """A refusal with the name of the entry, and with the number that is out of its range."""
+        part = self._parts().get(fault.part, {})
+        name, what = (list(part)[fault.place - 1], "") if 1 <= fault.place <= len(part) else (None, "")
+        if fault.reason == 2 and name is not None:
+            entry = keys_of(part[name])
+            self._convert(fault.part, entry)
+            what = out_of_range(fault.part, entry)
+        return SystemRefused(fault.status, fault.text, fault.reason, fault.part, fault.place, name, what)
 
     def _told_answer(
         self, command: str, texts: Iterable[str] = (), words: tuple[str | int, ...] = (), engine: Engine | None = None

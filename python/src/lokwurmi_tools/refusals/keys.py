@@ -6,7 +6,7 @@ from dataclasses import dataclass
 
 from lokwurmi.documents import PARTS
 from lokwurmi.frames import MOST_CLASSICAL
-from lokwurmi.limits import MOST_BIT, MOST_IN_NAME, TIMES, Kind
+from lokwurmi.limits import MOST_BIT, MOST_IN_NAME, MOST_PRIORITY, TIMES, Kind
 
 TOP_KEYS = ("format", *PARTS)
 KINDS = tuple(it.value for it in Kind)
@@ -55,7 +55,7 @@ KEYS: dict[str, dict[str, Key]] = {
         "worst": time("task", "worst"),
         "payload": Key("integer", 0, MOST_CLASSICAL),
         "extended": Key("truth"),
-        "priority": Key("integer", 0, 536_870_911),
+        "priority": Key("integer", 0, MOST_PRIORITY),
         "slot": time("task", "slot"),
         "region": time("task", "region"),
     },
