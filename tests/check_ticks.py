@@ -207,9 +207,7 @@ def check_refused(room):
         "no folder",
     )
     done = called("ticks", written(room, "bare.toml", base.replace('"2 us"', "2")), "--tick", "1us")
-    hold(
-        done.returncode == 0 and "taken as ticks, since they have no unit: worst of task t" in done.stderr, done.stderr
-    )
+    hold(done.returncode == 0 and "taken as ticks, since it has no unit: worst of task t" in done.stderr, done.stderr)
     done = called(
         "ticks", written(room, "limit.toml", base.replace('"tdma"', '"tdma", limit = "1 min"')), "--tick", "1us"
     )

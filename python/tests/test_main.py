@@ -84,6 +84,13 @@ class Main(unittest.TestCase):
         status, out, err = self.call(EXAMPLES / "units/switch_port.toml", "--tick", "1us")
         self.assertEqual((status, out), (0, (EXAMPLES / "switch_port.report.txt").read_text()))
         self.assertIn("task control: worst of 7.04us is rounded up to 8", err)
+        with tempfile.TemporaryDirectory() as folder:
+            file = Path(folder, "net.toml")
+            text = (EXAMPLES / "cooperative.toml").read_text()
+            file.write_text(text.replace("region = 5", 'region = "5 us"'))
+            status, out, err = self.call(file, "--tick", "1us")
+            self.assertIn("task log: region of 5us is 6, with a tick more\n", err)
+            self.assertIn("taken as ticks, since they have no unit: period of source often, ", err)
 
     def test_help(self) -> None:
         status, out, _ = self.call("--help")

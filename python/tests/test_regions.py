@@ -189,25 +189,38 @@ class Times(unittest.TestCase):
             self.numbers("5", us(20))
 
     def test_told(self) -> None:
-        """A file says which times have a tick more, and roundings are those of times that aren't whole."""
+        """A file says which times have a tick more, and so do roundings and warnings."""
         system = self.ticked(us(20), us(20))
         more = "# a tick more, since between ticks all of a region may go by: "
         more += "region of task log is 21, worst of task log is 21"
         self.assertEqual(system.to_toml().splitlines()[:2], ["# A tick is 1us.", more])
-        self.assertEqual(system.roundings, [])
-        self.assertEqual(
-            [str(it) for it in self.ticked("5.5us", us(20)).roundings], ["task log: region of 5.5us is rounded up to 7"]
-        )
+        told = ["task log: region of 20us is 21, with a tick more", "task log: worst of 20us is 21, with a tick more"]
+        self.assertEqual([str(it) for it in system.roundings], told)
+        self.assertEqual([it.has_more for it in system.roundings], [True, True])
+        with warnings.catch_warnings(record=True) as warned:
+            warnings.simplefilter("always")
+            System.from_toml(
+                'format = 3\ntask = [{ name = "log", on = "cpu", after = "s", worst = "20us", region = "20us" }]',
+                tick="1us",
+            )
+        self.assertEqual(sorted(str(it.message) for it in warned), told)
+        for region, what in (
+            ("5.5us", "5.5us is rounded up to 7, with a tick more"),
+            ("2 s", "2s is 1000000, the most, which is as long as any execution"),
+        ):
+            found = [str(it) for it in self.ticked(region, us(20)).roundings if it.key == "region"]
+            self.assertEqual(found, [f"task log: region of {what}"])
 
     def test_session(self) -> None:
         """An execution that an edit sets has the tick more too."""
-        with self.ticked(us(20), us(20)).session() as session:
+        with warnings.catch_warnings(), self.ticked(us(20), us(20)).session() as session:
+            warnings.simplefilter("ignore", RoundingWarning)
             self.assertEqual(session.bounds["log"], 21)
             session.exec("log", worst=us(10))
             self.assertEqual(session.bounds["log"], 11)
             session.exec("log", worst=us(30))
             self.assertEqual(session.bounds["log"], 30)
-            self.assertEqual(session.roundings, [])
+            self.assertEqual([it.ticks for it in session.roundings], [21, 21, 11])
 
 
 if __name__ == "__main__":

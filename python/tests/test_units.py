@@ -8,7 +8,7 @@ from pathlib import Path
 
 from engine_for_tests import need_engine
 
-from lokwurmi import NoTick, RoundingWarning, System, Time, UnitsRefused, ms, ns, s, us
+from lokwurmi import NoTick, NoUnitWarning, RoundingWarning, System, Time, UnitsRefused, ms, ns, s, us
 from lokwurmi.entries import keys_of
 from lokwurmi.frames import classical, error, ethernet, execution, flexible, frame_bits, padded
 from lokwurmi.limits import UP
@@ -247,6 +247,20 @@ class Rounded(unittest.TestCase):
         self.assertEqual(system, System.from_file(TOP / "examples/switch_port.toml"))
         self.assertTrue(system.roundings)
 
+    def test_numbers_without_a_unit(self) -> None:
+        """Those of a file are told where other times of it have a unit, and stand at the head of the one of ticks."""
+        text = 'format = 1\nsource = [{ name = "s", period = "2 ms", jitter = 3, distance = 4 }]\n'
+        bare = "taken as ticks, since they have no unit: jitter of source s, distance of source s"
+        with self.assertWarns(NoUnitWarning) as told:
+            system = System.from_toml(text, tick="1us")
+        self.assertEqual((str(told.warning), told.filename), (bare, __file__))
+        self.assertEqual(system.to_toml().splitlines()[:2], ["# A tick is 1us.", f"# {bare}"])
+        with warnings.catch_warnings():
+            warnings.simplefilter("error")
+            system = System.from_toml(text.replace('"2 ms"', "2000"), tick="1us")
+            system.source("t", 5)
+        self.assertEqual(system.to_toml().splitlines()[:2], ["# A tick is 1us.", "format = 1"])
+
     def test_reports(self) -> None:
         need_engine()
         system = System.from_file(TOP / "examples/switch_port.toml")
@@ -287,11 +301,11 @@ class Rounded(unittest.TestCase):
             converter.lines(),
             [
                 "A tick is 1ms.",
-                "1 times are rounded, each to its safe side:",
+                "1 time is rounded, to its safe side:",
                 "  source s: period of 1.5ms is rounded down to 1",
                 "  with --tick 1.5ms none is",
                 "  a period that is rounded is too short for `chain`, which takes it as the longest, too",
-                "taken as ticks, since they have no unit: jitter of source s",
+                "taken as ticks, since it has no unit: jitter of source s",
             ],
         )
         with self.assertRaisesRegex(UnitsRefused, 'line 2: source s: period = "1.5 ms"|is 0 ticks'):

@@ -62,7 +62,7 @@ if TYPE_CHECKING:
         TaskReport,
         Verdict,
     )
-    from .units import Rounding, RoundingWarning, Time, ms, ns, s, us
+    from .units import NoUnitWarning, Rounding, RoundingWarning, Time, ms, ns, s, us
 
 __all__ = [
     "Buffers",
@@ -82,6 +82,7 @@ __all__ = [
     "NameRefused",
     "NoEngine",
     "NoTick",
+    "NoUnitWarning",
     "NotInstalled",
     "NotToml",
     "Order",

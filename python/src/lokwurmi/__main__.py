@@ -13,7 +13,7 @@ from .engines import Engine, Library, Program, default_engine
 from .entries import out_of_range
 from .errors import LokwurmiError, NoEngine, SystemRefused, refusal
 from .model import System
-from .units import RoundingWarning, Time
+from .units import NoUnitWarning, RoundingWarning, Time
 
 EXAMPLE = """example:
   python3 -m lokwurmi examples/two_tasks.toml
@@ -54,15 +54,18 @@ def engine_of(asked: argparse.Namespace) -> Engine:
 
 
 def text_of_file(asked: argparse.Namespace) -> bytes:
-    """The system file, in ticks; roundings stand on standard error."""
+    """The system file, in ticks; roundings and numbers without a unit stand on standard error."""
     if asked.tick is None:
         return Path(asked.file).read_bytes()
     with warnings.catch_warnings():
         warnings.simplefilter("ignore", RoundingWarning)
+        warnings.simplefilter("ignore", NoUnitWarning)
         system = System.from_file(asked.file, tick=asked.tick)
         text = system.to_toml()
     for it in system.roundings:
         print(it, file=sys.stderr)
+    if bare := system._bare_text():
+        print(bare, file=sys.stderr)
     return text.encode()
 
 

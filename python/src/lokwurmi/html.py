@@ -75,7 +75,9 @@ def report(it: "reports.Report") -> str:
     tick = it.tick
     note = f"Bounds hold in every run that obeys the system. {unit_note(tick)}"
     if it.roundings:
-        note += f" {len(it.roundings)} times of the system were rounded, each to its safe side (roundings)."
+        many = len(it.roundings)
+        what = "1 time of the system was" if many == 1 else f"{many} times of the system were"
+        note += f" {what} rounded to {'its' if many == 1 else 'their'} safe side, or got a tick more (roundings)."
     tasks = []
     for one in it.tasks.values():
         stream = f"{one.streams} streams" if one.streams > 1 else plain(one.period, tick)

@@ -33,7 +33,7 @@ from .errors import ChainsRefused, LokwurmiError, SystemRefused, UnitsRefused
 from .frames import execution
 from .limits import Kind
 from .toml import entry_text
-from .units import Converter, Rounding, Time, text_of, tick_of, warn, whole_ticks
+from .units import Converter, NoUnitWarning, Rounding, Time, text_of, tick_of, warn, whole_ticks
 
 if TYPE_CHECKING:
     from .live import Session
@@ -151,7 +151,7 @@ class System:
             document["resource"] = [keys_of(self.resources[entry["on"]])]
         converter = Converter(self._tick.nanoseconds)
         converter.convert(document)
-        return converter.told
+        return converter.reported
 
     def _warn(self, roundings: Iterable[Rounding]) -> None:
         """Warns of roundings of which it hasn't warned yet."""
@@ -262,9 +262,15 @@ class System:
 
     @property
     def roundings(self) -> list[Rounding]:
-        """The times that are no whole number of ticks, each with the side to which it is rounded."""
+        """The times that are no whole number of ticks, each with the side to which it is rounded, and the regions and
+        executions that have a tick more."""
         converter = self._converted()[1]
-        return converter.told if converter else []
+        return converter.reported if converter else []
+
+    def _bare_text(self) -> str:
+        """What is to be said of numbers without a unit; nothing where no other time has one."""
+        converter = self._converted()[1]
+        return converter.bare_text() if converter and converter.has_units else ""
 
     def _format(self) -> int:
         """The least format that has all keys that are set."""
@@ -285,16 +291,18 @@ class System:
         for key, entries in document.items():
             if entries:
                 text += f"{key} = [\n{''.join(map(entry_text, entries))}]\n"
-        return self._head(converter) + text, converter.told
+        return self._head(converter) + text, converter.reported
 
     def _head(self, converter: Converter) -> str:
         """What a file says of its ticks."""
         head, told = f"# A tick is {self._tick}.\n", converter.told
         if told:
-            head += f"# {len(told)} times are rounded, each to its safe side:\n"
+            head += f"# {converter.rounded_text()}\n"
             head += "".join(f"#   {_in_comment(str(it))}\n" for it in told)
         if more := converter.more_text():
             head += f"# {_in_comment(more)}\n"
+        if converter.has_units and (bare := converter.bare_text()):
+            head += f"# {_in_comment(bare)}\n"
         return head
 
     def to_toml(self) -> str:
@@ -311,7 +319,8 @@ class System:
     @classmethod
     def from_toml(cls, text: str, tick: "Time | str | None" = None) -> "System":
         """The system of a system file. Keys that no entry has are no part of a system, and raise an error, as a text
-        that isn't TOML. With a tick, times may have units: texts as "250 us", and `bitrate` of a bus."""
+        that isn't TOML. With a tick, times may have units: texts as "250 us", and `bitrate` of a bus. Where some have
+        one, a NoUnitWarning tells the numbers that have none."""
         try:
             document = Document(text)
         except tomllib.TOMLDecodeError as fault:
@@ -335,6 +344,8 @@ class System:
                 part[it.name] = it
         if tick is not None:
             system._warn(system.roundings)
+            if bare := system._bare_text():
+                warn([bare], NoUnitWarning)
         return system
 
     @classmethod

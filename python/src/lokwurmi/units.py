@@ -1,7 +1,7 @@
 """Times with units, and how they become whole ticks.
 
 A time is exact: a fraction of nanoseconds. A system counts in whole ticks, so a time that isn't a whole number of them
-is rounded to the side that is safe for its key, and each rounding is reported:
+is rounded to the side that is safe for its key, and each rounding is reported, and each tick more:
 
     >>> from lokwurmi.units import ms, us
     >>> ms("16.667") + us(3)
@@ -18,7 +18,7 @@ hold for the times that were rounded so is argued in docs/NETWORKS.md, "Times wi
 import math
 import re
 import warnings
-from collections.abc import MutableMapping
+from collections.abc import Iterable, MutableMapping
 from dataclasses import dataclass, field
 from decimal import Decimal, localcontext
 from fractions import Fraction
@@ -248,12 +248,16 @@ def whole_ticks(time: Time, tick: Time | None, what: str) -> int:
 
 
 class RoundingWarning(UserWarning):
-    """A time with a unit is no whole number of ticks, and was rounded to its safe side."""
+    """A time with a unit is no whole number of ticks, and was rounded to its safe side; or it has a tick more."""
+
+
+class NoUnitWarning(UserWarning):
+    """Numbers have no unit in a file whose other times have one: they count ticks."""
 
 
 @dataclass(frozen=True, slots=True)
 class Rounding:
-    """A time that was rounded. Its text is the whole sentence."""
+    """A time that was rounded, or has a tick more. Its text is the whole sentence."""
 
     what: str
     """The entry, as "task brake"."""
@@ -261,28 +265,33 @@ class Rounding:
     time: Time
     """What was given."""
     side: str
-    """UP or DOWN."""
+    """UP or DOWN; NEITHER where it is whole, and has a tick more."""
     ticks: int
     """What it became."""
     is_capped: bool = False
-    """Whether it is a limit, and above the most that there is."""
+    """Whether it is a limit or a region, and above the most that there is."""
+    has_more: bool = False
+    """Whether a tick more is in it: it is a region, or an execution that is no longer than its region."""
 
     def __str__(self) -> str:
-        exact_text = text_of(self.time.nanoseconds)
+        told = f"{self.what}: {self.key} of {text_of(self.time.nanoseconds)} is"
+        if self.is_capped and self.key == "region":
+            return f"{told} {self.ticks}, the most, which is as long as any execution"
         if self.is_capped:
-            return f"{self.what}: limit of {exact_text} is {self.ticks}, the most; bounds that need more are overload"
-        return f"{self.what}: {self.key} of {exact_text} is rounded {self.side} to {self.ticks}"
+            return f"{told} {self.ticks}, the most; bounds that need more are overload"
+        rounded = "" if self.side == NEITHER else f" rounded {self.side} to"
+        return f"{told}{rounded} {self.ticks}{', with a tick more' if self.has_more else ''}"
 
 
-def warn(roundings: "list[Rounding]") -> None:
-    """Tells roundings as warnings, at the line outside this package that caused them."""
+def warn(told: Iterable[object], kind: type[Warning] = RoundingWarning) -> None:
+    """Tells roundings, or something else, as warnings, at the line outside this package that caused them."""
     import sys
 
     depth = 1
     while depth < 30 and sys._getframe(depth).f_globals.get("__name__", "").startswith("lokwurmi"):
         depth += 1
-    for it in roundings:
-        warnings.warn(str(it), RoundingWarning, stacklevel=depth + 1)
+    for it in told:
+        warnings.warn(str(it), kind, stacklevel=depth + 1)
 
 
 Entry = MutableMapping[str, Any]
@@ -302,8 +311,8 @@ class Converter:
     told: list[Rounding] = field(default_factory=list)
     bare: list[tuple[str, str, str]] = field(default_factory=list)
     """The keys with a number that has no unit, and so counts ticks: key, kind and name of the entry."""
-    longer: list[tuple[str, str, int]] = field(default_factory=list)
-    """The times that have a tick more: key and entry, and what each became."""
+    longer: list[Rounding] = field(default_factory=list)
+    """The times that have a tick more; those of them that are no whole number of ticks are in `told` too."""
     exact: list[tuple[Fraction, int]] = field(default_factory=list)
     """The times, each with the most ticks that it may be."""
     bits: dict[str, Fraction] = field(default_factory=dict)
@@ -349,7 +358,7 @@ class Converter:
                 f" helps its task and delays the others. With a tick of {text_of(common(self.tick, time))} it is whole"
             )
         rounded = (math.ceil(number) if side == UP else math.floor(number)) + more
-        self.told.append(Rounding(what, key, Time(time), side, rounded))
+        self.told.append(Rounding(what, key, Time(time), side, rounded, has_more=more > 0))
         return rounded
 
     def more_of(self, item: Entry, key: str, time: Fraction) -> int:
@@ -369,13 +378,17 @@ class Converter:
             return
         what, (side, least, most) = f"{kind} {item.get('name', '?')}", TIMES[kind][key]
         time = self.nanoseconds(what, key, word, bit)
+        given = Time(time)
         if key == "region":
             # what is as long as any execution does for all that is longer
             time = min(time, (most - 1) * self.tick)
         more = self.more_of(item, key, time)
         number = self.ticks(what, key, time, side, most, more)
-        if more and number > 1:
-            self.longer.append((key, what, number))
+        if more and (time / self.tick).denominator > 1:
+            self.longer.append(self.told[-1])
+        elif more and number > 1:
+            is_capped = time < given.nanoseconds
+            self.longer.append(Rounding(what, key, given, NEITHER, number, is_capped, has_more=True))
         if key == "limit" and number > most:
             self.told.append(Rounding(what, key, Time(time), side, most, is_capped=True))
             number = most
@@ -457,16 +470,38 @@ class Converter:
             found = (it if found is None else common(found, it)) if it else found
         return found if found and all(it / found <= most for it, most in self.exact) else None
 
+    @property
+    def reported(self) -> list[Rounding]:
+        """The times that were rounded, and those that have a tick more."""
+        return [*self.told, *(it for it in self.longer if it.side == NEITHER)]
+
+    @property
+    def has_units(self) -> bool:
+        """Whether a time had a unit, or a bus a bit rate."""
+        return bool(self.exact or self.given)
+
+    def rounded_text(self) -> str:
+        """What stands before the times that are rounded."""
+        if len(self.told) == 1:
+            return "1 time is rounded, to its safe side:"
+        return f"{len(self.told)} times are rounded, each to its safe side:"
+
     def more_text(self) -> str:
         """What is to be said of the times that have a tick more; nothing where there are none."""
-        several = ", ".join(f"{key} of {what} is {number}" for key, what, number in self.longer)
+        several = ", ".join(f"{it.key} of {it.what} is {it.ticks}" for it in self.longer)
         return f"a tick more, since between ticks all of a region may go by: {several}" if several else ""
+
+    def bare_text(self) -> str:
+        """What is to be said of the numbers that have no unit; nothing where there are none."""
+        several = ", ".join(f"{key} of {kind} {name}" for key, kind, name in self.bare)
+        has = "it has" if len(self.bare) == 1 else "they have"
+        return f"taken as ticks, since {has} no unit: {several}" if several else ""
 
     def lines(self) -> list[str]:
         """What is to be said of a file."""
         found = [f"A tick is {text_of(self.tick)}."]
         if self.told:
-            found.append(f"{len(self.told)} times are rounded, each to its safe side:")
+            found.append(self.rounded_text())
             found += [f"  {it}" for it in self.told]
             whole = self.whole_tick()
             found.append(f"  with --tick {text_of(whole)} none is" if whole else "")
@@ -474,9 +509,8 @@ class Converter:
             found.append("  a period that is rounded is too short for `chain`, which takes it as the longest, too")
         if more := self.more_text():
             found.append(more)
-        if self.bare:
-            several = ", ".join(f"{key} of {kind} {name}" for key, kind, name in self.bare)
-            found.append(f"taken as ticks, since they have no unit: {several}")
+        if bare := self.bare_text():
+            found.append(bare)
         return [it for it in found if it]
 
 

@@ -142,8 +142,8 @@ def unknown_word(line: Line) -> Remark:
         )
     if word.lower() == "region":
         helps = (
-            "no edit changes a region: write a file for each, or ask lokwurmi sensitivity FILE --only region how far one"
-            " may grow"
+            "no edit changes a region: write a file for each, or ask lokwurmi sensitivity FILE --only region how far"
+            " one may grow"
         )
         return Remark(f"`{word}` begins no edit", line.spans[0], (), helps, MORE)
     near = OTHER_WORDS.get(word.lower()) or nearest(word, list(FORMS))
