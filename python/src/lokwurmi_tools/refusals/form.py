@@ -83,7 +83,9 @@ def unknown_top_key(document: Document, key: str) -> Remark:
     span = document.root.keys[key]
     helps = "at the top stand format, resource, source, task and path"
     owners = [part for part in PARTS if key in KEYS[part]]
-    if owners and not near:
+    if bare(key) in LOCKS:
+        guess, helps = "", no_locks()
+    elif owners and not near:
         helps = f"`{key}` is a key of {AN[owners[0]]}: it stands below its heading [[{owners[0]}]]"
     return Remark(f"the key `{key}` isn't known at the top of the file{guess}", span, (), helps, FORM)
 
@@ -183,6 +185,11 @@ def key_meant(key: str, known: list[str], value: Entry) -> str | None:
     return bare(key) if bare(key) in left else nearest(key, left)
 
 
+def no_locks() -> str:
+    """Where to read why a lock can't be told."""
+    return f'locks aren\'t modelled: {page("COMING_FROM.md")}, "Cooperative tasks"'
+
+
 def unknown_key(document: Document, part: str, at: int, key: str) -> Remark:
     value, known = document.entries[part][at], keys_of(document, part)
     near = key_meant(key, known, value)
@@ -194,7 +201,7 @@ def unknown_key(document: Document, part: str, at: int, key: str) -> Remark:
         name = value.get("name", "..")
         guess, helps = "", f'a deadline belongs to a path: [[path]] name = "{name}", tasks = ["{name}"], deadline = ..'
     elif part == "task" and bare(key) in LOCKS:
-        guess, helps = "", f'locks aren\'t modelled: {page("COMING_FROM.md")}, "Cooperative tasks"'
+        guess, helps = "", no_locks()
     elif part == "task" and OTHER_KEYS.get(bare(key)) == REGION and REGION not in value:
         guess = f"; did you mean `{REGION}`?"
         helps = "for so many ticks a job isn't preempted; one with a region of at least `worst` never is"
