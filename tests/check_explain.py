@@ -329,6 +329,7 @@ def check_told(python, room):
         ([two, "c"], "there is no task c; it has a, b"),
         ([two, "--path", "p"], "there is no path p; it has none"),
         ([two, "a", "--to", "picture.gif"], "a picture's name ends with .svg, .png or .pdf"),
+        ([written(room, "empty.toml", "format = 1\n"), "--all"], "empty.toml has no task"),
         ([written(room, "bad.toml", "format = 4\n"), "--all"], "status 14: system refused reason 13 file 0"),
     ):
         done = called(python, *words)

@@ -806,7 +806,7 @@ CASES = [
     ),
     ("short_slot", TDMA.replace("PERIOD", "10"), ["Too much work on ring", "its slot is 20.0 %"]),
     ("turns", TURNS, ["Too much work on rr", "each for its turns"]),
-    ("empty", "format = 1\n", ["each task has a bound"]),
+    ("empty", "format = 1\n", ["no tasks"]),
 ]
 
 

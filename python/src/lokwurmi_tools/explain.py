@@ -56,11 +56,13 @@ def asked_for(arguments: list[str] | None) -> argparse.Namespace:
 
 
 def check_names(words: argparse.Namespace, explained: Explained) -> None:
-    """Ends the tool where a name isn't in the file."""
+    """Ends the tool where a name isn't in the file, or there is no task to tell of in lines."""
     asked = (("task", words.task, explained.parts.tasks), ("path", words.path, explained.paths))
     for kind, name, known in asked:
         if name is not None and name not in known:
             raise Fault(f"{words.file}: there is no {kind} {name}; it has {', '.join(known) or 'none'}")
+    if not explained.parts.tasks and not words.json:
+        raise Fault(f"{words.file} has no task")
 
 
 def draw(words: argparse.Namespace, explained: Explained, tasks: list[dict], paths: list[dict]) -> None:
