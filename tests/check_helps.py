@@ -18,7 +18,7 @@ import tempfile
 import tomllib
 
 import check_reports as plain
-from calls import TOP, answer, built, faults, hold, range_of, run, tell
+from calls import TOP, answer, built, faults, hold, range_of, run, tell, written
 
 from lokwurmi_tools.explained import explained_by
 from lokwurmi_tools.helps import helps_for, lines_of_helps
@@ -26,6 +26,17 @@ from lokwurmi_tools.toml_text import toml_of
 
 PROGRAM = built("cpa_cli")
 TOOL = "explain"
+
+# a system with a path that is late by a region, and one that isn't
+LATE = """format = 3
+resource = [{ name = "cpu", kind = "preemptive" }]
+source = [{ name = "often", period = 100 }]
+task = [
+  { name = "high", on = "cpu", after = "often", best = 1, worst = 2, priority = 1 },
+  { name = "low", on = "cpu", after = "often", best = 1, worst = 20, priority = 2, region = 10 },
+]
+path = [{ name = "soon", tasks = ["high"], deadline = 5 }, { name = "later", tasks = ["low"], deadline = 50 }]
+"""
 
 
 def made(number):
@@ -147,6 +158,16 @@ def check_call():
     hold("of 5 changes by a tenth or one place, each tried alone:" in text, text, "calls")
     hold(re.search(r"b1 before a2 +40 +-10, but then path pa misses its deadline\n", text), text, "calls")
     hold("0 more make it shorter, 0 longer, 1 neither" in text and "changes of the model" in text, text, "calls")
+    with tempfile.TemporaryDirectory() as room:
+        late = written(room, "late.toml", LATE)
+        text = run(TOOL, "--program", PROGRAM, late, "--path", "soon").stdout
+        hold(
+            "  it waits for the region of low, which is not among these changes; with the key left" in text,
+            text,
+            "calls",
+        )
+        hold(f"lokwurmi sensitivity {late} --only region says how long it may be" in text, text, "calls")
+        hold("region of low" not in run(TOOL, "--program", PROGRAM, late, "--path", "later").stdout, "later", "calls")
 
 
 def main():

@@ -232,6 +232,14 @@ def check_calls():
     told = json.loads(run("optimise", *words, "--json").stdout)
     if told["found"] or told["late"] != {"pb": 5} or told["edits"]:
         sys.exit(f"{file}: {told}")
+    with open(file, encoding="utf-8") as it, tempfile.TemporaryDirectory() as room:
+        text = it.read().replace("priority = 2 }", "priority = 2, region = 2 }")
+        late = os.path.join(room, "late.toml")
+        with open(late, "w", encoding="ascii") as other:
+            other.write(re.sub(r"^format = \d", "format = 3", text, flags=re.M))
+        done = run("optimise", "--program", PROGRAM, late, "--rounds", "1", "--restarts", "0")
+    if done.returncode != 3 or "regions stay as they are" not in done.stdout:
+        sys.exit(f"regions: {done.returncode} {done.stdout} {done.stderr}")
     done = run("optimise", *words, "--rounds", "0")
     if done.returncode != 1 or "at least 1 round" not in done.stderr:
         sys.exit(f"{file}: {done.returncode} {done.stderr}")

@@ -202,6 +202,11 @@ def check_calls(python, room):
             3,
             "nothing may move, as this doesn't hold now: path pa, task a1, task a2, task b1, task b2",
         ),
+        (
+            [os.path.join(TOP, "examples", "cooperative.toml"), "--goal", "control_in_time=5"],
+            3,
+            "path control_in_time; regions can't be shorter than now in this search: leave the key region out, and",
+        ),
         ([os.path.join(TOP, "examples", "crossing_chains.toml"), "--goal", "pb=50", "--only", "speed"], 0, ""),
         ([sae, "--goal", "d99=5"], 1, "there is no path d99; it has d17"),
         ([sae, "--goal", "d9"], 1, "a goal is PATH=DEADLINE"),

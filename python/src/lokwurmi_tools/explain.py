@@ -4,10 +4,10 @@ Of a task it tells the streams that start it and where their jitter comes from, 
 up to its end: its own executions and those of the jobs before it, the jobs of each rival, a frame of lower priority
 that is under way or the rest of a region, the turns of others, and what a cycle takes away. The parts, less the time at
 which the job came, are the bound. With --path it tells that of each task along a path, by whom the path waits in all,
-and what would help it most: of the numbers by which its tasks wait each is changed by a tenth (a priority by one
-place), alone, and the proved program reports the system with it. These are changes of the model, and no advice that
-they can be made. With --all it tells of each task and each path. Of a task without a bound it tells what work its
-resource has, by whom, and with which rival its busy window has no end.
+and what would help it most: of the numbers by which its tasks wait (but for regions) each is changed by a tenth (a
+priority by one place), alone, and the proved program reports the system with it. These are changes of the model, and no
+advice that they can be made. With --all it tells of each task and each path. Of a task without a bound it tells what
+work its resource has, by whom, and with which rival its busy window has no end.
 
 The parts are worked out here, at the bounds of the report, and held against it: where they don't add up to the bound
 that the proved program has written, the tool says so and ends with 1. They are no part of what is proved.
@@ -18,7 +18,7 @@ import sys
 
 from lokwurmi_tools.explained import Explained, explained_by
 from lokwurmi_tools.faults import Fault
-from lokwurmi_tools.helps import helps_for, lines_of_helps
+from lokwurmi_tools.helps import helps_for, lines_of_helps, lines_of_regions
 from lokwurmi_tools.packages import need
 from lokwurmi_tools.part_texts import lines_of_path, lines_of_task, shown
 from lokwurmi_tools.plotting import check_name
@@ -100,7 +100,8 @@ def main(arguments: list[str] | None = None) -> int | None:
     else:
         scale = Scale(words.tick)
         blocks = [lines_of_task(it, scale) for it in told_tasks] + [lines_of_path(it, scale) for it in told_paths]
-        blocks[-1] += [line for it in helps for line in lines_of_helps(it, scale)]
+        for path, several in zip(paths, helps):
+            blocks[-1] += lines_of_helps(several, scale) + lines_of_regions(explained.path(path), words.file)
         print(shown("\n\n".join("\n".join(it) for it in blocks)))
     if words.to:
         draw(words, explained, told_tasks, told_paths)

@@ -185,3 +185,20 @@ def lines_of_helps(several: list[Help], scale: Scale = TICKS) -> list[str]:
     ]
     more = f"{count['shorter'] - len(best)} more make it shorter, {count['longer']} longer, {count['same']} neither"
     return [head, *lines, f"    {more}", f"  {WARNING}"]
+
+
+def regions_text(path: dict, file: str) -> str:
+    """Whose regions a path that is late waits for, which no change shortens; nothing where there are none."""
+    of = [it["of"] for it in path["waits"] if it["under"] == "region"]
+    if not of or path["verdict"] not in ("missed", "unknown"):
+        return ""
+    which = f"the region of {of[0]}, which is" if len(of) == 1 else f"the regions of {', '.join(of)}, which are"
+    long = "it may be" if len(of) == 1 else "each may be"
+    says = f"with the key left out, lokwurmi sensitivity {file} --only region says how long {long}"
+    return f"it waits for {which} not among these changes; {says}"
+
+
+def lines_of_regions(path: dict, file: str) -> list[str]:
+    """The same as a line, if there is one."""
+    text = regions_text(path, file)
+    return [f"  {text}"] if text else []

@@ -392,6 +392,8 @@ def tell(search: Search, verdict: Verdict, words: argparse.Namespace) -> None:
         print("the order is that of the file")
     if not verdict.holds:
         print("there may be an order still: the search proves nothing about what it didn't try")
+        if any("region" in it for it in search.tasks.values()):
+            print("regions stay as they are: lokwurmi explain says whether a late path waits for one")
 
 
 def searched_until(search: Search, words: argparse.Namespace) -> bool:

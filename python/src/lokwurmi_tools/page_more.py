@@ -6,7 +6,7 @@ import tempfile
 from lokwurmi.errors import RULES
 from lokwurmi.traces import text_of
 from lokwurmi_tools import optimise, sensitivity
-from lokwurmi_tools.helps import WARNING, change_text, helps_for, less_text
+from lokwurmi_tools.helps import WARNING, change_text, helps_for, less_text, regions_text
 from lokwurmi_tools.kinds import Found, Values
 from lokwurmi_tools.page_system import System
 from lokwurmi_tools.program import often, written_by
@@ -97,7 +97,7 @@ def margins_of(words: argparse.Namespace) -> Values:
         }
         for it in rows
     ]
-    return {"rows": told, "missed": now.first()}
+    return {"rows": told, "missed": now.first(), "regions": sensitivity.REGIONS if question.has_regions() else ""}
 
 
 def priorities_of(words: argparse.Namespace) -> Values:
@@ -141,5 +141,7 @@ def helps_of(words: argparse.Namespace, system: System) -> Values:
             for it in best[:MOST_HELPS]
         ]
         found = system.found_paths[name]
-        rows.append({"name": name, **found, "tried": len(several), "shorter": len(best), "helps": told})
+        regions = regions_text(system.explained.path(name), os.path.basename(words.file))
+        count = {"tried": len(several), "shorter": len(best)}
+        rows.append({"name": name, **found, **count, "helps": told, "regions": regions})
     return {"rows": rows, "warning": WARNING}

@@ -56,6 +56,11 @@ docs/SENSITIVITY.md tells how to read it, and why it is right.
 """
 # what has to be said beside the table
 NOTE = "each is moved alone: two that both move so far may miss a deadline together"
+# what has to be said beside what doesn't hold already, where there are regions
+REGIONS = (
+    "regions can't be shorter than now in this search: leave the key region out, "
+    "and --only region says how long each may be"
+)
 # by what nothing gets better as a number of each kind moves on
 LAWS = {
     "execution": "IsRaising and RaisingLiftsLeast of cpa_local; of deadlines alone LessHolds of cpa_slack",
@@ -176,6 +181,10 @@ class Question:
         least = 2 if kinds == KINDS else 1
         found += [self.number_of_region(name) for name in self.tasks if self.has_region(name, least)]
         return [it for it in found if it.kind in kinds]
+
+    def has_regions(self) -> bool:
+        """Whether the file names a region."""
+        return any("region" in it for it in self.tasks.values())
 
     def has_region(self, name: str, least: int) -> bool:
         """Whether a task has a region of so many ticks at least, which may be longer and then hold up another."""
@@ -487,7 +496,8 @@ def main(arguments: list[str] | None = None) -> int | None:
     question.program = often(words.program)
     now = Found(question.text, words.goals, words.deadlines)
     if not now.holds():
-        print(f"nothing may move, as this doesn't hold now: {', '.join(now.first())}", file=sys.stderr)
+        regions = f"; {REGIONS}" if question.has_regions() else ""
+        print(f"nothing may move, as this doesn't hold now: {', '.join(now.first())}{regions}", file=sys.stderr)
         return 3
     rows = rows_of(question, tuple(words.only or KINDS), words.jobs)
     if words.json:
