@@ -83,6 +83,8 @@ WORDS = {
     "region": "region of",
     "deadline": "deadline of",
 }
+# of what the share of a number is where it isn't of the number itself
+WHOLES = {"jitter": "the period of its source", "region": "the greatest execution"}
 # the tightest that are drawn
 MOST_DRAWN = 40
 HUES = {
@@ -412,6 +414,18 @@ def lines_of(rows: list[dict]) -> list[str]:
     return [f"{it[0]:<{name}}  {it[1]:>{now}}  {it[2]:>{last}}  {it[3]:>{by}}  {it[4]}" for it in cells]
 
 
+def shares_of(rows: list[dict]) -> list[str]:
+    """Which numbers have a share that isn't of themselves."""
+    kinds = {it["kind"] for it in rows}
+    return [f"a {kind} in % of {whole}" for kind, whole in WHOLES.items() if kind in kinds]
+
+
+def lines_of_shares(rows: list[dict]) -> list[str]:
+    """The same as a line, if there is one."""
+    several = shares_of(rows)
+    return [f"by: {', '.join(several)}"] if several else []
+
+
 def draw(rows: list[dict], picture: str, title: str) -> None:
     """The tightest numbers, a bar each: by what share they may move, up to twice what they are."""
     drawn = rows[:MOST_DRAWN]
@@ -434,10 +448,8 @@ def draw(rows: list[dict], picture: str, title: str) -> None:
 def label(axes: Any, drawn: list[dict], title: str) -> None:
     """What the bars are."""
     axes.tick_params(axis="x", labelsize=8)
-    text = "by how many % it may move alone; a jitter in % of the period of its source"
-    if any(it["kind"] == "region" for it in drawn):
-        text += ", a region in % of the execution"
-    axes.set_xlabel(text, fontsize=8)
+    shares = ", ".join(shares_of(drawn))
+    axes.set_xlabel("by how many % it may move alone" + (f"; {shares}" if shares else ""), fontsize=8)
     bare(axes)
     axes.set_title(title, fontsize=9, loc="left")
     kinds = [it for it in KINDS if any(row["kind"] == it for row in drawn)]
@@ -505,7 +517,7 @@ def main(arguments: list[str] | None = None) -> int | None:
         cost = {"calls": question.calls, "reports": question.probes, "seconds": round(time.monotonic() - start, 3)}
         print(json.dumps({**asked, "numbers": rows, "laws": LAWS, **cost}, indent=1))
     else:
-        print(shown("\n".join([*lines_of(rows), "", NOTE])))
+        print(shown("\n".join([*lines_of(rows), "", NOTE, *lines_of_shares(rows)])))
     if words.to:
         draw(rows, words.to, os.path.basename(words.file))
     return 0
