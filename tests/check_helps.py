@@ -155,7 +155,7 @@ def check_call():
     """What a call prints."""
     file = os.path.join(TOP, "examples", "crossing_chains.toml")
     text = run(TOOL, "--program", PROGRAM, file, "--path", "pb").stdout
-    hold("of 5 changes by a tenth or one place, each tried alone:" in text, text, "calls")
+    hold("of 5 changes by a tenth (at least a tick) or one place, each tried alone:" in text, text, "calls")
     hold(re.search(r"b1 before a2 +40 +-10, but then path pa misses its deadline\n", text), text, "calls")
     hold("0 more make it shorter, 0 longer, 1 neither" in text and "changes of the model" in text, text, "calls")
     with tempfile.TemporaryDirectory() as room:

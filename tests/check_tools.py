@@ -237,7 +237,10 @@ def check_gantt(room, name):
         f"gantt {name}: {marks} marks",
     )
     hold(
-        set(on.values()) <= set(texts) and "a job comes" in texts and "later than its bound" not in texts,
+        set(on.values()) <= set(texts)
+        and "a job comes" in texts
+        and "later than its bound" not in texts
+        and ("a region ends, the job goes on" in texts) == (name == "cooperative"),
         f"gantt {name}: it says {texts}",
     )
     # the first bar and the last tell how long a tick is

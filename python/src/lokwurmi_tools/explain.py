@@ -4,10 +4,10 @@ Of a task it tells the streams that start it and where their jitter comes from, 
 up to its end: its own executions and those of the jobs before it, the jobs of each rival, a frame of lower priority
 that is under way or the rest of a region, the turns of others, and what a cycle takes away. The parts, less the time at
 which the job came, are the bound. With --path it tells that of each task along a path, by whom the path waits in all,
-and what would help it most: of the numbers by which its tasks wait (but for regions) each is changed by a tenth (a
-priority by one place), alone, and the proved program reports the system with it. These are changes of the model, and no
-advice that they can be made. With --all it tells of each task and each path. Of a task without a bound it tells what
-work its resource has, by whom, and with which rival its busy window has no end.
+and what would help it most: of the numbers by which its tasks wait (but for regions) each is changed by a tenth, at
+least a tick (a priority by one place), alone, and the proved program reports the system with it. These are changes of
+the model, and no advice that they can be made. With --all it tells of each task and each path. Of a task without a
+bound it tells what work its resource has, by whom, and with which rival its busy window has no end.
 
 The parts are worked out here, at the bounds of the report, and held against it: where they don't add up to the bound
 that the proved program has written, the tool says so and ends with 1. They are no part of what is proved.

@@ -116,6 +116,11 @@ class Chart(NamedTuple):
         used = {it["on"] for it in self.system.get("task", [])}
         return [it for it in self.system.get("resource", []) if it["name"] in used]
 
+    def ends(self) -> dict[str, list[int]]:
+        """Where regions end that are marked: of the tasks that don't have too many of them."""
+        found = {name: [it for it in times if self.start < it < self.until] for name, times in self.points.items()}
+        return {name: times for name, times in found.items() if 0 < len(times) <= MOST_SLOTS}
+
     def place(self) -> dict[str, int]:
         """The lane of each task."""
         lane = {it["name"]: k for k, it in enumerate(self.lanes())}
@@ -179,32 +184,42 @@ def draw_bars(axes: Any, chart: Chart, colour: dict[str, str], unit: float) -> N
     bars: dict = {}
     for name, start, end in chart.rows:
         bars.setdefault(name, []).append((max(start, chart.start), min(end, chart.until)))
+    ends = chart.ends()
     for name, several in bars.items():
         boxes = [Rectangle((start, place[name] - BAR / 2), end - start, BAR) for start, end in several]
         axes.add_collection(PatchCollection(boxes, facecolor=colour[name], edgecolor=PAPER, linewidth=0.4, zorder=2))
+        wide = (4 * len(name) + 4) * unit
         for start, end in several:
-            if (end - start) / unit > 4 * len(name) + 4:
-                axes.text(
-                    (start + end) / 2,
-                    place[name],
-                    name,
-                    ha="center",
-                    va="center",
-                    fontsize=6.5,
-                    color=letters_on(colour[name]),
-                    zorder=4,
-                    clip_on=True,
-                )
+            if end - start > wide:
+                cuts = [start, *(it for it in ends.get(name, []) if start < it < end), end]
+                draw_name(axes, name, place[name], cuts, wide, colour[name])
+
+
+def draw_name(axes: Any, name: str, y: float, cuts: list[int], wide: float, colour: str) -> None:
+    """The name of a task in the first region of a segment that has room for it, or else over the lines between them."""
+    roomy = [(begin, end) for begin, end in zip(cuts, cuts[1:]) if end - begin > wide]
+    start, end = roomy[0] if roomy else (cuts[0], cuts[-1])
+    axes.text(
+        (start + end) / 2,
+        y,
+        name,
+        ha="center",
+        va="center",
+        fontsize=6.5,
+        color=letters_on(colour),
+        zorder=4,
+        clip_on=True,
+        bbox=None if roomy else {"facecolor": colour, "linewidth": 0, "pad": 0.8, "clip_on": True},
+    )
 
 
 def draw_points(axes: Any, chart: Chart) -> None:
-    """A line between two regions of a job, where there aren't too many."""
+    """A line between two regions of a job."""
     place = chart.place()
-    for name, times in chart.points.items():
+    for name, times in chart.ends().items():
         y = place[name]
-        lines = [[(it, y - BAR / 2), (it, y + BAR / 2)] for it in times if chart.start < it < chart.until]
-        if len(lines) <= MOST_SLOTS:
-            axes.add_collection(LineCollection(lines, colors=PAPER, linewidths=1.1, zorder=3))
+        lines = [[(it, y - BAR / 2), (it, y + BAR / 2)] for it in times]
+        axes.add_collection(LineCollection(lines, colors=PAPER, linewidths=1.1, zorder=3))
 
 
 def draw_jobs(axes: Any, chart: Chart, colour: dict[str, str]) -> None:
@@ -389,16 +404,20 @@ def draw_legend(axes: Any, chart: Chart, colour: dict[str, str], width: float) -
             (Line2D([], [], color=INK, marker=mark, linestyle="none", markersize=4), text)
             for mark, text in (("v", "a job comes"), ("^", "it is done"))
         ]
+    if chart.ends():
+        line = Line2D([], [], color=PAPER, marker="|", linestyle="none", markersize=7, markeredgewidth=1.1)
+        entries.append(((Patch(color=FAINT), line), "a region ends, the job goes on"))
     if any(it["kind"] == "tdma" and it.get("gap") for it in chart.lanes()):
         entries.append((Patch(facecolor="none", edgecolor=FAINT, hatch="////", linewidth=0), "gap"))
     if chart.late:
         entries.append((Line2D([], [], color=LATE, linewidth=2.6), "later than its bound"))
     if entries:
-        room = max(len(text) for _, text in entries) * 4.1 + 24
+        room, wide = (width - 0.8) * 72, [len(text) * 4.1 + 24 for _, text in entries]
+        columns = len(entries) if sum(wide) <= room else max(1, min(len(entries), int(room / max(wide))))
         axes.legend(
             *zip(*entries),
             fontsize=7,
-            ncols=max(1, min(len(entries), int((width - 0.8) * 72 / room))),
+            ncols=columns,
             loc="lower left",
             bbox_to_anchor=(0, 1),
             borderaxespad=0.2,

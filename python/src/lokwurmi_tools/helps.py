@@ -172,7 +172,8 @@ def lines_of_helps(several: list[Help], scale: Scale = TICKS) -> list[str]:
     count = {effect: sum(it.effect == effect for it in several) for effect in ("shorter", "longer", "same")}
     if not several:
         return ["  what would help: there is no number to try"]
-    head = f"  what would help most, of {len(several)} changes by a tenth or one place, each tried alone:"
+    changes = "1 change" if len(several) == 1 else f"{len(several)} changes"
+    head = f"  what would help most, of {changes} by a tenth (at least a tick) or one place, each tried alone:"
     best = [it for it in several if it.effect == "shorter"][:BEST]
     if not best:
         return [head, "    none makes it shorter"]

@@ -21,6 +21,7 @@ python3-matplotlib
 """
 import argparse
 import os
+import re
 import sys
 from typing import TYPE_CHECKING
 
@@ -37,6 +38,23 @@ from lokwurmi_tools.words import add_tick, reader_of
 
 if TYPE_CHECKING:
     import jinja2
+    from markupsafe import Markup
+
+# how many letters of a name stay together on a narrow page
+LINE = 12
+
+
+def breaking(name: str) -> "Markup":
+    """A name that may go on in another line after `_`, where it is long."""
+    # not before Jinja2 was asked for, which has it
+    from markupsafe import Markup
+
+    lines = [""]
+    for part in re.findall("[^_]*_*", name):
+        if lines[-1] and len(lines[-1] + part) > LINE:
+            lines.append("")
+        lines[-1] += part
+    return Markup("<wbr>").join(lines)
 
 
 def room_of(scale: Scale) -> "jinja2.Environment":
@@ -52,6 +70,7 @@ def room_of(scale: Scale) -> "jinja2.Environment":
         undefined=jinja2.StrictUndefined,
     )
     room.filters["percent"] = percent
+    room.filters["breaking"] = breaking
     room.filters["time"] = scale.text
     room.filters["moment"] = scale.text if scale.tick else "tick {}".format
     room.filters["length_of"] = scale.length

@@ -100,8 +100,8 @@ def line(what: Target, seen: int, bound: int | None) -> str:
 
 def asked_for(arguments: list[str] | None) -> argparse.Namespace:
     parser = reader_of("worst", __doc__, EXAMPLES)
-    parser.add_argument("file", help="a system file")
-    parser.add_argument("task", nargs="?", help="the task whose response is to be late")
+    parser.add_argument("file", metavar="FILE", help="a system file")
+    parser.add_argument("task", metavar="TASK", nargs="?", help="the task whose response is to be late")
     parser.add_argument(
         "--path",
         help="a path that is to take long, in place of a task; its N tasks are looked at before: N + 1 searches",
