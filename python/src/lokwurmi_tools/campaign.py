@@ -34,7 +34,7 @@ from lokwurmi_tools.campaigns.kept import Kept, read_bytes
 from lokwurmi_tools.commands import named
 from lokwurmi_tools.packages import need
 from lokwurmi_tools.program import BINARY
-from lokwurmi_tools.words import reader_of
+from lokwurmi_tools.words import Form, reader_of
 
 # the most traces of a call, and the greatest seed
 MOST_TRACES, MOST_NUMBER = 10_000, 4_294_967_295
@@ -56,6 +56,7 @@ HAMMERS = """examples:
       on the workers of a scheduler; the same words once more go on where it was stopped
 
 Each call has a seed of its own: S, S + 1, S + 2 and so on. The text is that of one `lokwurmi hammer`.
+
 More: docs/CAMPAIGNS.md"""
 GRIDS = """example, with a file grid.toml of two entries and so of six variants:
   [[vary]]
@@ -69,6 +70,7 @@ GRIDS = """example, with a file grid.toml of two entries and so of six variants:
   ./lokwurmi campaign variants examples/crossing_chains.toml grid.toml --front pb,cost > table.csv
 
 An entry varies best, worst, execution, priority or slot of a task, period, jitter or distance of a source, or scripts.
+
 More: docs/CAMPAIGNS.md"""
 
 
@@ -97,7 +99,7 @@ def read_words(arguments: list[str] | None) -> argparse.Namespace:
         "More: docs/CAMPAIGNS.md, and hammer --help, variants --help",
     )
     commands = reader.add_subparsers(dest="command", required=True, metavar="COMMAND")
-    form: Any = {"parents": [common_words()], "formatter_class": argparse.RawDescriptionHelpFormatter}
+    form: Any = {"parents": [common_words()], "formatter_class": Form}
     says = "Replays generated traces, and writes the greatest responses seen beside the bounds."
     it = commands.add_parser(
         "hammer", help="generated traces, in one summary", description=says, epilog=HAMMERS, **form

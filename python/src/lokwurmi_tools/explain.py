@@ -100,8 +100,8 @@ def main(arguments: list[str] | None = None) -> int | None:
     else:
         scale = Scale(words.tick)
         blocks = [lines_of_task(it, scale) for it in told_tasks] + [lines_of_path(it, scale) for it in told_paths]
-        for path, several in zip(paths, helps):
-            blocks[-1] += lines_of_helps(several, scale) + lines_of_regions(explained.path(path), words.file)
+        for path, several in zip(told_paths, helps):
+            blocks[-1] += lines_of_helps(several, scale) + lines_of_regions(path, words.file)
         print(shown("\n\n".join("\n".join(it) for it in blocks)))
     if words.to:
         draw(words, explained, told_tasks, told_paths)

@@ -142,6 +142,6 @@ def helps_of(words: argparse.Namespace, system: System) -> Values:
         ]
         found = system.found_paths[name]
         regions = regions_text(system.explained.path(name), os.path.basename(words.file))
-        count = {"tried": len(several), "shorter": len(best)}
-        rows.append({"name": name, **found, **count, "helps": told, "regions": regions})
+        tried, shorter = len(several), len(best)
+        rows.append({"name": name, **found, "tried": tried, "shorter": shorter, "helps": told, "regions": regions})
     return {"rows": rows, "warning": WARNING}
