@@ -6,7 +6,6 @@ import textwrap
 from lokwurmi_tools.commands import named
 from lokwurmi_tools.times import time_of, word_of
 
-
 # how many letters a line of prose has at most
 WIDTH = 120
 
