@@ -725,6 +725,13 @@ def check_widths(page, room):
         page.hold(
             page.run("document.documentElement.scrollWidth <= innerWidth"), f"it is wider than a window of {width}"
         )
+        page.hold(
+            page.run(
+                "document.querySelector('nav .links').getBoundingClientRect().right"
+                " <= document.querySelector('#look').getBoundingClientRect().left"
+            ),
+            f"the button for light or dark covers a link in a window of {width}",
+        )
         wide, first = page.run(
             "(() => { const it = document.querySelector('#path-table');"
             " return [it.parentElement.clientWidth, it.querySelector('tbody th').getBoundingClientRect().width]; })()"

@@ -457,10 +457,10 @@ def packages_of(files):
 
 
 def check_named():
-    """docs/BUILDING.md names the packages of all commands, and the tutorial those of what it draws."""
+    """docs/BUILDING.md names the packages of all commands, and the tutorial those of what it draws and of `ticks`."""
     of_all = packages_of(sorted(glob.glob(f"{SOURCES}/lokwurmi_tools/*.py")))
-    drawing = {"graphviz", "python3-jinja2", "python3-matplotlib"}
-    for page, wanted in (("docs/BUILDING.md", of_all), ("docs/TUTORIAL.md", drawing)):
+    used = {"graphviz", "python3-jinja2", "python3-matplotlib", "python3-tomlkit"}
+    for page, wanted in (("docs/BUILDING.md", of_all), ("docs/TUTORIAL.md", used)):
         with open(page, encoding="utf-8") as it:
             lines = re.findall(r"apt-get install ([a-z0-9 -]+)", it.read())
         hold(any(wanted <= set(line.split()) for line in lines), f"{page}: it has no line with {sorted(wanted)}")
