@@ -38,23 +38,19 @@ from lokwurmi_tools.words import add_tick, reader_of
 
 if TYPE_CHECKING:
     import jinja2
-    from markupsafe import Markup
 
 # how many letters of a name stay together on a narrow page
 LINE = 12
 
 
-def breaking(name: str) -> "Markup":
-    """A name that may go on in another line after `_`, where it is long."""
-    # not before Jinja2 was asked for, which has it
-    from markupsafe import Markup
-
+def breaking(name: str) -> list[str]:
+    """The parts of a long name after which it may go on in another line: each ends with `_`, but for the last."""
     lines = [""]
     for part in re.findall("[^_]*_*", name):
         if lines[-1] and len(lines[-1] + part) > LINE:
             lines.append("")
         lines[-1] += part
-    return Markup("<wbr>").join(lines)
+    return lines
 
 
 def room_of(scale: Scale) -> "jinja2.Environment":
