@@ -240,7 +240,7 @@ def check_gantt(room, name):
         set(on.values()) <= set(texts)
         and "a job comes" in texts
         and "later than its bound" not in texts
-        and ("a region ends, the job goes on" in texts) == (name == "cooperative"),
+        and ("a region ends, the job goes on" in texts) == (name in ("cooperative", "regions")),
         f"gantt {name}: it says {texts}",
     )
     # the first bar and the last tell how long a tick is
