@@ -24,7 +24,7 @@ def program(crate: str) -> Path:
 
 
 def built_from(crate: str) -> Path:
-    """The list of what a program was built from, by which the script sees without Python that nothing has changed."""
+    """The list of what makes a program stale where it is newer, by which the script sees without Python that nothing is."""
     return TOP / "crates" / crate / "out" / "lokwurmi.below"
 
 
