@@ -1,5 +1,5 @@
 -- Stretches of preemptive resources: a job goes on to the end of its region, and on where each tick is a region.
-use Rattle.std.proofs.Common.{◌≡◌, ℕ, zero, suc, ◌+◌, ◌-◌, ◌<◌, ◌≤◌, min, Bool, eqb, Option, Some, None, refl, sym, ap, ◌∙◌, inl, inr, arith, subst}
+use Rattle.std.proofs.Common.{◌≡◌, ℕ, zero, suc, ◌+◌, ◌-◌, ◌<◌, ◌≤◌, min, eqb, Option, Some, None, refl, sym, ap, ◌∙◌, inl, inr, arith, subst}
 use Rattle.std.specs.Prelude.{filter}
 use Rattle.std.proofs.lemmas.Bool.{cases_Bool, cond-false, eqb-true, ne_eqb}
 use Rattle.cpa_units.specs.declared.limits.TheConstants.{MAX_EXECUTION}
@@ -7,9 +7,9 @@ use Rattle.cpa_model.specs.declared.entries.Kind.{Kind}
 use Rattle.cpa_model.specs.declared.entries.Kind.TheVariants.{Preemptive, RoundRobin, Tdma, Can}
 use Rattle.cpa_model.specs.Rules.{RegionFits}
 use Rattle.cpa_model.specs.SystemLists.{SystemLists, tasks_on}
-use Rattle.cpa_sched.specs.Steps.{ResourceState, Choice, most_urgent, region_of, within_region, preemptive_step, kind_of, step}
+use Rattle.cpa_sched.specs.Steps.{ResourceState, ReadyQueue, Choice, most_urgent, region_of, within_region, preemptive_step, kind_of, step}
 use Rattle.cpa_sched.specs.States.{HoldsRegion, KeepsTurn, Belongs}
-use Rattle.cpa_sched.specs.Stretches.{held_later, state_later, IsStretch, ticks_of_region, length_of}
+use Rattle.cpa_sched.specs.Stretches.{got, held_later, state_later, IsStretch, ticks_of_region, length_of}
 use Rattle.cpa_sched.proofs.OptionLaws.{some-injective}
 use Rattle.cpa_sched.proofs.StretchLaws.{choice, stretch-by, stretch-still, stretch-then, step-by_kind, length-by_kind}
 
@@ -102,12 +102,12 @@ again-within s j (suc n) urgent some = refl
 
 -- ---- stretches
 
-module _ (s : SystemLists) (r : ℕ) (waits : ℕ → Bool) (kind : kind_of s r ≡ Preemptive) (st next : ResourceState) (tick phase : ℕ) where
+module _ (s : SystemLists) (r : ℕ) (q : ReadyQueue) (kind : kind_of s r ≡ Preemptive) (st next : ResourceState) (tick phase : ℕ) where
   abbrev urgent : Option ℕ
-  urgent = most_urgent s (filter waits (tasks_on s r))
+  urgent = most_urgent s (filter q.waits (tasks_on s r))
 
-  region-step : (x : ResourceState) (t : ℕ) → step s r x waits t phase ≡ preemptive_step s x x.holder urgent
-  region-step x t = step-by_kind s r x waits t phase Preemptive kind
+  region-step : (x : ResourceState) (o : Option ℕ) (n t : ℕ) → step s r x (got q o n) t phase ≡ preemptive_step s x x.holder urgent
+  region-step x o n t = step-by_kind s r x (got q o n) t phase Preemptive kind
 
   module _ (task : Option ℕ) (e : choice task next ≡ preemptive_step s st st.holder urgent) where
     runs : (preemptive_step s st st.holder urgent).task ≡ task
@@ -116,23 +116,23 @@ module _ (s : SystemLists) (r : ℕ) (waits : ℕ → Bool) (kind : kind_of s r 
     leaves : next ≡ (preemptive_step s st st.holder urgent).state
     leaves = ap (λ (x : Choice). x.state) e
 
-    rest-stretch : (ticks : ℕ) → task ≡ None → IsStretch s r st waits tick phase ticks task next
+    rest-stretch : (ticks : ℕ) → task ≡ None → IsStretch s r st q tick phase ticks task next
     rest-stretch ticks none =
         let same : next ≡ st = leaves ∙ rests s st st.holder urgent (runs ∙ none) in
-        let all = stretch-still s r st waits tick phase ticks task (λ n h. region-step st (tick + n) ∙ sym e ∙ ap (choice task) same) in
-        subst (IsStretch s r st waits tick phase ticks task) (sym same) all
+        let all = stretch-still s r st q tick phase ticks task (λ n h. region-step st task n (tick + n) ∙ sym e ∙ ap (choice task) same) in
+        subst (IsStretch s r st q tick phase ticks task) (sym same) all
 
     next-free : (j : ℕ) → Belongs s r st → task ≡ Some j → region_of s j ≡ 1 → next ≡ free
     next-free j belongs is one = leaves ∙ is-free s st st.holder urgent j (region-holds s r st st.holder kind belongs refl) one (runs ∙ is)
 
-    one-stretch : (j ticks : ℕ) → Belongs s r st → task ≡ Some j → region_of s j ≡ 1 → 0 < ticks → IsStretch s r st waits tick phase ticks task next
+    one-stretch : (j ticks : ℕ) → Belongs s r st → task ≡ Some j → region_of s j ≡ 1 → 0 < ticks → IsStretch s r st q tick phase ticks task next
     one-stretch j ticks belongs is one some =
         let begins : urgent ≡ Some j = is-urgent s st st.holder urgent j (region-holds s r st st.holder kind belongs refl) one (runs ∙ is) in
         let same : next ≡ free = next-free j belongs is one in
-        let all : IsStretch s r st waits tick phase ticks task free =
-        stretch-then s r st waits tick phase ticks task free some (region-step st (tick + 0) ∙ sym e ∙ ap (choice task) same)
-        (λ n. region-step free (tick + suc n) ∙ ap (preemptive_step s free None) begins ∙ again-one s j one ∙ ap (λ o. choice o free) (sym is)) in
-        subst (IsStretch s r st waits tick phase ticks task) (sym same) all
+        let all : IsStretch s r st q tick phase ticks task free =
+        stretch-then s r st q tick phase ticks task free some (region-step st task 0 (tick + 0) ∙ sym e ∙ ap (choice task) same)
+        (λ n. region-step free task (suc n) (tick + suc n) ∙ ap (preemptive_step s free None) begins ∙ again-one s j one ∙ ap (λ o. choice o free) (sym is)) in
+        subst (IsStretch s r st q tick phase ticks task) (sym same) all
 
     after_begin : ℕ → ℕ → ResourceState
     after_begin j zero = st
@@ -141,22 +141,22 @@ module _ (s : SystemLists) (r : ℕ) (waits : ℕ → Bool) (kind : kind_of s r 
     is-begun : (j : ℕ) → task ≡ Some j → next ≡ within_region j next.left
     is-begun j is = leaves ∙ is-within s st st.holder urgent j (runs ∙ is) ∙ ap (λ (x : ResourceState). within_region j x.left) (sym leaves)
 
-    within-stretch : (j n : ℕ) → task ≡ Some j → n ≤ next.left → IsStretch s r st waits tick phase (n + 1) task (within_region j (next.left - n))
+    within-stretch : (j n : ℕ) → task ≡ Some j → n ≤ next.left → IsStretch s r st q tick phase (n + 1) task (within_region j (next.left - n))
     unfolding after_begin
     within-stretch j n is enough =
         let one : n + 1 ≡ suc n = omega arith in
-        rw one (stretch-by s r st waits tick phase (suc n) task (after_begin j) refl each)
+        rw one (stretch-by s r st q tick phase (suc n) task (after_begin j) refl each)
       where
         begun : next ≡ within_region j (next.left - 0)
         begun =
             let whole : next.left ≡ next.left - 0 = omega arith in
             is-begun j is ∙ ap (within_region j) whole
 
-        each : (m : ℕ) → m < suc n → step s r (after_begin j m) waits (tick + m) phase ≡ choice task (after_begin j (suc m))
-        each zero h = region-step st (tick + 0) ∙ sym e ∙ ap (choice task) begun
+        each : (m : ℕ) → m < suc n → step s r (after_begin j m) (got q task m) (tick + m) phase ≡ choice task (after_begin j (suc m))
+        each zero h = region-step st task 0 (tick + 0) ∙ sym e ∙ ap (choice task) begun
         each (suc m) h =
             let less : next.left - m - 1 ≡ next.left - suc m = omega arith in
-            region-step (after_begin j (suc m)) (tick + suc m)
+            region-step (after_begin j (suc m)) task (suc m) (tick + suc m)
             ∙ again-within s j (next.left - m) urgent (omega (arith, h, enough))
             ∙ ap (λ l. choice (Some j) (within_region j l)) less
             ∙ ap (λ o. choice o (within_region j (next.left - suc m))) (sym is)
@@ -171,22 +171,22 @@ module _ (s : SystemLists) (r : ℕ) (waits : ℕ → Bool) (kind : kind_of s r 
         ap (λ (x : ResourceState). held_later Preemptive x x.holder n) begun ∙ region-later j next.left n
 
     -- as long as is said
-    pub region-stretch : (most n : ℕ) → Belongs s r st → n < ticks_of_region s most task next.left → IsStretch s r st waits tick phase (n + 1) task (state_later Preemptive task next n)
+    pub region-stretch : (most n : ℕ) → Belongs s r st → n < ticks_of_region s most task next.left → IsStretch s r st q tick phase (n + 1) task (state_later Preemptive task next n)
     region-stretch most n belongs less = by_task task refl
       where
-        by_task : (o : Option ℕ) → task ≡ o → IsStretch s r st waits tick phase (n + 1) task (state_later Preemptive task next n)
-        by_task None none = subst (λ o. IsStretch s r st waits tick phase (n + 1) task (state_later Preemptive o next n)) (sym none) (rest-stretch (n + 1) none)
+        by_task : (o : Option ℕ) → task ≡ o → IsStretch s r st q tick phase (n + 1) task (state_later Preemptive task next n)
+        by_task None none = subst (λ o. IsStretch s r st q tick phase (n + 1) task (state_later Preemptive o next n)) (sym none) (rest-stretch (n + 1) none)
         by_task (Some j) is =
-            subst (λ o. IsStretch s r st waits tick phase (n + 1) task (state_later Preemptive o next n)) (sym is)
+            subst (λ o. IsStretch s r st q tick phase (n + 1) task (state_later Preemptive o next n)) (sym is)
             (elim (cases_Bool (eqb (region_of s j) 1)) [
               | inl one ↦
                   let single : region_of s j ≡ 1 = eqb-true (region_of s j) 1 one in
-                  subst (IsStretch s r st waits tick phase (n + 1) task) (sym (later-one n (next-free j belongs is single))) (one-stretch j (n + 1) belongs is single (omega arith))
+                  subst (IsStretch s r st q tick phase (n + 1) task) (sym (later-one n (next-free j belongs is single))) (one-stretch j (n + 1) belongs is single (omega arith))
               | inr more ↦
                   let long : ticks_of_region s most task next.left ≡ min most (next.left + 1) = ap (λ o. ticks_of_region s most o next.left) is ∙ cond-false _ _ _ more in
-                  subst (IsStretch s r st waits tick phase (n + 1) task) (sym (later-within j n is)) (within-stretch j n is (omega (arith, less, long)))
+                  subst (IsStretch s r st q tick phase (n + 1) task) (sym (later-within j n is)) (within-stretch j n is (omega (arith, less, long)))
             ])
 
-    pub region-long : (most ticks : ℕ) → ticks ≡ ticks_of_region s most task next.left → ticks ≡ length_of s r st waits tick phase most
+    pub region-long : (most ticks : ℕ) → ticks ≡ ticks_of_region s most task next.left → ticks ≡ length_of s r st q tick phase most
     region-long most ticks is =
-        is ∙ sym (length-by_kind s r st waits tick phase Preemptive most kind ∙ ap (λ (x : Choice). ticks_of_region s most x.task x.state.left) (sym e))
+        is ∙ sym (length-by_kind s r st q tick phase Preemptive most kind ∙ ap (λ (x : Choice). ticks_of_region s most x.task x.state.left) (sym e))

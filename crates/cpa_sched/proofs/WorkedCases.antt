@@ -4,7 +4,7 @@ use Rattle.cpa_model.specs.declared.entries.Kind.TheVariants.{Preemptive}
 use Rattle.cpa_model.specs.declared.entries.Turn.TheVariants.{Priority}
 use Rattle.cpa_model.specs.declared.entries.Task.{Task}
 use Rattle.cpa_model.specs.SystemLists.{SystemLists}
-use Rattle.cpa_sched.specs.Steps.{within_region, completed, step}
+use Rattle.cpa_sched.specs.Steps.{ReadyQueue, within_region, completed, step}
 use Rattle.cpa_sched.specs.Stretches.{state_after, task_after, length_of}
 use Rattle.cpa_sched.proofs.StretchLaws.{choice}
 use Rattle.cpa_sched.proofs.RegionLaws.{free}
@@ -22,17 +22,17 @@ three =
       paths = [];
     }
 
--- these of them wait
-abbrev these : List Bool → ℕ → Bool
-these flags i = get_or flags i false
+-- these of them wait, whose jobs have just arrived
+abbrev these : List Bool → ReadyQueue
+these flags = record { waits = λ i. get_or flags i false; arrival = λ i. 0; received = λ i. 0 }
 
-abbrev last : ℕ → Bool
+abbrev last : ReadyQueue
 last = these (false ∷ false ∷ true ∷ [])
 
-abbrev last_two : ℕ → Bool
+abbrev last_two : ReadyQueue
 last_two = these (false ∷ true ∷ true ∷ [])
 
-abbrev all : ℕ → Bool
+abbrev all : ReadyQueue
 all = these (true ∷ true ∷ true ∷ [])
 
 -- a region begins where nobody holds the resource
@@ -45,11 +45,11 @@ goes_on : step three 0 (within_region 2 3) all 1 0 ≡ choice (Some 2) (record {
 unfolding step three
 goes_on = refl
 
-ends : state_after three 0 (within_region 2 3) all 1 0 3 ≡ free
+ends : state_after three 0 (within_region 2 3) all (Some 2) 1 0 3 ≡ free
 unfolding step three state_after
 ends = refl
 
-gives_way : task_after three 0 (within_region 2 3) all 1 0 3 ≡ Some 0
+gives_way : task_after three 0 (within_region 2 3) all (Some 2) 1 0 3 ≡ Some 0
 unfolding step three state_after
 gives_way = refl
 

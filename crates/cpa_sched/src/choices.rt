@@ -23,7 +23,7 @@ pub(crate) fn last_on(system: &System, res: ResId) -> Option<TaskId>
 /// The waiting task of a resource with the smallest priority number.
 pub(crate) fn urgent_on<Q: Queue>(system: &System, res: ResId, queue: &Q) -> Option<TaskId>
     requires { res.0 < length system.now.resources }
-    ensures { option_map place_of result ≡ most_urgent system.now (filter (Q.waiting queue.now) (tasks_on system.now res.0)) }
+    ensures { option_map place_of result ≡ most_urgent system.now (filter (Q.ready queue.now).waits (tasks_on system.now res.0)) }
 {
     most_urgent(system, system.tasks_on(res), queue)
 }
@@ -37,8 +37,8 @@ pub(crate) fn next_on<Q: Queue>(
 ) -> Option<TaskId>
     requires there { res.0 < length system.now.resources }
     requires holder { holder.0 < length system.now.tasks }
-    ensures next { option_map place_of result ≡ first_of (filter (Q.waiting queue.now) (ring_after system.now res.0 holder.0)) }
-    ensures waits { IfSome result (λ t. IsWaiting system.now res.0 (Q.waiting queue.now) t.0) }
+    ensures next { option_map place_of result ≡ first_of (filter (Q.ready queue.now).waits (ring_after system.now res.0 holder.0)) }
+    ensures waits { IfSome result (λ t. IsWaiting system.now res.0 (Q.ready queue.now).waits t.0) }
 {
     next_waiting(system.tasks_on(res), queue, holder)
 }

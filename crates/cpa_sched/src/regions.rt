@@ -105,7 +105,7 @@ pub(crate) fn regions<Q: Queue>(
     requires kind { kind_of system.now res.0 ≡ Preemptive }
     requires belongs { Belongs system.now res.0 (seen state.old) }
     requires most { 1 ≤ most }
-    ensures step { chose result.task state.new ≡ preemptive_step system.now (seen state.old) (seen state.old).holder (most_urgent system.now (filter (Q.waiting queue.now) (tasks_on system.now res.0))) }
+    ensures step { chose result.task state.new ≡ preemptive_step system.now (seen state.old) (seen state.old).holder (most_urgent system.now (filter (Q.ready queue.now).waits (tasks_on system.now res.0))) }
     ensures ticks { result.ticks ≡ ticks_of_region system.now most (option_map place_of result.task) state.new.left }
     ensures some { 1 ≤ result.ticks }
     ensures most { result.ticks ≤ most }
@@ -127,15 +127,15 @@ pub(crate) fn regions_by<Q: Queue>(
 ) -> Stretch
     requires there { ranking.now.res.0 < length system.now.resources }
     requires ranking { IsByUrgency system.now ranking.now.res.0 (places_of ranking.now.tasks.now) }
-    requires waiters { HasWaitingRange (places_of ranking.now.tasks.now) (Q.waiting queue.now) waiters.old }
+    requires waiters { HasWaitingRange (places_of ranking.now.tasks.now) (Q.ready queue.now).waits waiters.old }
     requires kind { kind_of system.now ranking.now.res.0 ≡ Preemptive }
     requires belongs { Belongs system.now ranking.now.res.0 (seen state.old) }
     requires most { 1 ≤ most }
-    ensures step { chose result.task state.new ≡ preemptive_step system.now (seen state.old) (seen state.old).holder (most_urgent system.now (filter (Q.waiting queue.now) (tasks_on system.now ranking.now.res.0))) }
+    ensures step { chose result.task state.new ≡ preemptive_step system.now (seen state.old) (seen state.old).holder (most_urgent system.now (filter (Q.ready queue.now).waits (tasks_on system.now ranking.now.res.0))) }
     ensures ticks { result.ticks ≡ ticks_of_region system.now most (option_map place_of result.task) state.new.left }
     ensures some { 1 ≤ result.ticks }
     ensures most { result.ticks ≤ most }
-    ensures waiters { HasWaitingRange (places_of ranking.now.tasks.now) (Q.waiting queue.now) waiters.new }
+    ensures waiters { HasWaitingRange (places_of ranking.now.tasks.now) (Q.ready queue.now).waits waiters.new }
 {
     let Some(task) = state.holder else {
         let urgent = first_waiting(ranking.tasks, waiters, queue);

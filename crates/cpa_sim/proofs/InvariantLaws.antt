@@ -6,11 +6,11 @@ use Rattle.cpa_model.specs.declared.entries.Kind.{Kind}
 use Rattle.cpa_model.specs.declared.entries.Kind.TheVariants.{Preemptive, RoundRobin, Tdma, Can}
 use Rattle.cpa_model.specs.SystemLists.{SystemLists, task_at, tasks_on}
 use Rattle.cpa_trace.specs.Trace.{TraceLists, phase_of, need}
-use Rattle.cpa_sched.specs.Steps.{ResourceState, kind_of, step, completed, first_state}
+use Rattle.cpa_sched.specs.Steps.{ResourceState, ReadyQueue, kind_of, step, completed, first_state}
 use Rattle.cpa_sched.specs.States.{IsOn, FrameWaits}
-use Rattle.cpa_sched.specs.Stretches.{state_after}
+use Rattle.cpa_sched.specs.Stretches.{got, state_after}
 use Rattle.cpa_sim.specs.declared.jobs.Cause.{Cause}
-use Rattle.cpa_sim.specs.Run.{Progress, is_open, waits, ended_count, new_jobs, arriving, settled, run}
+use Rattle.cpa_sim.specs.Run.{Progress, is_open, waits, ready_at, ended_count, new_jobs, arriving, settled, run}
 use Rattle.cpa_sim.proofs.JobLists.{AreInOrder, AreFresh, jobs_after}
 use Rattle.cpa_sim.proofs.QueueLaws.{ordered-more, ordered-last, ordered-new, ended-is, waits-is, waits-less, first-runs, length-jobs, fresh-append, fresh-after, fresh-from}
 use Rattle.cpa_sim.proofs.RunLaws.{jobs-zero, state-zero}
@@ -66,19 +66,19 @@ module _ (s : SystemLists) (tr : TraceLists) where
     first-frames r (Can bit) w = λ x e. cc
 
     -- a jump keeps it
-    module _ (t n : ℕ) (w : ℕ → Bool) (d : ℕ → ℕ) (o : ℕ → Option ℕ) (g : SameTasksRun s tr t n w d o) (fresh : (i : ℕ) → i < length s.tasks → AreFresh (need s tr i) (d i) ((run s tr t).jobs i)) where
+    module _ (t n : ℕ) (q : ReadyQueue) (d : ℕ → ℕ) (o : ℕ → Option ℕ) (g : SameTasksRun s tr t n q d o) (fresh : (i : ℕ) → i < length s.tasks → AreFresh (need s tr i) (d i) ((run s tr t).jobs i)) where
       landed-jobs-hold : (i : ℕ) → i < length s.tasks → JobsHold i ((run s tr (t + n)).jobs i)
       landed-jobs-hold i there =
-          let m = arriving s tr (t + n) (numbers_by s tr t n w d o g n) i in
-          let old = jobs_at s tr t n w d o i in
-          let js = served_by s tr t n w d o g n i in
-          let e = landed-jobs s tr t n w d o g i there in
-          elim (cases_Bool (chosen s tr t n w d o i)) [
+          let m = arriving s tr (t + n) (numbers_by s tr t n q d o g n) i in
+          let old = jobs_at s tr t n q d o i in
+          let js = served_by s tr t n q d o g n i in
+          let e = landed-jobs s tr t n q d o g i there in
+          elim (cases_Bool (chosen s tr t n q d o i)) [
             | inl passes ↦
-                let h = chosen-pending s tr t n w d o g i there passes in
-                let same : js ≡ jobs_after n (t + n) (d i) old = cond-true (chosen s tr t n w d o i) _ _ passes in
+                let h = chosen-pending s tr t n q d o g i there passes in
+                let same : js ≡ jobs_after n (t + n) (d i) old = cond-true (chosen s tr t n q d o i) _ _ passes in
                 let rest = fresh-after (need s tr i) n (t + n) (d i) old (fresh i there) in
-                elim (cases_lt n (left_at s tr t n w d o i)) [
+                elim (cases_lt n (left_at s tr t n q d o i)) [
                   | inl more ↦
                       let a = ordered-more n (t + n) (d i) old (g.ordered i there) h more in
                       rw e (with-new i (d i) (t + n) m js there (rw same a) (rw same rest))
@@ -87,7 +87,7 @@ module _ (s : SystemLists) (tr : TraceLists) where
                       rw e (with-new i (suc (d i)) (t + n) m js there (rw same a) (rw same (fresh-from (need s tr i) (d i) (suc (d i)) (jobs_after n (t + n) (d i) old) (omega arith) rest)))
                 ]
             | inr fails ↦
-                let same : js ≡ old = cond-false (chosen s tr t n w d o i) _ _ fails in
+                let same : js ≡ old = cond-false (chosen s tr t n q d o i) _ _ fails in
                 rw e (with-new i (d i) (t + n) m js there (rw same (g.ordered i there)) (rw same (fresh i there)))
           ]
 
@@ -107,36 +107,36 @@ module _ (s : SystemLists) (tr : TraceLists) where
 
       pub landed-held : (r : ℕ) → r < length s.resources → ForSome ((run s tr (t + n)).resources r).holder (IsOn s r)
       landed-held r there =
-          rw (landed-states s tr t n w d o g r there)
-          (settled-holder (kind_of s r) (ended_by s tr t n w d o g n) (state_after s r ((run s tr t).resources r) w t (phase_of tr r) n) (o r) (IsOn s r) (last-holds s tr t n w d o g r there))
+          rw (landed-states s tr t n q d o g r there)
+          (settled-holder (kind_of s r) (ended_by s tr t n q d o g n) (state_after s r ((run s tr t).resources r) q (o r) t (phase_of tr r) n) (o r) (IsOn s r) (last-holds s tr t n q d o g r there))
 
       -- who ran and isn't complete still waits
-      ran-waits : (r i : ℕ) → r < length s.resources → o r ≡ Some i → ended_by s tr t n w d o g n i ≡ 0 → waits ((run s tr (t + n)).jobs i) ≡ true
+      ran-waits : (r i : ℕ) → r < length s.resources → o r ≡ Some i → ended_by s tr t n q d o g n i ≡ 0 → waits ((run s tr (t + n)).jobs i) ≡ true
       ran-waits r i there e none =
-          let p = picked s tr t n w d o g r i there e in
+          let p = picked s tr t n q d o g r i there e in
           let here : (task_at s i).res.0 ≡ r = eqb-true (task_at s i).res.0 r p.on.here in
-          let passes : chosen s tr t n w d o i ≡ true = rw (here, e) (eq-eqb i i refl) in
-          let h = chosen-pending s tr t n w d o g i p.on.task passes in
-          let fresh = arriving s tr (t + n) (numbers_by s tr t n w d o g n) i in
-          let js = served_by s tr t n w d o g n i in
-          let same : js ≡ jobs_after n (t + n) (d i) (jobs_at s tr t n w d o i) = cond-true (chosen s tr t n w d o i) _ _ passes in
-          elim (cases_lt n (left_at s tr t n w d o i)) [
+          let passes : chosen s tr t n q d o i ≡ true = rw (here, e) (eq-eqb i i refl) in
+          let h = chosen-pending s tr t n q d o g i p.on.task passes in
+          let fresh = arriving s tr (t + n) (numbers_by s tr t n q d o g n) i in
+          let js = served_by s tr t n q d o g n i in
+          let same : js ≡ jobs_after n (t + n) (d i) (jobs_at s tr t n q d o i) = cond-true (chosen s tr t n q d o i) _ _ passes in
+          elim (cases_lt n (left_at s tr t n q d o i)) [
             | inl more ↦
-                let a = ordered-more n (t + n) (d i) (jobs_at s tr t n w d o i) (g.ordered i p.on.task) h more in
-                let b : waits (jobs_after n (t + n) (d i) (jobs_at s tr t n w d o i)) ≡ true =
-                waits-is (d i) (jobs_after n (t + n) (d i) (jobs_at s tr t n w d o i)) a (rw (length-jobs n (t + n) (d i) (jobs_at s tr t n w d o i)) h) in
-                rw (landed-jobs s tr t n w d o g i p.on.task) (any-append js (new_jobs (need s tr i) (length js) (t + n) fresh) (rw same b))
+                let a = ordered-more n (t + n) (d i) (jobs_at s tr t n q d o i) (g.ordered i p.on.task) h more in
+                let b : waits (jobs_after n (t + n) (d i) (jobs_at s tr t n q d o i)) ≡ true =
+                waits-is (d i) (jobs_after n (t + n) (d i) (jobs_at s tr t n q d o i)) a (rw (length-jobs n (t + n) (d i) (jobs_at s tr t n q d o i)) h) in
+                rw (landed-jobs s tr t n q d o g i p.on.task) (any-append js (new_jobs (need s tr i) (length js) (t + n) fresh) (rw same b))
             | inr last ↦
-                let one : nat_le (left_at s tr t n w d o i) n ≡ true = le-leb (left_at s tr t n w d o i) n last in
-                let some : ended_by s tr t n w d o g n i ≡ 1 = rw (passes, one) refl in
+                let one : nat_le (left_at s tr t n q d o i) n ≡ true = le-leb (left_at s tr t n q d o i) n last in
+                let some : ended_by s tr t n q d o g n i ≡ 1 = rw (passes, one) refl in
                 absurd (omega (arith, none, some))
           ]
 
       pub landed-frames : (r : ℕ) → r < length s.resources → FrameWaits (kind_of s r) ((run s tr (t + n)).resources r) (λ i. waits ((run s tr (t + n)).jobs i))
       landed-frames r there =
-          rw (landed-states s tr t n w d o g r there, last-state s tr t n w d o g r)
-          (frame-settled (kind_of s r) (ended_by s tr t n w d o g n) (λ i. waits ((run s tr (t + n)).jobs i)) (last-choice s tr t n w d o g r) (o r) (last-task s tr t n w d o g r there)
-          (step-frame s r w (state_after s r ((run s tr t).resources r) w t (phase_of tr r) (n - 1)) (t + (n - 1)) (phase_of tr r)) (λ i e none. ran-waits r i there e none))
+          rw (landed-states s tr t n q d o g r there, last-state s tr t n q d o g r)
+          (frame-settled (kind_of s r) (ended_by s tr t n q d o g n) (λ i. waits ((run s tr (t + n)).jobs i)) (last-choice s tr t n q d o g r) (o r) (last-task s tr t n q d o g r there)
+          (step-frame s r (got q (o r) (n - 1)) (state_after s r ((run s tr t).resources r) q (o r) t (phase_of tr r) (n - 1)) (t + (n - 1)) (phase_of tr r)) (λ i e none. ran-waits r i there e none))
 
       pub landed-holds : HoldsAt (t + n)
       landed-holds = record { jobs = landed-jobs-hold; held = landed-held; frames = landed-frames }
@@ -144,10 +144,10 @@ module _ (s : SystemLists) (tr : TraceLists) where
     -- so do single ticks
     tick : (t : ℕ) → HoldsAt t → HoldsAt (t + 1)
     tick t k =
-        let w : ℕ → Bool = λ i. waits ((run s tr t).jobs i) in
+        let q : ReadyQueue = ready_at s tr (run s tr t).jobs in
         let d : ℕ → ℕ = λ i. ended_count ((run s tr t).jobs i) in
-        let o : ℕ → Option ℕ = λ r. (step s r ((run s tr t).resources r) w t (phase_of tr r)).task in
-        landed-holds t 1 w d o
+        let o : ℕ → Option ℕ = λ r. (step s r ((run s tr t).resources r) q t (phase_of tr r)).task in
+        landed-holds t 1 q d o
         (record {
           some = omega arith;
           placed = can.placed;
@@ -159,10 +159,10 @@ module _ (s : SystemLists) (tr : TraceLists) where
               let e : u ≡ 0 = omega arith in
               let e' : t + 0 ≡ t = omega arith in
               rw e
-              (ap (λ st. (step s r st w (t + 0) (phase_of tr r)).task) (state_after-zero s r ((run s tr t).resources r) w t (phase_of tr r))
-              ∙ ap (λ v. (step s r ((run s tr t).resources r) w v (phase_of tr r)).task) e');
+              (ap (λ st. (step s r st q (t + 0) (phase_of tr r)).task) (state_after-zero s r ((run s tr t).resources r) q t (phase_of tr r) (o r))
+              ∙ ap (λ v. (step s r ((run s tr t).resources r) q v (phase_of tr r)).task) e');
           enough = λ i there passes.
-              let p = step-picks s (task_at s i).res.0 w ((run s tr t).resources (task_at s i).res.0) t (phase_of tr (task_at s i).res.0) (k.held (task_at s i).res.0 (can.placed i there)) (k.frames (task_at s i).res.0 (can.placed i there)) in
+              let p = step-picks s (task_at s i).res.0 q ((run s tr t).resources (task_at s i).res.0) t (phase_of tr (task_at s i).res.0) (k.held (task_at s i).res.0 (can.placed i there)) (k.frames (task_at s i).res.0 (can.placed i there)) in
               let waiting = (p.task i (chosen-is (o (task_at s i).res.0) i passes)).waits_now in
               let h = waits-less (d i) ((run s tr t).jobs i) (k.jobs i there).ordered waiting in
               (first-runs (d i) ((run s tr t).jobs i) (k.jobs i there).ordered h).some;

@@ -6,10 +6,10 @@ use Rattle.std.proofs.lemmas.Bool.{cases_lt, cases_Bool, eqb-true, le-leb, lt-le
 use Rattle.std.proofs.lemmas.List.{append-nil}
 use Rattle.cpa_model.specs.SystemLists.{SystemLists, task_at}
 use Rattle.cpa_trace.specs.Trace.{TraceLists, phase_of, need}
-use Rattle.cpa_sched.specs.Steps.{ResourceState, Choice, kind_of, step}
+use Rattle.cpa_sched.specs.Steps.{ResourceState, ReadyQueue, Choice, kind_of, step}
 use Rattle.cpa_sched.specs.States.{IsOn, IsWaiting, FrameWaits}
-use Rattle.cpa_sched.specs.Stretches.{state_after, task_after}
-use Rattle.cpa_sim.specs.Run.{no_job, Progress, waits, ended_count, serve, new_jobs, events_at, arriving, is_chosen, choice_at, served, ends_in, ended_in, settled, run}
+use Rattle.cpa_sched.specs.Stretches.{got, state_after, task_after}
+use Rattle.cpa_sim.specs.Run.{no_job, Progress, waits, ready_at, ended_count, serve, new_jobs, events_at, arriving, is_chosen, choice_at, served, ends_in, ended_in, settled, run}
 use Rattle.cpa_sim.proofs.JobLists.{AreInOrder, jobs_after}
 use Rattle.cpa_sim.proofs.QueueLaws.{length-jobs, jobs-none, serve-jobs, ordered-more, ordered-last, ended-is, waits-is, waits-less}
 use Rattle.cpa_sim.proofs.RunLaws.{jobs-next, state-next, served-is, ends-is, ended-is as numbers-are, choice-is}
@@ -20,7 +20,7 @@ pub chosen-is : (o : Option ℕ) (i : ℕ) → is_chosen o i ≡ true → o ≡ 
 chosen-is None i e = absurd (false≢true e)
 chosen-is (Some j) i e = ap Some (eqb-true j i e)
 
-module _ (s : SystemLists) (tr : TraceLists) (t n : ℕ) (w : ℕ → Bool) (d : ℕ → ℕ) (o : ℕ → Option ℕ) where
+module _ (s : SystemLists) (tr : TraceLists) (t n : ℕ) (q : ReadyQueue) (d : ℕ → ℕ) (o : ℕ → Option ℕ) where
   -- the jobs and the state at the start
   abbrev pub jobs_at : ℕ → List Progress
   jobs_at i = (run s tr t).jobs i
@@ -39,29 +39,29 @@ module _ (s : SystemLists) (tr : TraceLists) (t n : ℕ) (w : ℕ → Bool) (d :
     pub some : 0 < n
     pub placed : (i : ℕ) → i < length s.tasks → (task_at s i).res.0 < length s.resources
     pub ordered : (i : ℕ) → i < length s.tasks → AreInOrder (d i) (jobs_at i)
-    pub waiting : (i : ℕ) → i < length s.tasks → waits (jobs_at i) ≡ w i
+    pub waiting : (i : ℕ) → i < length s.tasks → waits (jobs_at i) ≡ q.waits i
     pub held : (r : ℕ) → r < length s.resources → ForSome (state_at r).holder (IsOn s r)
-    pub frames : (r : ℕ) → r < length s.resources → FrameWaits (kind_of s r) (state_at r) w
-    pub runs : (r u : ℕ) → r < length s.resources → u < n → task_after s r (state_at r) w t (phase_of tr r) u ≡ o r
+    pub frames : (r : ℕ) → r < length s.resources → FrameWaits (kind_of s r) (state_at r) q.waits
+    pub runs : (r u : ℕ) → r < length s.resources → u < n → task_after s r (state_at r) q (o r) t (phase_of tr r) u ≡ o r
     pub enough : (i : ℕ) → i < length s.tasks → chosen i ≡ true → n ≤ left_at i
     pub silent : (k u : ℕ) → 0 < u → u < n → events_at tr k (t + u) ≡ []
 
   module _ (g : SameTasksRun) where
-    state-zero : (r : ℕ) → state_after s r (state_at r) w t (phase_of tr r) 0 ≡ state_at r
+    state-zero : (r : ℕ) → state_after s r (state_at r) q (o r) t (phase_of tr r) 0 ≡ state_at r
     unfolding state_after
     state-zero r = refl
 
-    state-more : (r u : ℕ) → state_after s r (state_at r) w t (phase_of tr r) (suc u) ≡ (step s r (state_after s r (state_at r) w t (phase_of tr r) u) w (t + u) (phase_of tr r)).state
+    state-more : (r u : ℕ) → state_after s r (state_at r) q (o r) t (phase_of tr r) (suc u) ≡ (step s r (state_after s r (state_at r) q (o r) t (phase_of tr r) u) (got q (o r) u) (t + u) (phase_of tr r)).state
     unfolding state_after
     state-more r u = refl
 
     -- whoever runs waits
-    pub picked : (r i : ℕ) → r < length s.resources → o r ≡ Some i → IsWaiting s r w i
+    pub picked : (r i : ℕ) → r < length s.resources → o r ≡ Some i → IsWaiting s r q.waits i
     picked r i less e =
-        let same : (step s r (state_at r) w (t + 0) (phase_of tr r)).task ≡ o r = rw (← (state-zero r)) (g.runs r 0 less g.some) in
-        (step-picks s r w (state_at r) (t + 0) (phase_of tr r) (g.held r less) (g.frames r less)).task i (same ∙ e)
+        let same : (step s r (state_at r) q (t + 0) (phase_of tr r)).task ≡ o r = rw (← (state-zero r)) (g.runs r 0 less g.some) in
+        (step-picks s r q (state_at r) (t + 0) (phase_of tr r) (g.held r less) (g.frames r less)).task i (same ∙ e)
 
-    pub pending : (i : ℕ) → i < length s.tasks → w i ≡ true → d i < length (jobs_at i)
+    pub pending : (i : ℕ) → i < length s.tasks → q.waits i ≡ true → d i < length (jobs_at i)
     pending i less e = waits-less (d i) (jobs_at i) (g.ordered i less) (g.waiting i less ∙ e)
 
     pub chosen-pending : (i : ℕ) → i < length s.tasks → chosen i ≡ true → d i < length (jobs_at i)
@@ -71,9 +71,9 @@ module _ (s : SystemLists) (tr : TraceLists) (t n : ℕ) (w : ℕ → Bool) (d :
     -- after u ticks
     pub record After (u : ℕ) : Type 0 where
       pub jobs : (i : ℕ) → i < length s.tasks → (run s tr (t + u)).jobs i ≡ cond (chosen i) (jobs_after u (t + u) (d i) (jobs_at i)) (jobs_at i)
-      pub states : (r : ℕ) → r < length s.resources → (run s tr (t + u)).resources r ≡ state_after s r (state_at r) w t (phase_of tr r) u
-      pub holds : (r : ℕ) → r < length s.resources → ForSome (state_after s r (state_at r) w t (phase_of tr r) u).holder (IsOn s r)
-      pub frame : (r : ℕ) → r < length s.resources → FrameWaits (kind_of s r) (state_after s r (state_at r) w t (phase_of tr r) u) w
+      pub states : (r : ℕ) → r < length s.resources → (run s tr (t + u)).resources r ≡ state_after s r (state_at r) q (o r) t (phase_of tr r) u
+      pub holds : (r : ℕ) → r < length s.resources → ForSome (state_after s r (state_at r) q (o r) t (phase_of tr r) u).holder (IsOn s r)
+      pub frame : (r : ℕ) → r < length s.resources → FrameWaits (kind_of s r) (state_after s r (state_at r) q (o r) t (phase_of tr r) u) q.waits
 
     -- what a task has done in so many ticks, up to a time
     abbrev pub served_to : ℕ → ℕ → ℕ → List Progress
@@ -91,7 +91,7 @@ module _ (s : SystemLists) (tr : TraceLists) (t n : ℕ) (w : ℕ → Bool) (d :
     numbers_by u i = range_with_len (d i) (ended_by u i)
 
     module _ (u : ℕ) (less : u < n) (a : After u) where
-      pub still : (i : ℕ) → i < length s.tasks → waits ((run s tr (t + u)).jobs i) ≡ w i
+      pub still : (i : ℕ) → i < length s.tasks → waits ((run s tr (t + u)).jobs i) ≡ q.waits i
       still i there =
           elim (cases_Bool (chosen i)) [
             | inl passes ↦
@@ -103,11 +103,11 @@ module _ (s : SystemLists) (tr : TraceLists) (t n : ℕ) (w : ℕ → Bool) (d :
             | inr fails ↦ ap waits (a.jobs i there ∙ cond-false (chosen i) _ _ fails) ∙ g.waiting i there
           ]
 
-      pub choice : (r : ℕ) → r < length s.resources → choice_at s tr (t + u) (run s tr (t + u)) r ≡ step s r (state_after s r (state_at r) w t (phase_of tr r) u) w (t + u) (phase_of tr r)
+      pub choice : (r : ℕ) → r < length s.resources → choice_at s tr (t + u) (run s tr (t + u)) r ≡ step s r (state_after s r (state_at r) q (o r) t (phase_of tr r) u) (got q (o r) u) (t + u) (phase_of tr r)
       choice r there =
           choice-is s tr (t + u) r
-          ∙ (ap (λ st. step s r st (λ i. waits ((run s tr (t + u)).jobs i)) (t + u) (phase_of tr r)) (a.states r there)
-          ∙ step-agrees s r (λ i. waits ((run s tr (t + u)).jobs i)) w (λ j on. still j on.task) (state_after s r (state_at r) w t (phase_of tr r) u) (t + u) (phase_of tr r) (a.holds r there))
+          ∙ (ap (λ st. step s r st (ready_at s tr (run s tr (t + u)).jobs) (t + u) (phase_of tr r)) (a.states r there)
+          ∙ step-agrees s r (ready_at s tr (run s tr (t + u)).jobs) (got q (o r) u) (λ j on. still j on.task) (state_after s r (state_at r) q (o r) t (phase_of tr r) u) (t + u) (phase_of tr r) (a.holds r there))
 
       pub task : (r : ℕ) → r < length s.resources → (choice_at s tr (t + u) (run s tr (t + u)) r).task ≡ o r
       task r there = ap (λ (c : Choice). c.task) (choice r there) ∙ g.runs r u there less
@@ -179,7 +179,7 @@ module _ (s : SystemLists) (tr : TraceLists) (t n : ℕ) (w : ℕ → Bool) (d :
       settled-agrees r there f st None e agree = refl
       settled-agrees r there f st (Some i) e agree = rw (agree i (picked r i there e).on.task) refl
 
-      pub next-states : (r : ℕ) → r < length s.resources → (run s tr (t + u + 1)).resources r ≡ settled (kind_of s r) (ended_by (u + 1)) (state_after s r (state_at r) w t (phase_of tr r) (u + 1)) (o r)
+      pub next-states : (r : ℕ) → r < length s.resources → (run s tr (t + u + 1)).resources r ≡ settled (kind_of s r) (ended_by (u + 1)) (state_after s r (state_at r) q (o r) t (phase_of tr r) (u + 1)) (o r)
       next-states r there =
           state-next s tr (t + u) r
           ∙ (ap (λ p. settled (kind_of s r) (ends_in s tr (t + u) (run s tr (t + u))) (choice_at s tr (t + u) (run s tr (t + u)) r).state p) (task r there)
@@ -205,21 +205,21 @@ module _ (s : SystemLists) (tr : TraceLists) (t n : ℕ) (w : ℕ → Bool) (d :
       settled-none r more there st None e = refl
       settled-none r more there st (Some i) e = rw (ended-none i more (picked r i there e).on.task) refl
 
-      next-picks : (r : ℕ) → r < length s.resources → Picks s r w (step s r (state_after s r (state_at r) w t (phase_of tr r) u) w (t + u) (phase_of tr r))
-      next-picks r there = step-picks s r w (state_after s r (state_at r) w t (phase_of tr r) u) (t + u) (phase_of tr r) (a.holds r there) (a.frame r there)
+      next-picks : (r : ℕ) → r < length s.resources → Picks s r q.waits (step s r (state_after s r (state_at r) q (o r) t (phase_of tr r) u) (got q (o r) u) (t + u) (phase_of tr r))
+      next-picks r there = step-picks s r (got q (o r) u) (state_after s r (state_at r) q (o r) t (phase_of tr r) u) (t + u) (phase_of tr r) (a.holds r there) (a.frame r there)
 
-      pub next-holds : (r : ℕ) → r < length s.resources → ForSome (state_after s r (state_at r) w t (phase_of tr r) (suc u)).holder (IsOn s r)
+      pub next-holds : (r : ℕ) → r < length s.resources → ForSome (state_after s r (state_at r) q (o r) t (phase_of tr r) (suc u)).holder (IsOn s r)
       next-holds r there = rw (state-more r u) (next-picks r there).holder
 
-      frame-waits : (r : ℕ) → r < length s.resources → (c : Choice) → FrameIs (kind_of s r) c → ForSome c.task (IsWaiting s r w) → (p : Option ℕ) → c.task ≡ p → FrameWaits (kind_of s r) c.state w
-      frame-waits r there c is waits None e = frame-settled (kind_of s r) (λ j. 0) w c None e is (λ i f z. let f' : None ≡ Some i = f in cc)
-      frame-waits r there c is waits (Some i) e = frame-settled (kind_of s r) (λ j. 0) w c (Some i) e is (λ j f z. (waits j (e ∙ f)).waits_now)
+      frame-waits : (r : ℕ) → r < length s.resources → (c : Choice) → FrameIs (kind_of s r) c → ForSome c.task (IsWaiting s r q.waits) → (p : Option ℕ) → c.task ≡ p → FrameWaits (kind_of s r) c.state q.waits
+      frame-waits r there c is waits None e = frame-settled (kind_of s r) (λ j. 0) q.waits c None e is (λ i f z. let f' : None ≡ Some i = f in cc)
+      frame-waits r there c is waits (Some i) e = frame-settled (kind_of s r) (λ j. 0) q.waits c (Some i) e is (λ j f z. (waits j (e ∙ f)).waits_now)
 
-      next-frame : (r : ℕ) → r < length s.resources → FrameWaits (kind_of s r) (state_after s r (state_at r) w t (phase_of tr r) (suc u)) w
+      next-frame : (r : ℕ) → r < length s.resources → FrameWaits (kind_of s r) (state_after s r (state_at r) q (o r) t (phase_of tr r) (suc u)) q.waits
       next-frame r there =
-          let c = step s r (state_after s r (state_at r) w t (phase_of tr r) u) w (t + u) (phase_of tr r) in
+          let c = step s r (state_after s r (state_at r) q (o r) t (phase_of tr r) u) (got q (o r) u) (t + u) (phase_of tr r) in
           rw (state-more r u)
-          (frame-waits r there c (step-frame s r w (state_after s r (state_at r) w t (phase_of tr r) u) (t + u) (phase_of tr r)) (next-picks r there).task c.task refl)
+          (frame-waits r there c (step-frame s r (got q (o r) u) (state_after s r (state_at r) q (o r) t (phase_of tr r) u) (t + u) (phase_of tr r)) (next-picks r there).task c.task refl)
 
     pub after : (u : ℕ) → u < n → After u
     after zero less =
@@ -246,7 +246,7 @@ module _ (s : SystemLists) (tr : TraceLists) (t n : ℕ) (w : ℕ → Bool) (d :
               let J = served_to (u + 1) (t + u + 1) i in
               rw (e, e1)
               (next-jobs u l a i there ∙ (ap (λ cs. J ++ new_jobs (need s tr i) (length J) (t + u + 1) cs) (arriving-yet u l a i more) ∙ append-nil J));
-          states = λ r there. rw (e, e1) (next-states u l a r there ∙ settled-none u l a r more there (state_after s r (state_at r) w t (phase_of tr r) (u + 1)) (o r) refl);
+          states = λ r there. rw (e, e1) (next-states u l a r there ∙ settled-none u l a r more there (state_after s r (state_at r) q (o r) t (phase_of tr r) (u + 1)) (o r) refl);
           holds = λ r there. next-holds u l a r there;
           frame = λ r there. next-frame u l a r there;
         }
@@ -261,7 +261,7 @@ module _ (s : SystemLists) (tr : TraceLists) (t n : ℕ) (w : ℕ → Bool) (d :
         let h' = rw (e1, ← e) at h in
         h'
 
-    pub landed-states : (r : ℕ) → r < length s.resources → (run s tr (t + n)).resources r ≡ settled (kind_of s r) (ended_by n) (state_after s r (state_at r) w t (phase_of tr r) n) (o r)
+    pub landed-states : (r : ℕ) → r < length s.resources → (run s tr (t + n)).resources r ≡ settled (kind_of s r) (ended_by n) (state_after s r (state_at r) q (o r) t (phase_of tr r) n) (o r)
     landed-states r there =
         let l : n - 1 < n = omega (arith, g.some) in
         let e : t + n ≡ t + (n - 1) + 1 = omega (arith, g.some) in
@@ -272,17 +272,17 @@ module _ (s : SystemLists) (tr : TraceLists) (t n : ℕ) (w : ℕ → Bool) (d :
 
     -- the choice in the last of them
     abbrev pub last-choice : ℕ → Choice
-    last-choice r = step s r (state_after s r (state_at r) w t (phase_of tr r) (n - 1)) w (t + (n - 1)) (phase_of tr r)
+    last-choice r = step s r (state_after s r (state_at r) q (o r) t (phase_of tr r) (n - 1)) (got q (o r) (n - 1)) (t + (n - 1)) (phase_of tr r)
 
-    pub last-state : (r : ℕ) → state_after s r (state_at r) w t (phase_of tr r) n ≡ (last-choice r).state
+    pub last-state : (r : ℕ) → state_after s r (state_at r) q (o r) t (phase_of tr r) n ≡ (last-choice r).state
     last-state r =
         let e : n ≡ suc (n - 1) = omega (arith, g.some) in
-        ap (λ m. state_after s r (state_at r) w t (phase_of tr r) m) e ∙ state-more r (n - 1)
+        ap (λ m. state_after s r (state_at r) q (o r) t (phase_of tr r) m) e ∙ state-more r (n - 1)
 
     pub last-task : (r : ℕ) → r < length s.resources → (last-choice r).task ≡ o r
     last-task r there = g.runs r (n - 1) there (omega (arith, g.some))
 
-    pub last-holds : (r : ℕ) → r < length s.resources → ForSome (state_after s r (state_at r) w t (phase_of tr r) n).holder (IsOn s r)
+    pub last-holds : (r : ℕ) → r < length s.resources → ForSome (state_after s r (state_at r) q (o r) t (phase_of tr r) n).holder (IsOn s r)
     last-holds r there =
         let l : n - 1 < n = omega (arith, g.some) in
         let e : suc (n - 1) ≡ n = omega (arith, g.some) in

@@ -4,17 +4,17 @@ use Rattle.std.proofs.lemmas.Bool.{cases_Bool, eqb-true, eq-eqb, cond-true}
 use Rattle.std.proofs.lemmas.Option.{none-some}
 use Rattle.cpa_model.specs.SystemLists.{SystemLists, place_of, task_at}
 use Rattle.cpa_trace.specs.Trace.{TraceLists, phase_of, need}
-use Rattle.cpa_sched.specs.Steps.{Choice}
+use Rattle.cpa_sched.specs.Steps.{ReadyQueue, Choice}
 use Rattle.cpa_sched.specs.States.{IsOn}
 use Rattle.cpa_sim.specs.declared.dispatches.Dispatch.{Dispatch}
 use Rattle.cpa_sim.specs.declared.source_cursors.SourceCursor.{SourceCursor}
 use Rattle.cpa_sim.specs.declared.jobs.Cause.{Cause}
 use Rattle.cpa_sim.specs.declared.jobs.Served.{Served}
-use Rattle.cpa_sim.specs.Run.{Progress, is_open, waits, is_chosen, choice_at, run}
+use Rattle.cpa_sim.specs.Run.{Progress, is_open, ready_at, is_chosen, choice_at, run}
 use Rattle.cpa_sim.specs.Arrivals.{AreGiven}
 use Rattle.cpa_sim.specs.JobQueues.{QueueCounts, worked, served_queue}
 use Rattle.cpa_sim.proofs.JobLists.{AreInOrder}
-use Rattle.cpa_sim.specs.Simulation.{queue_at, dispatch_at, runner, runs_at, waiting, IsServed, IsAt}
+use Rattle.cpa_sim.specs.Simulation.{queue_at, dispatch_at, runner, runs_at, ready, IsServed, IsAt}
 use Rattle.cpa_sim.specs.Served.{first_open, numbered, served_at}
 use Rattle.cpa_sim.specs.LastServed.{last_of, ran_by, RanWithin}
 use Rattle.cpa_sim.proofs.QueueLaws.{ordered-more}
@@ -43,8 +43,8 @@ served-on s tr can t r j there got =
     of-choice None chosen e = absurd (none-some j e)
     of-choice (Some i) chosen e =
         let k = holds-always s tr can t in
-        let w : ℕ → Bool = λ i. waits ((run s tr t).jobs i) in
-        let p = step-picks s r w ((run s tr t).resources r) t (phase_of tr r) (k.held r there) (k.frames r there) in
+        let q : ReadyQueue = ready_at s tr (run s tr t).jobs in
+        let p = step-picks s r q ((run s tr t).resources r) t (phase_of tr r) (k.held r there) (k.frames r there) in
         let on = (p.task i (ap (λ (c : Choice). c.task) (sym (choice-is s tr t r)) ∙ chosen)).on in
         let job : Served = numbered (λ i. first_open ((run s tr t).jobs i)) i in
         let same : job ≡ j = cc in
@@ -65,24 +65,24 @@ last-worked needs ticks now queue =
 passes-is : (o : ℕ → Option ℕ) (q r i : ℕ) → eqb q r ≡ true → o r ≡ Some i → is_chosen (o q) i ≡ true
 passes-is o q r i same e = rw (eqb-true q r same, e) (eq-eqb i i refl)
 
-module _ (s : SystemLists) (tr : TraceLists) (t n : ℕ) (w : ℕ → Bool) (d : ℕ → ℕ) (o : ℕ → Option ℕ) (g : SameTasksRun s tr t n w d o) where
+module _ (s : SystemLists) (tr : TraceLists) (t n : ℕ) (q : ReadyQueue) (d : ℕ → ℕ) (o : ℕ → Option ℕ) (g : SameTasksRun s tr t n q d o) where
   -- in each of the ticks the earliest pending job is the one that was at first
-  order-in : (u i : ℕ) → u < n → i < length s.tasks → chosen s tr t n w d o i ≡ true → AreInOrder (d i) ((run s tr (t + u)).jobs i)
+  order-in : (u i : ℕ) → u < n → i < length s.tasks → chosen s tr t n q d o i ≡ true → AreInOrder (d i) ((run s tr (t + u)).jobs i)
   order-in u i less there passes =
-      let a = after s tr t n w d o g u less in
-      let h = chosen-pending s tr t n w d o g i there passes in
-      let l : u < left_at s tr t n w d o i = omega (arith, g.enough i there passes) in
-      let e = a.jobs i there ∙ cond-true (chosen s tr t n w d o i) _ _ passes in
-      rw e (ordered-more u (t + u) (d i) (jobs_at s tr t n w d o i) (g.ordered i there) h l)
+      let a = after s tr t n q d o g u less in
+      let h = chosen-pending s tr t n q d o g i there passes in
+      let l : u < left_at s tr t n q d o i = omega (arith, g.enough i there passes) in
+      let e = a.jobs i there ∙ cond-true (chosen s tr t n q d o i) _ _ passes in
+      rw e (ordered-more u (t + u) (d i) (jobs_at s tr t n q d o i) (g.ordered i there) h l)
 
   pub served-in : (r u : ℕ) → r < length s.resources → u < n → served_at s tr (t + u) r ≡ option_map (numbered d) (o r)
   served-in r u there less =
-      let a = after s tr t n w d o g u less in
-      served-is s tr (t + u) r (o r) (task s tr t n w d o g u less a r there)
+      let a = after s tr t n q d o g u less in
+      served-is s tr (t + u) r (o r) (task s tr t n q d o g u less a r there)
       ∙ numbered-agree (λ i. first_open ((run s tr (t + u)).jobs i)) d (o r)
       (λ i e.
-      let p = picked s tr t n w d o g r i there e in
-      let passes : chosen s tr t n w d o i ≡ true = passes-is o (task_at s i).res.0 r i p.on.here e in
+      let p = picked s tr t n q d o g r i there e in
+      let passes : chosen s tr t n q d o i ≡ true = passes-is o (task_at s i).res.0 r i p.on.here e in
       first-open (d i) ((run s tr (t + u)).jobs i) (order-in u i less p.on.task passes))
 
 -- ---- as the simulator has it
@@ -111,7 +111,7 @@ module _ (s : SystemLists) (tr : TraceLists) (can : CanRun s tr) (t : ℕ) (keep
   jump-ran r u there from before =
       let e : t + (u - t) ≡ u = omega arith in
       let g = same_tasks-run s tr can t keeping queues dispatches cursors at n ran jump in
-      let h = served-in s tr t n (waiting queues) (done_at s tr t) (λ r. runner (dispatch_at ran r)) g r (u - t) there (omega arith) in
+      let h = served-in s tr t n (ready s tr queues) (done_at s tr t) (λ r. runner (dispatch_at ran r)) g r (u - t) there (omega arith) in
       let h' : served_at s tr u r ≡ option_map (numbered (done_at s tr t)) (runner (dispatch_at ran r)) = rw e at h in
       h'
       ∙ (sym (numbered-agree (λ i. last_of (queue_at next_queues i) (dispatch_at next_dispatches r).ends) (done_at s tr t) (runner (dispatch_at ran r)) (λ i o. last-is r i there o))

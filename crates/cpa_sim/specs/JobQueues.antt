@@ -45,6 +45,10 @@ pub record IsQueue (queue : QueueCounts) : Type 0 where
 abbrev pub kept_of : QueueCounts → List Job
 kept_of queue = elim queue.kept [ None ↦ [] | Some jobs ↦ jobs ]
 
+-- when the earliest pending job arrived, where the jobs are kept
+abbrev pub arrival_of : QueueCounts → ℕ
+arrival_of queue = (slice_index_or (kept_of queue) queue.done no_job_seen).arrival
+
 -- what stands outside the lists
 abbrev pub no_queue : QueueCounts
 no_queue = record { count = 0; done = 0; left = 0; kept = None }

@@ -16,7 +16,7 @@ ghost use Rattle.cpa_sim.specs.JobQueues.{served_queue};
 ghost use Rattle.cpa_sim.specs.Orders.{AreOrders, AreReached};
 ghost use Rattle.cpa_sim.specs.Outcome.{CanReplay};
 ghost use Rattle.cpa_sim.specs.Run.{settled};
-ghost use Rattle.cpa_sim.specs.Simulation.{queue_at, dispatch_at, runner, runs_at, waiting, state_by, state_now, Foresees, HasEnough, IsServed, AreEnding};
+ghost use Rattle.cpa_sim.specs.Simulation.{queue_at, dispatch_at, runner, runs_at, waiting, ready, state_by, state_now, Foresees, HasEnough, IsServed, AreEnding};
 
 use crate::job_queues::{JobQueue, work};
 use cpa_model::System;
@@ -42,16 +42,18 @@ pub(crate) struct Dispatch {
     pub(crate) waiters: WaitingRange,
 }
 
-/// The tasks that wait.
+/// The tasks of a system, of which the step rules see who waits.
 #[derive(Clone, Copy)]
 pub(crate) struct Waiting<'a> {
+    pub(crate) system: &'a System,
+    pub(crate) trace: &'a Trace,
     pub(crate) queues: &'a [JobQueue],
 }
 
 impl Queue for Waiting<'_> {
-    ghost use Rattle.cpa_sim.specs.Simulation.{waiting};
+    ghost use Rattle.cpa_sim.specs.Simulation.{ready};
 
-    ghost waiting = { λ q i. waiting q.queues.now i };
+    ghost ready = { λ q. ready q.system.now q.trace.now q.queues.now };
 
     fn waits(&self, task: TaskId) -> bool {
         let place = task.0 as usize;
@@ -59,6 +61,15 @@ impl Queue for Waiting<'_> {
             self.queues[place].waits()
         } else {
             false
+        }
+    }
+
+    fn arrival(&self, task: TaskId) -> u64 {
+        let place = task.0 as usize;
+        if place < self.queues.len() {
+            self.queues[place].arrival()
+        } else {
+            0
         }
     }
 }
@@ -96,12 +107,16 @@ fn begin_now(
     requires frame { FrameWaits (kind_of system.now ranking.now.res.0) (seen state.old) (waiting queues.now) }
     requires some { 1 ≤ most }
     requires horizon { now + most ≤ HORIZON }
-    ensures stretch { (n : ℕ) → n < result.ticks → IsStretch system.now ranking.now.res.0 (seen state.old) (waiting queues.now) now (phase_of trace.now ranking.now.res.0) (n + 1) (option_map place_of result.task) (state_later (kind_of system.now ranking.now.res.0) (option_map place_of result.task) (seen state.new) n) }
+    ensures stretch { (n : ℕ) → n < result.ticks → IsStretch system.now ranking.now.res.0 (seen state.old) (ready system.now trace.now queues.now) now (phase_of trace.now ranking.now.res.0) (n + 1) (option_map place_of result.task) (state_later (kind_of system.now ranking.now.res.0) (option_map place_of result.task) (seen state.new) n) }
     ensures some { 1 ≤ result.ticks }
     ensures waiters { HasWaitingRange (places_of ranking.now.tasks.now) (waiting queues.now) waiters.new }
     ensures waits { IfSome result.task (λ t. IsWaiting system.now ranking.now.res.0 (waiting queues.now) t.0) }
 {
-    let queue = Waiting { queues };
+    let queue = Waiting {
+        system,
+        trace,
+        queues,
+    };
     let phase = trace.phase(ranking.res).min(MAX_PHASE);
     begin_within(system, ranking, waiters, state, &queue, now, phase, most)
 }
@@ -163,7 +178,7 @@ fn foresee(
     requires belongs { Belongs system.now ranking.now.res.0 (state_now (kind_of system.now ranking.now.res.0) dispatch.old) }
     requires frame { FrameWaits (kind_of system.now ranking.now.res.0) (state_now (kind_of system.now ranking.now.res.0) dispatch.old) (waiting queues.now) }
     requires horizon { now < HORIZON }
-    ensures foresees { Foresees system.now ranking.now.res.0 (state_now (kind_of system.now ranking.now.res.0) dispatch.old) (waiting queues.now) now (phase_of trace.now ranking.now.res.0) dispatch.new }
+    ensures foresees { Foresees system.now ranking.now.res.0 (state_now (kind_of system.now ranking.now.res.0) dispatch.old) (ready system.now trace.now queues.now) now (phase_of trace.now ranking.now.res.0) dispatch.new }
     ensures some { dispatch.new.gone < dispatch.new.ticks }
     ensures enough { HasEnough queues.now dispatch.new }
     ensures waiters { HasWaitingRange (places_of ranking.now.tasks.now) (waiting queues.now) dispatch.new.waiters }
@@ -203,9 +218,9 @@ fn foresee_more(
     requires belongs { Belongs system.now res.0 (state_now (kind_of system.now res.0) dispatch.old) }
     requires frame { FrameWaits (kind_of system.now res.0) (state_now (kind_of system.now res.0) dispatch.old) (waiting queues.now) }
     requires horizon { now < HORIZON }
-    requires foresees { Foresees system.now res.0 (state_now (kind_of system.now res.0) dispatch.old) (waiting queues.now) now (phase_of trace.now res.0) dispatch.old }
+    requires foresees { Foresees system.now res.0 (state_now (kind_of system.now res.0) dispatch.old) (ready system.now trace.now queues.now) now (phase_of trace.now res.0) dispatch.old }
     requires enough { HasEnough queues.now dispatch.old }
-    ensures foresees { Foresees system.now res.0 (state_now (kind_of system.now res.0) dispatch.old) (waiting queues.now) now (phase_of trace.now res.0) dispatch.new }
+    ensures foresees { Foresees system.now res.0 (state_now (kind_of system.now res.0) dispatch.old) (ready system.now trace.now queues.now) now (phase_of trace.now res.0) dispatch.new }
     ensures some { dispatch.new.gone < dispatch.new.ticks }
     ensures enough { HasEnough queues.now dispatch.new }
     ensures waiters { HasWaitingRange (places_of (listed (map (λ v. v.items) orders.now.items) res.0)) (waiting queues.now) dispatch.new.waiters }
@@ -237,13 +252,13 @@ pub(crate) fn foresee_all(
     requires dispatches { length dispatches.old.items ≡ length system.now.resources }
     requires belongs { (r : ℕ) → r < length system.now.resources → Belongs system.now r (state_now (kind_of system.now r) (dispatch_at dispatches.old.items r)) }
     requires frames { (r : ℕ) → r < length system.now.resources → FrameWaits (kind_of system.now r) (state_now (kind_of system.now r) (dispatch_at dispatches.old.items r)) (waiting queues.now) }
-    requires foresees { (r : ℕ) → r < length system.now.resources → Foresees system.now r (state_now (kind_of system.now r) (dispatch_at dispatches.old.items r)) (waiting queues.now) now (phase_of trace.now r) (dispatch_at dispatches.old.items r) }
+    requires foresees { (r : ℕ) → r < length system.now.resources → Foresees system.now r (state_now (kind_of system.now r) (dispatch_at dispatches.old.items r)) (ready system.now trace.now queues.now) now (phase_of trace.now r) (dispatch_at dispatches.old.items r) }
     requires enough { (r : ℕ) → r < length system.now.resources → HasEnough queues.now (dispatch_at dispatches.old.items r) }
     requires reached { AreReached system.now (map (λ v. v.items) orders.now.items) queues.now dispatches.old.items }
     requires some { 1 ≤ most }
     requires horizon { now < HORIZON }
     ensures count { length dispatches.new.items ≡ length system.now.resources }
-    ensures foresees { (r : ℕ) → r < length system.now.resources → Foresees system.now r (state_now (kind_of system.now r) (dispatch_at dispatches.old.items r)) (waiting queues.now) now (phase_of trace.now r) (dispatch_at dispatches.new.items r) }
+    ensures foresees { (r : ℕ) → r < length system.now.resources → Foresees system.now r (state_now (kind_of system.now r) (dispatch_at dispatches.old.items r)) (ready system.now trace.now queues.now) now (phase_of trace.now r) (dispatch_at dispatches.new.items r) }
     ensures enough { (r : ℕ) → r < length system.now.resources → HasEnough queues.now (dispatch_at dispatches.new.items r) }
     ensures reached { AreReached system.now (map (λ v. v.items) orders.now.items) queues.now dispatches.new.items }
     ensures some { 1 ≤ result }

@@ -3,7 +3,7 @@
 ghost use Rattle.std.specs.Prelude.{◌≡◌, ◌<◌, ◌≤◌, ◌+◌, ◌++◌, length, true, false, None, option_map, IfOk, OnOk, OnErr, IsOk, nat_le};
 ghost use Rattle.std.specs.List.{list_any};
 ghost use Rattle.cpa_units.specs.declared.limits.TheConstants.{HORIZON, MAX_TRACE_JOBS};
-ghost use Rattle.cpa_sim.specs.JobQueues.{QueueCounts, has_pending, empty_queue, kept_of, causes_of, new_seen, with_arrivals, completed_queue, shorter_queue, worked};
+ghost use Rattle.cpa_sim.specs.JobQueues.{QueueCounts, has_pending, arrival_of, empty_queue, kept_of, causes_of, new_seen, with_arrivals, completed_queue, shorter_queue, worked};
 ghost use Rattle.cpa_trace.specs.Trace.{need};
 ghost use Rattle.cpa_sim.specs.Outcome.{CanReplay};
 
@@ -111,6 +111,17 @@ impl JobQueue {
         ensures few { result ≤ MAX_TRACE_JOBS }
     {
         self.done
+    }
+
+    /// When the earliest pending job arrived, where jobs are kept.
+    pub(crate) fn arrival(&self) -> u64
+        requires { has_pending self.now ≡ true }
+        ensures { result ≡ arrival_of self.now }
+    {
+        match &self.kept {
+            None => 0,
+            Some(jobs) => jobs[self.done as usize].job().arrival,
+        }
     }
 
     /// The number of the job after the earliest pending one.

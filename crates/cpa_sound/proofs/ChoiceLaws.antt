@@ -7,7 +7,7 @@ use Rattle.cpa_model.specs.declared.entries.Kind.TheVariants.{Preemptive, RoundR
 use Rattle.cpa_model.specs.SystemLists.{SystemLists, task_at, cycle_of, tasks_on}
 use Rattle.cpa_trace.specs.Trace.{TraceLists, phase_of}
 use Rattle.cpa_sched.specs.Steps.{ResourceState, Choice, most_urgent, owner_at, if_waiting, region_of, within_region, preemptive_step, can_step, choose, kind_of, step}
-use Rattle.cpa_sim.specs.Run.{waits, is_chosen, choice_at, runs_in, ends_in, settled, run}
+use Rattle.cpa_sim.specs.Run.{waits, ready_at, is_chosen, choice_at, runs_in, ends_in, settled, run}
 use Rattle.cpa_sound.proofs.JobLaws.{waits-less, less-waits}
 use Rattle.cpa_sim.proofs.JobCount.{ended-suc, length-suc}
 use Rattle.cpa_sound.proofs.ArrivalLaws.{ends_in-is}
@@ -103,7 +103,7 @@ module _ (s : SystemLists) (tr : TraceLists) where
   chosen_at t r = (choice_at s tr t (run s tr t) r).task
 
   -- the choice by the rule of the kind
-  pub choice-by_kind : (t r : ℕ) (k : Kind) → kind_of s r ≡ k → choice_at s tr t (run s tr t) r ≡ choose s r k (state_at t r) (waiting_at t) t (phase_of tr r)
+  pub choice-by_kind : (t r : ℕ) (k : Kind) → kind_of s r ≡ k → choice_at s tr t (run s tr t) r ≡ choose s r k (state_at t r) (ready_at s tr (run s tr t).jobs) t (phase_of tr r)
   unfolding choice_at step
   choice-by_kind t r k e = rw e refl
 

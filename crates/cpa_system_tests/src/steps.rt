@@ -29,7 +29,7 @@ task = [
 "#;
 
 /// Two tasks by their priorities, the second with regions of 3 ticks.
-const REGIONS: &str = r#"format = 3
+const REGIONS: &str = r#"format = 4
 resource = [{ name = "r", kind = "preemptive" }]
 source = [{ name = "s", period = 100 }]
 task = [
@@ -38,14 +38,14 @@ task = [
 ]
 "#;
 
-/// The tasks that wait.
+/// The tasks that wait, all of whose jobs arrived at tick 0.
 #[derive(Drop)]
 struct Waiting([bool; 2]);
 
 impl Queue for Waiting {
     ghost use Rattle.std.specs.Prelude.{false, slice_index_or};
 
-    ghost waiting = { λ q i. slice_index_or q.0 i false };
+    ghost ready = { λ q. record { waits = λ i. slice_index_or q.0 i false; arrival = λ i. 0; received = λ i. 0 } };
 
     fn waits(&self, task: TaskId) -> bool {
         if task.0 < 2 {
@@ -54,12 +54,16 @@ impl Queue for Waiting {
             false
         }
     }
+
+    fn arrival(&self, _task: TaskId) -> u64 {
+        0
+    }
 }
 
 /// Whether the task of a frame or a region that has begun waits.
 fn frame_waits(system: &System, res: ResId, state: &ResState, queue: &Waiting) -> bool
     requires { res.0 < length system.now.resources }
-    ensures { result ≡ true → FrameWaits (kind_of system.now res.0) (seen state.now) (⟦<Waiting as Queue>⟧.waiting queue.now) }
+    ensures { result ≡ true → FrameWaits (kind_of system.now res.0) (seen state.now) (⟦<Waiting as Queue>⟧.ready queue.now).waits }
 {
     match (system.resource(res).kind, state.holder) {
         (Kind::Preemptive, Some(holder)) => queue.waits(holder),

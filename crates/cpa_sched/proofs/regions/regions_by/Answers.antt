@@ -10,7 +10,7 @@ use Rattle.cpa_sched.proofs.regions.regions_by.Goals as goal
 pub returns-clause-step : goal.returns-clause-step
 returns-clause-step g c =
     let s = c.args.system.now in
-    let urgent = most_urgent s (filter (g.Q.Queue.waiting c.args.queue.now) (tasks_on s c.args.ranking.now.res.0)) in
+    let urgent = most_urgent s (filter (g.Q.Queue.ready c.args.queue.now).waits (tasks_on s c.args.ranking.now.res.0)) in
     c.finish_region.ensures.step s urgent ∙ ap (λ o. preemptive_step s (seen c.args.state.now) (option_map place_of o) urgent) (sym c.in-Some.is)
 
 pub returns-clause-ticks : goal.returns-clause-ticks
@@ -23,5 +23,5 @@ returns-clause-ticks g c =
 pub begin_region-requires-clause-there : goal.begin_region-requires-clause-there
 begin_region-requires-clause-there g c =
     let s = c.args.system.now in
-    let w = g.Q.Queue.waiting c.args.queue.now in
+    let w = (g.Q.Queue.ready c.args.queue.now).waits in
     for-task (λ j. j < length s.tasks) c.first_waiting-urgent.result (λ j e. (urgent-on s c.args.ranking.now.res.0 w j (sym (c.first_waiting-urgent.ensures.first ∙ c.requires.ranking w) ∙ e)).on.task)

@@ -10,6 +10,6 @@ pub returns-clause-waits : goal.returns-clause-waits
 returns-clause-waits g c =
     let s = c.args.system.now in
     let o = option_map place_of c.stretch_by_kind.result.task in
-    for-task (IsWaiting s c.args.res.0 (g.Q.Queue.waiting c.args.queue.now)) c.stretch_by_kind.result.task
-    (stretch-waits s c.args.res.0 (seen c.args.state.now) (g.Q.Queue.waiting c.args.queue.now) c.args.tick c.args.phase 1
+    for-task (IsWaiting s c.args.res.0 (g.Q.Queue.ready c.args.queue.now).waits) c.stretch_by_kind.result.task
+    (stretch-waits s c.args.res.0 (seen c.args.state.now) (g.Q.Queue.ready c.args.queue.now) c.args.tick c.args.phase 1
     o (state_later (kind_of s c.args.res.0) o (seen c.stretch_by_kind.new.state) 0) (c.stretch_by_kind.ensures.stretch 0 (omega (arith, c.stretch_by_kind.ensures.some))) c.requires.belongs c.requires.frame (omega arith))

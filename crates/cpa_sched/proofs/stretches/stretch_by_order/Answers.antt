@@ -13,35 +13,35 @@ pub returns-in-Preemptive-clause-stretch : goal.returns-in-Preemptive-clause-str
 returns-in-Preemptive-clause-stretch g c n less =
     let s = c.args.system.now in
     let r = c.args.ranking.now.res.0 in
-    let w = g.Q.Queue.waiting c.args.queue.now in
+    let q = g.Q.Queue.ready c.args.queue.now in
     let kind : kind_of s r ≡ Preemptive = sym (ap (λ (x : Resource). x.kind) c.resource.ensures.value) ∙ c.in-Preemptive.is in
     let o = option_map place_of c.regions_by.result.task in
-    subst (λ k. IsStretch s r (seen c.args.state.now) w c.args.tick c.args.phase (n + 1) o (state_later k o (seen c.regions_by.new.state) n)) (sym kind)
-    (region-stretch s r w kind (seen c.args.state.now) (seen c.regions_by.new.state) c.args.tick c.args.phase o c.regions_by.ensures.step c.args.most n c.requires.belongs (subst (λ m. n < m) c.regions_by.ensures.ticks less))
+    subst (λ k. IsStretch s r (seen c.args.state.now) q c.args.tick c.args.phase (n + 1) o (state_later k o (seen c.regions_by.new.state) n)) (sym kind)
+    (region-stretch s r q kind (seen c.args.state.now) (seen c.regions_by.new.state) c.args.tick c.args.phase o c.regions_by.ensures.step c.args.most n c.requires.belongs (subst (λ m. n < m) c.regions_by.ensures.ticks less))
 
 pub returns-in-Preemptive-clause-length : goal.returns-in-Preemptive-clause-length
 returns-in-Preemptive-clause-length g c =
     let s = c.args.system.now in
     let r = c.args.ranking.now.res.0 in
-    let w = g.Q.Queue.waiting c.args.queue.now in
+    let q = g.Q.Queue.ready c.args.queue.now in
     let kind : kind_of s r ≡ Preemptive = sym (ap (λ (x : Resource). x.kind) c.resource.ensures.value) ∙ c.in-Preemptive.is in
     let o = option_map place_of c.regions_by.result.task in
-    region-long s r w kind (seen c.args.state.now) (seen c.regions_by.new.state) c.args.tick c.args.phase o c.regions_by.ensures.step c.args.most c.regions_by.result.ticks c.regions_by.ensures.ticks
+    region-long s r q kind (seen c.args.state.now) (seen c.regions_by.new.state) c.args.tick c.args.phase o c.regions_by.ensures.step c.args.most c.regions_by.result.ticks c.regions_by.ensures.ticks
 
 pub returns-in-Can-clause-stretch : goal.returns-in-Can-clause-stretch
 returns-in-Can-clause-stretch g c n less =
     let s = c.args.system.now in
     let r = c.args.ranking.now.res.0 in
-    let w = g.Q.Queue.waiting c.args.queue.now in
+    let q = g.Q.Queue.ready c.args.queue.now in
     let kind : kind_of s r ≡ Can c.in-Can.bit = sym (ap (λ (x : Resource). x.kind) c.resource.ensures.value) ∙ c.in-Can.is in
     let o = option_map place_of c.frame_by.result in
-    subst (λ k. IsStretch s r (seen c.args.state.now) w c.args.tick c.args.phase (n + 1) o (state_later k o (seen c.frame_by.new.state) n)) (sym kind)
-    (frame-stretch s r w (seen c.args.state.now) c.args.tick c.args.phase c.in-Can.bit n (option_map place_of c.frame_by.result) (seen c.frame_by.new.state) kind (c.frame_by.ensures.step ∙ ap (can_step (seen c.args.state.now) (seen c.args.state.now).holder) (c.requires.ranking w)))
+    subst (λ k. IsStretch s r (seen c.args.state.now) q c.args.tick c.args.phase (n + 1) o (state_later k o (seen c.frame_by.new.state) n)) (sym kind)
+    (frame-stretch s r q (seen c.args.state.now) c.args.tick c.args.phase c.in-Can.bit n (option_map place_of c.frame_by.result) (seen c.frame_by.new.state) kind (c.frame_by.ensures.step ∙ ap (can_step (seen c.args.state.now) (seen c.args.state.now).holder) (c.requires.ranking q.waits)))
 
 pub returns-in-Can-clause-length : goal.returns-in-Can-clause-length
 returns-in-Can-clause-length g c =
     let s = c.args.system.now in
     let r = c.args.ranking.now.res.0 in
-    let w = g.Q.Queue.waiting c.args.queue.now in
+    let q = g.Q.Queue.ready c.args.queue.now in
     let kind : kind_of s r ≡ Can c.in-Can.bit = sym (ap (λ (x : Resource). x.kind) c.resource.ensures.value) ∙ c.in-Can.is in
-    frame-long s r w (seen c.args.state.now) c.args.tick c.args.phase c.in-Can.bit c.args.most kind
+    frame-long s r q (seen c.args.state.now) c.args.tick c.args.phase c.in-Can.bit c.args.most kind

@@ -5,7 +5,7 @@ use Rattle.cpa_trace.specs.Trace.{phase_of}
 use Rattle.cpa_sched.specs.Steps.{kind_of}
 use Rattle.cpa_sched.specs.States.{seen}
 use Rattle.cpa_sched.specs.Stretches.{state_later}
-use Rattle.cpa_sim.specs.Simulation.{waiting}
+use Rattle.cpa_sim.specs.Simulation.{ready}
 use Rattle.cpa_sim.proofs.StretchLaws.{stretch-phase}
 use Rattle.cpa_sim.proofs.dispatches.begin_now.Goals as goal
 
@@ -15,4 +15,4 @@ returns-clause-stretch c = λ n less.
     let r = c.args.ranking.now.res.0 in
     let counts : (gap : ℕ) → kind_of s r ≡ Tdma gap → 0 < length (tasks_on s r) → c.min-phase.result ≡ phase_of c.args.trace.now r = λ gap kind some. omega (arith, c.requires.can.phases r gap kind some, c.phase.ensures, c.min-phase.ensures) in
     let o = option_map place_of c.begin_within.result.task in
-    stretch-phase s r (waiting c.args.queues.now) c.min-phase.result (phase_of c.args.trace.now r) counts (seen c.args.state.now) c.args.now (n + 1) o (state_later (kind_of s r) o (seen c.begin_within.new.state) n) (c.begin_within.ensures.stretch n less)
+    stretch-phase s r c.min-phase.result (phase_of c.args.trace.now r) counts (ready s c.args.trace.now c.args.queues.now) (seen c.args.state.now) c.args.now o (n + 1) (state_later (kind_of s r) o (seen c.begin_within.new.state) n) (c.begin_within.ensures.stretch n less)

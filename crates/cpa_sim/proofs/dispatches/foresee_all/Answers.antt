@@ -6,7 +6,7 @@ use Rattle.cpa_sim.specs.Arrivals.{listed}
 use Rattle.cpa_trace.specs.Trace.{phase_of}
 use Rattle.cpa_sched.specs.Steps.{kind_of}
 use Rattle.cpa_sim.specs.declared.dispatches.Dispatch.{Dispatch}
-use Rattle.cpa_sim.specs.Simulation.{dispatch_at, no_dispatch, waiting, state_now, Foresees, HasEnough}
+use Rattle.cpa_sim.specs.Simulation.{dispatch_at, no_dispatch, waiting, ready, state_now, Foresees, HasEnough}
 use Rattle.cpa_sim.proofs.PlaceLaws.{below-more, above-same, came-back}
 use Rattle.cpa_sim.proofs.dispatches.foresee_all.Goals as goal
 
@@ -55,7 +55,7 @@ foresee_more-requires-clause-foresees c =
     let k = c.loop-k.k in
     let count = ap length c.deref_mut-dispatch-items.ensures.value ∙ c.requires.dispatches in
     let less : k < length s.resources = omega (arith, c.loop-k-test.true, count) in
-    subst (λ (x : Dispatch). Foresees s k (state_now (kind_of s k) x) (waiting c.args.queues.now) c.args.now (phase_of c.args.trace.now k) x) (sym (c.loop-k.invariant.same k (omega arith))) (c.requires.foresees k less)
+    subst (λ (x : Dispatch). Foresees s k (state_now (kind_of s k) x) (ready s c.args.trace.now c.args.queues.now) c.args.now (phase_of c.args.trace.now k) x) (sym (c.loop-k.invariant.same k (omega arith))) (c.requires.foresees k less)
 
 pub foresee_more-requires-clause-enough : goal.foresee_more-requires-clause-enough
 foresee_more-requires-clause-enough c =
@@ -76,8 +76,8 @@ loop-k-preserved c =
     record {
       some = omega (arith, c.loop-k.invariant.some, c.foresee_more.ensures.some, c.min-ticks.ensures);
       most = omega (arith, c.loop-k.invariant.most, c.min-ticks.ensures);
-      foresees = below-more (λ r (x : Dispatch). Foresees s r (state_now (kind_of s r) (dispatch_at old r)) (waiting c.args.queues.now) c.args.now (phase_of c.args.trace.now r) x) dispatches k dispatch no_dispatch there c.loop-k.invariant.foresees
-          (subst (λ (x : Dispatch). Foresees s k (state_now (kind_of s k) x) (waiting c.args.queues.now) c.args.now (phase_of c.args.trace.now k) dispatch) here c.foresee_more.ensures.foresees);
+      foresees = below-more (λ r (x : Dispatch). Foresees s r (state_now (kind_of s r) (dispatch_at old r)) (ready s c.args.trace.now c.args.queues.now) c.args.now (phase_of c.args.trace.now r) x) dispatches k dispatch no_dispatch there c.loop-k.invariant.foresees
+          (subst (λ (x : Dispatch). Foresees s k (state_now (kind_of s k) x) (ready s c.args.trace.now c.args.queues.now) c.args.now (phase_of c.args.trace.now k) dispatch) here c.foresee_more.ensures.foresees);
       enough = below-more (λ r (x : Dispatch). HasEnough c.args.queues.now x) dispatches k dispatch no_dispatch there c.loop-k.invariant.enough c.foresee_more.ensures.enough;
       reached = below-more (λ r (x : Dispatch). HasWaitingRange (places_of (listed (map (λ v. v.items) c.args.orders.now.items) r)) (waiting c.args.queues.now) x.waiters) dispatches k dispatch no_dispatch there c.loop-k.invariant.reached c.foresee_more.ensures.waiters;
       fits = below-more (λ r (x : Dispatch). x.gone + c.min-ticks.result ≤ x.ticks) dispatches k dispatch no_dispatch there (λ r less. omega (arith, c.loop-k.invariant.fits r less, c.min-ticks.ensures)) (omega (arith, c.min-ticks.ensures, c.foresee_more.ensures.some));
