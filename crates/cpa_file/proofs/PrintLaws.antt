@@ -21,7 +21,7 @@ use Rattle.cpa_model.specs.declared.entries.Turn.{Turn}
 use Rattle.cpa_model.specs.declared.entries.Turn.TheVariants.{Priority, Slot}
 use Rattle.cpa_model.specs.SystemLists.{SystemLists, task_at, activator_name}
 use Rattle.cpa_file.specs.declared.format.Format.{Format}
-use Rattle.cpa_file.specs.declared.format.Format.TheVariants.{One, Two, Three}
+use Rattle.cpa_file.specs.declared.format.Format.TheVariants.{One, Two, Four}
 use Rattle.cpa_file.specs.Fields.{required, optional, has_only}
 use Rattle.cpa_file.specs.Formats.{has_lists}
 use Rattle.cpa_file.specs.Lists.{read_all}
@@ -82,15 +82,15 @@ unfolding task_entry task_fields task_data task_names_data required optional has
 plain_by format s t (Priority number) plain after = rw (plain, after) refl
 plain_by format s t (Slot ticks) plain after = rw (plain, after) refl
 
--- and one with a region in format 3
-region_by : (s : SystemLists) (t : Task) (turn : Turn) → has_no_region t ≡ false → let u : Task = record t { turn = turn } in task_entry Three (task_data s u) ≡ Some (redraft_task s u)
+-- and one with a region in format 4
+region_by : (s : SystemLists) (t : Task) (turn : Turn) → has_no_region t ≡ false → let u : Task = record t { turn = turn } in task_entry Four (task_data s u) ≡ Some (redraft_task s u)
 unfolding task_entry task_fields task_data task_names_data required optional has_only
 region_by s t (Priority number) region = rw (region, list-printed s t.after) refl
 region_by s t (Slot ticks) region = rw (region, list-printed s t.after) refl
 
-task-printed : (s : SystemLists) (t : Task) → task_entry Three (task_data s t) ≡ Some (redraft_task s t)
+task-printed : (s : SystemLists) (t : Task) → task_entry Four (task_data s t) ≡ Some (redraft_task s t)
 task-printed s t = elim (cases_Bool (has_no_region t)) [
-  | inl plain ↦ plain_by Three s t t.turn plain (list-printed s t.after)
+  | inl plain ↦ plain_by Four s t t.turn plain (list-printed s t.after)
   | inr region ↦ region_by s t t.turn region
 ]
 
@@ -149,7 +149,7 @@ draft_of-printed s = elim (cases_Bool (list_all has_no_region s.tasks)) [
         regions,
         read_all-printed resource_entry resource_data redraft_resource resource-printed 1 s.resources,
         read_all-printed source_entry source_data redraft_source source-printed 1 s.sources,
-        read_all-printed (task_entry Three) (task_data s) (redraft_task s) (task-printed s) 1 s.tasks,
+        read_all-printed (task_entry Four) (task_data s) (redraft_task s) (task-printed s) 1 s.tasks,
         read_all-printed path_entry (path_data s) (redraft_path s) (path-printed s) 1 s.paths,
       )
       refl

@@ -2,21 +2,21 @@
 use Rattle.std.specs.Prelude.{ℤ, Bool, true, false, Option, Some, None, if◌then◌else◌}
 use Rattle.cpa_draft.specs.Numbers.{is_within}
 use Rattle.cpa_file.specs.declared.format.Format.{Format}
-use Rattle.cpa_file.specs.declared.format.Format.TheVariants.{One, Two, Three}
+use Rattle.cpa_file.specs.declared.format.Format.TheVariants.{One, Two, Four}
 
 -- the format with a number, and 1 where none has it
 abbrev pub format_with : Option ℤ → Format
 format_with None = One
-format_with (Some z) = if is_within 2 2 z then Two else if is_within 3 3 z then Three else One
+format_with (Some z) = if is_within 2 2 z then Two else if is_within 4 4 z then Four else One
 
 -- from format 2 on a task may have a list of activators
 abbrev pub has_lists : Format → Bool
 has_lists One = false
 has_lists Two = true
-has_lists Three = true
+has_lists Four = true
 
--- in format 3 a task may have a region
+-- in format 4 a task may have a region
 abbrev pub has_regions : Format → Bool
 has_regions One = false
 has_regions Two = false
-has_regions Three = true
+has_regions Four = true

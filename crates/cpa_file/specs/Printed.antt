@@ -93,7 +93,7 @@ has_no_region t = t.region == 1
 abbrev pub format_of : SystemLists → ℕ
 format_of s =
     if list_all has_no_region s.tasks then (if list_all has_one s.tasks then 1 else 2)
-    else 3
+    else 4
 
 -- the document
 unfoldable pub system_data : SystemLists → Data

@@ -11,7 +11,7 @@ pub enum Format {
     /// Tasks with several activators.
     Two,
     /// Tasks with regions.
-    Three,
+    Four,
 }
 
 impl Format {
@@ -24,8 +24,8 @@ impl Format {
             Some(number) => {
                 if number == 2 {
                     Format::Two
-                } else if number == 3 {
-                    Format::Three
+                } else if number == 4 {
+                    Format::Four
                 } else {
                     Format::One
                 }
@@ -40,7 +40,7 @@ impl Format {
         match self {
             Format::One => false,
             Format::Two => true,
-            Format::Three => true,
+            Format::Four => true,
         }
     }
 
@@ -51,7 +51,7 @@ impl Format {
         match self {
             Format::One => false,
             Format::Two => false,
-            Format::Three => true,
+            Format::Four => true,
         }
     }
 }

@@ -303,7 +303,7 @@ fn format_of(system: &System) -> u64
     ensures { result ≡ format_of system.now }
 {
     if !have_no_region(system) {
-        3
+        4
     } else if have_one(system) {
         1
     } else {

@@ -42,7 +42,7 @@ fn has_other_format(number: Option<i64>) -> bool
 {
     match number {
         None => false,
-        Some(number) => number < 1 || 3 < number,
+        Some(number) => (number < 1 || 2 < number) && number != 4,
     }
 }
 

@@ -6,7 +6,7 @@ summary tasks 2 overload 0 missed 0
 ";
 
 /// Three tasks of a processor, of which the lower two have regions.
-pub const REGIONS: &str = r#"format = 3
+pub const REGIONS: &str = r#"format = 4
 resource = [{ name = "cpu", kind = "preemptive" }]
 source = [{ name = "sa", period = 10 }, { name = "sb", period = 20, jitter = 5 }, { name = "sc", period = 40 }]
 task = [
@@ -26,7 +26,7 @@ summary tasks 3 overload 0 missed 0
 pub const REGIONS_TRACE: &str = "event,sc,0\nevent,sb,1\nevent,sa,2\n";
 
 /// The same with a deadline for each task, which only this order meets. `c` has four ticks to spare.
-pub const REGIONS_IN_TIME: &str = r#"format = 3
+pub const REGIONS_IN_TIME: &str = r#"format = 4
 resource = [{ name = "cpu", kind = "preemptive" }]
 source = [{ name = "sa", period = 10 }, { name = "sb", period = 20, jitter = 5 }, { name = "sc", period = 40 }]
 task = [
@@ -98,7 +98,7 @@ task = [
 "#;
 
 /// The two tasks in a format that isn't known.
-pub const OTHER_FORMAT: &str = r#"format = 4
+pub const OTHER_FORMAT: &str = r#"format = 3
 resource = [{ name = "cpu", kind = "preemptive" }]
 source = [{ name = "sa", period = 10 }, { name = "sb", period = 20 }]
 task = [

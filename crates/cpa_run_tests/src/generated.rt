@@ -60,7 +60,7 @@ pub const HAMMERED: [Call; 5] = [
     ),
     (
         &["hammer", "sys", "1", "1"],
-        &[("sys", "format = 4")],
+        &[("sys", "format = 3")],
         14,
         &["system refused reason 13 file 0\n"],
     ),

@@ -24,9 +24,9 @@ const OTHER_FORMS: [Refused; 51] = [
     ("format = 1\nsource = \"s\"", 1, Part::File, 0),
     ("format = 1\ntask = {}", 1, Part::File, 0),
     ("format = 1\n[path]", 1, Part::File, 0),
-    ("format = 4", 13, Part::File, 0),
+    ("format = 3", 13, Part::File, 0),
     ("format = 2\nspeed = 1", 1, Part::File, 0),
-    ("format = 3\nregion = 1", 1, Part::File, 0),
+    ("format = 4\nregion = 1", 1, Part::File, 0),
     ("format = 0\nspeed = 1\nresource = 3", 13, Part::File, 0),
     ("format = 1\nresource = [3]", 1, Part::Resource, 1),
     (
@@ -182,13 +182,13 @@ const OTHER_FORMS: [Refused; 51] = [
         1,
     ),
     (
-        "format = 3\ntask = [{ name = \"t\", on = \"r\", after = \"s\", best = 1, worst = 1, region = \"1\" }]",
+        "format = 4\ntask = [{ name = \"t\", on = \"r\", after = \"s\", best = 1, worst = 1, region = \"1\" }]",
         1,
         Part::Task,
         1,
     ),
     (
-        "format = 3\ntask = [{ name = \"t\", on = \"r\", after = [\"s\"], best = 1, worst = 1, region = 1 }]",
+        "format = 4\ntask = [{ name = \"t\", on = \"r\", after = [\"s\"], best = 1, worst = 1, region = 1 }]",
         5,
         Part::Task,
         1,
@@ -264,7 +264,7 @@ const REFUSED: [(&str, &[Refused]); 5] = [
         "format = 2",
         &[
             ("format = 1", 1, Part::Task, 1),
-            ("format = 4", 13, Part::File, 0),
+            ("format = 3", 13, Part::File, 0),
         ],
     ),
 ];
@@ -406,12 +406,12 @@ fn refuses_other_bytes(rt: HostRuntime) -> Result<(), Fail> {
 const READ_BACK: [(&str, &str, u32, u32); 17] = [
     ("format = 1", "format = 1\n", 0, 0),
     ("format = 2", "format = 1\n", 0, 0),
-    ("format = 3", "format = 1\n", 0, 0),
+    ("format = 4", "format = 1\n", 0, 0),
     (TWO_TASKS, "format = 1\n", 2, 0),
     (TWO_TASKS_LATER, "format = 1\n", 2, 0),
     (TWO_ACTIVATORS, "format = 2\n", 2, 1),
     (SHARED_SOURCE, "format = 2\n", 3, 0),
-    (COOPERATIVE, "format = 3\n", 3, 0),
+    (COOPERATIVE, "format = 4\n", 3, 0),
     (LONG_WINDOW, "format = 1\n", 2, 0),
     (DAVIS_BUS, "format = 1\n", 3, 1),
     (FRAME_LENGTHS, "format = 1\n", 2, 0),
@@ -448,9 +448,9 @@ fn prints_and_reads_back(rt: HostRuntime) -> Result<(), Fail> {
     Ok(())
 }
 
-/// Regions are read in format 3 alone, on preemptive resources, and in their range.
+/// Regions are read in format 4 alone, on preemptive resources, and in their range.
 const REGIONS: [(&str, Refused); 6] = [
-    ("format = 3", ("format = 2", 1, Part::Task, 2)),
+    ("format = 4", ("format = 2", 1, Part::Task, 2)),
     ("region = 2", ("region = 0", 2, Part::Task, 2)),
     ("region = 2", ("region = 1000001", 2, Part::Task, 2)),
     ("region = 2", ("region = \"2\"", 1, Part::Task, 2)),

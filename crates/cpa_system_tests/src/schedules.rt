@@ -34,7 +34,7 @@ const HELD: [(&str, &str); 10] = [
     ("two_tr", "event,sa,0\nevent,sb,0\n"),
     ("none", "format = 1\n"),
     ("bad", "x"),
-    ("other", "format = 4\n"),
+    ("other", "format = 3\n"),
     ("empty", ""),
 ];
 

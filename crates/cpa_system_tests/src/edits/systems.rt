@@ -20,7 +20,7 @@ path = [{ name = "p", tasks = ["k", "f"] }]
 "#;
 
 /// Two tasks with regions and one without, none of which another needs.
-pub(crate) const COOPERATIVE: &str = r#"format = 3
+pub(crate) const COOPERATIVE: &str = r#"format = 4
 resource = [{ name = "cpu", kind = "preemptive", limit = 1000 }]
 source = [{ name = "s", period = 40 }]
 task = [

@@ -40,7 +40,7 @@ task = [
 ";
 
 /// One task has a region of two ticks; that of the third is the default.
-pub(crate) const COOPERATIVE: &str = "format = 3
+pub(crate) const COOPERATIVE: &str = "format = 4
 resource = [{ name = \"cpu\", kind = \"preemptive\" }]
 source = [{ name = \"s\", period = 40 }]
 task = [
