@@ -5,18 +5,18 @@ import tomllib
 import check_runs as rules
 
 NAME = re.compile(r"[A-Za-z0-9_.-]{1,64}")
-KEYS = {"name", "tasks", "reaction", "age"}
+KEYS = {"name", "tasks", "reaction", "age", "held"}
 MOST_TASKS, MOST_CHAINS, MOST_TICKS = 32, 128, 1_000_000_000
 
 
-def row_of(name, tasks, reaction, age):
-    both = (("reaction", reaction), ("age", age))
+def row_of(name, tasks, reaction, age, held):
+    both = (("reaction", reaction), ("age", age), ("held", held))
     limits = "".join(f", {key} = {ticks}" for key, ticks in both if ticks is not None)
     return f'  {{ name = "{name}", tasks = {rules.quoted(tasks)}{limits} }},'
 
 
 def text_of(chains):
-    """A file of chains, each a name, its tasks and its deadlines of reaction and age."""
+    """A file of chains, each a name, its tasks and its deadlines of reaction, age and held."""
     return "\n".join(["format = 1", "chain = [", *(row_of(*it) for it in chains), "]"]) + "\n"
 
 
@@ -26,7 +26,7 @@ def has_form(entry):
         return False
     tasks = entry.get("tasks")
     is_list = isinstance(tasks, list) and all(isinstance(it, str) for it in tasks)
-    return is_list and all(type(entry.get(key, 0)) is int for key in ("reaction", "age"))
+    return is_list and all(type(entry.get(key, 0)) is int for key in ("reaction", "age", "held"))
 
 
 def first(entries, is_wrong):
@@ -50,7 +50,7 @@ def refusal_of(text, names):
         return 1, place
     known = [it["name"] for it in entries]
     wrong = {
-        2: lambda it: any(not 1 <= it.get(key, 1) <= MOST_TICKS for key in ("reaction", "age")),
+        2: lambda it: any(not 1 <= it.get(key, 1) <= MOST_TICKS for key in ("reaction", "age", "held")),
         3: lambda it: not NAME.fullmatch(it["name"]),
         4: lambda it: known.index(it["name"]) < next(k for k, other in enumerate(entries) if other is it),
         5: lambda it: any(name not in names for name in it["tasks"]),
@@ -69,7 +69,7 @@ def damaged(draw, chains):
     for _ in range(draw.choice((1, 1, 2))):
         kind = draw.randrange(12)
         if kind == 0:
-            it[2 + draw.randrange(2)] = draw.choice((0, -1, MOST_TICKS, MOST_TICKS + 1, 1 << 62))
+            it[2 + draw.randrange(3)] = draw.choice((0, -1, MOST_TICKS, MOST_TICKS + 1, 1 << 62))
         elif kind == 1:
             it[0] = draw.choice(("", "a b", "x" * 64, "x" * 65, "A-z_0.9", "ä"))
         elif kind == 2:
@@ -80,7 +80,7 @@ def damaged(draw, chains):
             it[1] = draw.choice(([], list(it[1]) * 40, (list(it[1]) * 32)[:32]))
         elif kind == 5:
             count = draw.choice((MOST_CHAINS, MOST_CHAINS - len(chains)))
-            chains += [[f"more{k}", list(it[1]), None, None] for k in range(count)]
+            chains += [[f"more{k}", list(it[1]), None, None, None] for k in range(count)]
         else:
             text = edited(draw, text or text_of(chains), kind)
     return text or text_of(chains)

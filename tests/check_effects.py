@@ -80,7 +80,7 @@ class Programs:
         listed = [(f"c{k}", tasks, *deadlines(draw, bounds, tasks)) for k, tasks in enumerate(chains)]
         self.judge(system, chain_files.text_of(listed), told_chains(bounds, listed))
         tally["files of chains"] += 1
-        tally["verdicts"] += 2 * len(listed)
+        tally["verdicts"] += 3 * len(listed)
         for _ in range(3):
             text = chain_files.damaged(draw, listed)
             refusal = chain_files.refusal_of(text, bounds.rules.tasks)
@@ -115,8 +115,8 @@ class Programs:
 
 
 def deadlines(draw, bounds, tasks):
-    """Deadlines of reaction and age: none, or near the bound."""
-    for bound in (bounds.reaction(tasks), bounds.age(tasks)):
+    """Deadlines of reaction, age and held: none, or near the bound."""
+    for bound in (bounds.reaction(tasks), bounds.age(tasks), bounds.held(tasks)):
         near = 50 if bound == OVERLOAD else bound
         yield draw.choice((None, near, max(1, near - 1), near + 1, draw.randint(1, 2 * near)))
 

@@ -12,6 +12,8 @@ import check_runs as rules
 
 OVERLOAD = compare.OVERLOAD
 ASKED = ("reaction", "age", "held")
+# what the bounds presume, at the end of a text
+PREMISE = " if sources stay near\n"
 # when a job reads: as it comes, as it starts, as it is done, at any time in between, or in any tick in which it runs
 READINGS = ("arrival", "start", "end", "whenever", "running")
 
@@ -128,11 +130,6 @@ class Bounds:
         response = 0 if kind in ("above", "same-source") else self.bound[before]
         return response + (self.wait(name) if kind in ("register", "above") else 0)
 
-    def backward(self, before, name, while_running):
-        kind = self.kind(before, name, while_running)
-        response = 0 if kind in ("above", "same-source") else self.bound[before]
-        return response + (0 if kind in ("activation", "same-source") else self.wait(before))
-
     def latency(self, chain, while_running=""):
         return sum(self.forward(*it, while_running) for it in zip(chain, chain[1:])) + self.bound[chain[-1]]
 
@@ -140,10 +137,17 @@ class Bounds:
         return self.wait(chain[0]) + self.latency(chain, while_running)
 
     def age(self, chain, while_running=""):
-        return sum(self.backward(*it, while_running) for it in zip(chain, chain[1:])) + self.bound[chain[-1]]
+        # how long after the first job one of the task comes that has its data, and what overwrites that
+        old, renewed = 0, self.wait(chain[0])
+        for before, name in zip(chain, chain[1:]):
+            kind = self.kind(before, name, while_running)
+            response = 0 if kind in ("above", "same-source") else self.bound[before]
+            old = (old if kind in ("activation", "same-source") else renewed) + response
+            renewed += self.forward(before, name, while_running)
+        return old + self.bound[chain[-1]]
 
     def held(self, chain, while_running=""):
-        return self.age(chain, while_running) + self.wait(chain[-1])
+        return self.reaction(chain, while_running)
 
     def limits(self, chain, while_running=""):
         return {what: getattr(self, what)(chain, while_running) for what in ("latency", *ASKED)}
@@ -156,7 +160,9 @@ class Bounds:
             rows.append(f"step {name} {kind} wait {said(self.wait(name))} response {said(self.bound[name])}\n")
         limits = self.limits(chain, while_running)
         word = "chain while-running" if while_running else "chain"
-        rows.append(f"{word} tasks {len(chain)} " + " ".join(f"{what} {said(limits[what])}" for what in ASKED) + "\n")
+        rows.append(
+            f"{word} tasks {len(chain)} " + " ".join(f"{what} {said(limits[what])}" for what in ASKED) + PREMISE
+        )
         return "".join(rows), 2 if OVERLOAD in limits.values() else 0
 
 
@@ -165,15 +171,17 @@ def verdict(bound, deadline):
 
 
 def told_chains(bounds, chains):
-    """What `chains` writes of chains, each a name, its tasks and its deadlines of reaction and age, and its status."""
+    """What `chains` writes of chains, each a name, its tasks and its deadlines of reaction, age and held, and its
+    status."""
     lines, missed, overload = [], 0, 0
-    for name, tasks, reaction, age in chains:
-        found = [(bounds.reaction(tasks), reaction), (bounds.age(tasks), age)]
+    for name, tasks, reaction, age, held in chains:
+        found = [(bounds.reaction(tasks), reaction), (bounds.age(tasks), age), (bounds.held(tasks), held)]
         words = [f"{said(it[0])} deadline {'-' if it[1] is None else it[1]} {verdict(*it)}" for it in found]
-        lines.append(f"chain {name} tasks {len(tasks)} reaction {words[0]} age {words[1]}\n")
+        lines.append(f"chain {name} tasks {len(tasks)} reaction {words[0]} age {words[1]}")
+        lines[-1] += "\n" if held is None else f" held {words[2]}\n"
         missed += any(verdict(*it) == "missed" for it in found)
         overload += any(bound == OVERLOAD for bound, _ in found)
-    lines.append(f"summary chains {len(chains)} overload {overload} missed {missed}\n")
+    lines.append(f"summary chains {len(chains)} overload {overload} missed {missed}{PREMISE}")
     return "".join(lines), 2 if overload else 1 if missed else 0
 
 

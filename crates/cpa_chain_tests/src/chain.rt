@@ -57,7 +57,7 @@ const HELD: [(&str, &str); 7] = [
     ("endless", ENDLESS),
     ("none", "format = 1\n"),
     ("bad", "x"),
-    ("other", "format = 4\n"),
+    ("other", "format = 3\n"),
 ];
 
 /// The numbers of the loads that fail, how many bytes the sink takes at once, and the numbers of the puts that fail.
@@ -72,20 +72,20 @@ const CALLS: [(Faults, &[&str], u8, &str); 23] = [
         NONE,
         &["--while-running", "sys", "sense", "filter", "act"],
         0,
-        "step sense first wait 9 response 3\nstep filter above wait 19 response 7\nstep act activation wait 24 response 9\nchain while-running tasks 3 reaction 44 age 25 held 49\n",
+        "step sense first wait 9 response 3\nstep filter above wait 19 response 7\nstep act activation wait 24 response 9\nchain while-running tasks 3 reaction 44 age 25 held 44 if sources stay near\n",
     ),
     // One source: the step costs nothing where jobs read while they run, and a response and a wait where they don't.
     (
         NONE,
         &["shared", "a", "b", "--while-running"],
         0,
-        "step a first wait 9 response 2\nstep b same-source wait 9 response 5\nchain while-running tasks 2 reaction 14 age 5 held 14\n",
+        "step a first wait 9 response 2\nstep b same-source wait 9 response 5\nchain while-running tasks 2 reaction 14 age 5 held 14 if sources stay near\n",
     ),
     (
         NONE,
         &["shared", "a", "b"],
         0,
-        "step a first wait 9 response 2\nstep b register wait 9 response 5\nchain tasks 2 reaction 25 age 16 held 25\n",
+        "step a first wait 9 response 2\nstep b register wait 9 response 5\nchain tasks 2 reaction 25 age 16 held 25 if sources stay near\n",
     ),
     (
         NONE,
@@ -103,38 +103,38 @@ const CALLS: [(Faults, &[&str], u8, &str); 23] = [
         NONE,
         &["sys", "sense", "filter", "act"],
         0,
-        "step sense first wait 9 response 3\nstep filter register wait 19 response 7\nstep act activation wait 24 response 9\nchain tasks 3 reaction 47 age 28 held 52\n",
+        "step sense first wait 9 response 3\nstep filter register wait 19 response 7\nstep act activation wait 24 response 9\nchain tasks 3 reaction 47 age 28 held 47 if sources stay near\n",
     ),
     (
         NONE,
         &["sys", "act"],
         0,
-        "step act first wait 24 response 9\nchain tasks 1 reaction 33 age 9 held 33\n",
+        "step act first wait 24 response 9\nchain tasks 1 reaction 33 age 9 held 33 if sources stay near\n",
     ),
     // A task that reads what it wrote itself.
     (
         NONE,
         &["sys", "sense", "sense"],
         0,
-        "step sense first wait 9 response 3\nstep sense register wait 9 response 3\nchain tasks 2 reaction 24 age 15 held 24\n",
+        "step sense first wait 9 response 3\nstep sense register wait 9 response 3\nchain tasks 2 reaction 24 age 15 held 24 if sources stay near\n",
     ),
     (
         NONE,
         &["merge", "a", "b", "m"],
         0,
-        "step a first wait 13 response 2\nstep b merge wait 14 response 10\nstep m activation wait 23 response 5\nchain tasks 3 reaction 30 age 30 held 53\n",
+        "step a first wait 13 response 2\nstep b merge wait 14 response 10\nstep m activation wait 23 response 5\nchain tasks 3 reaction 30 age 30 held 30 if sources stay near\n",
     ),
     (
         NONE,
         &["merge", "m", "a"],
         0,
-        "step m first wait 23 response 5\nstep a register wait 13 response 2\nchain tasks 2 reaction 43 age 30 held 43\n",
+        "step m first wait 23 response 5\nstep a register wait 13 response 2\nchain tasks 2 reaction 43 age 30 held 43 if sources stay near\n",
     ),
     (
         NONE,
         &["endless", "a", "c"],
         2,
-        "step a first wait 9 response 8\nstep c register wait overload response overload\nchain tasks 2 reaction overload age overload held overload\n",
+        "step a first wait 9 response 8\nstep c register wait overload response overload\nchain tasks 2 reaction overload age overload held overload if sources stay near\n",
     ),
     (NONE, &[], 10, "words refused\n"),
     (NONE, &["sys"], 10, "words refused\n"),

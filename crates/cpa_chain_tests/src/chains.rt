@@ -13,7 +13,7 @@ chain = [{ name = "brake", tasks = ["sense", "filter", "act"], reaction = 60 }]
 "#;
 
 const BRAKE_TEXT: &str =
-    "chain brake tasks 3 reaction 47 deadline 60 met age 28 deadline - none\nsummary chains 1 overload 0 missed 0\n";
+    "chain brake tasks 3 reaction 47 deadline 60 met age 28 deadline - none\nsummary chains 1 overload 0 missed 0 if sources stay near\n";
 
 /// A system, a file of chains, the status and the text.
 type Judged = (&'static str, &'static str, u8, &'static str);
@@ -24,7 +24,7 @@ const JUDGED: [Judged; 33] = [
         EFFECTS,
         "format = 1\n",
         0,
-        "summary chains 0 overload 0 missed 0\n",
+        "summary chains 0 overload 0 missed 0 if sources stay near\n",
     ),
     // Deadlines that are reached to the tick, in a section of its own; a task that reads what it wrote itself.
     (
@@ -41,7 +41,7 @@ tasks = ["sense", "sense"]
 age = 15
 "#,
         0,
-        "chain brake tasks 3 reaction 47 deadline 47 met age 28 deadline 28 met\nchain own tasks 2 reaction 24 deadline - none age 15 deadline 15 met\nsummary chains 2 overload 0 missed 0\n",
+        "chain brake tasks 3 reaction 47 deadline 47 met age 28 deadline 28 met\nchain own tasks 2 reaction 24 deadline - none age 15 deadline 15 met\nsummary chains 2 overload 0 missed 0 if sources stay near\n",
     ),
     // Each of two deadlines missed by a tick, and both: a chain counts once.
     (
@@ -50,11 +50,12 @@ age = 15
 chain = [
   { name = "late", tasks = ["sense", "filter", "act"], reaction = 46 },
   { name = "old", tasks = ["act"], reaction = 40, age = 8 },
-  { name = "both", tasks = ["act"], reaction = 32, age = 1 },
+  { name = "both", tasks = ["act"], reaction = 32, age = 1, held = 33 },
+  { name = "stale", tasks = ["act"], held = 32 },
 ]
 "#,
         1,
-        "chain late tasks 3 reaction 47 deadline 46 missed age 28 deadline - none\nchain old tasks 1 reaction 33 deadline 40 met age 9 deadline 8 missed\nchain both tasks 1 reaction 33 deadline 32 missed age 9 deadline 1 missed\nsummary chains 3 overload 0 missed 3\n",
+        "chain late tasks 3 reaction 47 deadline 46 missed age 28 deadline - none\nchain old tasks 1 reaction 33 deadline 40 met age 9 deadline 8 missed\nchain both tasks 1 reaction 33 deadline 32 missed age 9 deadline 1 missed held 33 deadline 33 met\nchain stale tasks 1 reaction 33 deadline - none age 9 deadline - none held 33 deadline 32 missed\nsummary chains 4 overload 0 missed 4 if sources stay near\n",
     ),
     // A bound that is missing counts before a deadline that is missed, and its deadline isn't missed.
     (
@@ -66,7 +67,7 @@ chain = [
 ]
 "#,
         2,
-        "chain x tasks 1 reaction 17 deadline 16 missed age 8 deadline 8 met\nchain y tasks 2 reaction overload deadline 1000000000 unknown age overload deadline - none\nsummary chains 2 overload 1 missed 1\n",
+        "chain x tasks 1 reaction 17 deadline 16 missed age 8 deadline 8 met\nchain y tasks 2 reaction overload deadline 1000000000 unknown age overload deadline - none\nsummary chains 2 overload 1 missed 1 if sources stay near\n",
     ),
     (EFFECTS, "format =", 13, "not TOML c\n"),
     (
@@ -225,13 +226,13 @@ chain = [{ name = "a", tasks = [
 ] }]
 "#,
         0,
-        "chain a tasks 32 reaction 1056 deadline - none age 1032 deadline - none\nsummary chains 1 overload 0 missed 0\n",
+        "chain a tasks 32 reaction 1056 deadline - none age 1032 deadline - none\nsummary chains 1 overload 0 missed 0 if sources stay near\n",
     ),
     // The system file comes first.
     ("format =", "format =", 13, "not TOML s\n"),
     (
-        "format = 4\n",
-        "format = 4\n",
+        "format = 3\n",
+        "format = 3\n",
         14,
         "system refused reason 13 file 0\n",
     ),
@@ -255,7 +256,7 @@ const CALLS: [(Faults, &[&str], u8, &str); 16] = [
         NONE,
         &["chain", "s", "act"],
         0,
-        "step act first wait 24 response 9\nchain tasks 1 reaction 33 age 9 held 33\n",
+        "step act first wait 24 response 9\nchain tasks 1 reaction 33 age 9 held 33 if sources stay near\n",
     ),
     (NONE, &[], 10, "words refused\n"),
     (NONE, &["Chains", "s", "c"], 10, "words refused\n"),

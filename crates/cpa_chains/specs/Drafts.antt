@@ -19,8 +19,9 @@ chain_entry d = do
   tasks ← required as_texts (codes "tasks") d
   reaction ← optional as_integer (codes "reaction") d
   age ← optional as_integer (codes "age") d
-  if has_only (codes "name" ∷ codes "tasks" ∷ codes "reaction" ∷ codes "age" ∷ []) d
-      then Some (record { name = name; tasks = tasks; reaction = reaction; age = age })
+  held ← optional as_integer (codes "held") d
+  if has_only (codes "name" ∷ codes "tasks" ∷ codes "reaction" ∷ codes "age" ∷ codes "held" ∷ []) d
+      then Some (record { name = name; tasks = tasks; reaction = reaction; age = age; held = held })
       else None
 
 abbrev pub refusal : ℕ → ℕ → ChainsRefusal

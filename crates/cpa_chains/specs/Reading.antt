@@ -19,7 +19,7 @@ abbrev pub task_of : SystemLists → List ℕ → TaskId
 task_of s name = unwrap_or (task_named s name) (record { 0 = 0 })
 
 abbrev pub chain_of : SystemLists → DraftChain → Chain
-chain_of s c = record { name = c.name; tasks = map (task_of s) c.tasks; reaction = option_map nat_of c.reaction; age = option_map nat_of c.age }
+chain_of s c = record { name = c.name; tasks = map (task_of s) c.tasks; reaction = option_map nat_of c.reaction; age = option_map nat_of c.age; held = option_map nat_of c.held }
 
 -- no TOML document, a refusal, or chains
 pub data Reading : Type 0 where

@@ -21,9 +21,9 @@ refused_at reason (Some k) = Some (record { reason = reason; place = k + 1 })
 abbrev pub first_with : ℕ → (DraftChain → Bool) → List DraftChain → Option ChainsRefusal
 first_with reason marks chains = refused_at reason (first_place (λ k c. marks c) chains)
 
--- both deadlines are in their range
+-- all deadlines are in their range
 abbrev pub fits : DraftChain → Bool
-fits c = may_be_within 1 MAX_PERIOD c.reaction && may_be_within 1 MAX_PERIOD c.age
+fits c = may_be_within 1 MAX_PERIOD c.reaction && may_be_within 1 MAX_PERIOD c.age && may_be_within 1 MAX_PERIOD c.held
 
 -- no task has the name
 abbrev pub is_unknown : SystemLists → List ℕ → Bool

@@ -25,6 +25,7 @@ pub(crate) struct Chain {
     tasks: Vec<TaskId>,
     reaction: Option<u64>,
     age: Option<u64>,
+    held: Option<u64>,
 }
 
 impl Model for Chain {
@@ -32,7 +33,7 @@ impl Model for Chain {
 
     ghost Value = { Chain };
 
-    ghost view = { λ c. record { name = c.name; tasks = c.tasks.items; reaction = c.reaction; age = c.age } };
+    ghost view = { λ c. record { name = c.name; tasks = c.tasks.items; reaction = c.reaction; age = c.age; held = c.held } };
 }
 
 impl Chain {
@@ -60,6 +61,13 @@ impl Chain {
         ensures { result ≡ self.now.age }
     {
         self.age
+    }
+
+    /// The deadline of the time for which data is held.
+    pub(crate) fn held(&self) -> Option<u64>
+        ensures { result ≡ self.now.held }
+    {
+        self.held
     }
 }
 
@@ -114,6 +122,7 @@ fn build_chain(
         tasks,
         reaction: build_deadline(draft.reaction),
         age: build_deadline(draft.age),
+        held: build_deadline(draft.held),
     })
 }
 

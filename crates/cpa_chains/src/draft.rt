@@ -14,6 +14,7 @@ pub(crate) struct DraftChain {
     pub(crate) tasks: RawList,
     pub(crate) reaction: Option<i64>,
     pub(crate) age: Option<i64>,
+    pub(crate) held: Option<i64>,
 }
 
 impl Entry for DraftChain {
@@ -27,12 +28,14 @@ impl Entry for DraftChain {
         let tasks = required_texts(alloc, value, "tasks")?;
         let reaction = optional_integer(value, "reaction")?;
         let age = optional_integer(value, "age")?;
-        if only_has(value, &["name", "tasks", "reaction", "age"]) {
+        let held = optional_integer(value, "held")?;
+        if only_has(value, &["name", "tasks", "reaction", "age", "held"]) {
             Ok(DraftChain {
                 name,
                 tasks,
                 reaction,
                 age,
+                held,
             })
         } else {
             Err(ReadFault::Malformed)

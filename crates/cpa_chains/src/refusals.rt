@@ -60,7 +60,7 @@ fn may_be_deadline(ticks: Option<i64>) -> bool
 fn fits(chain: &DraftChain) -> bool
     ensures { result ≡ fits chain.now }
 {
-    may_be_deadline(chain.reaction) && may_be_deadline(chain.age)
+    may_be_deadline(chain.reaction) && may_be_deadline(chain.age) && may_be_deadline(chain.held)
 }
 
 fn first_unfit(chains: &[DraftChain]) -> Option<usize>

@@ -4,12 +4,13 @@ ghost use Rattle.std.specs.Prelude.{◌≡◌, ◌≤◌, ◌++◌, length, All,
 ghost use Rattle.std.specs.List.{flat_map};
 ghost use Rattle.cpa_local.specs.Solution.{IsVector};
 ghost use Rattle.cpa_local.specs.Paths.{deadline_verdict_of, is_missed_by};
+ghost use Rattle.cpa_effects.specs.ChainText.{premise};
 ghost use Rattle.cpa_chains.specs.Reading.{IsChainIn};
-ghost use Rattle.cpa_chains.specs.ChainsText.{verdict_text, chain_line, is_overloaded, is_late, totals, summary_line, chains_text, status_of, chains_status};
+ghost use Rattle.cpa_chains.specs.ChainsText.{verdict_text, held_text, chain_line, is_overloaded, is_late, totals, summary_line, chains_text, status_of, chains_status};
 
 use crate::chains::Chain;
 use cpa_call::errors::Reply;
-use cpa_effects::{age, reaction};
+use cpa_effects::{age, held, reaction};
 use cpa_local::{DeadlineVerdict, deadline_verdict, is_overload};
 use cpa_model::System;
 use cpa_report::{put_bound, put_deadline, put_deadline_verdict};
@@ -29,6 +30,20 @@ fn put_verdict(text: &mut Text, deadline: Option<u64>, bound: Bound) -> Result<(
     put_deadline_verdict(text, deadline_verdict(deadline, bound))
 }
 
+/// The same of what is held, where there is a deadline for it.
+#[tactic(auto, unfolding(crate::specs::ChainsText::held_text))]
+fn put_held(text: &mut Text, deadline: Option<u64>, bound: Bound) -> Result<(), NoMemory>
+    ensures { OnOk result (text.new ≡ text.old ++ held_text deadline bound) }
+{
+    match deadline {
+        None => Ok(()),
+        Some(deadline) => {
+            text.put(b" held")?;
+            put_verdict(text, Some(deadline), bound)
+        }
+    }
+}
+
 #[tactic(auto, unfolding(crate::specs::ChainsText::chain_line))]
 fn put_chain(text: &mut Text, system: &System, x: &Vector, chain: &Chain) -> Result<(), NoMemory>
     requires chain { IsChainIn system.now chain.now }
@@ -43,6 +58,7 @@ fn put_chain(text: &mut Text, system: &System, x: &Vector, chain: &Chain) -> Res
     put_verdict(text, chain.reaction(), reaction(system, x, tasks))?;
     text.put(b" age")?;
     put_verdict(text, chain.age(), age(system, x, tasks))?;
+    put_held(text, chain.held(), held(system, x, tasks))?;
     text.put(b"\n")?;
     Ok(())
 }
@@ -91,6 +107,7 @@ fn is_late(system: &System, x: &Vector, chain: &Chain) -> bool
     let tasks = chain.tasks();
     is_missed(chain.reaction(), reaction(system, x, tasks))
         || is_missed(chain.age(), age(system, x, tasks))
+        || is_missed(chain.held(), held(system, x, tasks))
 }
 
 /// How many chains lack a bound, and how many miss a deadline.
@@ -126,7 +143,7 @@ fn put_summary(text: &mut Text, count: u64, totals: Totals) -> Result<(), NoMemo
     text.put_count(b"summary chains ", count)?;
     text.put_count(b" overload ", totals.overload)?;
     text.put_count(b" missed ", totals.missed)?;
-    text.put(b"\n")?;
+    text.put(b" if sources stay near\n")?;
     Ok(())
 }
 

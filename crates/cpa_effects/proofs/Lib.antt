@@ -1,4 +1,5 @@
 pub mod JobTimes
+pub mod GroupLaws
 pub mod SumLaws
 pub mod StepLaws
 pub mod AboveLaws

@@ -4,6 +4,7 @@ use Rattle.std.specs.Prelude.{fold, slice_get, slice_index_or}
 use Rattle.std.specs.List.{range_with_len}
 use Rattle.std.proofs.lemmas.Bool.{cases_lt}
 use Rattle.cpa_units.proofs.PlaceLaws.{places-more}
+use Rattle.cpa_units.specs.declared.limits.TheConstants.{MAX_LIMIT}
 use Rattle.cpa_units.specs.declared.bound.Bound.{Bound}
 use Rattle.cpa_units.specs.declared.bound.Bound.TheVariants.{Within, Overload}
 use Rattle.cpa_units.specs.Bounds.{RespectsLimit, bound_plus, sum_bounds}
@@ -12,7 +13,16 @@ use Rattle.cpa_local.proofs.PathLaws.{plus-limit}
 use Rattle.cpa_events.specs.declared.stream.Stream.{Stream}
 use Rattle.cpa_events.specs.Streams.{stream_delta_plus, IsStreamInRange}
 use Rattle.cpa_events.specs.Events.{Model, IsModelInRange}
-use Rattle.cpa_effects.specs.Bounds.{next_of, sooner, next_event}
+use Rattle.cpa_units.specs.declared.places.TaskId.{TaskId}
+use Rattle.cpa_units.specs.Bounds.{bound_of}
+use Rattle.cpa_model.specs.SystemLists.{SystemLists}
+use Rattle.cpa_local.specs.Solution.{IsVector}
+use Rattle.cpa_effects.specs.declared.steps.Step.{Step}
+use Rattle.cpa_effects.specs.declared.steps.Step.TheVariants.{Register, Merge, Activation}
+use Rattle.cpa_effects.specs.declared.steps.Reading.{Reading}
+use Rattle.cpa_effects.specs.declared.steps.Passage.{Passage}
+use Rattle.cpa_effects.specs.declared.steps.Passage.TheVariants.{By, FromAbove, OfOneSource}
+use Rattle.cpa_effects.specs.Bounds.{next_of, sooner, next_event, task_in, passage_in, wait_of, forward, read_from, backward_cost, renewed_after, arrives_after}
 
 -- ---- sums
 
@@ -53,53 +63,15 @@ pub no-more : (b : Bound) → bound_plus (Within 0) b ≡ b
 no-more (Within n) = ap Within (omega arith)
 no-more Overload = refl
 
-plus-joins : (a b c : Bound) → bound_plus (bound_plus a b) c ≡ bound_plus a (bound_plus b c)
+pub plus-joins : (a b c : Bound) → bound_plus (bound_plus a b) c ≡ bound_plus a (bound_plus b c)
 plus-joins (Within a) (Within b) (Within c) = ap Within (omega arith)
 plus-joins (Within a) (Within b) Overload = refl
 plus-joins (Within a) Overload c = refl
 plus-joins Overload b c = refl
 
-plus-turns : (a b : Bound) → bound_plus a b ≡ bound_plus b a
-plus-turns (Within a) (Within b) = ap Within (omega arith)
-plus-turns (Within a) Overload = refl
-plus-turns Overload (Within b) = refl
-plus-turns Overload Overload = refl
-
-swap : (a b c : Bound) → bound_plus (bound_plus a b) c ≡ bound_plus (bound_plus a c) b
-swap a b c = plus-joins a b c ∙ (ap (bound_plus a) (plus-turns b c) ∙ sym (plus-joins a c b))
-
-crossed : (a b c d : Bound) → bound_plus (bound_plus a b) (bound_plus c d) ≡ bound_plus (bound_plus a (bound_plus c b)) d
-crossed a b c d = sym (plus-joins (bound_plus a b) c d) ∙ ap (λ e. bound_plus e d) (plus-joins a b c ∙ ap (bound_plus a) (plus-turns b c))
-
 pub sum-last : (f : ℕ → Bound) (xs : List ℕ) (y : ℕ) → sum_bounds f (xs ++ y ∷ []) ≡ bound_plus (sum_bounds f xs) (f y)
 sum-last f [] y = plus-none (f y)
 sum-last f (x ∷ xs) y = ap (bound_plus (f x)) (sum-last f xs y) ∙ sym (plus-joins (f x) (sum_bounds f xs) (f y))
-
--- two sums of as many pairs, of which one has what the other has a place later
-pub shifted-sum : (w b f g : ℕ → Bound) (n : ℕ) (last : Bound) → ((k : ℕ) → k < n → f k ≡ bound_plus (b k) (w (k + 1))) → ((k : ℕ) → k < n → g k ≡ bound_plus (b k) (w k))
-    → bound_plus (w 0) (bound_plus (sum_bounds f (range_with_len 0 n)) last) ≡ bound_plus (bound_plus (sum_bounds g (range_with_len 0 n)) last) (w n)
-shifted-sum w b f g n last one two = end (w 0) (sum_bounds f (range_with_len 0 n)) (sum_bounds g (range_with_len 0 n)) (w n) last (shifted n one two)
-  where
-    end : (a f g z l : Bound) → bound_plus a f ≡ bound_plus g z → bound_plus a (bound_plus f l) ≡ bound_plus (bound_plus g l) z
-    end a f g z l e = sym (plus-joins a f l) ∙ (ap (λ b. bound_plus b l) e ∙ swap g z l)
-
-    step : (a f g z b y : Bound) → bound_plus a f ≡ bound_plus g z → bound_plus a (bound_plus f (bound_plus b y)) ≡ bound_plus (bound_plus g (bound_plus b z)) y
-    step a f g z b y e = sym (plus-joins a f (bound_plus b y)) ∙ (ap (λ c. bound_plus c (bound_plus b y)) e ∙ crossed g z b y)
-
-    shifted : (n : ℕ) → ((k : ℕ) → k < n → f k ≡ bound_plus (b k) (w (k + 1))) → ((k : ℕ) → k < n → g k ≡ bound_plus (b k) (w k))
-        → bound_plus (w 0) (sum_bounds f (range_with_len 0 n)) ≡ bound_plus (sum_bounds g (range_with_len 0 n)) (w n)
-    shifted zero one two = plus-none (w 0)
-    shifted (suc n) one two =
-        let e : n + 1 ≡ suc n = omega arith in
-        let more : (f : ℕ → Bound) → sum_bounds f (range_with_len 0 (n + 1)) ≡ bound_plus (sum_bounds f (range_with_len 0 n)) (f n) =
-        λ f. ap (sum_bounds f) (places-more n) ∙ sum-last f (range_with_len 0 n) n in
-        let before = shifted n (λ k less. one k (omega (arith, less))) (λ k less. two k (omega (arith, less))) in
-        let here = step (w 0) (sum_bounds f (range_with_len 0 n)) (sum_bounds g (range_with_len 0 n)) (w n) (b n) (w (n + 1)) before in
-        let first : bound_plus (w 0) (sum_bounds f (range_with_len 0 (n + 1))) ≡ bound_plus (w 0) (bound_plus (sum_bounds f (range_with_len 0 n)) (bound_plus (b n) (w (n + 1)))) =
-        ap (bound_plus (w 0)) (more f ∙ ap (bound_plus (sum_bounds f (range_with_len 0 n))) (one n (omega arith))) in
-        let second : bound_plus (bound_plus (sum_bounds g (range_with_len 0 n)) (bound_plus (b n) (w n))) (w (n + 1)) ≡ bound_plus (sum_bounds g (range_with_len 0 (n + 1))) (w (n + 1)) =
-        ap (λ c. bound_plus c (w (n + 1))) (sym (more g ∙ ap (bound_plus (sum_bounds g (range_with_len 0 n))) (two n (omega arith)))) in
-        subst (λ m. bound_plus (w 0) (sum_bounds f (range_with_len 0 m)) ≡ bound_plus (sum_bounds g (range_with_len 0 m)) (w m)) e (first ∙ (here ∙ second))
 
 -- what rises from place to place by no more than a number has risen by no more than their sum
 pub climb : (a : ℕ → ℕ) (cost : ℕ → Bound) (n r : ℕ) → sum_bounds cost (range_with_len 0 n) ≡ Within r
@@ -173,3 +145,59 @@ next-small st h = omega (arith, h.period, h.jitter)
 
 pub next-small_at : (m : Model) (k : ℕ) (st : Stream) → IsModelInRange m → k < length m → st ≡ slice_index_or m k st → next_of st ≤ 3000000000
 next-small_at m k st h less is = next-small st (subst IsStreamInRange (sym is) (h.each k st less))
+
+-- ---- what loops of a chain's bounds know
+
+plus-zero : (b : Bound) → bound_plus b (Within 0) ≡ b
+plus-zero b = plus-none b ∙ no-more b
+
+base-limit : (step : Step) (n : ℕ) (old renewed : Bound) → RespectsLimit n old → RespectsLimit n renewed → RespectsLimit n (read_from step old renewed)
+base-limit Register n old renewed h g = g
+base-limit Merge n old renewed h g = g
+base-limit Activation n old renewed h g = h
+
+cost-limit : (g : Passage) (n : ℕ) (response old renewed : Bound) → RespectsLimit n old → RespectsLimit n renewed → RespectsLimit 1000000000 response → RespectsLimit (n + 4000000000) (backward_cost g response old renewed)
+cost-limit (By step) n response old renewed h g r =
+    weaker_limit (n + 1000000000) (n + 4000000000) (bound_plus (read_from step old renewed) response) (omega arith) (plus-limit n 1000000000 (read_from step old renewed) response (base-limit step n old renewed h g) r)
+cost-limit FromAbove n response old renewed h g r = weaker_limit n (n + 4000000000) renewed (omega arith) g
+cost-limit OfOneSource n response old renewed h g r = weaker_limit n (n + 4000000000) old (omega arith) h
+
+pub renewed-small : (w : Bound) → RespectsLimit 3000000000 w → RespectsLimit ((0 + 1) * 4000000000) w
+renewed-small w h = weaker_limit 3000000000 ((0 + 1) * 4000000000) w (omega arith) h
+
+module _ (reading : Reading) (s : SystemLists) (x : List Bound) (tasks : List TaskId) where
+  pub renewed-next : (k : ℕ) → renewed_after reading s x tasks (k + 1) ≡ bound_plus (renewed_after reading s x tasks k) (forward reading s x tasks k)
+  renewed-next k =
+      let f : ℕ → Bound = forward reading s x tasks in
+      let w : Bound = wait_of s x (task_in tasks 0).0 in
+      ap (bound_plus w) (ap (sum_bounds f) (places-more k) ∙ sum-last f (range_with_len 0 k) k) ∙ sym (plus-joins w (sum_bounds f (range_with_len 0 k)) (f k))
+
+  pub arrives-first : Within 0 ≡ arrives_after reading s x tasks 0
+  unfolding arrives_after
+  arrives-first = refl
+
+  arrives-suc : (k : ℕ) → arrives_after reading s x tasks (suc k) ≡ backward_cost (passage_in reading s tasks k) (bound_of x (task_in tasks k).0) (arrives_after reading s x tasks k) (renewed_after reading s x tasks k)
+  unfolding arrives_after
+  arrives-suc k = refl
+
+  pub arrives-next : (k : ℕ) → arrives_after reading s x tasks (k + 1) ≡ backward_cost (passage_in reading s tasks k) (bound_of x (task_in tasks k).0) (arrives_after reading s x tasks k) (renewed_after reading s x tasks k)
+  arrives-next k = let e : k + 1 ≡ suc k = omega arith in ap (arrives_after reading s x tasks) e ∙ arrives-suc k
+
+  pub renewed-first : (w : Bound) → w ≡ wait_of s x (task_in tasks 0).0 → w ≡ renewed_after reading s x tasks 0
+  renewed-first w is = is ∙ sym (plus-zero (wait_of s x (task_in tasks 0).0))
+
+  pub renewed-more : (k : ℕ) (renewed part more : Bound) → renewed ≡ renewed_after reading s x tasks k → part ≡ forward reading s x tasks k → more ≡ bound_plus renewed part → more ≡ renewed_after reading s x tasks (k + 1)
+  renewed-more k renewed part more before here is = is ∙ ((λ i. bound_plus (before i) (here i)) ∙ sym (renewed-next k))
+
+  pub arrives-more : (k : ℕ) (old renewed next : Bound) → old ≡ arrives_after reading s x tasks k → renewed ≡ renewed_after reading s x tasks k
+      → next ≡ backward_cost (passage_in reading s tasks k) (bound_of x (task_in tasks k).0) old renewed → next ≡ arrives_after reading s x tasks (k + 1)
+  arrives-more k old renewed next one two is =
+      is ∙ ((λ i. backward_cost (passage_in reading s tasks k) (bound_of x (task_in tasks k).0) (one i) (two i)) ∙ sym (arrives-next k))
+
+  pub arrives-small : (k : ℕ) (old renewed next : Bound) → IsVector s x → (task_in tasks k).0 < length s.tasks → RespectsLimit ((k + 1) * 4000000000) old → RespectsLimit ((k + 1) * 4000000000) renewed
+      → next ≡ backward_cost (passage_in reading s tasks k) (bound_of x (task_in tasks k).0) old renewed → RespectsLimit (((k + 1) + 1) * 4000000000) next
+  arrives-small k old renewed next vector there h g is =
+      let e : (k + 1) * 4000000000 + 4000000000 ≡ ((k + 1) + 1) * 4000000000 = omega arith in
+      subst (λ n. RespectsLimit n next) e
+      (subst (RespectsLimit ((k + 1) * 4000000000 + 4000000000)) (sym is)
+      (cost-limit (passage_in reading s tasks k) ((k + 1) * 4000000000) (bound_of x (task_in tasks k).0) old renewed h g (weaker_limit MAX_LIMIT 1000000000 (bound_of x (task_in tasks k).0) (omega arith) (vector.high (task_in tasks k).0 there))))

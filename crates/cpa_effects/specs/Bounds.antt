@@ -1,6 +1,6 @@
 -- Bounds on a chain of tasks, of which each takes what the one before wrote last: the time that passes from task to task is that of Davare
 -- et al. ("Period Optimization for Hard Real-time Distributed Automotive Systems", 2007), with a tick less for each wait, since time is whole.
-use Rattle.std.specs.Prelude.{ℕ, ◌+◌, ◌-◌, ◌==◌, min, Bool, true, false, not, ◌&&◌, if◌then◌else◌, List, [], ◌∷◌, length, fold, Option, Some, None, slice_index_or}
+use Rattle.std.specs.Prelude.{ℕ, zero, suc, ◌+◌, ◌-◌, ◌==◌, min, Bool, true, false, not, ◌&&◌, if◌then◌else◌, List, [], ◌∷◌, length, fold, Option, Some, None, slice_index_or}
 use Rattle.std.specs.List.{range_with_len}
 use Rattle.cpa_units.specs.declared.bound.Bound.{Bound}
 use Rattle.cpa_units.specs.declared.bound.Bound.TheVariants.{Within, Overload}
@@ -92,11 +92,11 @@ reading_wait Register wait = wait
 reading_wait Merge wait = Within 0
 reading_wait Activation wait = Within 0
 
--- the wait for a job that writes anew: none where a job reads at once what started it
-abbrev pub writing_wait : Step → Bound → Bound
-writing_wait Register wait = wait
-writing_wait Merge wait = wait
-writing_wait Activation wait = Within 0
+-- what a job that reads has is of a job that came so long ago, or whose next came so; it is the first where the one started the other
+abbrev pub read_from : Step → Bound → Bound → Bound
+read_from Register old renewed = renewed
+read_from Merge old renewed = renewed
+read_from Activation old renewed = old
 
 -- a task of a chain, by its place
 abbrev pub task_in : List TaskId → ℕ → TaskId
@@ -113,19 +113,27 @@ forward_cost (By step) response wait = bound_plus response (reading_wait step wa
 forward_cost FromAbove response wait = wait
 forward_cost OfOneSource response wait = Within 0
 
--- the writer's response and its wait, or its wait alone, or nothing
-abbrev pub backward_cost : Passage → Bound → Bound → Bound
-backward_cost (By step) response wait = bound_plus response (writing_wait step wait)
-backward_cost FromAbove response wait = wait
-backward_cost OfOneSource response wait = Within 0
+-- how long after some time a job comes that has what the writer wrote, where the writer's job comes so long after it, and its next one so:
+-- the writer's response after one of both; from above its response is left out; and where one source starts both they come together
+abbrev pub backward_cost : Passage → Bound → Bound → Bound → Bound
+backward_cost (By step) response old renewed = bound_plus (read_from step old renewed) response
+backward_cost FromAbove response old renewed = renewed
+backward_cost OfOneSource response old renewed = old
 
 -- how long it takes from a job of the task in place k to one of the next that has read what it wrote, both as they arrive
 abbrev pub forward : Reading → SystemLists → List Bound → List TaskId → ℕ → Bound
 forward reading s x tasks k = forward_cost (passage_in reading s tasks k) (bound_of x (task_in tasks k).0) (wait_of s x (task_in tasks (k + 1)).0)
 
--- how long before a job of the next task the job can have arrived whose data it takes
-abbrev pub backward : Reading → SystemLists → List Bound → List TaskId → ℕ → Bound
-backward reading s x tasks k = backward_cost (passage_in reading s tasks k) (bound_of x (task_in tasks k).0) (wait_of s x (task_in tasks k).0)
+-- of jobs along a chain, of which each has the data of the one before: how long after the first of them comes at most, less a tick, what
+-- overwrites that of the task in place k, as a job of it that comes anew
+abbrev pub renewed_after : Reading → SystemLists → List Bound → List TaskId → ℕ → Bound
+renewed_after reading s x tasks k = bound_plus (wait_of s x (task_in tasks 0).0) (sum_bounds (forward reading s x tasks) (range_with_len 0 k))
+
+-- and how long after the first the one in place k comes at most
+unfoldable pub arrives_after : Reading → SystemLists → List Bound → List TaskId → ℕ → Bound
+arrives_after reading s x tasks zero = Within 0
+arrives_after reading s x tasks (suc k) =
+    backward_cost (passage_in reading s tasks k) (bound_of x (task_in tasks k).0) (arrives_after reading s x tasks k) (renewed_after reading s x tasks k)
 
 -- the task in the last place
 abbrev pub last_in : List TaskId → TaskId
@@ -146,11 +154,11 @@ reaction_by reading s x tasks = bound_plus (wait_of s x (task_in tasks 0).0) (la
 -- how old the data of a job of the last task is at its end: the reduced data age of Günzel et al. ("On the Equivalence of Maximum Reaction
 -- Time and Maximum Data Age for Cause-Effect Chains", 2023), whose reaction time is the bound above
 unfoldable pub age_by : Reading → SystemLists → List Bound → List TaskId → Bound
-age_by reading s x tasks = through (backward reading s x tasks) x tasks
+age_by reading s x tasks = bound_plus (arrives_after reading s x tasks (length tasks - 1)) (bound_of x (last_in tasks).0)
 
 -- how old the data in the register of the last task is until it is overwritten: the data age of Günzel et al.
 unfoldable pub held_by : Reading → SystemLists → List Bound → List TaskId → Bound
-held_by reading s x tasks = bound_plus (age_by reading s x tasks) (wait_of s x (last_in tasks).0)
+held_by reading s x tasks = bound_plus (renewed_after reading s x tasks (length tasks - 1)) (bound_of x (last_in tasks).0)
 
 -- and whenever jobs read
 abbrev pub latency_of : SystemLists → List Bound → List TaskId → Bound

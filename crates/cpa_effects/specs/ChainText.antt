@@ -48,10 +48,14 @@ step_line reading s x tasks k =
     codes "step " ++ (task_at s (task_in tasks k).0).name ++ place_word reading s tasks k
     ++ times_text (wait_of s x (task_in tasks k).0) (bound_of x (task_in tasks k).0)
 
+-- what the bounds presume: after each event of a source that the chain waits for the next one comes within the period and the jitter
+abbrev pub premise : List ℕ
+premise = codes " if sources stay near\n"
+
 unfoldable pub total_line : Reading → ℕ → Bound → Bound → Bound → List ℕ
 total_line reading count reaction age held =
     reading_word reading ++ codes "tasks " ++ decimal count
-    ++ labelled (codes " reaction ") reaction ++ labelled (codes " age ") age ++ labelled (codes " held ") held ++ codes "\n"
+    ++ labelled (codes " reaction ") reaction ++ labelled (codes " age ") age ++ labelled (codes " held ") held ++ premise
 
 -- a line for each task of the chain, and the bounds
 unfoldable pub chain_text : Reading → SystemLists → List Bound → List TaskId → List ℕ
@@ -59,7 +63,6 @@ chain_text reading s x tasks =
     flat_map (step_line reading s x tasks) (range_with_len 0 (length tasks))
     ++ total_line reading (length tasks) (reaction_by reading s x tasks) (age_by reading s x tasks) (held_by reading s x tasks)
 
--- 2 where a bound is missing, else 0. Where the age is missing, what is held is too, since that is the age and a wait. At the least solution
--- it is so the other way round as well: a task whose input is unbounded has no bound there
+-- 2 where a bound is missing, else 0; what is held is bounded where the reaction is
 unfoldable pub chain_status : Reading → SystemLists → List Bound → List TaskId → ℕ
-chain_status reading s x tasks = if is_overload (reaction_by reading s x tasks) || is_overload (held_by reading s x tasks) then 2 else 0
+chain_status reading s x tasks = if is_overload (reaction_by reading s x tasks) || is_overload (age_by reading s x tasks) then 2 else 0

@@ -1,5 +1,5 @@
 -- The laws that the crate's public functions state.
-use Rattle.std.specs.Prelude.{◌≡◌, ◌⊎◌, ℕ, ◌+◌, ◌<◌, ◌≤◌, List, length, All}
+use Rattle.std.specs.Prelude.{◌≡◌, ℕ, ◌+◌, ◌<◌, ◌≤◌, List, length, All}
 use Rattle.cpa_units.specs.declared.bound.Bound.{Bound}
 use Rattle.cpa_units.specs.declared.bound.Bound.TheVariants.{Within}
 use Rattle.cpa_units.specs.declared.places.TaskId.{TaskId}
@@ -8,10 +8,8 @@ use Rattle.cpa_model.specs.Rules.{IsSystem}
 use Rattle.cpa_local.specs.Solution.{IsClosed, IsLeast}
 use Rattle.cpa_trace.specs.Trace.{TraceLists, Obeys}
 use Rattle.cpa_sound.specs.BoundsHold.{HasJob, arrival_of, SourcesStayNear, BoundsHold}
-use Rattle.cpa_effects.specs.declared.steps.Step.TheVariants.{Register}
 use Rattle.cpa_effects.specs.declared.steps.Reading.{Reading}
-use Rattle.cpa_effects.specs.declared.steps.Passage.TheVariants.{By, FromAbove}
-use Rattle.cpa_effects.specs.Bounds.{passage_in, task_in, last_in, latency_by, reaction_by, age_by, held_by}
+use Rattle.cpa_effects.specs.Bounds.{task_in, last_in, latency_by, reaction_by, age_by, held_by}
 use Rattle.cpa_effects.specs.Effects.{Reads, ReadsBy, IsAmidst, FollowsOn, IsFirstToRead, GoesForward, GoesBackward, IsRunning, IsAnswered, IsFed, IsHeld, HasEnded}
 
 -- a chain has a task at least, and each is a task of the system
@@ -76,9 +74,6 @@ OneStreamGoesOn =
     (s : SystemLists) (tr : TraceLists) → IsSystem s → Obeys s tr → (t i k : ℕ) → i < length s.tasks → length (streams_of s i) ≡ 1
     → HasJob s tr t i (k + 1) → IsAmidst s tr t i k
 
--- where data passes to each task of a chain by register, or from above, it is held as long as a reaction takes
-abbrev pub EqualWhereAllRead : Type 0
-EqualWhereAllRead =
-    (reading : Reading) (s : SystemLists) (x : List Bound) (tasks : List TaskId) → 0 < length tasks
-    → ((k : ℕ) → k + 1 < length tasks → (passage_in reading s tasks k ≡ By Register) ⊎ (passage_in reading s tasks k ≡ FromAbove))
-    → reaction_by reading s x tasks ≡ held_by reading s x tasks
+-- data is held as long as a reaction takes
+abbrev pub HeldIsReaction : Type 0
+HeldIsReaction = (reading : Reading) (s : SystemLists) (x : List Bound) (tasks : List TaskId) → reaction_by reading s x tasks ≡ held_by reading s x tasks

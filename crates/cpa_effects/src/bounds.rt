@@ -6,7 +6,7 @@ ghost use Rattle.cpa_units.specs.Bounds.{RespectsLimit, bound_of, bound_plus};
 ghost use Rattle.cpa_units.specs.declared.limits.TheConstants.{MAX_CHAIN};
 ghost use Rattle.cpa_events.specs.Events.{IsModelInRange};
 ghost use Rattle.cpa_local.specs.Solution.{IsVector};
-ghost use Rattle.cpa_effects.specs.Bounds.{next_event, wait_of, reading_wait, writing_wait, forward, backward, latency_by, reaction_by, age_by, held_by, latency_of, reaction_of, age_of, held_of};
+ghost use Rattle.cpa_effects.specs.Bounds.{next_event, wait_of, reading_wait, read_from, forward, backward_cost, passage_in, task_in, latency_by, reaction_by, age_by, held_by, latency_of, reaction_of, age_of, held_of};
 
 use crate::steps::{Passage, Reading, Step, passage_between};
 use cpa_events::Model;
@@ -54,16 +54,28 @@ fn reading_wait(step: Step, wait: Bound) -> Bound
     }
 }
 
-fn writing_wait(step: Step, wait: Bound) -> Bound
-    requires { RespectsLimit 3000000000 wait }
-    ensures value { result ≡ writing_wait step wait }
-    ensures few { RespectsLimit 3000000000 result }
+fn read_from(step: Step, old: Bound, renewed: Bound) -> Bound
+    requires old { RespectsLimit 140000000000 old }
+    requires renewed { RespectsLimit 140000000000 renewed }
+    ensures value { result ≡ read_from step old renewed }
+    ensures few { RespectsLimit 140000000000 result }
 {
     match step {
-        Step::Register => wait,
-        Step::Merge => wait,
-        Step::Activation => Bound::Within(0),
+        Step::Register => renewed,
+        Step::Merge => renewed,
+        Step::Activation => old,
     }
+}
+
+/// What came before a task, and its bound.
+fn with_response(system: &System, x: &Vector, task: TaskId, before: Bound) -> Bound
+    requires there { task.0 < length system.now.tasks }
+    requires vector { IsVector system.now x.now }
+    requires few { RespectsLimit 140000000000 before }
+    ensures value { result ≡ bound_plus before (bound_of x.now task.0) }
+    ensures few { RespectsLimit 141000000000 result }
+{
+    before.plus(x.get(task))
 }
 
 /// A task's bound and a wait.
@@ -95,21 +107,30 @@ fn forward(reading: Reading, system: &System, x: &Vector, tasks: &[TaskId], k: u
     }
 }
 
-/// How long before a job of the next task the job can have arrived whose data it has.
-fn backward(reading: Reading, system: &System, x: &Vector, tasks: &[TaskId], k: usize) -> Bound
+/// How long after the first job of a chain one of the task in place k + 1 comes that has its data, where that in place k
+/// comes so long after it, and what overwrites it so.
+fn backward(
+    reading: Reading,
+    system: &System,
+    x: &Vector,
+    tasks: &[TaskId],
+    k: usize,
+    old: Bound,
+    renewed: Bound,
+) -> Bound
     requires next { k + 1 < length tasks.now }
     requires there { All (λ (i : TaskId). i.0 < length system.now.tasks) tasks.now }
     requires vector { IsVector system.now x.now }
-    ensures value { result ≡ backward reading system.now x.now tasks.now k }
-    ensures few { RespectsLimit 4000000000 result }
+    requires old { RespectsLimit 140000000000 old }
+    requires renewed { RespectsLimit 140000000000 renewed }
+    ensures value { result ≡ backward_cost (passage_in reading system.now tasks.now k) (bound_of x.now (task_in tasks.now k).0) old renewed }
 {
     let before = tasks[k];
     let next = tasks[k + 1];
-    let wait = wait(system, before, x);
     match passage_between(reading, system, before, next) {
-        Passage::By(step) => with_wait(system, x, before, writing_wait(step, wait)),
-        Passage::FromAbove => wait,
-        Passage::OfOneSource => Bound::Within(0),
+        Passage::By(step) => with_response(system, x, before, read_from(step, old, renewed)),
+        Passage::FromAbove => renewed,
+        Passage::OfOneSource => old,
     }
 }
 
@@ -157,15 +178,18 @@ pub fn age_by(reading: Reading, system: &System, x: &Vector, tasks: &[TaskId]) -
     ensures few { RespectsLimit 140000000000 result }
 {
     let last = tasks.len() - 1;
-    let mut sum = Bound::Within(0);
+    let mut old = Bound::Within(0);
+    let mut renewed = wait(system, tasks[0], x);
     for k in 0..last {
-        sum = sum.plus(backward(reading, system, x, tasks, k));
+        let next = backward(reading, system, x, tasks, k, old, renewed);
+        renewed = renewed.plus(forward(reading, system, x, tasks, k));
+        old = next;
     }
-    sum.plus(x.get(tasks[last]))
+    old.plus(x.get(tasks[last]))
 }
 
 /// How old the data in the register of the last task can be until it is overwritten, from the arrival of the job of the
-/// first task (the data age of Günzel et al. 2023): the data age, and the wait for the last task's next job.
+/// first task (the data age of Günzel et al. 2023): as long as a reaction takes.
 #[tactic(auto, unfolding(crate::specs::Bounds::held_by))]
 pub fn held_by(reading: Reading, system: &System, x: &Vector, tasks: &[TaskId]) -> Bound
     requires some { 0 < length tasks.now }
@@ -174,8 +198,12 @@ pub fn held_by(reading: Reading, system: &System, x: &Vector, tasks: &[TaskId]) 
     requires vector { IsVector system.now x.now }
     ensures value { result ≡ held_by reading system.now x.now tasks.now }
 {
-    let last = tasks[tasks.len() - 1];
-    age_by(reading, system, x, tasks).plus(wait(system, last, x))
+    let last = tasks.len() - 1;
+    let mut renewed = wait(system, tasks[0], x);
+    for k in 0..last {
+        renewed = renewed.plus(forward(reading, system, x, tasks, k));
+    }
+    renewed.plus(x.get(tasks[last]))
 }
 
 /// The latency of a chain, whenever its jobs read.

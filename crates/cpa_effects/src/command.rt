@@ -181,19 +181,43 @@ fn answer<F: Files, K: Sink>(
     }
 }
 
-/// Writes the bounds on reaction time and data age of a chain of tasks, at the least solution, and answers the status.
+/// Writes the bounds on reaction time and data age of a chain of tasks, at the least solution, where jobs read so, and
+/// answers the status.
 ///
-/// The words are those after the program's name: the system file and 1 to 32 names of tasks, none of which is empty or begins
-/// with a hyphen; before or after these `--while-running` once, which presumes that jobs read only while they run. The
-/// statuses: 0 with the bounds sent; 2 where one of them is missing; 10, 12 to 14 and 18 a refusal, 11 a file that couldn't
-/// be read, each with its line sent; 20 a fault of the sink; 30 out of memory.
+/// The words are the system file, and 1 to 32 names of tasks, none of which is empty or begins with a hyphen. The statuses:
+/// 0 with the bounds sent; 2 where one of them is missing; 10, 12 to 14 and 18 a refusal, 11 a file that couldn't be read,
+/// each with its line sent; 20 a fault of the sink; 30 out of memory.
+pub fn write_chain_by<F: Files, K: Sink>(
+    alloc: Global,
+    reading: Reading,
+    words: &[String],
+    files: &mut F,
+    sink: &mut K,
+) -> u8
+    // What every call owes: its status and what it sent.
+    ensures { MeetsCall
+        (IsOutputOf (record { reading = reading; words = map string_bytes words.now }) (F.held files.old))
+        (SendsPart (IsOutputOf (record { reading = reading; words = map string_bytes words.now }) (F.held files.old)))
+        (IsUnread (map string_bytes words.now) (F.faults files.old) (F.faults files.new) (F.last_failed files.new))
+        (loaded (F.told files.old) (F.faults files.old) (F.faults files.new) (F.last_failed files.new))
+        (sent (K.sent sink.old) (K.sent sink.new) (K.faults sink.old) (K.faults sink.new))
+        result }
+{
+    match answer(alloc, reading, words, files, sink) {
+        Ok(status) => status,
+        Err(OutputError::Sink) => statuses::SINK_FAILED,
+        Err(OutputError::Memory) => statuses::OUT_OF_MEMORY,
+    }
+}
+
+/// The same, where the words also say when jobs read: before or after the others `--while-running` may stand once, which
+/// presumes that jobs read only while they run.
 pub fn write_chain<F: Files, K: Sink>(
     alloc: Global,
     words: &[String],
     files: &mut F,
     sink: &mut K,
 ) -> u8
-    // What every call owes: its status and what it sent.
     ensures { MeetsCall
         (IsOutput (map string_bytes words.now) (F.held files.old))
         (SendsPart (IsOutput (map string_bytes words.now) (F.held files.old)))
@@ -203,9 +227,5 @@ pub fn write_chain<F: Files, K: Sink>(
         result }
 {
     let request = read_request(words);
-    match answer(alloc, request.reading, request.words, files, sink) {
-        Ok(status) => status,
-        Err(OutputError::Sink) => statuses::SINK_FAILED,
-        Err(OutputError::Memory) => statuses::OUT_OF_MEMORY,
-    }
+    write_chain_by(alloc, request.reading, request.words, files, sink)
 }

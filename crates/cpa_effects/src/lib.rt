@@ -10,7 +10,7 @@ mod text;
 mod words;
 
 pub use bounds::{age, age_by, held, held_by, latency, latency_by, reaction, reaction_by, wait};
-pub use command::write_chain;
+pub use command::{write_chain, write_chain_by};
 pub use laws::chains_have_bounds;
 pub use steps::{Passage, Reading, Step, passage_between, step_between};
 pub use text::{chain_text, status};

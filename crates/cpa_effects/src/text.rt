@@ -4,7 +4,7 @@ ghost use Rattle.std.specs.Prelude.{◌≡◌, ◌<◌, ◌≤◌, ◌++◌, len
 ghost use Rattle.std.specs.List.{flat_map, range_with_len};
 ghost use Rattle.cpa_units.specs.declared.limits.TheConstants.{MAX_CHAIN};
 ghost use Rattle.cpa_local.specs.Solution.{IsVector};
-ghost use Rattle.cpa_effects.specs.ChainText.{step_word, passage_word, place_word, reading_word, labelled, times_text, step_line, total_line, chain_text, chain_status};
+ghost use Rattle.cpa_effects.specs.ChainText.{step_word, passage_word, place_word, reading_word, labelled, premise, times_text, step_line, total_line, chain_text, chain_status};
 
 use crate::bounds::{age_by, held_by, reaction_by, wait};
 use crate::steps::{Passage, Reading, Step, passage_between};
@@ -130,11 +130,12 @@ fn put_total(
     put_labelled(text, b" reaction ", reaction)?;
     put_labelled(text, b" age ", age)?;
     put_labelled(text, b" held ", held)?;
-    text.put(b"\n")
+    text.put(b" if sources stay near\n")
 }
 
 /// The text that says of a chain how data comes to each task, its wait and its bound, and the bounds on reaction time
-/// and data age, and on the time for which data is held, where jobs read so. A chain has 1 to 32 tasks.
+/// and data age, and on the time for which data is held, where jobs read so and sources stay near. A chain has 1 to 32
+/// tasks.
 #[tactic(auto, unfolding(crate::specs::ChainText::chain_text))]
 pub fn chain_text(
     alloc: Global,
@@ -169,7 +170,7 @@ pub fn status(reading: Reading, system: &System, x: &Vector, tasks: &[TaskId]) -
     ensures small { result ≤ 2 }
 {
     if is_overload(reaction_by(reading, system, x, tasks))
-        || is_overload(held_by(reading, system, x, tasks))
+        || is_overload(age_by(reading, system, x, tasks))
     {
         2
     } else {

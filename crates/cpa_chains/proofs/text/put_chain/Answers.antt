@@ -7,6 +7,7 @@ unfolding chain_line
 returns c =
     rw (
       c.in_ok-put-5.ensures,
+      c.in_ok-put_held.ensures,
       c.in_ok-put_verdict-2.ensures,
       c.in_ok-put-4.ensures,
       c.in_ok-put_verdict.ensures,
@@ -14,6 +15,8 @@ returns c =
       c.in_ok-put_count.ensures,
       c.in_ok-put-2.ensures,
       c.in_ok-put.ensures,
+      c.held.ensures,
+      c.held-2.ensures.value,
       c.age.ensures,
       c.age-2.ensures.value,
       c.reaction.ensures,

@@ -1,11 +1,12 @@
-use Rattle.std.proofs.Common.{◌≡◌, ◌*◌}
-use Rattle.std.specs.List.{range_with_len}
-use Rattle.cpa_units.specs.Bounds.{RespectsLimit, sum_bounds}
-use Rattle.cpa_effects.specs.Bounds.{backward}
+use Rattle.std.proofs.Common.{◌≡◌, ◌+◌, ◌*◌}
+use Rattle.cpa_units.specs.Bounds.{RespectsLimit}
+use Rattle.cpa_effects.specs.Bounds.{arrives_after, renewed_after}
 use Rattle.cpa_effects.proofs.bounds.age_by.Given as goal
 
 abbrev pub invariant-loop-k : goal.invariant-loop-k
 invariant-loop-k l = record {
-  sum : l.sum ≡ sum_bounds (backward l.reading l.system l.x l.tasks) (range_with_len 0 l.k);
-  few : RespectsLimit (l.k * 4000000000) l.sum;
+  old : l.old ≡ arrives_after l.reading l.system l.x l.tasks l.k;
+  renewed : l.renewed ≡ renewed_after l.reading l.system l.x l.tasks l.k;
+  few : RespectsLimit ((l.k + 1) * 4000000000) l.renewed;
+  small : RespectsLimit ((l.k + 1) * 4000000000) l.old;
 }

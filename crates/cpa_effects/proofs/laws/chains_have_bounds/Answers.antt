@@ -14,4 +14,4 @@ pub returns-clause-one_stream : goal.returns-clause-one_stream
 returns-clause-one_stream c = effects.one_stream_goes_on
 
 pub returns-clause-equal : goal.returns-clause-equal
-returns-clause-equal c = effects.equal_where_all_read
+returns-clause-equal c = effects.held_is_reaction

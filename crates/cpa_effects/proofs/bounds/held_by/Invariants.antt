@@ -1,0 +1,10 @@
+use Rattle.std.proofs.Common.{◌≡◌, ◌+◌, ◌*◌}
+use Rattle.cpa_units.specs.Bounds.{RespectsLimit}
+use Rattle.cpa_effects.specs.Bounds.{renewed_after}
+use Rattle.cpa_effects.proofs.bounds.held_by.Given as goal
+
+abbrev pub invariant-loop-k : goal.invariant-loop-k
+invariant-loop-k l = record {
+  renewed : l.renewed ≡ renewed_after l.reading l.system l.x l.tasks l.k;
+  few : RespectsLimit ((l.k + 1) * 4000000000) l.renewed;
+}
