@@ -6,7 +6,8 @@
  *
  * Pointers. Every pointer points at memory of the caller, and none may be NULL, also where its length is 0. Texts are bytes, with no zero at
  * their end. No two pointers of a call may lead to the same memory, but for texts that are only read. No pointer is kept once a call has returned.
- * All that a call allocates, by malloc, is freed when it returns; only an open handle owns memory between calls.
+ * All that a call allocates, by malloc, is freed when it returns; only an open handle owns memory between calls. That is tested, by valgrind, and
+ * not proved.
  *
  * Texts that are given. A call writes its text to out, as far as out_len goes, and puts the length of the whole text into *used. Where that is
  * more than out_len, the text is cut off at out_len: call again with more room. The report of a system of the greatest size has less
@@ -73,10 +74,11 @@ uint8_t lokwurmi_audit(const uint8_t *system, size_t system_len, const uint8_t *
 
 /* Bounds on the reaction time and the data age of a chain of 1 to 32 tasks of a system. `tasks` has their names in the order of the chain, one a
  * line, and its last line may lack the line end: "read\nplan\nact". They are refused as the words of the command are (10): none, more than 32, one
- * that is empty or begins with `-`. while_running other than 0 presumes that jobs read only while they run (`--while-running`). */
+ * that is empty or begins with `-`. while_running other than 0 presumes that jobs read only while they run (`--while-running`).
+ * The bounds hold where no source falls silent: where events come farther apart than period and jitter say, they are void. */
 uint8_t lokwurmi_chain(const uint8_t *system, size_t system_len, const uint8_t *tasks, size_t tasks_len, uint8_t while_running, uint8_t *out, size_t out_len, size_t *used);
 
-/* The bounds of the chains in a file of chains, with the verdicts on their deadlines. */
+/* The bounds of the chains in a file of chains, with the verdicts on their deadlines. They hold where no source falls silent, as above. */
 uint8_t lokwurmi_chains(const uint8_t *system, size_t system_len, const uint8_t *chains, size_t chains_len, uint8_t *out, size_t out_len, size_t *used);
 
 /* The file of the system that is generated from a seed of at most 4,294,967,295 and a size of at most 128. */
@@ -94,7 +96,7 @@ uint8_t lokwurmi_slack(const uint8_t *system, size_t system_len, const uint8_t *
 /* A session that is kept: a system under edits, with its worst-case response times, which make the next analysis cheap.
  *
  * The handle lies in memory of the caller, begins as LOKWURMI_CLOSED, and is handed to each call by its address. lokwurmi_open opens it, and
- * lokwurmi_close closes it and frees what it owns. Every other call of a handle that isn't open returns 10 and does nothing; to close it again is
+ * lokwurmi_close closes it and frees what it owns (tested, not proved). Every other call of a handle that isn't open returns 10 and does nothing; to close it again is
  * harmless. A handle that is never closed keeps its memory.
  *
  * The caller owes three things. Nobody else writes the two fields. The struct isn't copied; where it was, only one of the two is used from then on.

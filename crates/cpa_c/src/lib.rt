@@ -15,10 +15,13 @@ ghost use Rattle.cpa_run.specs.Plan.{plan_for};
 ghost use Rattle.cpa_run.specs.Output.{IsAnswerTo};
 ghost use Rattle.cpa_memory.specs.Given.{over};
 ghost use Rattle.cpa_memory.specs.Held.{held_in, held_of};
-ghost use Rattle.cpa_memory.specs.Words.{schedule_words, chain_words, chains_words};
+ghost use Rattle.cpa_memory.specs.Words.{schedule_words, chain_call, chains_words};
 ghost use Rattle.cpa_kept.specs.Kept.{kept_in, edit_in, IsOpened, IsEdited};
 ghost use Rattle.cpa_kept.specs.Numbers.{TellsNumbers, latencies_of};
 ghost use Rattle.cpa_c.specs.Given.{Gives, GivesNothing};
+
+#[cfg(test)]
+mod tests;
 
 use cpa_call::errors::Reply;
 use cpa_kept::{Handle, Told};
@@ -366,7 +369,8 @@ pub extern "C" fn lokwurmi_schedule(
     give(cpa_memory::schedule(alloc, texts), out, used)
 }
 
-/// Bounds on the reaction time and the data age of a chain of tasks, named by the lines of a text. Where that is no text the status is 10.
+/// Bounds on the reaction time and the data age of a chain of tasks, named by the lines of a text, each of which is a name. Where that
+/// is no text, or a line begins with a hyphen, the status is 10.
 #[unsafe(no_mangle)]
 pub extern "C" fn lokwurmi_chain(
     alloc: Global,
@@ -376,7 +380,7 @@ pub extern "C" fn lokwurmi_chain(
     out: &mut [u8],
     used: &mut usize,
 ) -> u8
-    ensures told { IsUtf8 tasks.now → result ≢ 30 → Gives (effects.IsOutput (chain_words tasks.now (not (while_running == 0))) (held_of system.now [] [] [] [])) result out.old out.new used.new }
+    ensures told { IsUtf8 tasks.now → result ≢ 30 → Gives (effects.IsOutputOf (chain_call tasks.now (not (while_running == 0))) (held_of system.now [] [] [] [])) result out.old out.new used.new }
     ensures refused { ¬ (IsUtf8 tasks.now) → (result ≡ 10) × GivesNothing out.old out.new used.new }
     ensures wanting { result ≡ 30 → GivesNothing out.old out.new used.new }
 {

@@ -1,6 +1,7 @@
 //! Schedules and chains of texts in memory.
 
-use cpa_memory::{Texts, chain, chains, schedule};
+use cpa_memory::{SYSTEM as FILE, Texts, call, chain, chains, schedule};
+use cpa_words::Command;
 use std::test::Fail;
 
 const SYSTEM: &str =
@@ -16,6 +17,21 @@ fn texts() -> Texts<'static> {
         schedule: b"",
         chains: CHAINS.as_bytes(),
     }
+}
+
+/// The second task runs for up to 7 ticks, and waits once for the first.
+const REPORT: &[u8] =
+    b"task a cpu period 10 jitter 0 distance 0 best 1 worst 3\ntask b cpu period 20 jitter 0 distance 0 best 2 worst 10\nsummary tasks 2 overload 0 missed 0\n";
+
+#[test]
+fn analyses_a_system(rt: HostRuntime) -> Result<(), Fail> {
+    let command = Command::Analyse {
+        file: FILE,
+        workers: 1,
+    };
+    let reply = call(rt.alloc(), command, texts())?;
+    assert!(rt; reply.status == 0 && reply.text.as_slice() == REPORT);
+    Ok(())
 }
 
 #[test]
@@ -34,8 +50,9 @@ fn bounds_a_chain(rt: HostRuntime) -> Result<(), Fail> {
         chain(alloc, texts(), "a\n\nb", false)?.status,
         chain(alloc, texts(), "", false)?.status,
         chain(alloc, texts(), "zz", false)?.status,
+        chain(alloc, texts(), "a\nb\n--while-running", false)?.status,
     ];
-    assert!(rt; statuses == [0, 0, 10, 10, 18]);
+    assert!(rt; statuses == [0, 0, 10, 10, 18, 10]);
     Ok(())
 }
 

@@ -1,25 +1,22 @@
 //! The commands of the programs that take their words as texts: `schedule`, `chain` and `chains`.
 
-ghost use Rattle.std.specs.Prelude.{◌≡◌, ◌≢◌, ◌++◌, ◌∷◌, [], map, string_bytes, IfOk, OnOk};
+ghost use Rattle.std.specs.Prelude.{◌≡◌, ◌≢◌, ◌++◌, ◌∷◌, [], codes, map, string_bytes, IfOk, OnOk};
 ghost use Rattle.std.specs.Str.Lines.{lines};
 ghost use Rattle.cpa_call.specs.Answers.{reply};
 ghost use Rattle.cpa_segments.specs.Calls as segments;
 ghost use Rattle.cpa_effects.specs.Calls as effects;
 ghost use Rattle.cpa_chains.specs.Calls as chained;
 ghost use Rattle.cpa_memory.specs.Held.{held_in};
-ghost use Rattle.cpa_memory.specs.Words.{schedule_words, chain_words, chains_words};
+ghost use Rattle.cpa_memory.specs.Words.{schedule_words, reading_of, chain_call, chains_words};
 
 use crate::texts::{CHAINS, SYSTEM, TRACE, Texts};
 use crate::written_output::Written;
 use cpa_call::errors::Reply;
 use cpa_chains::write_chains;
-use cpa_effects::write_chain;
+use cpa_effects::{Reading, write_chain_by};
 use cpa_segments::write_schedule;
 use cpa_units::NoMemory;
 use std::alloc::{AllocError, Global};
-
-/// The word that says that jobs read only while they run.
-const WHILE_RUNNING: &str = "--while-running";
 
 fn push_word(alloc: Global, words: &mut Vec<String>, word: &str) -> Result<(), NoMemory>
     ensures { OnOk result (map string_bytes words.new.items ≡ map string_bytes words.old.items ++ word.now ∷ []) }
@@ -55,15 +52,23 @@ fn push_words(alloc: Global, words: &mut Vec<String>, more: &[&str]) -> Result<(
     Ok(())
 }
 
+/// When jobs read.
+fn reading_of(while_running: bool) -> Reading
+    ensures { result ≡ reading_of while_running }
+{
+    if while_running {
+        Reading::WhileRunning
+    } else {
+        Reading::Anywhere
+    }
+}
+
 /// The words of a chain, whose tasks are named by the lines of a text.
-fn words_of_chain(alloc: Global, tasks: &str, while_running: bool) -> Result<Vec<String>, NoMemory>
-    ensures { IfOk result (λ v. map string_bytes v.items ≡ chain_words tasks.now while_running) }
+fn words_of_chain(alloc: Global, tasks: &str) -> Result<Vec<String>, NoMemory>
+    ensures { IfOk result (λ v. map string_bytes v.items ≡ codes "system" ∷ lines tasks.now) }
 {
     let names = lines_of(alloc, tasks)?;
     let mut words = Vec::new(alloc);
-    if while_running {
-        push_word(alloc, &mut words, WHILE_RUNNING)?;
-    }
     push_word(alloc, &mut words, SYSTEM)?;
     push_words(alloc, &mut words, names.as_slice())?;
     Ok(words)
@@ -95,20 +100,22 @@ pub fn schedule(alloc: Global, texts: Texts) -> Result<Reply, NoMemory>
     ended(status, written)
 }
 
-/// The bounds of a chain of tasks, named by the lines of a text, as `chain` answers them. The only error is that memory is out.
+/// The bounds of a chain of tasks, named by the lines of a text, as `chain` answers them; a line that begins with a hyphen is
+/// no name, whatever it says. The only error is that memory is out.
 pub fn chain(
     alloc: Global,
     texts: Texts,
     tasks: &str,
     while_running: bool,
 ) -> Result<Reply, NoMemory>
-    ensures answers { IfOk result (λ r. effects.IsOutput (chain_words tasks.now while_running) (held_in texts.entry) (reply r.status r.text.items)) }
+    ensures answers { IfOk result (λ r. effects.IsOutputOf (chain_call tasks.now while_running) (held_in texts.entry) (reply r.status r.text.items)) }
     ensures status { IfOk result (λ r. r.status ≢ 30) }
 {
-    let words = words_of_chain(alloc, tasks, while_running)?;
+    let words = words_of_chain(alloc, tasks)?;
+    let reading = reading_of(while_running);
     let mut files = texts;
     let mut written = Written::nothing(alloc);
-    let status = write_chain(alloc, words.as_slice(), &mut files, &mut written);
+    let status = write_chain_by(alloc, reading, words.as_slice(), &mut files, &mut written);
     ended(status, written)
 }
 
