@@ -257,6 +257,26 @@ def check_channels(room):
     hold(done.returncode == 0 and "frame Speed absent" in done.stdout, f"by a database: {done.stdout}")
 
 
+def check_dropped(room):
+    """Nothing of a call is dropped in silence: neither what --bus and --database don't name, nor what they name
+    wrongly."""
+    database, system, _, log = two_channels(room)
+    words = (log, "--system", system, "--bus", "b=can0", "--program", PROGRAM)
+    done = called("import log", *words)
+    hold("nothing is said of channels that --bus doesn't name: can1" in done.stderr, f"a channel: {done.stderr}")
+    frames = [("Speed", 16, False, 2, 10, {}), ("Lamps", 32, False, 1, 20, {})]
+    same = dumped(room, "same.dbc", matrix_of([*frames, ("Doors", 32, False, 1, 0, {})]))
+    other = dumped(room, "other.dbc", matrix_of([frames[0], ("Lights", 32, False, 1, 20, {})]))
+    for said, more in (
+        ("Lamps and Doors have the identifier 0x020", ["--database", f"b={same}"]),
+        ("the database has no frame Lamps, so that nothing", ["--database", f"b={other}"]),
+        ("no bus in it is called b; there are x, y", ["--database", f"x={database}", "--database", f"y={database}"]),
+        ("a bus stands there twice", ["--bus", "b=can1"]),
+    ):
+        told = said_by("import log", *words, *more)
+        hold(said in told, f"import log {more}: {told}")
+
+
 def check_errors(room):
     """A system with errors: the task that stands for them is no frame; and one whose priorities are no identifiers."""
     database, _, _, log = two_channels(room)
@@ -442,6 +462,54 @@ def check_log_words(room):
         hold(said in told, f"import log {words}: {told}")
 
 
+ASC = """date Fri Nov 1 10:00:00.000 am 2024
+base hex timestamps absolute
+no internal events logged
+Begin Triggerblock Fri Nov 1 10:00:00.000 am 2024
+ 0.000000 Start of measurement
+ 0.010000 1 10 Rx d 1 00
+ 0.015000 1 Statistic: D 0 R 0 XD 0 XR 0 E 0 O 0 B 0.00%
+ 0.020000 1 10 Rx d 1 00
+ 0.030000 1 10 Rx d 1 00
+End TriggerBlock
+"""
+
+
+def check_whole(room):
+    """A log is taken whole or refused: a line that is none, frames at other places, and a file that is cut off."""
+    base = [(at, 0x10, False, 2, "can0") for at in range(0, 100_000, 10_000)]
+    done = called("import log", written(room, "whole.asc", ASC))
+    hold(done.returncode == 0 and "period = 10000" in done.stdout, f"whole.asc: {done.stdout} {done.stderr}")
+    packed = log_of(room, "cut.blf", base)
+    with open(packed, "r+b") as it:
+        it.truncate(os.path.getsize(packed) - 20)
+    good = log_of(room, "good.log", base)
+    later = "(1.000000) can0 010#00\n(3.000000) can0 010#00\n(2.000000) can0 010#00\n(4.000000) can0 010#00\n"
+    joined, head = written(room, "joined.log", later), ASC[: ASC.index("no internal")]
+    database = dumped(room, "other.dbc", matrix_of([("Lamps", 0x20, False, 1, 20, {})]))
+    for said, words in (
+        ("line 6: `0.010000 1 10 Rx x 1 00` is no line", [written(room, "b.asc", ASC.replace("Rx d", "Rx x", 1))]),
+        (
+            "line 6: `0.010000 A1 10 Rx d 1 00` is no",
+            [written(room, "c.asc", ASC.replace("0 1 10 Rx", "0 A1 10 Rx", 1))],
+        ),
+        ("3 frames, and python-can reads 2 of them", [written(room, "d.asc", head + ASC[ASC.index(" 0.010000") :])]),
+        ("cut.blf: ", [packed]),
+        ("line 2: `(2.00000) can0 010#00`", [written(room, "e.log", later.replace("(3.000000)", "(2.00000)"))]),
+        ("stands behind a later one of channel can0", [joined]),
+        ("--sort concerns no frame", [good, "--sort"]),
+        ("--classical concerns no frame", [good, "--classical"]),
+        ("--bus concerns nothing", [good, "--bus", "b=can0"]),
+        ("--rough concerns nothing", [good, "--rough", "5"]),
+    ):
+        told = said_by("import log", *words)
+        hold(said in told, f"import log {words}: {told}")
+    done = called("import log", joined, "--sort")
+    hold(done.returncode == 0 and "1 frames before an earlier one" in done.stderr, f"--sort: {done.stderr}")
+    done = called("import log", good, "--database", f"b={database}", "--period", "database")
+    hold("x010: the database has no cycle time of it" in done.stderr, f"--period database: {done.stderr}")
+
+
 def check_chains(room):
     """Logs of the proved program's own runs, of buses whose frames come after tasks of processors: what `schedule`
     writes, as logs."""
@@ -577,12 +645,14 @@ def main():
     with tempfile.TemporaryDirectory() as room:
         for one in (
             check_channels,
+            check_dropped,
             check_strange,
             check_errors,
             check_clocks,
             check_tight,
             check_kinds,
             check_log_words,
+            check_whole,
             check_chains,
             check_can_utils,
             check_page,

@@ -9,13 +9,18 @@ entries stay; what can't be turned is refused with its line and what to do. Repo
 """
 import os
 import random
+import re
+import signal
 import subprocess
 import tempfile
 import tomllib
 from fractions import Fraction
 
-from calls import NEEDS_PROGRAM, add_number, hold, reader_of, tell, tool, written
+from calls import NEEDS_PROGRAM, add_number, built, hold, reader_of, run, tell, tool, written
 from databases import PYTHON, analysed, called, least_and_greatest, said_by
+
+from lokwurmi import System
+from lokwurmi.engines import Program
 
 UNITS = {"ns": 1, "us": 10**3, "ms": 10**6, "s": 10**9}
 SAFE = {
@@ -49,7 +54,7 @@ def nanoseconds(text, bit=Fraction(0)):
 
 def made_system(draw, has_regions):
     """A system with units, of a processor and a bus, with times that are multiples of 50 ns."""
-    lines = ["# a generated system", f"format = {3 if has_regions else 1}", "resource = ["]
+    lines = ["# a generated system", f"format = {4 if has_regions else 1}", "resource = ["]
     rate = draw.choice((1_000_000, 500_000, 800_000))
     lines += [
         '  { name = "cpu", kind = "preemptive" }, # a processor',
@@ -218,6 +223,142 @@ def check_refused(room):
     hold("limit of 11s is 10000000, the most" in done.stderr and "limit = 10000000" in done.stdout, done.stderr)
 
 
+TWO = """format = 1
+resource = [{ name = "c1", kind = "preemptive" }, { name = "c2", kind = "preemptive" }]
+source = [{ name = "sa", period = "10 ms" }, { name = "sb", period = "10 ms" }]
+task = [
+  { name = "a", on = "c1", after = "sa", best = "2 ms", worst = "2 ms", priority = 1 },
+  { name = "b", on = "c2", after = "sb", best = "3 ms", worst = "3 ms", priority = 1 },
+]
+"""
+
+
+def check_units_of_chains(tick, system, listed, wrote, deadline):
+    """What `chains` wrote, as times: bounds have a tick more for each wait, and deadlines get back what was taken off;
+    so both are the same by each tick, and so is what Python says."""
+    words = ("--tick", tick, "--system", system, "--chains", listed)
+    done = run("units", *words, python=PYTHON, given=wrote)
+    verdict, missed = ("missed", 1) if deadline == "24 ms" else ("met", 0)
+    wanted = f"chain ab tasks 2 reaction 25ms deadline {deadline.replace(' ', '')} {verdict} age 15ms deadline - none\n"
+    wanted += f"summary chains 1 overload 0 missed {missed} if sources stay near\n"
+    hold(
+        (done.returncode, done.stdout) == (0, wanted),
+        f"units of chains in ticks of {tick}: {done.stdout} {done.stderr}",
+    )
+    # the same of a file of ticks, from which nothing was taken off
+    with open(listed, encoding="utf-8") as it:
+        plain = "".join(line for line in it if not line.startswith("#"))
+    ticks = int(nanoseconds(deadline) / nanoseconds(tick))
+    plain = written(
+        os.path.dirname(listed), "plain.chains.toml", re.sub(r"reaction = \d+", f"reaction = {ticks}", plain)
+    )
+    text = subprocess.run(
+        [built("cpa_chain"), "chains", system, plain], capture_output=True, text=True, check=False
+    ).stdout
+    done = run("units", *words[:-1], plain, python=PYTHON, given=text)
+    hold((done.returncode, done.stdout) == (0, wanted), f"units of plain chains in ticks of {tick}: {done.stdout}")
+    for said, given, more in (
+        ("line 1: this is of `chains`, whose bounds hold at ticks alone", text, ()),
+        ("chain x of 2 tasks isn't in it", text.replace("chain ab", "chain x"), words[2:]),
+        ("no line of the report is of `chains`", "summary tasks 1 overload 0 missed 0\n", words[2:]),
+        ("--system and --chains go together", text, words[2:4]),
+    ):
+        done = run("units", *words[:2], *more, python=PYTHON, given=given)
+        hold(done.returncode in (1, 2) and said in done.stderr, f"units of chains: {said}: {done.stderr}")
+
+
+def check_python(tick, wanted):
+    """The bounds of the same chain by Python, in a system with this tick."""
+    system = System(tick=tick)
+    for name, worst in (("a", "2 ms"), ("b", "3 ms")):
+        cpu, source = system.preemptive(f"on_{name}"), system.source(f"s{name}", period="10 ms")
+        system.task(name, on=cpu, after=source, best=worst, worst=worst, priority=1)
+    report = system.chain(["a", "b"], engine=Program(built("cpa_chain")))
+    found = [f"{report.time(it):ms}" for it in ("reaction", "age", "held")]
+    hold(found == wanted, f"Python with a tick of {tick}: {found}")
+
+
+def check_chains(room):
+    """Deadlines of chains have a tick less for each wait, so that no verdict depends on the tick: what comes at 1 us
+    may be answered at 24999 us, and a bound of 23 ticks of 1 ms is no less than that by chance alone."""
+    system = written(room, "two.toml", TWO)
+    program = built("cpa_chain")
+    for tick in ("1ms", "1us"):
+        ticks = written(room, f"two.{tick}.toml", called("ticks", system, "--tick", tick).stdout)
+        for deadline, status in (("24 ms", 1), ("25 ms", 0)):
+            text = f'format = 1\nchain = [{{ name = "ab", tasks = ["a", "b"], reaction = "{deadline}" }}]\n'
+            chains = written(room, "two.chains.toml", text)
+            done = called("ticks", chains, "--system", system, "--tick", tick)
+            hold("a tick off for each wait" in done.stderr, f"chains in ticks of {tick}: {done.stderr}")
+            listed = written(room, "two.ticks.chains.toml", done.stdout)
+            found = subprocess.run([program, "chains", ticks, listed], capture_output=True, text=True, check=False)
+            hold(found.returncode == status, f"{deadline} by ticks of {tick}: {found.stdout}")
+            check_units_of_chains(tick, ticks, listed, found.stdout, deadline)
+        wrote = subprocess.run([program, "chain", ticks, "a", "b"], capture_output=True, text=True, check=False).stdout
+        shown = subprocess.run(
+            [*tool("units", PYTHON), "--tick", tick], input=wrote, capture_output=True, text=True, check=False
+        ).stdout
+        hold("chain tasks 2 reaction 25ms age 15ms held 25ms" in shown, f"a chain in ticks of {tick}: {shown}")
+        running = run(
+            "units", "--tick", tick, python=PYTHON, given=wrote.replace("chain tasks", "chain while-running tasks")
+        )
+        hold("chain while-running tasks 2 reaction 25ms" in running.stdout, f"--while-running: {running.stdout}")
+        check_python(tick, ["25ms", "15ms", "25ms"])
+    chains = written(room, "lost.chains.toml", 'format = 1\nchain = [{ name = "x", tasks = ["c"], age = "1 ms" }]\n')
+    for said, words in (
+        ("line 2: chain is no key of a system; a file of chains wants its system: --system FILE", [chains]),
+        ("has no task c; there are a, b", [chains, "--system", system]),
+        ("it is no file of chains", [system, "--system", system]),
+        ("it has a tick off for each wait that a bound counts already", [listed, "--system", system]),
+        (
+            "and chains take a period as the longest",
+            [chains, "--system", written(room, "u.toml", TWO.replace("10", "1.5"))],
+        ),
+        ("line 1: sources is no key of a system", [written(room, "keys.toml", "sources = []\n")]),
+    ):
+        told = said_by("ticks", *words, "--tick", "1ms")
+        hold(said in told, f"ticks {words}: {told}")
+
+
+# calls of tools that write a file, and how its last line begins
+WRITERS = (
+    ("import network", ["can=examples/sae_can.dbc", "--bitrate", "125k", "--jitter-attribute", "JitterMs"], "]"),
+    ("ticks", ["examples/units/switch_port.toml", "--tick", "1us"], "]"),
+    ("graph", ["examples/pedal.toml"], "}"),
+)
+
+
+def check_pipe(room):
+    """A reader that has enough ends a tool as any program, and no file is blamed; a file that it writes is whole."""
+    rows = written(room, "long.txt", "task a cpu period 5 jitter 0 distance 0 best 1 worst 2\n" * 20_000)
+    words = [*tool("units", PYTHON), rows, "--tick", "1us"]
+    with subprocess.Popen(words, stdout=subprocess.PIPE, stderr=subprocess.PIPE, text=True) as child:
+        child.stdout.readline()
+        child.stdout.close()
+        said = child.stderr.read()
+    hold(said == "", f"units into a pipe that is closed: {said}")
+    hold(child.returncode == -signal.SIGPIPE, f"units into a pipe that is closed: {child.returncode}")
+    for name, more, last in WRITERS:
+        file = os.path.join(room, "whole.txt")
+        whole = called(name, *more).stdout
+        hold(whole.rstrip().endswith(last), f"{name}: {whole[-80:]}")
+        check_closed(name, "--help")
+        check_closed(name, *more)
+        if name != "graph":
+            check_closed(name, *more, "--to", file)
+            with open(file, encoding="utf-8") as it:
+                hold(it.read() == whole, f"{name} --to, told into a pipe that is closed: its file isn't whole")
+
+
+def check_closed(name, *more):
+    """The status of a tool whose outputs nobody reads is that of the signal."""
+    reading, writing = os.pipe()
+    os.close(reading)
+    done = subprocess.run([*tool(name, PYTHON), *more], stdout=writing, stderr=writing, check=False)
+    os.close(writing)
+    hold(done.returncode == -signal.SIGPIPE, f"{name} {more} into a pipe that is closed: status {done.returncode}")
+
+
 def check_examples(room):
     """The example is what stands in examples/ in ticks, with the report beside it; reports with times."""
     done = called("ticks", "examples/units/switch_port.toml", "--tick", "1us")
@@ -252,6 +393,8 @@ def main():
     with tempfile.TemporaryDirectory() as room:
         check_examples(room)
         check_refused(room)
+        check_chains(room)
+        check_pipe(room)
         check_made(room, count)
     tell()
 

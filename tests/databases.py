@@ -17,6 +17,8 @@ if PYTHON != sys.executable:
     os.execv(PYTHON, [PYTHON, *sys.argv])
 
 os.chdir(TOP)
+import lxml.etree  # noqa: E402
+
 from lokwurmi_tools.databases import canmatrix  # noqa: E402
 
 PROGRAM = os.path.abspath(built("cpa_cli"))
@@ -84,6 +86,28 @@ def dumped(room: str, name: str, matrices: "canmatrix.CanMatrix | dict[str, canm
     file = os.path.join(room, name)
     canmatrix.formats.dumpp(matrices if isinstance(matrices, dict) else {"": matrices}, file)
     return file
+
+
+def timed_arxml(room: str, file: str, periods: Mapping[str, str]) -> str:
+    """An ARXML file in which frames get the periods that are given in seconds, which canmatrix doesn't write."""
+    tree = lxml.etree.parse(file)
+    space = tree.getroot().nsmap[None]
+
+    def made(parent: Any, name: str, text: str | None = None) -> Any:
+        child = lxml.etree.SubElement(parent, f"{{{space}}}{name}")
+        child.text = text
+        return child
+
+    for pdu in tree.getroot().iter(f"{{{space}}}SIGNAL-I-PDU", f"{{{space}}}I-SIGNAL-I-PDU"):
+        name = pdu.findtext(f"{{{space}}}SHORT-NAME").removeprefix("PDU_")
+        if name in periods:
+            timing = made(made(pdu, "I-PDU-TIMING-SPECIFICATIONS"), "I-PDU-TIMING")
+            made(timing, "MINIMUM-DELAY", "0.005")
+            mode = made(made(timing, "TRANSMISSION-MODE-DECLARATION"), "TRANSMISSION-MODE-TRUE-TIMING")
+            made(made(made(mode, "CYCLIC-TIMING"), "TIME-PERIOD"), "VALUE", periods[name])
+    timed = os.path.join(room, "timed.arxml")
+    tree.write(timed, pretty_print=True)
+    return timed
 
 
 def imported(*words: object) -> tuple[dict[str, Any], str, str]:

@@ -5,13 +5,15 @@ import io
 import logging
 import os
 from fractions import Fraction
-from typing import Any, Iterable
+from typing import Any, Collection, Iterable
 
+from lokwurmi_tools.arxml_lines import TOO_LOW, ArxmlFrames
 from lokwurmi_tools.faults import Fault
 from lokwurmi_tools.networks import BEHIND, ERRORS, LONGEST, QUEUED, Bus, Frame, named, plain
 from lokwurmi_tools.packages import need
 from lokwurmi_tools.progress import Progress
-from lokwurmi_tools.times import UNITS
+from lokwurmi_tools.times import LEAST_RATE, UNITS
+from lokwurmi_tools.unread import check_before, check_messages, check_text, ending_of
 
 # what canmatrix has to say goes into the report, and not past it
 SAID: list[str] = []
@@ -34,9 +36,6 @@ with contextlib.redirect_stdout(io.StringIO()):
     import lxml.etree
 SAID.clear()
 
-# a bit rate below this is one in kilobits
-LEAST_RATE = 5_000
-
 
 def number_of(value: Any) -> Fraction:
     """A number that a database has, maybe as text; 0 where it has none."""
@@ -52,19 +51,38 @@ def attribute(frame: Any, matrix: Any, key: str) -> Any:
     return value.strip('"') if isinstance(value, str) else value
 
 
-def cycle_of(frame: Any, matrix: Any) -> tuple[Fraction, str]:
-    """The cycle time of a frame in nanoseconds and what tells it: the shortest of those that the database has."""
-    told, exact = number_of(frame.cycle_time), number_of(frame.attributes.get("GenMsgCycleTime"))
+def time_in(value: Any, what: str) -> Fraction:
+    """A time in milliseconds that a database has; 0 where it has none. What is no such number would be none too."""
+    if value is None or str(value).strip().strip('"') == "":
+        return Fraction(0)
+    try:
+        time = Fraction(str(value).strip().strip('"'))
+    except (ValueError, ZeroDivisionError):
+        time = Fraction(-1)
+    if time < 0:
+        raise Fault(f"{what} is {value}, which is no number of milliseconds")
+    return time
+
+
+def cycle_of(frame: Any, matrix: Any) -> tuple[Fraction, str, bool]:
+    """The cycle time of a frame in nanoseconds, what tells it, and whether that is a default: the shortest of those
+    that the database has."""
+    time = lambda key: time_in(attribute(frame, matrix, key), f"{frame.name}: its {key}")
+    told = time_in(frame.cycle_time, f"{frame.name}: its cycle time")
+    exact = time_in(frame.attributes.get("GenMsgCycleTime"), f"{frame.name}: its GenMsgCycleTime")
     # canmatrix cuts a fraction of a millisecond off, and leaves the default of the attribute out
     found = [(exact if exact and int(exact) == told else told, "")]
-    if not found[0][0]:
-        found.append((number_of(attribute(frame, matrix, "GenMsgCycleTime")), "the default of GenMsgCycleTime"))
+    by_default = not found[0][0]
+    if by_default:
+        found.append((time("GenMsgCycleTime"), "the default of GenMsgCycleTime"))
     for key in ("GenMsgCycleTimeFast", "GenMsgCycleTimeActive"):
-        found.append((number_of(attribute(frame, matrix, key)), key))
+        found.append((time(key), key))
+        by_default &= key not in frame.attributes
     if any(number_of(it.cycle_time) for it in frame.signals):
         found.append((number_of(frame.effective_cycle_time), "the cycle times of its signals"))
+        by_default = False
     cycle, why = min((it for it in found if it[0]), key=lambda it: it[0], default=(Fraction(0), ""))
-    return cycle * UNITS["ms"], why
+    return cycle * UNITS["ms"], why, by_default and bool(cycle)
 
 
 def bytes_of(frame: Any) -> int:
@@ -81,40 +99,44 @@ def complete_kcd(file: str, matrices: dict[str, Any]) -> None:
     for bus in lxml.etree.parse(file).getroot().iter("{*}Bus"):
         matrix = matrices.get(bus.get("name"))
         if matrix is None:
-            continue
+            raise Fault(f"{file}: line {bus.sourceline}: bus {bus.get('name')} isn't read: give it a name of its own")
+        check_messages(file, bus, matrix.frames)
         matrix.baudrate = int(number_of(bus.get("baudrate")))
-        for message in bus.iter("{*}Message"):
-            frame = matrix.frame_by_name(message.get("name"))
-            if frame is not None and message.get("interval"):
-                frame.cycle_time = int(number_of(message.get("interval")))
-            if frame is not None and message.get("triggered") == "true" and message.get("interval"):
+        for message, frame in zip(bus.findall("{*}Message"), matrix.frames):
+            if message.get("interval"):
+                frame.cycle_time = int(message.get("interval"))
+            if message.get("triggered") == "true" and message.get("interval"):
                 frame.add_attribute("GenMsgSendType", "cyclic and triggered")
 
 
-def complete_arxml(file: str, matrices: dict[str, Any]) -> None:
-    """Gives each cluster of an ARXML file its own frames, with their own identifiers, in the order of the file. Of a
-    frame that several clusters have canmatrix takes one identifier for all, and of AUTOSAR 3 the frames of all
-    clusters for each."""
-    for cluster in lxml.etree.parse(file).getroot().iter("{*}CAN-CLUSTER"):
-        matrix, frames = matrices.get(cluster.findtext("{*}SHORT-NAME")), []
+def complete_arxml(file: str, matrices: dict[str, Any]) -> list[str]:
+    """Gives each cluster of an ARXML file its own frames, with their own identifiers and periods, in the order of the
+    file; and answers with the frames that no cluster triggers. Of a frame that several clusters have canmatrix takes
+    one identifier for all, of AUTOSAR 3 the frames of all clusters for each, and it cuts periods to milliseconds."""
+    root = lxml.etree.parse(file).getroot()
+    reader = ArxmlFrames(file, root)
+    for cluster in root.iter("{*}CAN-CLUSTER"):
+        told, frames = cluster.findtext("{*}SHORT-NAME"), []
+        matrix = matrices.get(told)
         if matrix is None:
-            continue
+            raise Fault(f"{file}: line {cluster.sourceline}: bus {told} isn't read: give it a SHORT-NAME of its own")
         read = {frame.name: frame for frame in matrix.frames}
-        for it in cluster.iter("{*}CAN-FRAME-TRIGGERING"):
-            name, number = it.findtext("{*}FRAME-REF") or it.findtext("{*}SHORT-NAME") or "", it.findtext(
-                "{*}IDENTIFIER"
-            )
-            name = name.strip().rsplit("/", 1)[-1]
-            if name in read and number:
-                frames.append(copy.copy(read[name]))
-                frames[-1].arbitration_id = canmatrix.ArbitrationId(
-                    int(number), extended=it.findtext("{*}CAN-ADDRESSING-MODE") == "EXTENDED"
+        for name, number, is_long, size, period in reader.triggerings(cluster):
+            if name not in read:
+                raise Fault(
+                    f"{file}: line {cluster.sourceline}: frame {name} of bus {told} is triggered, and isn't read: give"
+                    f" it a CAN-FRAME of that name, with FRAME-LENGTH and data units. {TOO_LOW}"
                 )
-            elif number:
-                matrix.load_errors.append(
-                    ValueError(f"frame {name} of bus {cluster.findtext('{*}SHORT-NAME')} is triggered, and isn't read")
-                )
+            frame = copy.copy(read[name])
+            frame.attributes = dict(frame.attributes)
+            frame.arbitration_id = canmatrix.ArbitrationId(number, extended=is_long)
+            frame.size = max(size, int(frame.size))
+            if period:
+                frame.cycle_time = int(period * 1000)
+                frame.attributes["GenMsgCycleTime"] = str(period * 1000)
+            frames.append(frame)
         matrix.frames = frames
+    return reader.lost()
 
 
 def loaded(file: str) -> tuple[dict[str, Any], str]:
@@ -140,26 +162,34 @@ def loaded(file: str) -> tuple[dict[str, Any], str]:
     return found, heard.getvalue()
 
 
-def matrices_in(file: str) -> tuple[dict[str, Any], list[str]]:
-    """The buses of a database as canmatrix reads them, by name, and what it says of lines that it can't read."""
+def matrices_in(file: str, attributes: Collection[str]) -> tuple[dict[str, Any], list[str], list[str]]:
+    """The buses of a database as canmatrix reads them, by name, what it says of lines that it can't read, and the
+    frames that are on no bus."""
     SAID.clear()
+    lost: list[str] = []
+    try:
+        lines = check_before(file, attributes)
+    except OSError as fault:
+        raise Fault(f"{file}: can't be read: {fault.strerror}")
     found, printed = loaded(file)
     try:
-        if file.lower().endswith(".kcd"):
+        if ending_of(file) == ".kcd":
             complete_kcd(file, found)
-        elif file.lower().endswith(".arxml"):
-            complete_arxml(file, found)
+        elif ending_of(file) == ".arxml":
+            lost = complete_arxml(file, found)
     except (ValueError, canmatrix.canmatrix.ArbitrationIdOutOfRange) as fault:
         raise Fault(f"{file}: it isn't as such files are: {type(fault).__name__}: {fault}")
     said = [it.strip() for it in printed.splitlines() if it.strip()] + list(SAID)
     said += [str(it) for matrix in found.values() for it in matrix.load_errors]
-    if file.lower().endswith((".xls", ".xlsx")):
+    said = check_text(file, [frame for matrix in found.values() for frame in matrix.frames], said, lines)
+    if ending_of(file) in (".xls", ".xlsx"):
         said.append("a sheet has no lengths of frames: each has 8 bytes")
-    return found, list(dict.fromkeys(said))
+    return found, list(dict.fromkeys(said)), lost
 
 
 def frame_of(frame: Any, matrix: Any, bus: str, name: str) -> Frame:
-    cycle, why = cycle_of(frame, matrix)
+    cycle, why, by_default = cycle_of(frame, matrix)
+    delay = time_in(attribute(frame, matrix, "GenMsgDelayTime"), f"{frame.name}: its GenMsgDelayTime")
     return Frame(
         bus=bus,
         name=name,
@@ -172,26 +202,30 @@ def frame_of(frame: Any, matrix: Any, bus: str, name: str) -> Frame:
         values=max(1, len(frame.get_multiplexer_values)) if frame.is_multiplexed else 0,
         cycle=cycle,
         cycle_by=why,
-        delay=number_of(attribute(frame, matrix, "GenMsgDelayTime")) * UNITS["ms"],
+        delay=delay * UNITS["ms"],
         send_type=str(attribute(frame, matrix, "GenMsgSendType") or ""),
         attributes={key: attribute(frame, matrix, key) for key in [*frame.attributes, *matrix.frame_defines]},
+        own=frozenset(frame.attributes),
+        is_default=by_default or not cycle and bool(delay) and "GenMsgDelayTime" not in frame.attributes,
         senders=list(frame.transmitters),
     )
 
 
-def matrices_of(words: Iterable[str]) -> list[tuple[str, str, Any, list[str]]]:
-    """The CAN buses of some databases, each a file or NAME=FILE: name, file, matrix, and what is said of the file."""
-    found: list[tuple[str, str, Any, list[str]]] = []
+def matrices_of(words: Iterable[str], attributes: Collection[str]) -> list[tuple[str, str, Any, list[str], list[str]]]:
+    """The CAN buses of some databases, each a file or NAME=FILE: name, file, matrix, what is said of the file, and the
+    frames in it that are on no bus."""
+    found: list[tuple[str, str, Any, list[str], list[str]]] = []
     for word in words:
         name, _, file = word.rpartition("=") if not os.path.exists(word) else ("", "", word)
-        matrices, said = matrices_in(file)
+        matrices, said, lost = matrices_in(file, attributes)
         for key, matrix in matrices.items():
             if matrix.type != canmatrix.matrix_class.CAN:
                 said.append(f"{key}: no CAN bus")
                 continue
             parts = [name, key if len(matrices) > 1 or not name else ""]
             told = ".".join(it for it in parts if it) or os.path.basename(file).split(".")[0]
-            found.append((told, file, matrix, said))
+            found.append((told, file, matrix, said, lost))
+            lost = []
     return found
 
 
@@ -217,19 +251,20 @@ def frames_of(matrix: Any, bus: str, before: str, taken: set[str], said: list[st
     return frames
 
 
-def read_buses(words: Iterable[str]) -> list[Bus]:
-    """The buses of some databases with their frames. A frame has the same name whatever is asked for later."""
+def read_buses(words: Iterable[str], attributes: Collection[str] = ()) -> list[Bus]:
+    """The buses of some databases with their frames. A frame has the same name whatever is asked for later;
+    `attributes` are those of frames that are asked for."""
     buses: list[Bus] = []
     taken: set[str] = set()
-    found = matrices_of(words)
-    for told, file, matrix, said in found:
+    found = matrices_of(words, attributes)
+    for told, file, matrix, said, lost in found:
         name = plain(told)[:24]
         if name in {it.name for it in buses}:
             raise Fault(f"{file}: two buses have the name {name}: name them, as front={file}")
         frames = frames_of(matrix, name, f"{name}." if len(found) > 1 else "", taken, said)
         rate = rate_in(matrix, matrix.baudrate, "Baudrate", "baudrate")
         data_rate = rate_in(matrix, matrix.fd_baudrate, "BaudrateCANFD", "FDBaudrate")
-        buses.append(Bus(name, told, file, rate, data_rate, frames, said))
+        buses.append(Bus(name, told, file, rate, data_rate, frames, said, lost))
     if not buses:
         raise Fault(f"{' '.join(words)}: there is no CAN bus in it")
     return buses

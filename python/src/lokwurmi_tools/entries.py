@@ -1,6 +1,7 @@
 """Entries and comments of a system file, for the tools that write one."""
 import sys
 import textwrap
+from collections.abc import Iterable
 from typing import Any
 
 from lokwurmi.toml import value_text
@@ -48,5 +49,19 @@ def put(text: str, file: str | None) -> None:
     try:
         with open(file, "w", encoding="utf-8") as it:
             it.write(text)
+    except BrokenPipeError:
+        # the file is a pipe, whose reader has enough of it
+        raise
     except OSError as fault:
         raise Fault(f"{file}: can't be written: {fault.strerror}")
+
+
+def put_and_tell(text: str, file: str | None, told: Iterable[str]) -> None:
+    """Writes the text, and lines on the standard error: behind a file, which is whole though nobody may read them;
+    before the standard output, which may be the same terminal."""
+    if file is not None:
+        put(text, file)
+    for line in told:
+        print(printable(line), file=sys.stderr)
+    if file is None:
+        put(text, file)

@@ -8,7 +8,7 @@ from typing import Any
 from lokwurmi.limits import MOST_ENTRIES
 from lokwurmi_tools.faults import Fault
 from lokwurmi_tools.networks import BEHIND, ERRORS, LONGEST, QUEUED, named, plain, priorities
-from lokwurmi_tools.taking import Taken, Taker, first_of
+from lokwurmi_tools.taking import Taken, Taker, first_of, names_text
 from lokwurmi_tools.times import text_of
 
 Entry = dict[str, Any]
@@ -23,6 +23,7 @@ class System:
     tasks: list[Entry] = field(default_factory=list)
     paths: list[Entry] = field(default_factory=list)
     rules: list[str] = field(default_factory=list)
+    notes: dict[str, str] = field(default_factory=dict)  # what stands behind the task of a frame: its identifier
 
 
 def asked_frames(taker: Taker) -> set[str]:
@@ -32,7 +33,8 @@ def asked_frames(taker: Taker) -> set[str]:
     for name in taker.words.only:
         found = {it.name for it in every if name in (it.name, it.told)}
         if not found:
-            raise Fault(f"--only {name}: there is no such frame among those that are taken")
+            known = names_text(it.name for it in every)
+            raise Fault(f"--only {name}: there is no such frame among those that are taken; {known}")
         asked |= found
     return asked
 
@@ -156,6 +158,8 @@ def add_bus(system: System, taker: Taker, bus: str) -> None:
             known.add(it.after)
             system.sources.append({"name": it.after, "period": it.period, "jitter": it.jitter or None})
         system.tasks.append({"name": name, "on": bus, "after": it.after, **length_of(it), "priority": numbers[name]})
+        if name != bus + BEHIND:
+            system.notes[name] = f" # {it.frame.shown}"
         if it.deadline is not None:
             system.paths.append({"name": name, "tasks": [name], "deadline": it.deadline})
 

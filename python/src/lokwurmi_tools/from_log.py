@@ -62,6 +62,8 @@ def add_words(reader: argparse.ArgumentParser) -> None:
     reader.add_argument("--period", choices=("log", "database"), default="log", help=what)
     what = "takes the frames in lines of CAN FD as classical ones"
     reader.add_argument("--classical", action="store_true", help=what)
+    what = "sorts frames by their times, as of a log that is joined of several; without it such a log is refused"
+    reader.add_argument("--sort", action="store_true", help=what)
     what = "by how much the times of the log may be late; 0 if absent"
     reader.add_argument("--rough", metavar="TICKS", type=int, default=0, help=what)
     what = "by how many millionths the clock of the recorder may be slower than that of a sender; 0 if absent"
@@ -86,13 +88,14 @@ def main(arguments: list[str] | None = None) -> int | None:
     words = asked_for(arguments)
     # these need python-can, and --help doesn't
     need("can")
-    from lokwurmi_tools.log_lines import Names, compare, made
+    from lokwurmi_tools.log_lines import Names, check_used, compare, made
     from lokwurmi_tools.logs import NOTES, read_log
 
-    log = read_log(words.log, words.tick, words.drift, words.classical)
+    log = read_log(words.log, words.tick, words.drift, words.classical, words.sort)
     if not log.channels:
         counts = "".join(f"; {count} {what}{NOTES.get(what, '')}" for what, count in log.counts.items())
         raise Fault(f"{words.log}: there is no frame in it that can be taken{counts}")
+    check_used(words, log)
     for what, count in log.counts.items():
         print(f"{words.log}: {count} {what}{NOTES.get(what, '')}", file=sys.stderr)
     names = Names(words, log)

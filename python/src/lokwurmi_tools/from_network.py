@@ -8,9 +8,13 @@
 
 Each frame with a cycle time becomes a source, named as the frame with .queued behind, and a task on the resource of
 its bus, with its length in bytes as payload and its identifier as priority; and each has a path with its deadline. A
-time has a unit: ns, us, ms or s. What is left out, taken otherwise than the database has it, or assumed, is told on
-the standard error, and stands as comments at the head of the file. The bounds of an analysis hold while what is left
-out isn't sent.
+time has a unit: ns, us, ms or s.
+
+All frames are taken, or the database is refused: one that were left out would make bounds too low. What is lacking
+wants a word: --without-period for frames without a cycle time, --defaults for what a frame has by the database's
+default alone, --longer for what is no single frame, --without for what isn't wanted. What is left out so, taken
+otherwise than the database has it, or assumed, is told on the standard error, and stands as comments at the head of the
+file. The bounds of an analysis hold while what is left out isn't sent.
 
 It needs canmatrix: apt-get install python3-canmatrix python3-lxml
 """
@@ -21,11 +25,11 @@ from collections.abc import Callable
 from fractions import Fraction
 from typing import Any
 
-from lokwurmi_tools.entries import comment, comments, entry, printable, put
+from lokwurmi_tools.entries import comment, comments, entry, put_and_tell
 from lokwurmi_tools.faults import Fault
 from lokwurmi_tools.fitting import System, check_size, system_of
 from lokwurmi_tools.networks import Bus, plain
-from lokwurmi_tools.taking import Report, Taker
+from lokwurmi_tools.taking import LEAVE, Report, Taker
 from lokwurmi_tools.times import rate_of, text_of, time_of, word_of
 from lokwurmi_tools.words import reader_of
 
@@ -40,6 +44,16 @@ def share_or_time(word: str) -> tuple[str, Fraction]:
             raise ValueError(f"{word} is no share: write 10%, or a time with its unit")
         return "share", Fraction(word[:-1]) / 100
     return "time", Fraction(0) if word == "0" else time_of(word)
+
+
+def leave_or_time(word: str) -> Fraction | str:
+    """What --without-period takes."""
+    if word == LEAVE:
+        return word
+    try:
+        return time_of(word)
+    except ValueError as fault:
+        raise ValueError(f"{fault}; or leave") from fault
 
 
 def rate_of_bus(word: str) -> tuple[str, int]:
@@ -97,7 +111,8 @@ def text_in(system: System, report: Report, tick: Fraction) -> str:
     lines = [part for it in told for part in comments(it)] + [comment(it) for it in system.rules] + ["format = 1"]
     parts = {"resource": system.resources, "source": system.sources, "task": system.tasks, "path": system.paths}
     for key, entries in parts.items():
-        lines += [f"{key} = [", *(f"  {entry(it)}," for it in entries), "]"]
+        notes = system.notes if key == "task" else {}
+        lines += [f"{key} = [", *(f"  {entry(it)},{notes.get(it['name'], '')}" for it in entries), "]"]
     return "\n".join(lines) + "\n"
 
 
@@ -127,15 +142,6 @@ def add_times(reader: argparse.ArgumentParser) -> None:
         ),
         ("--deadline-attribute", "NAME", str, "an attribute of frames in the database that tells it in milliseconds"),
         (
-            "--others",
-            "TIME",
-            time,
-            (
-                "takes frames without a cycle time: the least time between two of each; and that of"
-                " frames that are sent on events too"
-            ),
-        ),
-        (
             "--errors",
             "COUNT/TIME",
             word_of(errors_of),
@@ -147,7 +153,7 @@ def add_times(reader: argparse.ArgumentParser) -> None:
     rates: Any = {"metavar": "[BUS=]BITS", "type": rate, "action": "append", "default": []}
     reader.add_argument("--bitrate", help="bits per second, of all buses or of one; the database's if absent", **rates)
     reader.add_argument("--data-bitrate", help="those in the data phase of CAN FD; the database's if absent", **rates)
-    reader.set_defaults(tick=time_of("1us"), jitter=("time", Fraction(0)), fast=Fraction(0), deadline="100%")
+    reader.set_defaults(tick=time_of("1us"), fast=Fraction(0))
 
 
 def add_choices(reader: argparse.ArgumentParser) -> None:
@@ -168,10 +174,30 @@ def add_choices(reader: argparse.ArgumentParser) -> None:
         ("--forward", "FROM=TO", "frame TO of another bus is queued when FROM is received by a gateway"),
     ):
         reader.add_argument(option, metavar=metavar, help=f"{help_text}. May stand several times", **several)
+    add_modes(reader)
+
+
+def add_modes(reader: argparse.ArgumentParser) -> None:
+    """The words on frames of a kind."""
+    what = (
+        "the period of frames without a cycle time and a least distance; or leave, which leaves them out. Where there"
+        " are such one of both is wanted, or --others"
+    )
+    reader.add_argument("--without-period", metavar="TIME", type=word_of(leave_or_time), help=what)
+    what = (
+        "the least time between two frames that are sent on events too, where the database has none; and the period of"
+        " those without one, where --without-period is absent"
+    )
+    reader.add_argument("--others", metavar="TIME", type=word_of(time_of), help=what)
+    what = (
+        "takes the database's default of a cycle time, a least distance and a jitter, where a frame has none of its own"
+    )
+    reader.add_argument("--defaults", action="store_true", help=what)
+    what = "leaves out what has more than 8 bytes and isn't told to be of CAN FD; without it such are refused"
+    reader.add_argument("--longer", choices=(LEAVE,), help=what)
     reader.add_argument(
         "--multiplexed",
         choices=("once", "each", "out"),
-        default="once",
         help="how many multiplexed frames come in a cycle: one, one for each value, or leave them out; once if absent",
     )
     reader.add_argument(
@@ -194,7 +220,8 @@ def asked_for(arguments: list[str] | None) -> argparse.Namespace:
     add_choices(reader)
     words = reader.parse_args(arguments)
     try:
-        words.deadline = None if words.deadline == "none" else share_or_time(words.deadline)
+        words.has_deadline = words.deadline not in (None, "none")
+        words.deadline = None if words.deadline == "none" else share_or_time(words.deadline or "100%")
     except ValueError as fault:
         reader.error(f"argument --deadline: {fault}")
     return words
@@ -205,13 +232,11 @@ def main(arguments: list[str] | None = None) -> int | None:
     # it needs canmatrix, and --help doesn't
     from lokwurmi_tools.databases import read_buses
 
-    buses = read_buses(words.database)
+    attributes = [it for it in (words.jitter_attribute, words.deadline_attribute) if it]
+    buses = read_buses(words.database, attributes)
     taker = Taker(buses, words, forwards_of(words.forward, buses))
     taker.all()
     system = system_of(taker)
     check_size(system, taker, MOST_NAMES)
-    text = text_in(system, taker.report, words.tick)
-    for line in taker.report.lines(MOST_NAMES):
-        print(printable(line), file=sys.stderr)
-    put(text, words.to)
+    put_and_tell(text_in(system, taker.report, words.tick), words.to, taker.report.lines(MOST_NAMES))
     return 0

@@ -9,7 +9,7 @@ from typing import Any, Iterable, Optional
 from lokwurmi.frames import execution
 from lokwurmi_tools.accepted import read_system
 from lokwurmi_tools.faults import Fault
-from lokwurmi_tools.logs import Key, Log, Seen, ahead, behind, first_breach, gaps_of, period_of, shown
+from lokwurmi_tools.logs import UNSORTED, Key, Log, Seen, ahead, behind, first_breach, gaps_of, period_of, shown
 from lokwurmi_tools.networks import BEHIND, ERRORS
 from lokwurmi_tools.program import written_by
 from lokwurmi_tools.progress import Progress
@@ -17,6 +17,18 @@ from lokwurmi_tools.report import read_report, reports_in
 from lokwurmi_tools.system import input_of
 
 MOST_PERIOD = 1_000_000_000
+
+
+def check_used(words: argparse.Namespace, log: Log) -> None:
+    """Refuses an option that concerns nothing in the log, or stands beside one that it has nothing to do with."""
+    if words.sort and UNSORTED not in log.counts:
+        raise Fault(f"{words.log}: --sort concerns no frame: all stand in the order of their times")
+    if words.classical and not log.has_fd:
+        raise Fault(f"{words.log}: --classical concerns no frame: none is in a line of CAN FD")
+    if words.bus and not words.system and not words.database:
+        raise Fault("--bus concerns nothing without --system or --database: the sources are named by their channels")
+    if words.rough and not words.system:
+        raise Fault("--rough concerns nothing without --system: it is for what is held against one")
 
 
 def source_line(name: str, key: Key, seen: Seen, told_period: Optional[int], told: Optional[int]) -> str:
@@ -48,7 +60,12 @@ class Names:
         for one in read_buses(words.database):
             self.by_bus[one.name] = {}
             for frame in one.frames:
-                self.by_bus[one.name].setdefault((frame.identifier, frame.extended), frame.name)
+                other = self.by_bus[one.name].setdefault((frame.identifier, frame.extended), frame.name)
+                if other != frame.name:
+                    raise Fault(
+                        f"{one.file}: {other} and {frame.name} have the identifier {frame.shown}, so that the log"
+                        " doesn't tell them apart: take one out of the database"
+                    )
                 self.cycles[frame.name] = min(int(frame.cycle / words.tick), MOST_PERIOD)
         # what a system's buses are is told by its resources
         for bus, channel in ({} if words.system else channels_of(words, log, list(self.by_bus))).items():
@@ -62,12 +79,22 @@ class Names:
 def channels_of(words: argparse.Namespace, log: Log, buses: list[str]) -> dict[str, str]:
     """The channel of each bus: as told, or the only one."""
     told = dict(words.bus)
+    for several, what in ((told, "bus"), (set(told.values()), "channel")):
+        if len(several) < len(words.bus):
+            raise Fault(f"--bus: a {what} stands there twice: each bus is one channel")
     for bus, channel in told.items():
         if bus not in buses:
             raise Fault(f"--bus {bus}={channel}: there is no such bus; there are {', '.join(buses)}")
         if channel not in log.channels:
             raise Fault(f"--bus {bus}={channel}: the log has no such channel; it has {', '.join(sorted(log.channels))}")
     if told:
+        rest = {
+            "buses that --bus doesn't name": [it for it in buses if it not in told],
+            "channels that --bus doesn't name": sorted(set(log.channels) - set(told.values())),
+        }
+        for what, names in rest.items():
+            if names:
+                print(f"nothing is said of {what}: {', '.join(names)}", file=sys.stderr)
         return told
     if len(buses) == 1 and len(log.channels) == 1:
         return {buses[0]: next(iter(log.channels))}
@@ -113,6 +140,8 @@ def line_of(words: argparse.Namespace, names: Names, channel: str, key: Key, see
     told = names.cycles.get(name)
     if len(seen.times) < 3:
         return f"  # {name}, {shown(key)}: {len(seen.times)} frames tell no period"
+    if words.period == "database" and not told:
+        print(f"{name}: the database has no cycle time of it, and so it has the period of the log", file=sys.stderr)
     return source_line(f"{name}.seen", key, seen, told if words.period == "database" else None, told)
 
 
@@ -167,6 +196,16 @@ class Comparison:
         names = {it["name"] for it in frames_on(self.system, bus)}
         by_bus = self.names.by_bus
         told = by_bus.get(bus, next(iter(by_bus.values())) if len(by_bus) == 1 else {})
+        if self.words.database and not told:
+            raise Fault(
+                f"--database: no bus in it is called {bus}; there are {', '.join(by_bus)}: name it as {bus}=FILE"
+            )
+        lost = sorted(names - set(told.values()))
+        if told and lost and len(lost) < len(names):
+            raise Fault(
+                f"{self.words.system}: the database has no frame {', '.join(lost)}, so that nothing in the log could be"
+                f" held against what {bus} has of that name: name it as the database does"
+            )
         return {key: name for key, name in told.items() if name in names} or identifiers_of(self.system, bus)
 
     def strange_frame(self, key: Key, task: dict[str, Any], seen: Seen) -> list[str]:

@@ -9,6 +9,7 @@ from typing import Callable, Iterable, Iterator, Optional, Sequence
 import can
 
 from lokwurmi_tools.faults import Fault
+from lokwurmi_tools.log_text import check_read, frames_in
 from lokwurmi_tools.progress import Progress
 from lokwurmi_tools.times import UNITS
 
@@ -17,6 +18,7 @@ Key = tuple[int, bool]
 FURTHER = 3
 # beyond this times aren't whole numbers in python-can
 MOST_TIME = 2**53
+UNSORTED = "frames before an earlier one of their channel"
 # what is told of messages that aren't plain frames
 NOTES = {
     "error frames": ": after an error a frame is sent again, which only a bound with --errors counts",
@@ -25,7 +27,7 @@ NOTES = {
         " are taken as such; where these are classical ones, as python-can has all of newer .asc files: --classical"
     ),
     "frames of the recorder itself": " are taken as others are",
-    "frames before an earlier one of their channel": ": all are sorted by their times",
+    UNSORTED: ": all are sorted by their times",
 }
 
 
@@ -45,6 +47,7 @@ class Log:
     channels: dict[str, dict[Key, Seen]] = field(default_factory=dict)
     counts: dict[str, int] = field(default_factory=dict)
     last: int = 0
+    has_fd: bool = False  # whether a frame is in a line of CAN FD
 
     def add(self, what: str) -> None:
         self.counts[what] = self.counts.get(what, 0) + 1
@@ -61,7 +64,9 @@ def shown(key: Key) -> str:
 def messages_in(file: str) -> Iterator["can.Message"]:
     """The messages of a log as python-can reads them."""
     progress = Progress("lokwurmi import log")
+    number = 0
     try:
+        wanted = frames_in(file)
         reader = can.LogReader(file)
         for number, message in enumerate(reader, 1):
             if getattr(reader, "timestamps_format", None) == "relative":
@@ -72,6 +77,9 @@ def messages_in(file: str) -> Iterator["can.Message"]:
             if number % 50_000 == 0:
                 progress.show(f"{file}: {number} frames are read")
             yield message
+        check_read(file, reader, number, wanted)
+    except Fault:
+        raise
     except OSError as fault:
         raise Fault(f"{file}: can't be read: {fault.strerror or fault}")
     except Exception as fault:  # whatever the reader of this format raises
@@ -93,8 +101,8 @@ def left_out(message: "can.Message") -> Optional[str]:
 class LogReader:
     """Adds messages to a log."""
 
-    def __init__(self, file: str, tick: Fraction, drift: float, classical: bool):
-        self.file, self.classical = file, classical
+    def __init__(self, file: str, tick: Fraction, drift: float, classical: bool, sort: bool):
+        self.file, self.classical, self.sort = file, classical, sort
         self.per_second = float(UNITS["s"] / tick) * (1 + drift / 1_000_000)
         self.begins: Optional[float] = None
         self.latest: dict[str, int] = {}
@@ -118,17 +126,28 @@ class LogReader:
             return
         at, channel = self.time(message), str(message.channel)
         if at < self.latest.get(channel, at):
-            self.log.add("frames before an earlier one of their channel")
+            self.tell_unsorted(message, channel)
         self.latest[channel] = max(at, self.latest.get(channel, at))
         key = (message.arbitration_id, bool(message.is_extended_id))
         seen = self.log.channels.setdefault(channel, {}).setdefault(key, Seen())
         seen.times.append(at)
         seen.size = max(seen.size, message.dlc)
+        self.log.has_fd |= message.is_fd
         if message.is_fd and not self.classical:
             seen.is_fd = True
             self.log.add("CAN FD frames")
         if not message.is_rx:
             self.log.add("frames of the recorder itself")
+
+    def tell_unsorted(self, message: "can.Message", channel: str) -> None:
+        """Keeps that a frame comes before an earlier one, or refuses it."""
+        if not self.sort:
+            raise Fault(
+                f"{self.file}: the frame {shown((message.arbitration_id, bool(message.is_extended_id)))} at"
+                f" {message.timestamp:.6f} s stands behind a later one of channel {channel}: a line of the log is"
+                " broken, or it is joined of several: --sort sorts all by their times"
+            )
+        self.log.add(UNSORTED)
 
     def whole(self) -> Log:
         """The log, once all messages are added."""
@@ -138,8 +157,8 @@ class LogReader:
         return self.log
 
 
-def read_log(file: str, tick: Fraction, drift: float, classical: bool) -> Log:
-    reader = LogReader(file, tick, drift, classical)
+def read_log(file: str, tick: Fraction, drift: float, classical: bool, sort: bool = False) -> Log:
+    reader = LogReader(file, tick, drift, classical, sort)
     for message in messages_in(file):
         reader.add(message)
     return reader.whole()

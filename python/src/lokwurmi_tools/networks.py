@@ -28,6 +28,8 @@ class Frame:
     delay: Fraction  # the least distance between two of them; 0 where none is told
     send_type: str
     attributes: dict[str, Any] = field(repr=False)
+    own: frozenset[str] = field(repr=False)  # the attributes whose values aren't the database's default
+    is_default: bool  # whether its cycle time, or its least distance where there is none, is the database's default
     senders: list[str] = field(default_factory=list)
 
     @property
@@ -61,6 +63,7 @@ class Bus:
     data_bitrate: int  # that of the data phase of CAN FD; the same
     frames: list[Frame]
     said: list[str]  # what canmatrix could not read
+    lost: list[str]  # frames of its database that are on no bus
 
 
 def plain(text: str) -> str:

@@ -3,6 +3,7 @@ of it. For lokwurmi import network."""
 import argparse
 import fnmatch
 import math
+from collections.abc import Iterable
 from dataclasses import dataclass, field
 from fractions import Fraction
 from typing import Any, Optional
@@ -15,8 +16,47 @@ from lokwurmi_tools.lengths import ticks
 from lokwurmi_tools.networks import ERRORS, QUEUED, Bus, Frame
 from lokwurmi_tools.times import UNITS, common, text_of
 
-# how many words of canmatrix there are in a report
-MOST_SAID = 3
+# how many names there are in a refusal
+MOST_KNOWN = 12
+# the word that leaves frames out
+LEAVE = "leave"
+# what is said of frames for which a word of the user's is wanted
+WANTED = {
+    "without_period": (
+        "nothing tells how often these come, as they have no cycle time and no least distance",
+        "--without-period 100ms gives each such a period, --without-period leave leaves them out",
+    ),
+    "longer": (
+        "these have more bytes than a frame, and the database doesn't tell them to be of CAN FD",
+        (
+            "mend their length, or tell that they are; --longer leave leaves them out, where a transport protocol sends"
+            " them in parts"
+        ),
+    ),
+    "defaults": (
+        "the cycle time or least distance of these is the database's default, and one that is lost looks the same",
+        "--defaults takes it",
+    ),
+    "jitter": (
+        "these have no {jitter_attribute} of their own, and one that is lost looks the same",
+        "--defaults takes the database's default, where it has one, and --jitter TIME gives each such a jitter",
+    ),
+}
+# the options that may concern no frame, and which there would be then
+CONCERN = {
+    "without_period": "there is none without a period",
+    "others": "there is none without a cycle time, and none that is sent on events too without a least distance",
+    "longer": "there is none that is longer than a frame",
+    "defaults": "there is none whose cycle time, least distance or jitter is a default",
+    "multiplexed": "there is none that is multiplexed",
+    "data_bitrate": "there is none of CAN FD that switches its rate",
+    "jitter": "each has its own by --jitter-attribute",
+    "deadline": "each has its own by --deadline-attribute, or none has a path",
+}
+
+
+# what a DBC file calls the signals that are in no frame
+NO_FRAME = "VECTOR__INDEPENDENT_SIG_MSG"
 
 
 @dataclass
@@ -96,10 +136,26 @@ def in_milliseconds(attributes: dict[str, Any], key: Optional[str]) -> Optional[
     value = attributes.get(key) if key else None
     if value is None:
         return None
+    word = str(value).strip().strip('"')
     try:
-        return max(Fraction(str(value).strip().strip('"')), Fraction(0)) * UNITS["ms"]
+        time = Fraction(word)
     except (ValueError, ZeroDivisionError):
-        return None
+        time = Fraction(-1)
+    if time < 0:
+        raise Fault(f"its {key} is {word or 'empty'}, which is no number of milliseconds")
+    return time * UNITS["ms"]
+
+
+def names_text(names: Iterable[str]) -> str:
+    """The names that there are, so many at most."""
+    found = sorted(set(names))
+    more = f" and {len(found) - MOST_KNOWN} more" if len(found) > MOST_KNOWN else ""
+    return f"there are {', '.join(found[:MOST_KNOWN])}{more}" if found else "there is none"
+
+
+def is_named(frame: Frame, pattern: str) -> bool:
+    """Whether a pattern names a frame, as it is called in the system or in the database."""
+    return any(fnmatch.fnmatchcase(it, pattern) for it in (frame.name, frame.told))
 
 
 class Taker:
@@ -111,6 +167,9 @@ class Taker:
         self.taken: dict[str, list[Taken]] = {}
         self.rates: dict[str, Rates] = {}
         self.errors: dict[str, Errors] = {}
+        # the options that concern a frame, and what wants a word of the user's: by the reason the frames
+        self.used: set[str] = set()
+        self.lacking: dict[str, list[str]] = {}
 
     def told_rate(self, bus: Bus, option: str, pairs: list[tuple[str, int]], own: int) -> int:
         """A bit rate of a bus: as told, or else the database's; 0 where neither tells it."""
@@ -119,6 +178,8 @@ class Taker:
         unknown = [name for name in told if name and name not in names]
         if unknown:
             raise Fault(f"{option} {unknown[0]}: there is no such bus; there are {', '.join(names)}")
+        if len(told) < len(pairs):
+            raise Fault(f"{option}: two rates are given for the same bus: leave one out")
         rate = told.get(bus.name) or told.get("") or own
         if own and own != rate:
             self.report.add(
@@ -146,21 +207,34 @@ class Taker:
             raise Fault(f"bus {bus.name}: the data phase has {data_rate} bit/s, which is below {rate} of the bus")
         return Rates(bit, bit_of(data_rate) / tick if data_rate else None)
 
+    def is_unwanted(self, frame: Frame) -> bool:
+        """Whether --without names a frame."""
+        return any(is_named(frame, pattern) for pattern in self.words.without)
+
     def is_left(self, frame: Frame) -> Optional[str]:
         """Why a frame is left out, or None where it is taken."""
-        if any(fnmatch.fnmatchcase(it, pattern) for it in (frame.name, frame.told) for pattern in self.words.without):
+        if self.is_unwanted(frame):
             return "by --without"
-        if frame.told == "VECTOR__INDEPENDENT_SIG_MSG":
+        if frame.told == NO_FRAME:
             return "no frame, but signals that are in none"
         if frame.size > 8 and not frame.is_fd:
-            return "more than 8 bytes, and not told to be of CAN FD: several frames of a transport protocol"
+            return self.left_by("longer", frame, "more than 8 bytes, and not told to be of CAN FD")
         if frame.size > SIZES[-1]:
-            return f"more than {SIZES[-1]} bytes: several frames of a transport protocol"
+            return self.left_by("longer", frame, f"more than {SIZES[-1]} bytes")
         if frame.name not in self.forwards and not self.least_period(frame)[0]:
-            return "no cycle time, and no least distance is told (--others TIME takes these in)"
+            return self.left_by("without_period", frame, "no cycle time, and no least distance is told")
         if frame.values and self.words.multiplexed == "out":
-            return "multiplexed (--multiplexed)"
+            self.used.add("multiplexed")
+            return "multiplexed (--multiplexed out)"
         return None
+
+    def left_by(self, option: str, frame: Frame, why: str) -> str:
+        """Why a frame is left out by a word of the user's; without that word it is kept for a refusal."""
+        word = option.replace("_", "-")
+        self.used.add(option)
+        if getattr(self.words, option) != LEAVE:
+            self.lacking.setdefault(option, []).append(frame.name)
+        return f"{why} (--{word} {LEAVE})"
 
     def least_period(self, frame: Frame) -> tuple[Fraction, str]:
         """The least time from one of these frames to the next, without jitter, in nanoseconds, and what tells it."""
@@ -168,7 +242,14 @@ class Taker:
         if not frame.cycle and frame.delay:
             return frame.delay, "the least distance of the database (GenMsgDelayTime), as there is no cycle time"
         if not frame.cycle:
-            return others, "--others, as there is no cycle time"
+            without = self.words.without_period
+            option = "--others" if without is None else "--without-period"
+            if others or without not in (None, LEAVE):
+                self.used.add(option[2:].replace("-", "_"))
+            time = others if without is None else Fraction(0) if without == LEAVE else without
+            return time, f"{option}, as there is no cycle time"
+        if frame.is_spontaneous and not frame.delay and others:
+            self.used.add("others")
         between = (frame.delay or others) if frame.is_spontaneous else Fraction(0)
         if between and between < frame.cycle:
             return between, f"sent on events too ({frame.send_type}), so the least distance and not the cycle time"
@@ -206,10 +287,36 @@ class Taker:
             )
         return period
 
+    def in_milliseconds(self, frame: Frame, key: Optional[str]) -> Optional[Fraction]:
+        """What an attribute of a frame tells, or None where there is none."""
+        try:
+            return in_milliseconds(frame.attributes, key)
+        except Fault as fault:
+            raise Fault(f"{frame.name}: {fault}") from None
+
+    def told_jitter(self, frame: Frame) -> Optional[Fraction]:
+        """The jitter of a frame by its attribute, or None where --jitter tells it. What is the database's default
+        wants a word: a line that is lost looks the same."""
+        key = self.words.jitter_attribute
+        told = self.in_milliseconds(frame, key)
+        if not key or key in frame.own:
+            return told
+        if told is not None and self.words.defaults:
+            self.used.add("defaults")
+            self.report.add(self.report.assumed, f"jitter by the default of {key}", frame.name)
+            return told
+        if self.words.jitter is None:
+            self.lacking.setdefault("jitter", []).append(frame.name)
+        else:
+            self.report.add(self.report.assumed, f"jitter by --jitter, as there is no {key} of its own", frame.name)
+        return None
+
     def jitter(self, frame: Frame, period: Fraction) -> int:
         """The jitter of a frame in ticks, rounded up."""
-        told = in_milliseconds(frame.attributes, self.words.jitter_attribute)
-        exact = of_period(self.words.jitter, period) if told is None else told
+        told = self.told_jitter(frame)
+        if told is None and self.words.jitter is not None:
+            self.used.add("jitter")
+        exact = of_period(self.words.jitter or ("time", Fraction(0)), period) if told is None else told
         jitter = math.ceil(exact / self.words.tick)
         if Fraction(jitter) != exact / self.words.tick:
             self.report.add(
@@ -219,11 +326,14 @@ class Taker:
 
     def deadline(self, frame: Frame, period: Fraction) -> Optional[int]:
         """The deadline of a frame in ticks, rounded down; none where none is asked for."""
-        if self.words.paths and not any(
-            fnmatch.fnmatchcase(it, pattern) for it in (frame.name, frame.told) for pattern in self.words.paths
-        ):
+        if self.words.paths and not any(is_named(frame, pattern) for pattern in self.words.paths):
             return None
-        told = in_milliseconds(frame.attributes, self.words.deadline_attribute)
+        key = self.words.deadline_attribute
+        told = self.in_milliseconds(frame, key)
+        if not told:
+            self.used.add("deadline")
+        if not told and key and self.words.deadline:
+            self.report.add(self.report.assumed, f"deadline by --deadline, as there is no {key}", frame.name)
         exact = told or (of_period(self.words.deadline, period) if self.words.deadline else None)
         if not exact:
             return None
@@ -241,7 +351,8 @@ class Taker:
     def multiplexed(self, frame: Frame, period: int, jitter: int) -> tuple[int, int]:
         """The period and the jitter of a frame of several values, each of which may be sent once a cycle, all at one
         time."""
-        if self.words.multiplexed == "once" or frame.values < 2:
+        self.used.add("multiplexed")
+        if self.words.multiplexed in (None, "once") or frame.values < 2:
             self.report.add(
                 self.report.assumed,
                 (
@@ -280,6 +391,8 @@ class Taker:
                 f"{frame.name}: it is a frame of CAN FD, and the bit rate of the data phase isn't told: --data-bitrate"
                 f" {frame.bus}=2000000; --data-bitrate of the same rate as --bitrate where it doesn't switch"
             )
+        if frame.is_fd and frame.switches:
+            self.used |= {"data_bitrate", f"data_bitrate {frame.bus}"}
         data_bit = rates.data_bit if frame.switches and rates.data_bit is not None else rates.bit
         least, greatest = (it.time(rates.bit, data_bit) for it in self.bits(frame))
         if not 1 <= least or greatest > MOST_EXECUTION:
@@ -297,6 +410,10 @@ class Taker:
                 f" no frame has: mend it, or --without {frame.name}"
             )
         exact, why = self.least_period(frame)
+        if frame.is_default and frame.name not in self.forwards:
+            self.used.add("defaults")
+            if not self.words.defaults:
+                self.lacking.setdefault("defaults", []).append(frame.name)
         self.tell_frame(frame, why)
         period, jitter = self.period(frame, exact), self.jitter(frame, exact)
         if frame.values:
@@ -353,14 +470,16 @@ class Taker:
         return Errors(period, jitter, max(1, whole[0]), whole[1] + longest)
 
     def hold_apart(self, bus: Bus) -> None:
-        """Two frames of one identifier can't be told apart on a bus."""
+        """Two frames of one identifier can't be told apart on a bus, also where one of them isn't taken."""
         found: dict[tuple[int, bool], str] = {}
-        for it in self.taken[bus.name]:
-            other = found.setdefault((it.frame.identifier, it.frame.extended), it.frame.name)
-            if other != it.frame.name:
+        for it in bus.frames:
+            if self.is_unwanted(it) or it.told == NO_FRAME:
+                continue
+            other = found.setdefault((it.identifier, it.extended), it.name)
+            if other != it.name:
                 raise Fault(
-                    f"{bus.file}: {other} and {it.frame.name} have the identifier {it.frame.shown}, so that the bus"
-                    f" can't choose between them: leave one out, as --without {it.frame.name}"
+                    f"{bus.file}: {other} and {it.name} have the identifier {it.shown}, so that the bus"
+                    f" can't choose between them: leave one out, as --without {it.name}"
                 )
 
     def tell_bus(self, bus: Bus) -> None:
@@ -368,15 +487,13 @@ class Taker:
         report = self.report
         if bus.told != bus.name:
             report.add(report.changed, "another name", f"{bus.told!r} is {bus.name}")
-        for line in bus.said[:MOST_SAID]:
-            report.add(report.changed, f"canmatrix says of {bus.file}: {line}")
-        if len(bus.said) > MOST_SAID:
-            report.add(report.changed, f"canmatrix says {len(bus.said) - MOST_SAID} things more of {bus.file}")
+        for line in bus.said:
+            report.add(report.changed, f"canmatrix says of {bus.file}", line)
         if self.words.fast:
             millionths = f"{float(self.words.fast):g} millionths"
             report.add(report.changed, f"periods of bus {bus.name} are shorter by {millionths}, as clocks may be fast")
         taken = self.taken[bus.name]
-        if taken and not any(it.jitter for it in taken) and self.words.jitter == ("time", 0):
+        if taken and not any(it.jitter for it in taken) and self.words.jitter in (None, ("time", 0)):
             what = f"each frame of bus {bus.name} is queued exactly once a period; a sender that doesn't: --jitter"
             report.add(report.assumed, what)
 
@@ -396,17 +513,85 @@ class Taker:
         if errors:
             self.errors[bus.name] = errors
 
-    def all(self) -> None:
-        """Takes the frames of all buses that are asked for."""
+    def check_attributes(self) -> None:
+        """Refuses an attribute that no frame has: it would tell nothing, in silence."""
+        known = {key for bus in self.buses for it in bus.frames for key in it.attributes}
+        for option in ("jitter_attribute", "deadline_attribute"):
+            name = getattr(self.words, option)
+            if name is not None and name not in known:
+                word = option.replace("_", "-")
+                raise Fault(f"--{word} {name}: no frame has such an attribute; {names_text(known)}")
+
+    @staticmethod
+    def check_patterns(option: str, patterns: Iterable[str], frames: list[Frame], lost: Iterable[str] = ()) -> None:
+        """Refuses a pattern that names no frame: it would do nothing, in silence."""
+        for pattern in patterns:
+            if any(fnmatch.fnmatchcase(it, pattern) for it in lost):
+                continue
+            if frames and not any(is_named(it, pattern) for it in frames):
+                among = " among those that are taken" if option == "--paths" else ""
+                raise Fault(
+                    f"{option} {pattern}: there is no such frame{among}; {names_text(it.name for it in frames)}"
+                )
+
+    def check_lacking(self) -> None:
+        """Refuses frames for which a word of the user's is wanted, by a list of them."""
+        for option, (what, helps) in WANTED.items():
+            if names := self.lacking.get(option):
+                what = what.format(**vars(self.words))
+                files = ", ".join(dict.fromkeys(it.file for it in self.buses))
+                raise Fault(
+                    f"{files}: {what}: {', '.join(names)}. Without them, or with another time, the bounds of all others"
+                    f" may be too low: {helps}, and --without NAME leaves one out"
+                )
+
+    def check_used(self) -> None:
+        """Refuses an option that concerns no frame: it would do nothing, in silence."""
+        for option, why in CONCERN.items():
+            word = self.words.has_deadline if option == "deadline" else getattr(self.words, option)
+            if word not in (None, [], False) and option not in self.used:
+                raise Fault(f"--{option.replace('_', '-')} concerns no frame that is taken: {why}")
+        for name, _ in self.words.data_bitrate:
+            if name in self.taken and f"data_bitrate {name}" not in self.used:
+                raise Fault(f"--data-bitrate {name}: {CONCERN['data_bitrate']} on this bus")
+        if self.words.paths and self.words.deadline is None and not self.words.deadline_attribute:
+            raise Fault("--paths: with --deadline none there is no path; leave one of both out")
+
+    def check_lost(self) -> None:
+        """Refuses frames of a database that are on no bus, unless --without names them."""
+        for bus in self.buses:
+            for name in bus.lost:
+                if not any(fnmatch.fnmatchcase(name, pattern) for pattern in self.words.without):
+                    raise Fault(
+                        f"{bus.file}: frame {name} is on no bus, as nothing triggers it: mend that, or --without"
+                        f" {name}. Without it the bounds of all others may be too low"
+                    )
+                self.report.add(self.report.left, "on no bus, by --without", name)
+
+    def check_buses(self) -> None:
+        """Refuses a bus that isn't there."""
         known = {it.name for it in self.buses}
         for name in self.words.bus:
             if name not in known:
                 raise Fault(f"--bus {name}: there is no such bus; there are {', '.join(sorted(known))}")
+
+    def all(self) -> None:
+        """Takes the frames of all buses that are asked for."""
+        self.check_buses()
+        self.check_attributes()
+        frames = [it for bus in self.buses for it in bus.frames]
+        self.check_patterns("--without", self.words.without, frames, [it for bus in self.buses for it in bus.lost])
+        self.check_lost()
         for bus in self.buses:
             if self.words.bus and bus.name not in self.words.bus:
                 self.report.add(self.report.left, "a bus that --bus doesn't name", bus.name)
             else:
                 self.take_bus(bus)
+        self.check_patterns(
+            "--paths", self.words.paths, [it.frame for several in self.taken.values() for it in several]
+        )
+        self.check_lacking()
+        self.check_used()
         self.tell_forwards()
         for bus in self.buses:
             if bus.name in self.taken:

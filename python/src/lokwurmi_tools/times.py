@@ -1,12 +1,25 @@
 """Times with a unit, for the commands: those of lokwurmi.units, how they are shown on an axis, and how words are
 read."""
 import argparse
+import re
 from fractions import Fraction
 from typing import Any, Callable
 
 from lokwurmi.units import UNITS, amount_of, common, decimal_text, text_of, time_of, unit_of
 
-__all__ = ["TICKS", "UNITS", "Scale", "amount_of", "common", "rate_of", "text_of", "time_of", "unit_of", "word_of"]
+__all__ = [
+    "LEAST_RATE",
+    "TICKS",
+    "UNITS",
+    "Scale",
+    "amount_of",
+    "common",
+    "rate_of",
+    "text_of",
+    "time_of",
+    "unit_of",
+    "word_of",
+]
 
 
 class Scale:
@@ -41,6 +54,8 @@ class Scale:
         axes.set_xlabel(f"{unit}, where a tick is {text_of(self.tick)}")
 
 
+# a bit rate below this is one in kilobits
+LEAST_RATE = 5_000
 # numbers of ticks as they are
 TICKS = Scale()
 
@@ -58,7 +73,11 @@ def word_of(reader: Callable[[str], Any]) -> Callable[[str], Any]:
 
 
 def rate_of(word: str) -> int:
-    """A bit rate, of a word such as 500000."""
-    if not word.isascii() or not word.isdecimal() or not int(word):
-        raise ValueError(f"{word} is no bit rate: write bits per second, as 500000")
-    return int(word)
+    """A bit rate, of a word such as 500000 or 500k."""
+    found = re.fullmatch(r"(\d+(?:\.\d+)?)([kM]?)", word, re.ASCII)
+    rate = Fraction(found[1]) * {"": 1, "k": 1000, "M": 1_000_000}[found[2]] if found else Fraction(0)
+    if not rate or rate.denominator > 1:
+        raise ValueError(f"{word} is no bit rate: write bits per second, as 500000, or 500k")
+    if rate < LEAST_RATE:
+        raise ValueError(f"{word}: {rate} bit/s? write {rate * 1000}, or {rate}k")
+    return int(rate)
