@@ -196,6 +196,18 @@ def failures(folder):
     wanted = added(CROSSING, [(it, 5) for it in range(1, 31)])
     words = ("hammer", CROSSING, "--traces", 150, "--call", 5, "--workers", 2)
 
+    # into a pipe it tells at once how far it is, and what is under way before the first call is done
+    running = begin(slow, *words)
+    first, second = (running.stderr.readline().rstrip() for _ in range(2))
+    early = calls_in(slow)
+    hold(re.fullmatch(r"campaign: 0 of 150 traces, 0 s, workers begin", first), f"how far it is at first: {first}")
+    wanted_line = r"campaign: 0 of 150 traces, \d+ s, \d+ of them under way in \d+ calls, 2 calls at a time"
+    hold(re.fullmatch(wanted_line, second), f"and then: {second}")
+    hold(len(early) <= 2, f"after {len(early)} calls")
+    text, told = running.communicate()
+    hold((running.returncode, text) == (0, wanted), f"and it is whole: {told[-300:]}")
+    os.remove(slow + ".log")
+
     # a worker that is killed, beside another and as the only one
     for count in (2, 1):
         running = begin(slow, *words[:-1], count)

@@ -112,6 +112,16 @@ def check_pictures(room, program):
         for what in ("reaction", "age"):
             told = f"{what} {most[what]} of " in text and f"where jobs read {words}" in text
             hold(told, f"gantt, {what}, {reading}: {done.stderr}")
+    # by times a bound has a tick more for each wait: two of the reaction time, and one of the age
+    called("gantt", SMALL, "--trace", trace, *asked, "--tick", "1ms")
+    with open(SMALL, encoding="utf-8") as it:
+        limits = effect_rules.Bounds(it.read()).limits(SMALL_CHAINS[0])
+    with open(picture, encoding="utf-8") as it:
+        text = it.read()
+    for what, count in (("reaction", 2), ("age", 1)):
+        hold(
+            f" of {limits[what] + count}ms" in text, f"gantt --tick: the bound of {what} is {limits[what]} and {count}"
+        )
     named = ["--chains", CHAINS, "--chain", "slip", "--program", program, "--to", picture]
     done = called("gantt", FILE, SCHEDULE, "--trace", TRACE, *named)
     hold(done.returncode == 0, f"gantt --chains: {done.stderr}")
@@ -139,7 +149,7 @@ def check_refused(room, program):
     for name, words, said in (
         ("effects", [FILE, TRACE], "name the tasks of a chain"),
         ("effects", [FILE, TRACE, "nobody"], "has no task nobody"),
-        ("effects", [FILE, TRACE, "--chains", bad], "bad.toml: chain 1 wants 1 to 1000000000 ticks for reaction"),
+        ("effects", [FILE, TRACE, "--chains", bad], 'bad.toml: line 2: chain "a": `reaction` is 0, below 1'),
         ("effects", [FILE, TRACE, "--chains", "nothing.toml"], "nothing.toml: can't be read"),
         ("gantt", [*drawn, "--chain", "act,no"], "has no task no"),
         ("gantt", [*drawn, "--chains", CHAINS, "--chain", "no"], "is no chain no"),

@@ -11,20 +11,26 @@ from __future__ import annotations
 
 import argparse
 import csv
+import os
 import re
 import shlex
+import subprocess
 import sys
+import tempfile
+import time
 from collections.abc import Callable
 from pathlib import Path
 
 TOP = Path(__file__).resolve().parent.parent
-sys.path.insert(0, str(TOP / "python" / "src"))
+sys.path[:0] = [str(TOP / "tests"), str(TOP / "python" / "src")]
+import run_all  # noqa: E402
+
+from lokwurmi.refusals import front  # noqa: E402
 from lokwurmi_tools import commands  # noqa: E402
 from lokwurmi_tools.launcher import completing, helping, manual  # noqa: E402
 from lokwurmi_tools.launcher.graph import listed  # noqa: E402
 from lokwurmi_tools.launcher.table import BY_NAME, COMMANDS, OWN, PROGRAMS, WORDS, Command  # noqa: E402
 from lokwurmi_tools.launcher.words import first_fault, operands_of  # noqa: E402
-from lokwurmi_tools.refusals import front  # noqa: E402
 
 SORTS = {"SCRIPT": "script", "TRACE": "trace", "SCHEDULE": "schedule", "CHAINS": "file of chains"}
 
@@ -144,10 +150,82 @@ def check_texts(faults: Faults) -> None:
     faults.hold(all(len(it) <= 80 for it in lines[:-1]), "help has lines of up to 80 letters")
 
 
+# the calls of the first screen of README.md: what runs the main job, and what passes the tests
+FIRST_CALLS = ("./lokwurmi analyse examples/two_tasks.toml", "bash .ci/run")
+
+
+def check_first_calls(faults: Faults) -> None:
+    """README.md names both commands in the table of its first screen, each with how long it takes, and .ci/run is the
+    whole gate."""
+    head = (TOP / "README.md").read_text(encoding="utf-8").split("\n## What is proved\n")[0]
+    for call in FIRST_CALLS:
+        row = re.search(rf"^\| `{re.escape(call)}` \| ([^|]+) \| [^|]+ \|$", head, re.M)
+        takes = row[1] if row else ""
+        faults.hold(re.search("minute|hour", takes) is not None, f"README.md has no row of `{call}` that says how long")
+    gate = (TOP / ".ci" / "run").read_text(encoding="utf-8")
+    faults.hold(
+        re.search(r"^rt ci && python3 tests/run_all\.py --quick$", gate, re.M) is not None, ".ci/run isn't the gate"
+    )
+
+
+def gate_status(rt: int, checks: int) -> tuple[int, list[str]]:
+    """The status of .ci/run, and what it has called, where both of its calls end with these statuses."""
+    with tempfile.TemporaryDirectory() as folder:
+        room, noted = Path(folder), Path(folder, "noted")
+        for name, text in (
+            (".ci/run", (TOP / ".ci" / "run").read_text(encoding="utf-8")),
+            (
+                "tests/run_all.py",
+                f"import sys\nopen({str(noted)!r}, 'a').write(' '.join(sys.argv))\nsys.exit({checks})\n",
+            ),
+            ("rt", f'#!/bin/sh\necho rt "$@" >>{noted}\nexit {rt}\n'),
+        ):
+            Path(room, name).parent.mkdir(exist_ok=True)
+            Path(room, name).write_text(text, encoding="utf-8")
+            Path(room, name).chmod(0o755)
+        path = os.pathsep.join([folder, os.environ["PATH"]])
+        done = subprocess.run(["bash", room / ".ci" / "run"], env=os.environ | {"PATH": path}, check=False)
+        return done.returncode, noted.read_text(encoding="utf-8").splitlines()
+
+
+def check_gate(faults: Faults) -> None:
+    """The gate passes where `rt ci` does and then the quick checks, which aren't begun where it fails."""
+    both = ["rt ci", "tests/run_all.py --quick"]
+    for rt, checks, wanted, calls in ((0, 0, 0, both), (0, 1, 1, both), (1, 0, 1, both[:1])):
+        found = gate_status(rt, checks)
+        faults.hold(found == (wanted, calls), f".ci/run after statuses {rt} and {checks}: {found}")
+
+
+def check_door(faults: Faults) -> None:
+    """tests/run_all.py knows each check of docs/TESTING.md, and says of each whether it passed, failed or lacks
+    something."""
+    names = [it.name for it in run_all.checks_in(run_all.PAGE.read_text(encoding="utf-8"))]
+    faults.hold(len(set(names)) == len(names), f"docs/TESTING.md has a check twice: {names}")
+    for what, known in (("NEEDS", run_all.NEEDS), ("QUICK", run_all.QUICK)):
+        faults.hold(set(known) <= set(names), f"{what} of run_all.py has {set(known) - set(names)}")
+    scripts = {it.stem for pattern in ("check_*.py", "check_*.sh") for it in (TOP / "tests").glob(pattern)}
+    faults.hold(scripts <= set(names), f"docs/TESTING.md has no {sorted(scripts - set(names))}")
+    for needs, call, wanted in (
+        ("", "true", ("passed", "")),
+        ("", "echo 'OK (skipped=7)'", ("passed", "7 of its parts skipped")),
+        ("", "false", ("failed", "")),
+        ("command:no-such-command", "true", ("skipped", "no-such-command isn't here")),
+        ("module:no_such_module", "true", ("skipped", "the package no_such_module isn't here")),
+        ("file:no/such/file", "true", ("skipped", "no/such/file isn't built")),
+    ):
+        run_all.NEEDS["tried"] = needs
+        found = run_all.found_by(run_all.Check("tried", call), None)
+        faults.hold((found.outcome, found.why) == wanted, f"run_all.py, {call} that needs {needs!r}: {found}")
+    found = run_all.found_by(run_all.Check("late", "sleep 60"), time.monotonic() + 6)
+    faults.hold(
+        found.outcome == "skipped" and "not done after" in found.why, f"run_all.py, a check without end: {found}"
+    )
+
+
 def check_refusals(faults: Faults) -> None:
     """What the refusals in words know of a command's files."""
     wanted = {it.name: files_of(it) for it in COMMANDS if files_of(it)}
-    faults.hold(wanted == front.OTHERS, f"lokwurmi_tools/refusals/front.py has {front.OTHERS}")
+    faults.hold(wanted == front.OTHERS, f"lokwurmi/refusals/front.py has {front.OTHERS}")
 
 
 def files_of(command: Command) -> tuple[str, ...]:
@@ -182,7 +260,16 @@ def main() -> None:
     words = reader.parse_args()
     faults = Faults()
     check_tables(faults, words.write)
-    for check in (check_script, check_examples, check_texts, check_refusals, check_times):
+    for check in (
+        check_script,
+        check_examples,
+        check_texts,
+        check_first_calls,
+        check_gate,
+        check_door,
+        check_refusals,
+        check_times,
+    ):
         check(faults)
     print(f"{faults.looked} looked at, {len(faults.wrong)} wrong")
     sys.exit(1 if faults.wrong else 0)

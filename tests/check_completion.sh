@@ -58,13 +58,14 @@ touch trace.csv script.txt picture.svg
 # the commands that help lists
 mapfile -t commands < <("$top/lokwurmi" --help | sed '/^Tools/,$d' | sed -nE 's/^  ([a-z]+) [A-Z].*/\1/p' | sort -u)
 mapfile -t tools < <("$top/lokwurmi" --help | sed -n '/^Tools/,/^$/s/^  \([a-z]*\) .*/\1/p' | sort -u)
-own=(--completion --help --quiet --unproved --version build-library help install uninstall)
+own=(--completion --help --quiet --strict --unproved --version build-library help install uninstall)
 # sorted WORD..: in one line
 sorted() { printf '%s\n' "$@" | sort -u | tr '\n' ' ' | sed 's/ $//'; }
 ask "$(sorted "${own[@]}" "${commands[@]}" "${tools[@]}")" ""
 ask "$(sorted "${commands[@]}" "${tools[@]}" build-library install uninstall)" --help ""
 ask "$(sorted "${commands[@]}")" --unproved ""
 ask "$(sorted "${commands[@]}" "${tools[@]}")" --quiet ""
+ask "page session" --strict ""
 ask "two.toml" --unproved analyse tw
 ask "--help log network" import ""
 ask "a b.toml picture.svg script.txt sub trace.csv two.toml" graph ""
@@ -79,7 +80,7 @@ done
 ask "analyse assign audit" a
 ask "schedule sensitivity session simulate slack" s
 ask "schedule" sch
-ask "--completion --help --quiet --unproved --version" --
+ask "--completion --help --quiet --strict --unproved --version" --
 ask "slack" --help sl
 ask "graph" --help gr
 ask "" help slack ""

@@ -137,7 +137,7 @@ def alone(explained, name, rivals):
     parts = explained.parts
     mine, is_bus = parts.tasks[name]["priority"], parts.kind(name) == "can"
     lower = [it for it in parts.beside(name) if parts.tasks[it]["priority"] > mine]
-    system = {"format": 3, "resource": [parts.resource(name) | {"name": "r"}], "source": [], "task": []}
+    system = {"format": 4, "resource": [parts.resource(name) | {"name": "r"}], "source": [], "task": []}
     for it in [name, *rivals, *lower]:
         several = [(1_000_000_000, 0, 0)] if it in lower else parts.inputs[it]
         names = [f"{it}.s{k}" for k in range(len(several))]
@@ -327,10 +327,15 @@ def check_told(python, room):
         ([two], "name a task, or --path PATH, or --all"),
         ([two, "a", "--all"], "name a task, or --path PATH, or --all"),
         ([two, "c"], "there is no task c; it has a, b"),
+        ([os.path.join(TOP, "examples", "crossing_chains.toml"), "pb"], "pb is a path: write --path pb"),
+        (
+            [os.path.join(TOP, "examples", "crossing_chains.toml"), "--path", "a1"],
+            "a1 is a task: write it without --path",
+        ),
         ([two, "--path", "p"], "there is no path p; it has none"),
         ([two, "a", "--to", "picture.gif"], "a picture's name ends with .svg, .png or .pdf"),
         ([written(room, "empty.toml", "format = 1\n"), "--all"], "empty.toml has no task"),
-        ([written(room, "bad.toml", "format = 4\n"), "--all"], "status 14: system refused reason 13 file 0"),
+        ([written(room, "bad.toml", "format = 3\n"), "--all"], "status 14: system refused reason 13 file 0"),
     ):
         done = called(python, *words)
         is_told = done.returncode > 0 and said in done.stderr and "Traceback" not in done.stderr

@@ -28,7 +28,7 @@ PROGRAM = built("cpa_cli")
 TOOL = "explain"
 
 # a system with a path that is late by a region, and one that isn't
-LATE = """format = 3
+LATE = """format = 4
 resource = [{ name = "cpu", kind = "preemptive" }]
 source = [{ name = "often", period = 100 }]
 task = [

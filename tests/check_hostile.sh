@@ -347,7 +347,7 @@ for file in sections feeds comment string; do expect 18 'chains refused reason 1
 expect 12 'too long longer' chains two.toml longer
 expect 12 'too long longer' chains longer pair
 # waits of two periods and more, beside deadlines of one
-expect 1 'summary chains 128 overload 0 missed 128' chains chains most_chains
+expect 1 'summary chains 128 overload 0 missed 128 if sources stay near' chains chains most_chains
 expect 18 'chains refused reason 5 chain 1' chains two.toml most_chains
 expect 18 'chains refused reason 12 chain 129' chains chains more_chains
 expect 18 'chains refused reason 11 chain 1' chains chains long_chain

@@ -370,6 +370,16 @@ rm "$work/crates/cpa_fix/src/lib.rt"
 call analyse two.toml
 hold "a source was taken away" said 'crates/cpa_fix/src is newer than the program'
 
+own=$work/crates/cpa_cli/out/cpa_cli
+cp "$own" "$room/another" && echo '# another' >>"$room/another" && cp "$room/another" "$own"
+call analyse two.toml
+hold "another program in the place of the proved one: it is built anew" said "cpa_cli isn't the program that was proved and built here"
+call analyse two.toml
+hold "the proved one again: nothing is built" [ ! -s "$room/said" ]
+touch "$own"
+call analyse two.toml
+hold "the proved one with another time: nothing is built" [ ! -s "$room/said" ]
+
 # ---- the program of `schedule`
 afresh
 LOKWURMI_JOBS=1 call analyse two.toml
@@ -557,11 +567,11 @@ hold "a notice" said 'one.toml:2:20: notice: source "s" starts nobody'
 hold "a notice: the status stays" is "$status $(cat "$room/text")" "0 called analyse one.toml"
 call --quiet analyse one.toml
 hold "--quiet: no notice" [ ! -s "$room/said" ]
-mv "$work/python/src/lokwurmi_tools/refusals" "$work/python/src/lokwurmi_tools/elsewhere"
+mv "$work/python/src/lokwurmi/refusals" "$work/python/src/lokwurmi/elsewhere"
 call analyse status.13
 hold "no module that says it in words: the hint" said "^lokwurmi: the system file isn't TOML"
 hold "no module that says it in words: nothing else" is "$(wc -l <"$room/said")" 1
-mv "$work/python/src/lokwurmi_tools/elsewhere" "$work/python/src/lokwurmi_tools/refusals"
+mv "$work/python/src/lokwurmi/elsewhere" "$work/python/src/lokwurmi/refusals"
 exec 3<"$room/two.toml"
 call analyse two.toml <&3
 hold "standard input may be anything" is "$status" 0

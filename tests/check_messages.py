@@ -4,7 +4,7 @@
 Each case of tests/messages/*.txt is a call, of files that differ from those of tests/messages/base in some lines; what
 the program writes, its status, and the whole text beside it are compared with those that are kept there. With --keep
 they are written anew, to be read. With --random so many system files, scripts, traces, schedules and sessions are
-damaged at random, from examples/ and from generated systems: what lokwurmi_tools/refusals finds in each has to be the
+damaged at random, from examples/ and from generated systems: what lokwurmi/refusals finds in each has to be the
 program's own line, and nothing in a file that is accepted. Outside the gate; the program has to be built.
 
 A case has a title, what is changed, the call, what the program writes after its status, and what is said:
@@ -39,9 +39,9 @@ from calls import TOP, example_systems, reader_of
 from damage import damaged, damaged_rows, damaged_script, with_regions
 
 from lokwurmi.documents import Document
-from lokwurmi_tools.refusals import edits, front, notices, schedule, script
-from lokwurmi_tools.refusals.toml_faults import fault_in
-from lokwurmi_tools.refusals.trace import Trace
+from lokwurmi.refusals import edits, front, notices, schedule, script
+from lokwurmi.refusals.toml_faults import fault_in
+from lokwurmi.refusals.trace import Trace
 
 CASES = os.path.join(TOP, "tests", "messages")
 PROGRAMS = {it: os.path.join(TOP, "crates", it, "out", it) for it in ("cpa_cli", "cpa_schedule", "cpa_chain")}

@@ -67,7 +67,7 @@ def chained(pick, large, has_regions):
     for it in tasks if has_regions else ():
         if it["on"] != "b":
             it["region"] = some_region(pick, it["worst"])
-    return {"format": 3 if has_regions else 1, "resource": resources, "source": sources, "task": tasks, "path": paths}
+    return {"format": 4 if has_regions else 1, "resource": resources, "source": sources, "task": tasks, "path": paths}
 
 
 def made(number, large, tight):
@@ -236,13 +236,49 @@ def check_calls():
         text = it.read().replace("priority = 2 }", "priority = 2, region = 2 }")
         late = os.path.join(room, "late.toml")
         with open(late, "w", encoding="ascii") as other:
-            other.write(re.sub(r"^format = \d", "format = 3", text, flags=re.M))
+            other.write(re.sub(r"^format = \d", "format = 4", text, flags=re.M))
         done = run("optimise", "--program", PROGRAM, late, "--rounds", "1", "--restarts", "0")
     if done.returncode != 3 or "regions stay as they are" not in done.stdout:
         sys.exit(f"regions: {done.returncode} {done.stdout} {done.stderr}")
     done = run("optimise", *words, "--rounds", "0")
     if done.returncode != 1 or "at least 1 round" not in done.stderr:
         sys.exit(f"{file}: {done.returncode} {done.stderr}")
+
+
+# two resources, of which the first is asked for 5/4 + 5/4000 of its time, and the second one for all of it
+TOO_MUCH = """format = 2
+resource = [{ name = "one", kind = "preemptive" }, { name = "two", kind = "preemptive" }]
+source = [{ name = "s", period = 4 }, { name = "r", period = 4000 }, { name = "q", period = 40 }]
+task = [
+  { name = "a", on = "one", after = "s", best = 1, worst = 3, priority = 2 },
+  { name = "b", on = "one", after = ["s", "r"], best = 1, worst = 2, priority = 1 },
+  { name = "c", on = "one", after = "r", best = 1, worst = 3, priority = 0 },
+  { name = "d", on = "two", after = "q", best = 1, worst = 40, priority = 0 },
+]
+"""
+
+
+def check_overloaded():
+    """Where a resource is asked for more than all of the time nothing is searched, and the load is told."""
+    with tempfile.TemporaryDirectory() as room:
+        file = os.path.join(room, "too_much.toml")
+        with open(file, "w", encoding="ascii") as it:
+            it.write(TOO_MUCH)
+        done = run("optimise", "--program", PROGRAM, file)
+        told = json.loads(run("optimise", "--program", PROGRAM, file, "--json").stdout)
+        with open(file, "w", encoding="ascii") as it:
+            # all of the time, and no more
+            it.write(TOO_MUCH.replace("worst = 3", "worst = 1").replace("period = 4000", "period = 400"))
+        full = json.loads(run("optimise", "--program", PROGRAM, file, "--json", "--rounds", "1").stdout)
+    # 3/4 + 2/4 + 2/4000 + 3/4000
+    if done.returncode != 3 or "no order can do: one is loaded by 125.2 %" not in done.stdout:
+        sys.exit(f"too much work: {done.returncode} {done.stdout} {done.stderr}")
+    if "not found after 1 order" not in done.stdout or "may be an order" in done.stdout or "two is" in done.stdout:
+        sys.exit(f"too much work: {done.stdout}")
+    if told["found"] or told["orders"] != 1 or told["overloaded"] != {"one": 1.25125}:
+        sys.exit(f"too much work: {told}")
+    if full["overloaded"]:
+        sys.exit(f"no more than all of the time: {full}")
 
 
 def main():
@@ -252,6 +288,7 @@ def main():
     add_number(reader, "first", 0, "the number to begin with, which makes other systems")
     words = reader.parse_args()
     check_calls()
+    check_overloaded()
     kinds = [("small", False, words.small, 0.8)]
     kinds += [(f"large, from {tight} of the deadline on", True, words.large, tight) for tight in TIGHT]
     with tempfile.TemporaryDirectory() as room:

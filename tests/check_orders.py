@@ -38,7 +38,7 @@ def made_system(number):
     # by a draw of their own
     draw, has_regions = random.Random(f"regions of {number}"), kind == "preemptive" and number % 2 == 1
     regions = [f", region = {some_region(draw, worst[k])}" if has_regions else "" for k in range(count)]
-    lines = [f"format = {3 if has_regions else 1 if all(len(several) == 1 for several in after) else 2}"]
+    lines = [f"format = {4 if has_regions else 1 if all(len(several) == 1 for several in after) else 2}"]
     lines += [f'resource = [{{ name = "r", kind = "{kind}", limit = 20000 }}]', "source = ["]
     for k in range(count):
         # what all tasks after it ask for at each event, of which each is to use about its part of the time

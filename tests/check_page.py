@@ -630,7 +630,7 @@ def check_names(page):
 
 WIDTHS = (375, 500, 1024, 1366, 1920)
 # names, numbers and paths that take much room, a frame of 29 bits, slots, a region
-WIDE = """format = 3
+WIDE = """format = 4
 resource = [
   { name = "unit_front", kind = "preemptive" },
   { name = "backbone", kind = "tdma", gap = 500 },
@@ -718,6 +718,64 @@ def check_lines(page, width, room):
         page.run(f"document.querySelector('#{table}').parentElement.scrollLeft = 0")
 
 
+def check_letters(page):
+    """The smallest letters of the graph have 9 pixels at least, in a window of 1280 pixels and in a narrow one; what
+    has no room is moved there, and the page isn't."""
+    for width in (375, 1280):
+        page.browser.size(width)
+        least, is_moved = page.run(
+            "(() => { const it = document.querySelector('.graph svg'), room = it.parentElement;"
+            " const scale = it.getBoundingClientRect().width / it.viewBox.baseVal.width;"
+            " const letters = [...it.querySelectorAll('text')].map((text) =>"
+            " parseFloat(text.getAttribute('font-size')));"
+            " return [Math.min(...letters) * scale, room.scrollWidth <= room.clientWidth"
+            " || getComputedStyle(room).overflowX === 'auto']; })()"
+        )
+        page.hold(least >= 9, f"letters of {least} pixels in a window of {width}")
+        page.hold(is_moved, f"a part of the graph is out of reach in a window of {width}")
+        page.hold(page.run("document.documentElement.scrollWidth <= innerWidth"), f"it is wider than {width}")
+    page.browser.size(1400)
+
+
+def check_full_size(page):
+    """A link shows the graph in full size, in a window of its own."""
+    wanted, name = page.run(
+        "(() => { const it = document.querySelector('.graph svg');"
+        " return [it.width.baseVal.value, it.querySelector('.node text').textContent]; })()"
+    )
+    driver = page.browser.driver
+    before = driver.current_window_handle
+    page.browser.click("#full")
+    others = [it for it in driver.window_handles if it != before]
+    page.hold(len(others) == 1, f"the picture in full size opens {len(others)} windows")
+    for it in others:
+        driver.switch_to.window(it)
+        size = page.run("document.documentElement.getBoundingClientRect().width")
+        page.hold(near([size], [wanted]), f"the picture in full size has {size} pixels, not {wanted}")
+        page.hold(name in page.run("document.documentElement.textContent"), "another picture in full size")
+        driver.close()
+        driver.switch_to.window(before)
+
+
+def check_verdicts(page):
+    """In a narrow window the verdict of each path and chain, and the bound of each task, are in sight, wherever the
+    table is moved to."""
+    page.browser.size(375)
+    for moved in (0, 60, 120):
+        found = page.run(
+            "(() => { for (const it of document.querySelectorAll('.wide')) it.scrollLeft = " + str(moved) + ";"
+            " return [...document.querySelectorAll('td.keep')].map((it) => {"
+            " const box = it.getBoundingClientRect(), room = it.closest('.wide').getBoundingClientRect();"
+            " return [it.closest('table').id, box.right <= room.right + 1]; }); })()"
+        )
+        tables = {it[0] for it in found}
+        page.hold(tables >= {"path-table", "task-table"}, f"only {tables} keep a column in sight")
+        for table, is_in in found:
+            page.hold(is_in, f"{table}, moved by {moved}: a verdict is out of sight in a window of 375")
+    page.run("(() => { for (const it of document.querySelectorAll('.wide')) it.scrollLeft = 0; })()")
+    page.browser.size(1400)
+
+
 def check_widths(page, room):
     """What there is room for, at five widths."""
     for width in WIDTHS:
@@ -754,6 +812,8 @@ def check_wide(room, page_of):
     page = page_of("wide", file, "--trace", trace, "--schedule", schedule)
     page.browser.look("light")
     check_widths(page, room)
+    check_verdicts(page)
+    check_full_size(page)
     rows = page.rows("task-table")
     page.hold([row[2] for row in rows] == TURNS_TOLD, f"the turns of its tasks: {[row[2] for row in rows]}")
     loads = {row[0]: row[9].split("\n")[1:] for row in rows}
@@ -863,7 +923,7 @@ def check_causes(room, program):
 def check_refusals(room, program):
     page = os.path.join(room, "refused.html")
     two, trace = example("two_tasks", ".toml"), example("crossing_chains", ".trace.csv")
-    bad = written(room, "bad.toml", "format = 4\n")
+    bad = written(room, "bad.toml", "format = 3\n")
     schedule = written(room, "bad.csv", "a,1,2\nz,3,4\n")
     chains = example("crossing_chains", ".toml")
     for status, said, words in (
@@ -871,13 +931,9 @@ def check_refusals(room, program):
         (1, "--schedule wants --trace", [two, "--to", page, "--schedule", schedule]),
         (1, "has no tick", [two, "--to", page, "--from", "5", "--until", "5"]),
         (1, "can't be called", [two, "--to", page, "--program", os.path.join(room, "nothing")]),
-        (14, "bad.toml:1:10: the format 4 isn't known: it is 1, 2 or 3", [bad, "--to", page]),
+        (14, "bad.toml:1:10: the format 3 isn't known: it is 1, 2 or 4", [bad, "--to", page]),
         (16, "status 16", [two, "--to", page, "--trace", trace]),
-        (
-            1,
-            "chain 1 names a task capture, which the system doesn't have",
-            [two, "--to", page, "--chains", example("camera_brake", ".chains.toml")],
-        ),
+        (1, 'no task is called "capture"', [two, "--to", page, "--chains", example("camera_brake", ".chains.toml")]),
         (1, "the system has no task a", [chains, "--to", page, "--trace", trace, "--schedule", schedule]),
     ):
         words += [] if "--program" in words else ["--program", program]
@@ -1059,6 +1115,7 @@ def check_examples(room, words, page_of):
             check_chart(page, words.program, schedule)
         if with_script:
             check_changes(page, words.program)
+        check_letters(page)
         check_views(page, words.keep)
         check_sorting(page)
         check_filters(page)

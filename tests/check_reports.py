@@ -258,7 +258,7 @@ def made_system(number):
     has_regions = number // 2 % 2 == 1
     kinds = ["preemptive", "round-robin", "tdma", "can"]
     resources, tasks = pick.randint(1, 2 + number % 7), pick.randint(1, 3 + number % 25)
-    lines, on_kind, chains, streams = [f"format = {3 if has_regions else 1 + number % 2}"], [], [], []
+    lines, on_kind, chains, streams = [f"format = {4 if has_regions else 1 + number % 2}"], [], [], []
     for r in range(resources):
         kind = pick.choice(kinds)
         on_kind.append(kind)

@@ -130,7 +130,7 @@ def quoted(names):
 def file_of(system):
     kinds = {it["name"]: it["kind"] for it in system["resource"]}
     has_region = {it["name"] for it in system["task"] if kinds[it["on"]] == "preemptive" and it["region"] > 1}
-    rows = [f"format = {3 if has_region else 1 if all(len(it['after']) == 1 for it in system['task']) else 2}"]
+    rows = [f"format = {4 if has_region else 1 if all(len(it['after']) == 1 for it in system['task']) else 2}"]
     for it in system["resource"]:
         rows += ["[[resource]]", f"name = \"{it['name']}\"", f"kind = \"{it['kind']}\"", "limit = 2000"] + (
             [f"gap = {it['gap']}"] if it["kind"] == "tdma" else []

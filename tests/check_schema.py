@@ -5,7 +5,8 @@ of files whose times have units, against it. Outside the gate.
 Each system of examples/ names the schema in its first line and is accepted by it. Ranges and defaults are those of the
 table in docs/FILES.md, and a number just outside its range is refused. Of the files that docs/FILES.md shows as
 refused, the schema refuses those whose reason it can say, and no other. The schema with units is this one with a text
-as another form of each time; --write writes it.
+as another form of each time; --write writes it. docs/lokwurmi.chains.schema.json, of files of chains, is held in the
+same way against the files of chains that there are, and against what docs/FILES.md says of their keys.
 
     python3 tests/check_schema.py [--write]
 """
@@ -80,7 +81,7 @@ WHOLE = {
 
 
 def accepts(part, place, key, value):
-    file = {"format": 3, **copy.deepcopy(WHOLE)}
+    file = {"format": 4, **copy.deepcopy(WHOLE)}
     file[part][place][key] = value
     return validator.is_valid(file)
 
@@ -93,9 +94,9 @@ def in_format(number):
     return file
 
 
-for number in (1, 2, 3):
+for number in (1, 2, 4):
     hold(validator.is_valid(in_format(number)), f"format {number}: a file with all keys isn't accepted")
-    hold(not number < 3 or not validator.is_valid(in_format(3) | {"format": number}), f"format {number} has a region")
+    hold(not number < 3 or not validator.is_valid(in_format(4) | {"format": number}), f"format {number} has a region")
 for place in (0, 1):
     hold(not accepts("task", place, "region", 1), f"a region beside {'slot' if place == 0 else 'payload'} is accepted")
 for number, names, is_in in (
@@ -105,7 +106,8 @@ for number, names, is_in in (
     (2, [], False),
     (2, ["s", "s"], False),
     (2, [1], False),
-    (3, ["s", "t"], True),
+    (3, ["s", "t"], False),
+    (4, ["s", "t"], True),
 ):
     file = in_format(number)
     file["task"][1]["after"] = names
@@ -229,4 +231,50 @@ hold(
     "a bit rate isn't accepted",
 )
 
-tell(f"{len(examples) + len(with_unit)} examples; ")
+# files of chains
+CHAINS_FILE = os.path.join("docs", "lokwurmi.chains.schema.json")
+CHAINS_LINE = "#:schema ../docs/lokwurmi.chains.schema.json\n"
+chains_schema = json.loads(read(CHAINS_FILE))
+jsonschema.Draft7Validator.check_schema(chains_schema)
+chains = jsonschema.Draft7Validator(chains_schema)
+with_chains = sorted(it for it in os.listdir(os.path.join(TOP, "examples")) if it.endswith(".chains.toml"))
+for name in with_chains:
+    text = read("examples", name)
+    hold(text.startswith(CHAINS_LINE), f"examples/{name}: its first line doesn't name the schema")
+    for error in chains.iter_errors(tomllib.loads(text)):
+        hold(False, f"examples/{name}: {error.json_path}: {error.message}")
+section = page.split("\n### Chains with deadlines\n")[1].split("\n### Why a file of chains")[0]
+keys = re.findall(r"^\| `(\w+)` \|", section, re.M)
+hold(keys == list(chains_schema["definitions"]["chain"]["properties"]), f"docs/FILES.md has {keys} as keys of a chain")
+
+
+def accepts_chain(**changed):
+    chain = {"name": "c", "tasks": ["a"], "reaction": 1, "age": 1, "held": 1} | changed
+    return chains.is_valid({"format": 1, "chain": [{key: it for key, it in chain.items() if it is not None}]})
+
+
+for changed, is_in in (
+    ({}, True),
+    ({"name": None}, False),
+    ({"tasks": None}, False),
+    ({"reaction": None, "age": None, "held": None}, True),
+    ({"deadline": 1}, False),
+    ({"name": "left wheel"}, False),
+    ({"name": "n" * 65}, False),
+    ({"tasks": []}, False),
+    ({"tasks": ["a"] * 32}, True),
+    ({"tasks": ["a"] * 33}, False),
+    ({"tasks": "a"}, False),
+    *(({key: value}, value == 1_000_000_000) for key in keys[2:] for value in (0, 1_000_000_000, 1_000_000_001, "1")),
+):
+    hold(accepts_chain(**changed) == is_in, f"{CHAINS_FILE}: {changed}: should be {'accepted' if is_in else 'refused'}")
+for file, is_in in (
+    ({"format": 1}, True),
+    ({"chain": []}, False),
+    ({"format": 2}, False),
+    ({"format": 1, "path": []}, False),
+    ({"format": 1, "chain": [{"name": "c", "tasks": ["a"]}] * 129}, False),
+):
+    hold(chains.is_valid(file) == is_in, f"{CHAINS_FILE}: {str(file)[:60]}")
+
+tell(f"{len(examples) + len(with_unit) + len(with_chains)} examples; ")

@@ -63,7 +63,7 @@ def moved(system, number, steps):
         next(it for it in other["task"] if it["name"] == number.name)["worst"] += steps
     elif number.kind == "region":
         it = next(it for it in other["task"] if it["name"] == number.name)
-        other["format"], it["region"] = 3, it.get("region", 1) + steps
+        other["format"], it["region"] = 4, it.get("region", 1) + steps
     elif number.kind == "speed":
         for it in other["task"]:
             if it["on"] == number.name:

@@ -113,6 +113,7 @@ def check_charts(report, room):
         with open(picture, encoding="utf-8") as it:
             text = it.read()
         hold(all(f">{name}<" in text for name in paths), f"chart {report}: a path isn't there")
+        hold(not paths or "light: best time" in text, f"chart {report}: the legend lacks the best time")
         hold(words or all(f"  {name}<" in text for name in tasks), f"chart {report}: a task isn't there")
 
 
@@ -491,7 +492,7 @@ with tempfile.TemporaryDirectory() as room:
     check_help()
     check_packages(room)
     check_named()
-    hold(formats == {1, 2, 3}, f"examples/ has systems of all formats, and not of {formats} alone")
+    hold(formats == {1, 2, 4}, f"examples/ has systems of all formats, and not of {formats} alone")
     for session in sorted(glob.glob("examples/*.session.txt")):
         # the last report is drawn, whose tasks may be others than before
         lines = lines_of(session)

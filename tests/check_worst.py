@@ -17,6 +17,7 @@ import re
 import signal
 import subprocess
 import tempfile
+import time
 
 from calls import TOP, hold, run, tell, tool
 from check_runs import replayed, system_in
@@ -239,6 +240,41 @@ def check_progress(program):
         hold(done[0] == 0 and "the clock ended the search of " in done[2], f"the clock: {done}")
 
 
+# how long a search may go on after its time
+MORE_SECONDS = 5
+SECONDS = 3
+# a program that takes longer for each replay than a search may take for all of them
+SLOW = """#!/bin/sh
+case $1 in simulate | schedule) sleep 0.5 ;; esac
+exec "$PROGRAM" "$@"
+"""
+
+
+def check_seconds(program):
+    """A search ends some seconds after its time at the latest, in each of its forms and with a slow program too."""
+    with tempfile.TemporaryDirectory() as room:
+        slow = os.path.join(room, "slow")
+        with open(slow, "w", encoding="ascii") as it:
+            it.write(SLOW)
+        os.chmod(slow, 0o755)
+        trace, folder = os.path.join(room, "trace.csv"), os.path.join(room, "traces")
+        for words in (
+            ["car_network.toml", "act3", "--to", trace],
+            ["car_network.toml", "--path", "chain9", "--to", trace],
+            ["car_network.toml", "--all"],
+            ["car_network.toml", "--all", "--keep", folder],
+            ["camera_brake.toml", "--chain", "capture,detect,send,request,decide,act", "--to", trace],
+            ["camera_brake.toml", "--chain", "capture,detect,send", "--what", "age", "--to", trace],
+        ):
+            more = ["--seconds", str(SECONDS), "--tries", "1000000", "--jobs", "2"]
+            began = time.monotonic()
+            done = run(TOOL, example(words[0]), *words[1:], *more, "--program", slow, env={"PROGRAM": program})
+            took = time.monotonic() - began
+            hold(done.returncode == 0, f"{words}: status {done.returncode}, {done.stderr[-300:]}")
+            hold(took <= SECONDS + MORE_SECONDS, f"{words}: {took:.1f} s with --seconds {SECONDS}")
+            hold(done.stdout, f"{words}: nothing is told")
+
+
 def check_refused(program):
     for words, line in REFUSED:
         status, told, said = call(words, program)
@@ -255,6 +291,7 @@ def main():
     for name in COMPARED:
         check_all(name, program)
     check_progress(program)
+    check_seconds(program)
     for number in (signal.SIGINT, signal.SIGTERM):
         check_interrupt(number, program)
     check_known(program)

@@ -30,7 +30,7 @@ def with_regions(draw: random.Random, text: str) -> str:
         region = draw.choice([1, 2, 3, draw.randint(1, 50), task["worst"], 1_000_000])
         return found[1] + (f", region = {region}" if is_inline else f"\nregion = {region}") + found[2]
 
-    text = re.sub(r"^format = [12]$", "format = 3", text, count=1, flags=re.M)
+    text = re.sub(r"^format = [12]$", "format = 4", text, count=1, flags=re.M)
     return re.sub(r"(\bpriority *= *[\dx_A-Fa-f]+)(\D)", longer, text)
 
 

@@ -37,10 +37,14 @@ class Chains(unittest.TestCase):
             with self.subTest(engine):
                 found = effects().chain(TASKS, engine=engine)
                 self.assertEqual([it.kind for it in found.steps], ["first", "register", "activation"])
-                self.assertEqual((found.reaction, found.age, found.held), (9 + 3 + 19 + 7 + 9, 9 + 3 + 7 + 9, 28 + 24))
+                self.assertEqual(
+                    (found.reaction, found.age, found.held), (9 + 3 + 19 + 7 + 9, 9 + 3 + 7 + 9, 9 + 3 + 19 + 7 + 9)
+                )
                 self.assertFalse(found.overload or found.while_running)
                 running = effects().chain(TASKS, while_running=True, engine=engine)
-                self.assertEqual((running.reaction, running.age, running.held), (9 + 19 + 7 + 9, 9 + 7 + 9, 25 + 24))
+                self.assertEqual(
+                    (running.reaction, running.age, running.held), (9 + 19 + 7 + 9, 9 + 7 + 9, 9 + 19 + 7 + 9)
+                )
                 self.assertTrue(running.while_running)
 
     def test_objects_as_tasks(self) -> None:
@@ -86,6 +90,22 @@ class Chains(unittest.TestCase):
                     self.assertEqual((found.missed, found.overloads, found.verdict), (1, 0, Verdict.MISSED))
                     self.assertEqual(pickle.loads(pickle.dumps(found)), found)
 
+    def test_frame(self) -> None:
+        """A table of pandas, whose numbers stay whole."""
+        need_engine("chains")
+        try:
+            import pandas
+        except ImportError:
+            raise unittest.SkipTest("there is no pandas")
+        found = effects().chains((EXAMPLES / "effects.chains.toml").read_text()).to_dataframe()
+        self.assertEqual((list(found.index), str(found["reaction"].dtype)), (["brake", "show"], "Int64"))
+        self.assertEqual(list(found["reaction"]), [47, 45])
+        self.assertEqual(list(found["reaction_verdict"]), ["met", "missed"])
+        self.assertEqual((found.loc["show", "age"], found.loc["show", "age_deadline"]), (21, 30))
+        self.assertIs(found.loc["brake", "age_deadline"], pandas.NA)
+        self.assertNotIn("tick", found.columns)
+        self.assertEqual(len(effects().chains([]).to_dataframe()), 0)
+
     def test_refused_chains(self) -> None:
         need_engine("chains")
         with self.assertRaisesRegex(ChainsRefused, "chain 'two': a name of no task") as caught:
@@ -102,14 +122,21 @@ class Chains(unittest.TestCase):
         self.assertEqual(chains_in("format = 1\n", tasks), [])
         for text, why in (
             ("x = [", "isn't TOML"),
-            ("format = 2", "format = 1"),
-            ("format = 1\nchain = 1", "format = 1"),
+            ("format = 2", "line 1: the format is 2, and has to be 1"),
+            ("format = 1\nchain = 1", "line 2: `chain` has to be an array of tables"),
             ("format = 1\nchain = [1]", "chain 1 is no table"),
-            ("format = 1\nchain = [{ name = 'x' }]", "1 to 32 tasks"),
-            ("format = 1\nchain = [{ name = 'x', tasks = ['c'] }]", "names a task c"),
-            ("format = 1\nchain = [{ name = 'x', tasks = ['a'], reaction = 0 }]", "1 to 1000000000 ticks for reaction"),
-            ("format = 1\nchain = [{ name = 'x', tasks = ['a'] }, { name = 'x', tasks = ['a'] }]", "two chains"),
-            ("format = 1\nchain = [{ name = 'x', tasks = ['a'], colour = 1 }]", "has a key colour"),
+            ("format = 1\nchain = [{ name = 'x' }]", "the key `tasks` is missing"),
+            ("format = 1\nchain = [{ name = 'x', tasks = [] }]", "a chain has 1 to 32 tasks"),
+            ("format = 1\nchain = [{ name = 'x', tasks = ['c'] }]", 'no task is called "c".*the tasks of the system'),
+            (
+                "format = 1\nchain = [{ name = 'x', tasks = ['a'], reaction = 0 }]",
+                "`reaction` is 1 to 1000000000 ticks",
+            ),
+            ("format = 1\nchain = [{ name = 'x', tasks = ['a'] }, { name = 'x', tasks = ['a'] }]", '"x" is taken'),
+            (
+                "format = 1\nchain = [{ name = 'x', tasks = ['a'], ages = 1 }]",
+                "`ages` isn't known; did you mean `age`?",
+            ),
         ):
             with self.assertRaisesRegex(LokwurmiError, why, msg=text):
                 chains_in(text, tasks)
@@ -126,9 +153,28 @@ class Chains(unittest.TestCase):
         self.assertEqual([str(it.message) for it in told], ["chain x: reaction of 479us is rounded down to 47"])
         self.assertEqual({it.category for it in told}, {RoundingWarning})
         self.assertEqual(
-            (found.time(), found.time("age_deadline"), found.reaction_verdict), (us(470), us(280), Verdict.MET)
+            (found.time(), found.time("age_deadline"), found.reaction_verdict), (us(490), us(280), Verdict.MISSED)
         )
-        self.assertEqual(system.chain(TASKS).time("held"), us(520))
+        self.assertEqual(system.chain(TASKS).time("held"), us(490))
+
+    def test_times_between_ticks(self) -> None:
+        """What is answered between two ticks is within the bound by any tick, and so is the verdict."""
+        need_engine("chains")
+        found = []
+        for tick in ("1ms", "100us", "1us"):
+            system = System(tick=tick)
+            for name, worst in (("a", ms(2)), ("b", ms(3))):
+                cpu = system.preemptive(f"on_{name}")
+                source = system.source(f"s{name}", period=ms(10))
+                system.task(name, on=cpu, after=source, best=worst, worst=worst, priority=1)
+            report = system.chain(["a", "b"])
+            several = [Chain("near", ["a", "b"], reaction=ms(24)), Chain("far", ["a", "b"], reaction=ms(25))]
+            judged = system.chains(several)
+            found.append([*(report.time(it) for it in ("reaction", "age", "held")), judged.missed, judged.verdict])
+            self.assertEqual(sum(it.wait + it.response for it in report.steps), report.reaction)
+            self.assertEqual([it.reaction_verdict for it in judged.chains.values()], [Verdict.MISSED, Verdict.MET])
+        # an event at 1 us is answered at 24999 us (10 and 10 ms apart, executions of 2 and 3 ms)
+        self.assertEqual(found, [[ms(25), ms(15), ms(25), 1, Verdict.MISSED]] * 3)
 
     def test_rounded_periods_are_refused(self) -> None:
         """A chain takes a period as the longest time between events too, so that it has no safe side."""

@@ -38,7 +38,7 @@ class Loading(unittest.TestCase):
         self.assertEqual(loaded_by("from lokwurmi import LokwurmiError"), {"errors"})
         self.assertEqual(loaded_by("import lokwurmi\nlokwurmi.limits.Kind"), {"limits"})
         # a refusal is told in words while somebody waits
-        self.assertEqual(set(HEAVY) & loaded_by("import lokwurmi_tools.refusals.front"), set())
+        self.assertEqual(set(HEAVY) & loaded_by("import lokwurmi.refusals.front"), set())
 
 
 if __name__ == "__main__":

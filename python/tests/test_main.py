@@ -55,14 +55,15 @@ class Main(unittest.TestCase):
         need_engine()
         with tempfile.TemporaryDirectory() as folder:
             file = Path(folder, "net.toml")
-            file.write_text("format = 4\n")
+            file.write_text("format = 3\n")
             self.assertEqual(
                 self.call(file),
                 (
                     14,
                     "system refused reason 13 file 0\n",
-                    f"{file}: the file: another format (reason 13): format is 1, 2 for lists of activators, or 3 for"
-                    " regions too\n",
+                    f"{file}: the file: another format (reason 13): the format 3 isn't known: it is 1, 2 or 4: write"
+                    " `format = 1`, `format = 2` so that a task's `after` may be a list, or `format = 4` so that a task"
+                    " may have a `region` too\n",
                 ),
             )
             file.write_text('format = 1\nresource = [{ name = "cpu", kind = "preemptive", limit = 0 }]\n')

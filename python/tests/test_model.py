@@ -94,12 +94,12 @@ class Calls(unittest.TestCase):
 
     def test_pages(self) -> None:
         """The scripts of the pages run and print what they show; that of a pyCPA model builds the example's file."""
+        need_engine("chain")
+        need_engine("schedule")
         with warnings.catch_warnings():
             warnings.simplefilter("ignore", RoundingWarning)
             for page in ("docs/LIBRARY.md", "docs/PYTHON.md", "python/README.md", "docs/COMING_FROM.md"):
                 with self.subTest(page):
-                    need_engine("chain")
-                    need_engine("schedule")
                     seen = self.follow(page)
         self.assertEqual(seen["s"], System.from_file(EXAMPLES / "pycpa_first.toml"))
         self.assertEqual(list(seen["bounds"].values()), [10, 13, 2, 19])
@@ -233,7 +233,7 @@ class Files(unittest.TestCase):
     def test_unknown_keys(self) -> None:
         for text in (
             "format = 1\ntasks = []",
-            "format = 4",
+            "format = 3",
             "x = [",
             "format = 1\ntask = [{ name = 'a', colour = 1 }]",
             "format = 1\nsource = [{ name = 's', period = 1 }, { name = 's', period = 2 }]",
@@ -245,7 +245,7 @@ class Files(unittest.TestCase):
         """What can't be a system of objects says where, and what to write."""
         for text, why in (
             ("x = [", "isn't TOML: Invalid value"),
-            ("format = 4", "the format is 4: write format = 1"),
+            ("format = 3", "the format is 3: write format = 1"),
             ("format = true", "the format is True: write format = 1"),
             ("format = 1\ntasks = []", "tasks is no key of a system; the keys are format, resource, source"),
             ("format = 1\ntask = 5", r"task is no list of entries: write task = \[{ name"),

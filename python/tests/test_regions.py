@@ -30,6 +30,9 @@ def bounds(system: System) -> dict:
 
 
 class Calls(unittest.TestCase):
+    def setUp(self) -> None:
+        need_engine()
+
     def test_bounds(self) -> None:
         for region, control in ((None, 2), (1, 2), (2, 3), (5, 6), (19, 20), (20, 21), (1_000_000, 21)):
             self.assertEqual(bounds(logging(region)), {"control": control, "log": 26}, region)
@@ -123,21 +126,21 @@ class Calls(unittest.TestCase):
 
 class Files(unittest.TestCase):
     def test_least_format(self) -> None:
-        for region, number in ((None, 1), (1, 3), (5, 3)):
+        for region, number in ((None, 1), (1, 4), (5, 4)):
             text = logging(region).to_toml()
             self.assertTrue(text.startswith(f"format = {number}\n"), text)
             self.assertEqual("region" in text, region is not None)
             self.assertEqual(System.from_toml(text), logging(region))
         system = logging(5)
         system.tasks["log"].after = ["often", "seldom"]
-        self.assertTrue(system.to_toml().startswith("format = 3\n"))
+        self.assertTrue(system.to_toml().startswith("format = 4\n"))
         system.tasks["log"].region = None
         self.assertTrue(system.to_toml().startswith("format = 2\n"))
 
     def test_older_formats(self) -> None:
         """A file whose format hasn't what its tasks have is refused, as `analyse` does."""
-        for number, wanted in ((1, "line 11: task 2 has a region, which format 1 hasn't"), (2, "write format = 3")):
-            text = logging(5).to_toml().replace("format = 3", f"format = {number}")
+        for number, wanted in ((1, "line 11: task 2 has a region, which format 1 hasn't"), (2, "write format = 4")):
+            text = logging(5).to_toml().replace("format = 4", f"format = {number}")
             with self.assertRaisesRegex(LokwurmiError, wanted):
                 System.from_toml(text)
         system = logging()
@@ -200,7 +203,7 @@ class Times(unittest.TestCase):
         with warnings.catch_warnings(record=True) as warned:
             warnings.simplefilter("always")
             System.from_toml(
-                'format = 3\ntask = [{ name = "log", on = "cpu", after = "s", worst = "20us", region = "20us" }]',
+                'format = 4\ntask = [{ name = "log", on = "cpu", after = "s", worst = "20us", region = "20us" }]',
                 tick="1us",
             )
         self.assertEqual(sorted(str(it.message) for it in warned), told)
@@ -213,6 +216,7 @@ class Times(unittest.TestCase):
 
     def test_session(self) -> None:
         """An execution that an edit sets has the tick more too."""
+        need_engine()
         with warnings.catch_warnings(), self.ticked(us(20), us(20)).session() as session:
             warnings.simplefilter("ignore", RoundingWarning)
             self.assertEqual(session.bounds["log"], 21)

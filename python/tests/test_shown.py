@@ -120,13 +120,14 @@ class Tables(unittest.TestCase):
     def test_chains(self) -> None:
         found = chain_results.chain_report(
             "step a first wait 9 response 3\nstep b register wait overload response 7\n"
-            "chain tasks 2 reaction overload age 28 held 52\n"
+            "chain tasks 2 reaction overload age 28 held 52 if sources stay near\n"
         )
         words, _ = self.shown(found)
         self.assertIn("Holds where sources keep their periods", words)
         self.assertIn("28", words)
         judged = chain_results.chains_report(
-            "chain x tasks 3 reaction 47 deadline 60 met age 28 deadline - none\nsummary chains 1 overload 0 missed 0\n"
+            "chain x tasks 3 reaction 47 deadline 60 met age 28 deadline - none\nsummary chains 1 overload 0 missed 0"
+            " if sources stay near\n"
         )
         self.assertIn("no deadline", self.shown(judged)[0])
         self.assertEqual(Chain("x", ["a"]).reaction, None)

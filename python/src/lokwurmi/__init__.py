@@ -62,7 +62,7 @@ if TYPE_CHECKING:
         TaskReport,
         Verdict,
     )
-    from .units import NoUnitWarning, Rounding, RoundingWarning, Time, ms, ns, s, us
+    from .units import NoticeWarning, NoUnitWarning, Rounding, RoundingWarning, Time, ms, ns, s, us
 
 __all__ = [
     "Buffers",
@@ -85,6 +85,7 @@ __all__ = [
     "NoUnitWarning",
     "NotInstalled",
     "NotToml",
+    "NoticeWarning",
     "Order",
     "Path",
     "PathReport",

@@ -13,6 +13,7 @@ from .engines import Engine, Library, Program, default_engine
 from .entries import out_of_range
 from .errors import LokwurmiError, NoEngine, SystemRefused, refusal
 from .model import System
+from .told import notices_of, refusal_words
 from .units import NoUnitWarning, RoundingWarning, Time
 
 EXAMPLE = """example:
@@ -72,10 +73,13 @@ def text_of_file(asked: argparse.Namespace) -> bytes:
 def refused(status: int, wrote: str, text: bytes) -> LokwurmiError:
     """Why a file isn't accepted, with the number that is out of its range."""
     fault = refusal(status, wrote)
-    if not isinstance(fault, SystemRefused) or fault.reason != 2:
+    if not isinstance(fault, SystemRefused):
         return fault
-    entry = Document(text.decode()).entries[fault.part][fault.place - 1]
-    what = out_of_range(fault.part, entry)
+    several = Document(text.decode("utf-8", "surrogateescape")).values.get(fault.part, [])
+    it = several[fault.place - 1] if isinstance(several, list) and 1 <= fault.place <= len(several) else None
+    entry = it if isinstance(it, dict) else {}
+    what = out_of_range(fault.part, entry) if fault.reason == 2 else ""
+    what = what or refusal_words(wrote, text.decode("utf-8", "surrogateescape"))
     return SystemRefused(status, wrote, fault.reason, fault.part, fault.place, entry.get("name"), what)
 
 
@@ -101,6 +105,9 @@ def main(words: list[str] | None = None) -> int:
         # the line of the program names the file
         wrote = f"{wrote.removesuffix('system' + chr(10))}{asked.file}\n" if status in (12, 13) else wrote
         print(f"{asked.file}: {told}", file=sys.stderr)
+    else:
+        for it in notices_of(text.decode("utf-8", "surrogateescape").replace("\r\n", "\n")):
+            print(f"{asked.file}: notice: {it}", file=sys.stderr)
     sys.stdout.write(wrote)
     return status if status >= 0 else 128 - status
 

@@ -4,32 +4,38 @@
 period and jitter say. A source that falls silent voids `reaction`, `age` and `held`. docs/FILES.md, "Chains that read
 registers", has the whole premise.
 """
-import re
 import tomllib
-from collections.abc import Collection, Iterable, Mapping
-from dataclasses import dataclass
-from typing import Any, ClassVar
+from collections.abc import Collection, Iterable, Mapping, Sequence
+from dataclasses import dataclass, replace
+from itertools import pairwise
+from typing import TYPE_CHECKING, Any, ClassVar
 
 from . import html, lines
 from .documents import Document
 from .errors import LokwurmiError, NoTick, Unreadable
-from .limits import CHAIN_KEYS, MOST_CHAINS, MOST_IN_CHAIN, MOST_TICKS, TIMES
-from .reports import Timed, Verdict, worst_of
+from .limits import CHAIN_KEYS, TIMES
+from .reports import Timed, Verdict, frame, worst_of
 from .toml import entry_text
 from .units import Converter, Rounding, Time
 
-_NAME = re.compile(r"[A-Za-z0-9_.-]{1,64}")
+if TYPE_CHECKING:
+    from pandas import DataFrame
+
+OFF = "a tick off for each wait that a bound counts"
+"""What a comment of a file of chains says whose deadlines have less, by `lokwurmi ticks`."""
 
 
 @dataclass(slots=True)
 class Chain:
-    """A chain with deadlines: the names of its tasks in the order of the data, and how long its reaction time and its
-    data age may be. A deadline is a number of ticks, or a time with a unit, which is rounded down."""
+    """A chain with deadlines: the names of its tasks in the order of the data, and how long its reaction time, its
+    data age and the time for which its data is held may be. A deadline is a number of ticks, or a time with a unit,
+    which is rounded down."""
 
     name: str
     tasks: list[str]
     reaction: "int | Time | None" = None
     age: "int | Time | None" = None
+    held: "int | Time | None" = None
 
 
 @dataclass(frozen=True, slots=True)
@@ -87,6 +93,11 @@ class JudgedChain(Timed):
     """The bound of its data age, in ticks; None for `overload`."""
     age_deadline: int | None
     age_verdict: Verdict
+    held: int | None = None
+    """The bound of how old its data gets until it is overwritten, in ticks; None for `overload`, and where there is no
+    deadline for it. It is the same as that of the reaction time."""
+    held_deadline: int | None = None
+    held_verdict: Verdict = Verdict.NONE
     main: ClassVar[str] = "reaction"
 
 
@@ -108,6 +119,11 @@ class ChainsReport:
 
     def _repr_html_(self) -> str:
         return html.chains(self)
+
+    def to_dataframe(self) -> "DataFrame":
+        """The chains as a table of pandas, with bounds and deadlines in ticks; what has no bound, or no deadline, is
+        <NA>."""
+        return frame(self.chains.values(), drop=("tick",))
 
 
 def chain_report(text: str, tick: Time | None = None) -> ChainReport:
@@ -136,12 +152,85 @@ def chains_report(text: str, tick: Time | None = None) -> ChainsReport:
             raise Unreadable(f"this is no line of chains: {row}")
         several = [
             (lines.number(it[key]), lines.number(it[f"{key}_deadline"]), Verdict(it[f"{key}_verdict"]))
-            for key in ("reaction", "age")
+            for key in ("reaction", "age", "held")
+            if it[key]
         ]
-        found[it["name"]] = JudgedChain(it["name"], int(it["tasks"]), *several[0], *several[1], tick=tick)
+        found[it["name"]] = JudgedChain(it["name"], int(it["tasks"]), *sum(several, ()), tick=tick)
     if not summary:
         raise Unreadable("there are no whole chains; the last line begins with summary")
     return ChainsReport(found, int(summary[2]), int(summary[3]))
+
+
+def waits_of(kinds: Sequence[str]) -> dict[str, list[int]]:
+    """The places of the steps whose waits each bound of a chain counts, by the kinds of its steps. Data is held as long
+    as a reaction takes; an age lacks the last wait, unless a merge comes behind it."""
+    waits = [place for place, kind in enumerate(kinds) if kind in ("first", "register", "above")]
+    return {"reaction": waits, "age": waits if "merge" in kinds[waits[-1] :] else waits[:-1], "held": waits}
+
+
+def ticks_between(kinds: Sequence[str]) -> dict[str, int]:
+    """How many ticks each bound of a chain lacks for times between ticks: one for each wait that it counts."""
+    return {what: len(waits) for what, waits in waits_of(kinds).items()}
+
+
+def kinds_of(tasks: Sequence[str], starts: Mapping[str, str | list[str]]) -> list[str]:
+    """The kinds of a chain's steps, by what starts each task."""
+    kinds = ["first"]
+    for before, name in pairwise(tasks):
+        after = starts.get(name, [])
+        several = [after] if isinstance(after, str) else after
+        kinds.append("register" if before not in several else "activation" if len(several) == 1 else "merge")
+    return kinds
+
+
+def more(ticks: int | None, count: int) -> int | None:
+    return None if ticks is None else ticks + count
+
+
+def between_ticks(report: ChainReport) -> ChainReport:
+    """The bounds of a chain for times between ticks too: a wait is a tick less than the time from one event to the
+    next, since in whole ticks no other can be missed, and between ticks it is up to all of that time."""
+    steps = tuple(replace(it, wait=more(it.wait, 1)) for it in report.steps)
+    lacks = ticks_between([step.kind for step in steps])
+    return replace(
+        report,
+        steps=steps,
+        reaction=more(report.reaction, lacks["reaction"]),
+        age=more(report.age, lacks["age"]),
+        held=more(report.held, lacks["held"]),
+    )
+
+
+def verdict_of(bound: int | None, deadline: int | None, verdict: Verdict) -> Verdict:
+    """The verdict on a bound that has grown."""
+    is_late = None not in (bound, deadline) and bound > deadline  # type: ignore[operator]
+    return Verdict.MISSED if is_late else verdict
+
+
+def has_ticks_off(text: str) -> bool:
+    """Whether the deadlines of a file of chains have a tick less for each wait already."""
+    return any(line.startswith("#") and OFF in line for line in text.splitlines())
+
+
+def judged_between_ticks(
+    report: ChainsReport,
+    tasks: Mapping[str, Sequence[str]],
+    starts: Mapping[str, str | list[str]],
+    is_off: bool = False,
+) -> ChainsReport:
+    """Judged chains for times between ticks too, by the tasks of each and what starts them; `is_off` where the
+    deadlines have these ticks less already, which they get back then."""
+    found = {}
+    for name, it in report.chains.items():
+        lacks, keys = ticks_between(kinds_of(tasks[name], starts)), dict[str, Any]()
+        for what, count in lacks.items():
+            bound, deadline = more(getattr(it, what), count), getattr(it, f"{what}_deadline")
+            deadline = more(deadline, count) if is_off else deadline
+            keys |= {what: bound, f"{what}_deadline": deadline}
+            keys[f"{what}_verdict"] = verdict_of(bound, deadline, getattr(it, f"{what}_verdict"))
+        found[name] = replace(it, **keys)
+    missed = sum(Verdict.MISSED in (it.reaction_verdict, it.age_verdict, it.held_verdict) for it in found.values())
+    return ChainsReport(found, report.overloads, missed)
 
 
 def in_ticks(chain: Chain, tick: Time | None) -> tuple[dict[str, Any], list[Rounding]]:
@@ -156,43 +245,22 @@ def in_ticks(chain: Chain, tick: Time | None) -> tuple[dict[str, Any], list[Roun
     return entry, converter.told
 
 
-def fault_in(entry: object, tasks: Collection[str]) -> str | None:
-    """What is wrong with an entry of a file of chains, or None."""
-    if not isinstance(entry, dict):
-        return "is no table { name, tasks, reaction, age }"
-    if other := sorted(set(entry) - set(CHAIN_KEYS)):
-        return f"has a key {other[0]}; the keys are name, tasks, reaction and age"
-    if not isinstance(entry.get("name"), str) or not _NAME.fullmatch(entry["name"]):
-        return 'wants a name of up to 64 letters, digits, _, - and .: name = "brake"'
-    several = entry.get("tasks")
-    if not isinstance(several, list) or not 1 <= len(several) <= MOST_IN_CHAIN:
-        return f'wants 1 to {MOST_IN_CHAIN} tasks: tasks = ["capture", "act"]'
-    if unknown := [it for it in several if it not in tasks]:
-        return f"names a task {unknown[0]}, which the system doesn't have"
-    for key in ("reaction", "age"):
-        if key in entry and (type(entry[key]) is not int or not 1 <= entry[key] <= MOST_TICKS):
-            return f"wants 1 to {MOST_TICKS} ticks for {key}: {key} = 50000"
-    return None
-
-
 def chains_in(text: str, tasks: Collection[str]) -> list[Chain]:
-    """The chains of a file, in order, of a system that has such tasks; an error says what is wrong with it."""
+    """The chains of a file, in order, of a system that has such tasks; an error says what is wrong with it, in the
+    words of the launcher."""
+    from .refusals.chains import fault_in
+    from .refusals.remark import File
+    from .told import sentence
+
+    file = File("", text)
     try:
-        read = Document(text, ("chain",)).values
+        entries = Document(text, ("chain",)).values.get("chain", [])
     except tomllib.TOMLDecodeError as fault:
         raise LokwurmiError(f"it isn't TOML: {fault}") from None
-    form, entries = read.get("format"), read.get("chain", [])
-    if type(form) is not int or form != 1 or set(read) - {"format", "chain"} or not isinstance(entries, list):
-        raise LokwurmiError("it has to have format = 1 and chain = [{ name = .., tasks = [..] }], and nothing else")
-    if len(entries) > MOST_CHAINS:
-        raise LokwurmiError(f"there are {len(entries)} chains, and a file has {MOST_CHAINS} at most")
-    for place, entry in enumerate(entries, 1):
-        if told := fault_in(entry, tasks):
-            raise LokwurmiError(f"chain {place} {told}")
-    names = [it["name"] for it in entries]
-    if twice := next((it for it in names if names.count(it) > 1), None):
-        raise LokwurmiError(f"two chains have the name {twice}")
-    return [Chain(it["name"], it["tasks"], it.get("reaction"), it.get("age")) for it in entries]
+    if found := fault_in(file, list(tasks)):
+        at = found[1].span
+        raise LokwurmiError(f"{f'line {file.place(at[0])[0]}: ' if at else ''}{sentence(found[1])}")
+    return [Chain(it["name"], it["tasks"], it.get("reaction"), it.get("age"), it.get("held")) for it in entries]
 
 
 def written(chains: Iterable[Chain], tick: Time | None = None) -> tuple[str, list[Rounding]]:

@@ -17,6 +17,11 @@ Entry = dict[str, Any]
 """An entry of a file, of whatever form its values are."""
 
 
+def activators(task: Entry) -> list[str]:
+    """The names of a task's activators."""
+    return [task["after"]] if isinstance(task["after"], str) else task["after"]
+
+
 def values_in(text: str) -> dict[str, Any]:
     """The values of a document; one that isn't TOML raises tomllib.TOMLDecodeError.
 
@@ -48,12 +53,12 @@ class Document:
     @property
     def has_lists(self) -> bool:
         """Whether its format has lists of activators."""
-        return self.values.get("format") in (2, 3)
+        return self.values.get("format") in (2, 4)
 
     @property
     def has_regions(self) -> bool:
         """Whether its format has regions of tasks."""
-        return self.values.get("format") == 3
+        return self.values.get("format") == 4
 
     @cached_property
     def root(self) -> Place:

@@ -32,6 +32,9 @@ FILES = {
     "generate": (),
 }
 
+# of some commands, whose answer may be empty or has no last line of its own, the statuses of an answer
+ANSWERED = {"schedule": (0,), "assign": (0, 3)}
+
 # the repository, where the package is used from there
 TOP = Path(__file__).resolve().parents[3]
 # the versions of the library that are known; the first has no schedule, no chains, and no sessions that are kept
@@ -222,7 +225,7 @@ class KeptByScript:
             return status, lines.LINE.sub(lambda it: f"line {int(it[1]) - before}", text)
         if status < 0 or status >= WORDS_REFUSED:
             return status, text
-        edits = [it for it in line.splitlines() if it.strip(" \t\r") and not it.lstrip(" \t").startswith("#")]
+        edits = [it for it in line.split("\n") if it.strip(" \t\r") and not it.lstrip(" \t").startswith("#")]
         if len(edits) != 1 or edits[0].split()[0] == "report":
             return SCRIPT_REFUSED, "script refused no edit\n"
         first, _, rest = text.partition("\n")
@@ -343,6 +346,8 @@ def answer(
     status, text = (engine or default_engine(command)).call(command, files, words)
     if status < 0 or status >= WORDS_REFUSED:
         raise refusal(status, text) if status > 0 else CallFailed(status, text)
+    if status not in ANSWERED.get(command, (status,)):
+        raise CallFailed(status, text)
     return status, text
 
 

@@ -21,7 +21,7 @@ REASONS = {
 
 # what may be wrong there, in a sentence
 HELP = {
-    13: "format is 1, 2 for lists of activators, or 3 for regions too",
+    13: "format is 1, 2 for lists of activators, or 4 for regions too",
     1: "a key isn't known or is lacking, or a value has another type",
     2: "docs/FILES.md has the range of each key",
     3: "a name has 1 to 64 of ASCII letters, digits, _, - and .",
@@ -54,7 +54,7 @@ RULES = {
 # why a file of chains is refused: docs/FILES.md, "Why a file of chains is refused"
 CHAIN_REASONS = {
     13: "another format",
-    1: "the form: the keys are name, tasks, reaction and age",
+    1: "the form: the keys are name, tasks, reaction, age and held",
     2: "a deadline is out of its range, which is 1 to 1,000,000,000 ticks",
     3: "a name of another form",
     4: "a name twice",
@@ -151,6 +151,7 @@ class SystemRefused(Refused):
     ):
         self.reason, self.part, self.place, self.name = reason, part, place, name
         where = "the file" if part == "file" else f"{part} {name!r}" if name is not None else f"{part} {place}"
+        what = what.removeprefix(f'{part} "{name}": ')
         if not what:
             what = HELP[reason] + ("; a distance is at most the period" if (reason, part) == (2, "source") else "")
         super().__init__(status, text, f"{where}: {REASONS[reason]} (reason {reason}): {what}")
@@ -170,14 +171,15 @@ class ScriptRefused(Refused):
 
 class EditRefused(Refused):
     """An edit of a session can't be made, and nothing was changed. `rule` is the rule that it breaks (RULES), `edit`
-    its line."""
+    its line, and `why` what the launcher says of it, where that was found."""
 
-    def __init__(self, edit: str, rule: int):
-        self.edit, self.rule = edit, rule
-        super().__init__(0, f"line 1 refused {rule}\n", f"{edit}: {RULES[rule]} (rule {rule})")
+    def __init__(self, edit: str, rule: int, why: str = ""):
+        self.edit, self.rule, self.why = edit, rule, why
+        words = f"{edit}: {RULES[rule]} (rule {rule}){': ' if why else ''}{why}"
+        super().__init__(0, f"line 1 refused {rule}\n", words)
 
-    def __reduce__(self) -> tuple[type, tuple[str, int]]:
-        return EditRefused, (self.edit, self.rule)
+    def __reduce__(self) -> tuple[type, tuple[str, int, str]]:
+        return EditRefused, (self.edit, self.rule, self.why)
 
 
 class TraceRefused(Refused):

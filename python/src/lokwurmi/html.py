@@ -208,14 +208,15 @@ def chain(it: "chain_results.ChainReport") -> str:
 
 def chains(it: "chain_results.ChainsReport") -> str:
     """Chains with deadlines."""
-    rows = []
+    rows, held = [], any(one.held_deadline is not None for one in it.chains.values())
     for one in it.chains.values():
         row: list[Any] = [one.name, one.tasks]
-        for key in ("reaction", "age"):
+        for key in ("reaction", "age", "held")[: 2 + held]:
             deadline, verdict = getattr(one, f"{key}_deadline"), getattr(one, f"{key}_verdict")
             row += [shown(getattr(one, key), one.tick), plain(deadline, one.tick), mark(verdict.value)]
         rows.append(row)
-    heads = ("chain", "tasks", "reaction", "deadline", "verdict", "age", "deadline", "verdict")
+    judged = ("reaction", "age", "held")[: 2 + held]
+    heads = ["chain", "tasks", *(head for it in judged for head in (it, "deadline", "verdict"))]
     tick = next((one.tick for one in it.chains.values()), None)
     return table(f"Chains {mark(it.verdict.value)}", heads, rows, f"{_PREMISE} {unit_note(tick)}")
 

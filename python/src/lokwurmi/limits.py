@@ -18,6 +18,9 @@ class Kind(StrEnum):
     """The smallest priority number is next, and what has started goes on to its end."""
 
 
+WITH_PRIORITIES = ("preemptive", "can")
+"""The kinds of resource whose tasks have priorities; on the others they have slots."""
+
 MOST_ENTRIES = {"resource": 64, "source": 128, "task": 512, "path": 128}
 """How many entries each list of a system file may have."""
 MOST_CHAINS = 128
@@ -51,9 +54,9 @@ TIMES: dict[str, dict[str, tuple[str, int, int]]] = {
         "slot": (NEITHER, 1, MOST_EXECUTION),
     },
     "path": {"deadline": (DOWN, 1, MOST_TICKS)},
-    "chain": {"reaction": (DOWN, 1, MOST_TICKS), "age": (DOWN, 1, MOST_TICKS)},
+    "chain": {key: (DOWN, 1, MOST_TICKS) for key in ("reaction", "age", "held")},
 }
 """The keys that are times, each with the side that is safe, and the least and the greatest number of ticks. A region
 stands before what depends on it."""
-CHAIN_KEYS = ("name", "tasks", "reaction", "age")
+CHAIN_KEYS = ("name", "tasks", "reaction", "age", "held")
 """The keys of a chain."""

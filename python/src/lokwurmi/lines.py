@@ -29,16 +29,24 @@ BUFFER = re.compile(r"buffer (\S+) bound (\d+|overload) peak (\d+)")
 RESOURCE = re.compile(r"resource (\S+) bound (\d+|overload) peak (\d+)")
 WRONG = re.compile(r"audit wrong segment (\d+) expected (?:none|(\S+) (\d+) (\d+))")
 SEGMENT = re.compile(r"(\S+),(\d+),(\d+)")
+# what the bounds of effect chains presume
+_PREMISE = " if sources stay near"
 STEP = re.compile(r"step (?P<name>\S+) (?P<kind>\S+) wait (?P<wait>\d+|overload) response (?P<response>\d+|overload)")
 TOTAL = re.compile(
     r"chain(?P<running> while-running)? tasks \d+ reaction (?P<reaction>\d+|overload) age (?P<age>\d+|overload)"
-    r"(?: held (?P<held>\d+|overload))?"
+    rf" held (?P<held>\d+|overload){_PREMISE}"
 )
 _JUDGED = r"(?P<{0}>\d+|overload) deadline (?P<{0}_deadline>\d+|-) (?P<{0}_verdict>met|missed|unknown|none)"
 CHAIN = re.compile(
     rf"chain (?P<name>\S+) tasks (?P<tasks>\d+) reaction {_JUDGED.format('reaction')} age {_JUDGED.format('age')}"
+    rf"(?: held {_JUDGED.format('held')})?"
 )
-CHAINS = re.compile(r"summary chains (\d+) overload (\d+) missed (\d+)")
+CHAINS = re.compile(rf"summary chains (\d+) overload (\d+) missed (\d+){_PREMISE}")
+
+
+def summary_of_chains(chains: int, overload: int, missed: int) -> str:
+    """The last line of what `chains` writes."""
+    return f"summary chains {chains} overload {overload} missed {missed}{_PREMISE}"
 
 
 def number(word: str) -> int | None:

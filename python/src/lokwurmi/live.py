@@ -11,6 +11,7 @@ from .errors import CallFailed, EditRefused, ScriptRefused, SessionClosed, refus
 from .limits import Kind
 from .lines import REFUSED
 from .reports import Verdict
+from .told import edit_words
 from .units import Rounding, warn
 
 if TYPE_CHECKING:
@@ -45,6 +46,7 @@ class Session:
         chosen = engine or default_engine()
         self.is_kept = isinstance(chosen, Library) and chosen.has("open")
         self._kept: Kept | None
+        system._check_names()
         self._kept, told = system._keep(engine)
         self._roundings: list[Rounding] = list(told)
         self._system = system.copy()
@@ -92,14 +94,19 @@ class Session:
     def _edit(self, line: str) -> None:
         status, text = self._open().edit(line)
         if status == EDIT_REFUSED and (found := REFUSED.fullmatch(text.rstrip("\n"))):
-            raise EditRefused(line.strip(), int(found[2]))
+            raise self._refused(line, int(found[2]))
         if status == SCRIPT_REFUSED:
             raise refusal(status, text.rstrip("\n") + "\n")
         if status:
             raise CallFailed(status, text)
         self._found = None
-        edit = next(it for it in line.splitlines() if it.strip(" \t\r") and not it.lstrip(" \t").startswith("#"))
+        edit = next(it for it in line.split("\n") if it.strip(" \t\r") and not it.lstrip(" \t").startswith("#"))
         _apply(self._system, edit.split())
+
+    def _refused(self, line: str, rule: int, shown: str = "") -> EditRefused:
+        """The refusal of an edit, in words."""
+        why = edit_words(line, rule, self._system._file()[0])
+        return EditRefused(shown or line.strip(), rule, why)
 
     def _ticks(self, kind: str, name: str, **given: Ticks | None) -> dict[str, Any]:
         """Times of an entry in ticks, rounded and reported as those of a system."""
@@ -116,12 +123,21 @@ class Session:
             warn(told)
         return entry
 
+    def _known(self, form: str, it: "str | Task | Source", part: Mapping[str, Any]) -> str:
+        """The name of an entry that is there. What stays of one that isn't is unknown here, so that such an edit isn't
+        sent: the program refuses it too."""
+        self._open()
+        name = _named(it)
+        if name not in part:
+            numbers = {"exec": "1 1", "source": "1 0 0"}[form]
+            raise self._refused(f"{form} {name} {numbers}", 1, f"{form} {name}")
+        return name
+
     def exec(self, task: str | Task, best: Ticks | None = None, worst: Ticks | None = None) -> None:
         """Sets the least and the greatest execution of a task, in ticks or with units; one that isn't given stays."""
         with self._lock:
-            name = task if isinstance(task, str) else task.name
-            # the program refuses a name of nothing
-            before = self._system.execution(name) if name in self._system.tasks else (1, 1)
+            name = self._known("exec", task, self._system.tasks)
+            before = self._system.execution(name)
             found = self._ticks("task", name, best=best, worst=worst)
             self._edit(f"exec {name} {found.get('best', before[0])} {found.get('worst', before[1])}")
 
@@ -148,11 +164,9 @@ class Session:
     ) -> None:
         """Sets the period, the jitter and the distance of a source, in ticks or with units; what isn't given stays."""
         with self._lock:
-            name = _named(source)
-            stays = {"period": 1, "jitter": 0, "distance": 0}
-            if name in self._system.sources:
-                there = self._system.sources[name]
-                stays |= {key: it for key in stays if (it := self._system.ticks(there, key)) is not None}
+            name = self._known("source", source, self._system.sources)
+            there, stays = self._system.sources[name], {"period": 1, "jitter": 0, "distance": 0}
+            stays |= {key: it for key in stays if (it := self._system.ticks(there, key)) is not None}
             found = stays | self._ticks("source", name, period=period, jitter=jitter, distance=distance)
             self._edit(f"source {name} {found['period']} {found['jitter']} {found['distance']}")
 
@@ -229,8 +243,9 @@ def _named(it: "str | Task | Source | Resource") -> str:
 
 
 def _apply(system: "System", words: list[str]) -> None:
-    """Makes an edit that was accepted in a system."""
+    """Makes an edit that was accepted in a system, whose numbers are those of the program, in ticks."""
     form, name, *rest = words
+    system._expect_ticks("source" if form == "source" else "task", name)
     numbers = [int(it) for it in rest if it.isdigit()]
     if form == "exec":
         it = system.tasks[name]

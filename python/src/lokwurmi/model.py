@@ -29,11 +29,12 @@ from .entries import (
     out_of_range,
     text_in_ticks,
 )
-from .errors import ChainsRefused, LokwurmiError, SystemRefused, UnitsRefused
+from .errors import ChainsRefused, LokwurmiError, Refused, SystemRefused, UnitsRefused, WordsRefused
 from .frames import execution
-from .limits import Kind
+from .limits import TIMES, Kind
+from .told import may_deserve_notice, notices_of, notices_of_answer, notices_of_script, refusal_words
 from .toml import entry_text
-from .units import Converter, NoUnitWarning, Rounding, Time, text_of, tick_of, warn, whole_ticks
+from .units import Converter, NoticeWarning, NoUnitWarning, Rounding, Time, text_of, tick_of, warn, whole_ticks
 
 if TYPE_CHECKING:
     from .live import Session
@@ -47,14 +48,21 @@ def _name(it: "str | Entry") -> str:
     return it if isinstance(it, str) else it.name
 
 
+def _names(several: "Iterable[str | Entry]", what: str) -> list[str]:
+    """The names of several entries; a text is one name, and its letters are none."""
+    if isinstance(several, str):
+        raise TypeError(f"{what} is a list of tasks, and not a text: write [{several!r}]")
+    return [_name(it) for it in several]
+
+
 def _check_format(document: Document, form: int) -> None:
     """Refuses what tasks have and the format of their file hasn't."""
     for place, entry in enumerate(document.entries["task"]):
         if not isinstance(entry, dict):
             continue
         what, wanted = ("", 0)
-        if form < 3 and "region" in entry:
-            key, what, wanted = "region", "has a region", 3
+        if form < 4 and "region" in entry:
+            key, what, wanted = "region", "has a region", 4
         elif form < 2 and isinstance(entry.get("after"), list):
             key, what, wanted = "after", "has a list in after", 2
         if what:
@@ -95,6 +103,8 @@ class System:
         self.tasks: dict[str, Task] = {}
         self.paths: dict[str, Path] = {}
         self._told: set[str] = set()
+        self._has_units = False
+        self._looked_at = ""
         self.tick = tick  # type: ignore[assignment]
 
     @property
@@ -139,19 +149,51 @@ class System:
 
     def _tell(self, it: Entry) -> None:
         """Says at once what is rounded of an entry, or why it can't be."""
-        self._warn(self._convert(kind_name(it), keys_of(it)))
+        if converter := self._converter(kind_name(it), keys_of(it)):
+            self._warn(converter.reported)
+            self._warn_bare(converter)
 
     def _convert(self, kind: str, entry: dict[str, Any]) -> list[Rounding]:
         """Turns the times of an entry into ticks, and gives what was rounded; raises NoTick where there is no tick."""
+        converter = self._converter(kind, entry)
+        return converter.reported if converter else []
+
+    def _converter(self, kind: str, entry: dict[str, Any]) -> Converter | None:
+        """What has turned the times of an entry into ticks; None where there is no tick."""
         if self._tick is None:
             check_no_time(kind, entry)
-            return []
+            return None
         document = {kind: [entry]}
         if entry.get("on") in self.resources:
             document["resource"] = [keys_of(self.resources[entry["on"]])]
         converter = Converter(self._tick.nanoseconds)
         converter.convert(document)
-        return converter.reported
+        return converter
+
+    def _warn_bare(self, converter: Converter) -> None:
+        """Warns of numbers without a unit where other times have one, once of each."""
+        self._has_units = self._has_units or converter.has_units
+        new = [it for it in converter.bare if " ".join(it) not in self._told]
+        if self._has_units and new:
+            self._told |= {" ".join(it) for it in new}
+            converter.bare = new
+            warn([converter.bare_text()], NoUnitWarning)
+
+    def _notice(self, text: str) -> None:
+        """Warns of what the launcher has a notice on, of a system file that was accepted."""
+        if text == self._looked_at or not may_deserve_notice(self._parts()):
+            return
+        self._looked_at = text
+        if new := [it for it in notices_of(text) if it not in self._told]:
+            self._told |= set(new)
+            warn(new, NoticeWarning)
+
+    def _notice_answer(self, command: str, name: str, is_found: bool = True) -> None:
+        """Warns of the deadlines that an answer of `assign` or `slack` doesn't count, once of each."""
+        told = notices_of_answer(command, self._file()[0], name, is_found)
+        if new := [it for it in told if it not in self._told]:
+            self._told |= set(new)
+            warn(new, NoticeWarning)
 
     def _warn(self, roundings: Iterable[Rounding]) -> None:
         """Warns of roundings of which it hasn't warned yet."""
@@ -225,7 +267,7 @@ class System:
 
     def path(self, name: str, tasks: Iterable[str | Task], *, deadline: Ticks | None = None) -> Path:
         """Adds a path over tasks, with a deadline in ticks or as a time, if there is one."""
-        return self._add(Path(name, [_name(it) for it in tasks], deadline))
+        return self._add(Path(name, _names(tasks, "a path"), deadline))
 
     def copy(self) -> "System":
         """An equal system of its own."""
@@ -275,7 +317,7 @@ class System:
     def _format(self) -> int:
         """The least format that has all keys that are set."""
         if any(it.region is not None for it in self.tasks.values()):
-            return 3
+            return 4
         return 2 if any(isinstance(it.after, list) for it in self.tasks.values()) else 1
 
     def _file(self) -> tuple[str, list[Rounding]]:
@@ -291,7 +333,9 @@ class System:
         for key, entries in document.items():
             if entries:
                 text += f"{key} = [\n{''.join(map(entry_text, entries))}]\n"
-        return self._head(converter) + text, converter.reported
+        head = self._head(converter)
+        self._warn_bare(converter)
+        return head + text, converter.reported
 
     def _head(self, converter: Converter) -> str:
         """What a file says of its ticks."""
@@ -306,7 +350,7 @@ class System:
         return head
 
     def to_toml(self) -> str:
-        """The system file, in whole ticks; roundings stand in comments at its head. It has format 3 where a task has a
+        """The system file, in whole ticks; roundings stand in comments at its head. It has format 4 where a task has a
         region, else 2 where one has several activators, else 1."""
         text, told = self._file()
         self._warn(told)
@@ -328,8 +372,8 @@ class System:
         read = dict(document.values)
         system = cls(tick)
         form = read.pop("format", None)
-        if type(form) is not int or form not in (1, 2, 3):
-            raise LokwurmiError(f"the format is {form}: write format = 1, 2 for lists of activators, or 3 for regions")
+        if type(form) is not int or form not in (1, 2, 4):
+            raise LokwurmiError(f"the format is {form}: write format = 1, 2 for lists of activators, or 4 for regions")
         _check_format(document, form)
         if unknown := sorted(set(read) - set(KINDS)):
             raise LokwurmiError(f"{unknown[0]} is no key of a system; the keys are format, {', '.join(KINDS)}")
@@ -344,8 +388,8 @@ class System:
                 part[it.name] = it
         if tick is not None:
             system._warn(system.roundings)
-            if bare := system._bare_text():
-                warn([bare], NoUnitWarning)
+            if converter := system._converted()[1]:
+                system._warn_bare(converter)
         return system
 
     @classmethod
@@ -361,14 +405,16 @@ class System:
 
     # ---- calls
 
-    def _named(self, fault: SystemRefused) -> SystemRefused:
-        """A refusal with the name of the entry, and with the number that is out of its range."""
+    def _named(self, fault: SystemRefused, text: str) -> SystemRefused:
+        """A refusal with the name of the entry, and with what is wrong in it: the number that is out of its range, or
+        else what the launcher says of the file."""
         part = self._parts().get(fault.part, {})
         name, what = (list(part)[fault.place - 1], "") if 1 <= fault.place <= len(part) else (None, "")
         if fault.reason == 2 and name is not None:
             entry = keys_of(part[name])
             self._convert(fault.part, entry)
             what = out_of_range(fault.part, entry)
+        what = what or refusal_words(fault.text, text)
         return SystemRefused(fault.status, fault.text, fault.reason, fault.part, fault.place, name, what)
 
     def _told_answer(
@@ -377,11 +423,18 @@ class System:
         """What a command answers, and what was rounded for it."""
         text, told = self._file()
         self._warn(told)
+        several = list(texts)
         try:
-            files = [it.encode("utf-8", "surrogateescape") for it in (text, *texts)]
-            return answer(command, files, words, engine)[1], told
+            files = [it.encode("utf-8", "surrogateescape") for it in (text, *several)]
+            found = answer(command, files, words, engine)[1]
         except SystemRefused as fault:
-            raise self._named(fault) from None
+            raise self._named(fault, text) from None
+        except Refused as fault:
+            if why := refusal_words(fault.text, text, several, words):
+                fault.args = (f"{fault}: {why}",)
+            raise
+        self._notice(text)
+        return found, told
 
     def _answer(
         self, command: str, texts: Iterable[str] = (), words: tuple[str | int, ...] = (), engine: Engine | None = None
@@ -429,8 +482,8 @@ class System:
             5
 
         With a script: the reports of this system under it, one wherever it says `report`, and one at its end. The forms
-        of its lines are those of docs/FILES.md, "The script"; an edit that can't be made is left out, and `refused` of
-        the next report has it. This system stays as it is in both cases.
+        of its lines are those of docs/FILES.md, "The script"; an edit that can't be made is left out, which a
+        NoticeWarning tells, and `refused` of the next report has it. This system stays as it is in both cases.
         """
         if script is None:
             from .live import Session
@@ -438,16 +491,36 @@ class System:
             return Session(self, engine)
         text = script if isinstance(script, str) else "".join(f"{line}\n" for line in script)
         found, told = self._told_answer("session", [text], engine=engine)
-        return reports.reports(found, self._tick, told)
+        several = reports.reports(found, self._tick, told)
+        if refused := [edit for report in several for edit in report.refused.items()]:
+            warn(notices_of_script(text, refused, self._file()[0]), NoticeWarning)
+        return several
+
+    def _check_names(self) -> None:
+        """Refuses an entry that was given another name than the one by which it was added: edits and bounds of a
+        session go by names."""
+        for kind, part in self._parts().items():
+            for name, it in part.items():
+                if it.name != name:
+                    raise LokwurmiError(
+                        f"{kind} {name!r} has the name {it.name!r} by now: a session goes by names, so add it anew"
+                        " under that one"
+                    )
+
+    def _expect_ticks(self, kind: str, name: str) -> None:
+        """Numbers of an entry are known to count ticks, and nothing is to be said of them."""
+        self._told |= {f"{key} {kind} {name}" for key in TIMES[kind]}
 
     def _keep(self, engine: Engine | None) -> Any:
         """Opens what a session keeps, and gives what was rounded for it."""
         text, told = self._file()
         self._warn(told)
         try:
-            return keep(text.encode("utf-8", "surrogateescape"), engine), told
+            kept = keep(text.encode("utf-8", "surrogateescape"), engine)
         except SystemRefused as fault:
-            raise self._named(fault) from None
+            raise self._named(fault, text) from None
+        self._notice(text)
+        return kept, told
 
     def simulate(self, trace: Trace, *, engine: Engine | None = None) -> reports.Run:
         """What is observed when a trace is replayed: a text, or rows as `("event", "sa", 0)`, in ticks or with
@@ -473,12 +546,17 @@ class System:
 
     def assign(self, resource: str | Resource, *, engine: Engine | None = None) -> reports.Order | None:
         """Priorities of the tasks of a resource under which each meets its deadline, from the highest to the lowest;
-        None where there are none."""
-        return reports.order(self._answer("assign", words=(_name(resource),), engine=engine))
+        None where there are none. A NoticeWarning says which deadlines weren't counted."""
+        found = reports.order(self._answer("assign", words=(_name(resource),), engine=engine))
+        self._notice_answer("assign", _name(resource), found is not None)
+        return found
 
     def slack(self, task: str | Task, *, engine: Engine | None = None) -> reports.Slack:
-        """By how many ticks the greatest execution of a task may grow while all deadlines are met."""
-        return reports.slack(self._answer("slack", words=(_name(task),), engine=engine), self._tick)
+        """By how many ticks the greatest execution of a task may grow while all deadlines are met. A NoticeWarning says
+        where there is none."""
+        found = reports.slack(self._answer("slack", words=(_name(task),), engine=engine), self._tick)
+        self._notice_answer("slack", _name(task))
+        return found
 
     def _check_periods(self) -> None:
         """Refuses chains where a period was rounded: it is the longest time between events there, too."""
@@ -495,27 +573,40 @@ class System:
         """How soon a chain of 1 to 32 tasks reacts at the latest, and how old its data can be, in ticks.
 
         Each task reads what the one before wrote last. The bounds hold where the sources keep their periods: a source
-        that falls silent voids them. `while_running` presumes that each task reads only while it runs, and so has
-        smaller bounds.
+        that falls silent voids them. Where the system has a tick, each wait has a tick more than `lokwurmi chain` says,
+        with which they hold for times between ticks too. `while_running` presumes that each task reads only while it
+        runs, and so has smaller bounds.
         """
         self._check_periods()
-        words = [_name(it) for it in tasks] + [WHILE_RUNNING] * while_running
-        return chain_results.chain_report(self._answer("chain", words=tuple(words), engine=engine), self._tick)
+        names = _names(tasks, "a chain")
+        if WHILE_RUNNING in names:
+            raise WordsRefused(10, "words refused\n", f"{WHILE_RUNNING} is no name of a task: write while_running=True")
+        words = names + [WHILE_RUNNING] * while_running
+        found = chain_results.chain_report(self._answer("chain", words=tuple(words), engine=engine), self._tick)
+        return found if self._tick is None else chain_results.between_ticks(found)
 
     def chains(
         self, chains: "str | Iterable[chain_results.Chain]", *, engine: Engine | None = None
     ) -> chain_results.ChainsReport:
         """Chains with deadlines, judged: a list of Chain, or the text of a file of chains. The premise is that of
-        `chain`; a deadline with a unit is rounded down."""
+        `chain`, and so are the ticks more; a deadline with a unit is rounded down."""
         self._check_periods()
         several = [] if isinstance(chains, str) else list(chains)
+        for it in several:
+            _names(it.tasks, f"chain {it.name!r}")
         text, told = (chains, []) if isinstance(chains, str) else chain_results.written(several, self._tick)
         self._warn(told)
         try:
-            return chain_results.chains_report(self._answer("chains", [text], engine=engine), self._tick)
+            found = chain_results.chains_report(self._answer("chains", [text], engine=engine), self._tick)
         except ChainsRefused as fault:
             name = several[fault.place - 1].name if 1 <= fault.place <= len(several) else None
-            raise ChainsRefused(fault.status, fault.text, fault.reason, fault.place, name) from None
+            refused = ChainsRefused(fault.status, fault.text, fault.reason, fault.place, name)
+            refused.args = (str(fault).replace(str(ChainsRefused(18, "", fault.reason, fault.place)), str(refused)),)
+            raise refused from None
+        if self._tick is None:
+            return found
+        tasks = {it["name"]: it["tasks"] for it in tomllib.loads(text).get("chain", [])}
+        return chain_results.judged_between_ticks(found, tasks, {it.name: it.after for it in self.tasks.values()})
 
 
 def generated_system(seed: int, size: int, *, engine: Engine | None = None) -> System:

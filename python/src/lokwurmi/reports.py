@@ -351,14 +351,18 @@ class Order(dict[str, int]):
 
 def order(text: str) -> Order | None:
     """The priorities in what `assign` wrote, by task, from the highest to the lowest; None where no order meets."""
-    found = Order()
+    found, is_whole = Order(), False
     for line in text.splitlines():
         if it := lines.PRIORITY.fullmatch(line):
             found[it[1]] = int(it[2])
         elif line.startswith("none "):
             return None
-        elif not lines.ASSIGNED.fullmatch(line):
+        elif lines.ASSIGNED.fullmatch(line):
+            is_whole = True
+        else:
             raise Unreadable(f"this is no line of an order: {line}")
+    if not is_whole:
+        raise Unreadable("there is no whole order; a line of it begins with assigned")
     return found
 
 
@@ -377,14 +381,18 @@ class Buffers:
 
 def buffers(text: str) -> Buffers:
     """What `buffers` wrote."""
-    tasks, resources = {}, {}
+    tasks, resources, is_whole = {}, {}, False
     for line in text.splitlines():
         if it := lines.BUFFER.fullmatch(line):
             tasks[it[1]] = (lines.number(it[2]), int(it[3]))
         elif it := lines.RESOURCE.fullmatch(line):
             resources[it[1]] = (lines.number(it[2]), int(it[3]))
-        elif not line.startswith("summary "):
+        elif line.startswith("summary "):
+            is_whole = True
+        else:
             raise Unreadable(f"this is no line of buffers: {line}")
+    if not is_whole:
+        raise Unreadable("there are no whole buffers; the last line begins with summary")
     return Buffers(tasks, resources)
 
 

@@ -252,7 +252,11 @@ class RoundingWarning(UserWarning):
 
 
 class NoUnitWarning(UserWarning):
-    """Numbers have no unit in a file whose other times have one: they count ticks."""
+    """Numbers have no unit in a system whose other times have one: they count ticks."""
+
+
+class NoticeWarning(UserWarning):
+    """A system is accepted, and may be another one than was meant: its bounds may be too low for the real system."""
 
 
 @dataclass(frozen=True, slots=True)
@@ -373,7 +377,8 @@ class Converter:
         """Replaces a time of an entry that has a unit."""
         word = item[key]
         if not isinstance(word, (str, Time)):
-            if isinstance(word, int) and not isinstance(word, bool):
+            # nothing is nothing in any unit
+            if isinstance(word, int) and not isinstance(word, bool) and word:
                 self.bare.append((key, kind, item.get("name", "?")))
             return
         what, (side, least, most) = f"{kind} {item.get('name', '?')}", TIMES[kind][key]

@@ -8,6 +8,7 @@ from lokwurmi.errors import LokwurmiError
 from lokwurmi_tools.commands import COMMANDS, command_of
 from lokwurmi_tools.faults import Told
 from lokwurmi_tools.packages import Missing, go_on
+from lokwurmi_tools.pipes import Patient
 
 
 def commands_text() -> str:
@@ -39,15 +40,12 @@ def end_by(number: int) -> NoReturn:
     raise SystemExit(128 + number)
 
 
-def perform(words: list[str]) -> int:
-    """Runs a command, and gives its status."""
-    if is_asked_for_help(words):
-        print(f"{commands_text()}\n\n./lokwurmi COMMAND --help shows the words of each, and an example.")
-        return 0
+def run(words: list[str]) -> int:
+    """Runs a command, and gives its status; what it has written is out."""
     found = command_of(words)
     if found is None:
         text, status = find(words)
-        print(text, file=sys.stderr if status else sys.stdout)
+        print(text, file=sys.stderr if status else sys.stdout, flush=True)
         return status
     command, rest = found
     try:
@@ -59,14 +57,36 @@ def perform(words: list[str]) -> int:
             print(f"lokwurmi {command.name}: {fault}", file=sys.stderr)
         status = getattr(fault, "status", 1)
         return status if status > 0 else 1
+    except SystemExit:
+        # of --help, or of a word that isn't known
+        sys.stdout.flush()
+        raise
     except Missing as fault:
         return go_on(command.name, fault, words)
     except KeyboardInterrupt:
         print(f"lokwurmi {command.name}: interrupted", file=sys.stderr)
         return 130
+
+
+def perform(words: list[str]) -> int:
+    """The same, and help; where who reads has enough of it this ends as a program does then. What is told on standard
+    error has no say in that before the end, so that a file is whole by then."""
+    sys.stderr = told = Patient(sys.stderr)  # type: ignore[assignment]
+    try:
+        if not is_asked_for_help(words):
+            status = run(words)
+        else:
+            print(
+                f"{commands_text()}\n\n./lokwurmi COMMAND --help shows the words of each, and an example.", flush=True
+            )
+            status = 0
     except BrokenPipeError:
-        # who reads has enough of it
         end_by(signal.SIGPIPE)
+    finally:
+        sys.stderr = told.stream
+    if told.is_left:
+        end_by(signal.SIGPIPE)
+    return status
 
 
 def main() -> NoReturn:

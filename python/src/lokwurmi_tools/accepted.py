@@ -4,12 +4,13 @@ import sys
 from typing import Any, NoReturn
 
 from lokwurmi.documents import Document
+from lokwurmi.refusals.front import NO_SYSTEM, NO_TOML, UNREADABLE, Call, is_regular, look_for
+from lokwurmi.refusals.judge import first_refusal
+from lokwurmi.refusals.remark import File, decoded, printable
+from lokwurmi.refusals.toml_faults import fault_in
+from lokwurmi.told import notices_of
 from lokwurmi_tools.faults import Fault, Told
 from lokwurmi_tools.program import LAUNCHER, call, is_built
-from lokwurmi_tools.refusals.front import NO_SYSTEM, NO_TOML, UNREADABLE, Call, is_regular, look_for
-from lokwurmi_tools.refusals.judge import first_refusal
-from lokwurmi_tools.refusals.remark import File, decoded, printable
-from lokwurmi_tools.refusals.toml_faults import fault_in
 
 
 def read_system(name: str) -> dict[str, Any]:
@@ -32,6 +33,12 @@ def read_system(name: str) -> dict[str, Any]:
         why = remark.says if remark else "it isn't TOML"
         raise Fault(f"{printable(name)}: the program accepts it, but it can't be read here: {why}")
     return document.values
+
+
+def noticed_in(name: str) -> list[str]:
+    """The notices on a system file that is accepted, a sentence each."""
+    with open(name, "rb") as it:
+        return notices_of(decoded(it.read()).replace("\r\n", "\n"))
 
 
 def asked(name: str) -> tuple[int, str] | None:

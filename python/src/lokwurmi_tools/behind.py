@@ -6,10 +6,11 @@ input has no bound. It is no part of what is proved, and tells of each such task
 from collections.abc import Collection
 from fractions import Fraction
 
+from lokwurmi.documents import activators
 from lokwurmi.frames import execution
 from lokwurmi_tools.kinds import Found, Values
 from lokwurmi_tools.sharing import LIMIT, Sharing
-from lokwurmi_tools.system import activators, sources_of
+from lokwurmi_tools.system import sources_of
 
 # how a task comes to have no bound, and because of which others
 Edge = tuple[str, list[str]]

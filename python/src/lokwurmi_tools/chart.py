@@ -59,18 +59,21 @@ def draw_paths(axes: Any, paths: Found, scale: Scale) -> None:
     legend = [
         Patch(color=GREATEST),
         Patch(color=MISSED),
+        Patch(color=LEAST),
         Patch(facecolor="white", edgecolor=NONE, hatch="////"),
         Line2D([], [], color="black", marker="|", linestyle="none", markersize=9),
     ]
     axes.legend(
         legend,
-        ["in time, or no deadline", "deadline missed", "no bound", "deadline"],
+        ["in time, or no deadline", "missed", "light: best time", "no bound", "deadline"],
         fontsize=7,
-        ncols=4,
+        ncols=5,
         loc="lower right",
         bbox_to_anchor=(1.01, 0.99),
         borderaxespad=0.2,
-        columnspacing=1,
+        columnspacing=0.9,
+        handlelength=1.6,
+        handletextpad=0.5,
         frameon=False,
     )
 

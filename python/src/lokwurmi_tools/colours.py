@@ -1,6 +1,6 @@
 """The colours of paths and tasks, for the tools beside it."""
+from lokwurmi.documents import activators
 from lokwurmi_tools.kinds import Values
-from lokwurmi_tools.system import activators
 
 # those of paths, and paler ones for what is on none
 HUES = [

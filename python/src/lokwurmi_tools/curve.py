@@ -8,13 +8,14 @@ as 1us, the window is drawn as a time.
 """
 from fractions import Fraction
 
+from lokwurmi.documents import activators
 from lokwurmi_tools.accepted import read_system
 from lokwurmi_tools.faults import Fault
 from lokwurmi_tools.kinds import Stream, Values
 from lokwurmi_tools.packages import need
 from lokwurmi_tools.plotting import bare, begun, check_name, save
 from lokwurmi_tools.report import read_report
-from lokwurmi_tools.system import activators, first_windows, input_of, most_events
+from lokwurmi_tools.system import first_windows, input_of, most_events
 from lokwurmi_tools.times import UNITS, unit_of
 from lokwurmi_tools.words import add_tick, reader_of
 

@@ -9,6 +9,9 @@ least a tick (a priority by one place), alone, and the proved program reports th
 the model, and no advice that they can be made. With --all it tells of each task and each path. Of a task without a
 bound it tells what work its resource has, by whom, and with which rival its busy window has no end.
 
+The deadlines are those of paths; it knows no chains. What a bound of a chain is made of stands in what `lokwurmi chain`
+writes.
+
 The parts are worked out here, at the bounds of the report, and held against it: where they don't add up to the bound
 that the proved program has written, the tool says so and ends with 1. They are no part of what is proved.
 """
@@ -16,6 +19,7 @@ import argparse
 import json
 import sys
 
+from lokwurmi_tools.accepted import noticed_in
 from lokwurmi_tools.explained import Explained, explained_by
 from lokwurmi_tools.faults import Fault
 from lokwurmi_tools.helps import helps_for, lines_of_helps, lines_of_regions
@@ -60,6 +64,10 @@ def check_names(words: argparse.Namespace, explained: Explained) -> None:
     asked = (("task", words.task, explained.parts.tasks), ("path", words.path, explained.paths))
     for kind, name, known in asked:
         if name is not None and name not in known:
+            if kind == "task" and name in explained.paths:
+                raise Fault(f"{words.file}: {name} is a path: write --path {name}")
+            if kind == "path" and name in explained.parts.tasks:
+                raise Fault(f"{words.file}: {name} is a task: write it without --path")
             raise Fault(f"{words.file}: there is no {kind} {name}; it has {', '.join(known) or 'none'}")
     if not explained.parts.tasks and not words.json:
         raise Fault(f"{words.file} has no task")
@@ -95,11 +103,18 @@ def main(arguments: list[str] | None = None) -> int | None:
     if words.json:
         for path, several in zip(told_paths, helps):
             path["helps"] = [it.told() for it in several]
-        told = {"file": words.file, "tasks": told_tasks, "paths": told_paths, "faults": explained.faults}
+        told = {
+            "file": words.file,
+            "notices": noticed_in(words.file),
+            "tasks": told_tasks,
+            "paths": told_paths,
+            "faults": explained.faults,
+        }
         print(json.dumps(told, indent=1))
     else:
         scale = Scale(words.tick)
-        blocks = [lines_of_task(it, scale) for it in told_tasks] + [lines_of_path(it, scale) for it in told_paths]
+        blocks = [[f"notice: {it}"] for it in noticed_in(words.file)]
+        blocks += [lines_of_task(it, scale) for it in told_tasks] + [lines_of_path(it, scale) for it in told_paths]
         for path, several in zip(told_paths, helps):
             blocks[-1] += lines_of_helps(several, scale) + lines_of_regions(path, words.file)
         print(shown("\n\n".join("\n".join(it) for it in blocks)))

@@ -25,6 +25,7 @@ import argparse
 from collections.abc import Iterator, Sequence
 from typing import Any, NamedTuple
 
+from lokwurmi.chains import between_ticks
 from lokwurmi_tools.accepted import read_system
 from lokwurmi_tools.arrows import Marked, draw_marked, marked_in
 from lokwurmi_tools.chains import bounds_by, read_chains, totals_of
@@ -558,6 +559,9 @@ def marked_of(words: argparse.Namespace, system: Values, run: Run) -> list[Marke
     """What is marked of the chain that is asked for."""
     tasks = chain_in(words, system)
     bounds = bounds_by(words.program, words.file, tasks)
+    if bounds and words.tick is not None:
+        # what is shown as times has to hold between ticks too
+        bounds = between_ticks(bounds)
     marked = marked_in(run, tasks, words.reading, totals_of(bounds), READINGS[words.reading])
     if not marked:
         raise Fault(f"{' '.join(tasks)}: nothing of the chain is seen in this run")

@@ -15,6 +15,7 @@ import subprocess
 import sys
 from collections.abc import Sequence
 
+from lokwurmi.documents import activators
 from lokwurmi.frames import execution
 from lokwurmi_tools.accepted import read_system
 from lokwurmi_tools.chains import Chain, read_chains
@@ -23,7 +24,6 @@ from lokwurmi_tools.faults import Fault
 from lokwurmi_tools.kinds import Found, Values
 from lokwurmi_tools.plotting import check_name
 from lokwurmi_tools.report import read_report
-from lokwurmi_tools.system import activators
 from lokwurmi_tools.times import Scale
 from lokwurmi_tools.words import add_tick, reader_of
 

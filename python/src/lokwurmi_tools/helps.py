@@ -6,8 +6,8 @@ choice: there may be others that help more, and several together may do what non
 """
 from typing import Any, NamedTuple
 
+from lokwurmi.limits import WITH_PRIORITIES
 from lokwurmi_tools.explained import Explained
-from lokwurmi_tools.kinds import WITH_PRIORITIES
 from lokwurmi_tools.report import reports_in
 from lokwurmi_tools.system import sources_of
 from lokwurmi_tools.times import TICKS, Scale

@@ -20,5 +20,3 @@ Segment = tuple[int, int]
 Schedule = list[tuple[str, int, int]]
 # when each job of a task came, and when it was done, None where it wasn't
 Jobs = dict[str, list[tuple[int, int | None]]]
-# the kinds of resource whose tasks have priorities; on the others they have slots
-WITH_PRIORITIES = ("preemptive", "can")

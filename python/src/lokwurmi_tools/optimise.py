@@ -10,6 +10,8 @@ two priorities, those first with whom a late path waits longest, as lokwurmi exp
 What is told as found is what the proved program says of the edits of --script. Where nothing is found there may still
 be an order: the search proves nothing about what it didn't try. The same call gives the same answer for the same
 --seed, unless --seconds ends it. The status is 0, and 3 where nothing is found; then the best that was found is told.
+Where a resource is asked for more than all of the time, nothing is searched, and it says so at once. The deadlines are
+those of paths: those of a file of chains aren't looked at.
 """
 import argparse
 import json
@@ -20,14 +22,14 @@ import sys
 import tempfile
 import time
 from collections.abc import Callable, Iterator
+from fractions import Fraction
 from typing import Any
 
 from lokwurmi.frames import execution
-from lokwurmi.limits import MOST_ENTRIES, MOST_TICKS
+from lokwurmi.limits import MOST_ENTRIES, MOST_TICKS, WITH_PRIORITIES
 from lokwurmi_tools.accepted import read_system
 from lokwurmi_tools.explained import Explained
 from lokwurmi_tools.faults import Fault, OwnFault
-from lokwurmi_tools.kinds import WITH_PRIORITIES
 from lokwurmi_tools.program import add_program, often, written_by
 from lokwurmi_tools.progress import Progress
 from lokwurmi_tools.report import reports_in
@@ -77,6 +79,11 @@ class Verdict:
         return ", ".join(words) + (f" and {len(latest) - 4} more" if len(latest) > 4 else "") or "all deadlines are met"
 
 
+def above(load: Fraction) -> str:
+    """A load above all of the time in percent, rounded up, so that it is seen to be above."""
+    return f"{-(-load * 1000 // 1) / 10:.1f}"
+
+
 def orders_text(count: int) -> str:
     return f"{count} {'order' if count == 1 else 'orders'}"
 
@@ -117,6 +124,15 @@ class Search(Sharing):
         """The tasks of a resource, the most urgent first."""
         found = [it for it in self.tasks if self.tasks[it]["on"] == on]
         return sorted(found, key=lambda it: self.tasks[it]["priority"])
+
+    def overloaded(self) -> dict[str, Fraction]:
+        """The resources that are asked for more than all of the time, and how much: whatever the priorities are, a task
+        of each has no bound."""
+        found: dict[str, Fraction] = {}
+        for name, task in self.tasks.items():
+            rate = sum((Fraction(1, self.periods[it]) for it in sources_of(self.system, name)), Fraction(0))
+            found[task["on"]] = found.get(task["on"], Fraction(0)) + rate * self.executions[name][1]
+        return {on: load for on, load in found.items() if load > 1}
 
     def is_over(self) -> bool:
         return self.until is not None and time.monotonic() > self.until
@@ -207,7 +223,7 @@ class Search(Sharing):
             if name in parts:
                 deadline = max(1, min(MOST_TICKS, int(parts[name])))
                 paths.append({"name": f"p.{len(paths)}", "tasks": [name], "deadline": deadline})
-        return {"format": 3, "resource": [self.resources[on]], "source": sources, "task": tasks, "path": paths}
+        return {"format": 4, "resource": [self.resources[on]], "source": sources, "task": tasks, "path": paths}
 
     def rounds(self, count: int) -> None:
         """Parts of deadlines that move to where time is missing."""
@@ -356,7 +372,10 @@ def asked_for(arguments: list[str] | None) -> argparse.Namespace:
 
 
 def searched(search: Search, words: argparse.Namespace) -> None:
-    """Goes through all that is known, until an order holds."""
+    """Goes through all that is known, until an order holds; no further than the order of the file where none can."""
+    if search.overloaded():
+        search.look(search.given, "the order of the file")
+        return
     for how, order in search.starts():
         if search.look(order, how).holds:
             return
@@ -380,7 +399,8 @@ def tell(search: Search, verdict: Verdict, words: argparse.Namespace) -> None:
     changed = {on: names for on, names in search.best.items() if names != search.given[on]}
     if words.json:
         found = {"file": words.file, "found": verdict.holds, "orders": search.looked, "by": search.how}
-        late = {"late": verdict.late, "overload": verdict.over}
+        loads = {on: float(load) for on, load in search.overloaded().items()}
+        late = {"late": verdict.late, "overload": verdict.over, "overloaded": loads}
         print(json.dumps({**found, **late, "order": changed, "edits": search.script()}, indent=1))
         return
     orders = orders_text(search.looked)
@@ -390,7 +410,9 @@ def tell(search: Search, verdict: Verdict, words: argparse.Namespace) -> None:
         print(f"{on}: {' '.join(names)}")
     if not changed:
         print("the order is that of the file")
-    if not verdict.holds:
+    for on, load in search.overloaded().items():
+        print(f"no order can do: {on} is loaded by {above(load)} %, whatever the priorities are")
+    if not verdict.holds and not search.overloaded():
         print("there may be an order still: the search proves nothing about what it didn't try")
         if any("region" in it for it in search.tasks.values()):
             print("regions stay as they are: lokwurmi explain says whether a late path waits for one")

@@ -14,7 +14,8 @@ With --session it shows what each report of that script changed, with --sensitiv
 optimise). With --chains it has the reaction times and data ages of the chains of that file, beside their deadlines, and
 with --trace what the run shows of them. With --helps it says which change of one number would help the paths that are
 late. With --tick, as 1us, all times have units, and are exact; the file, --from and --until stay in ticks. Tables are
-sorted and filtered in the browser, which needs no network for it.
+sorted and filtered in the browser, which needs no network for it. With --strict the status is 5 where a task has no
+bound.
 
 It needs Jinja2, Graphviz, and matplotlib for the Gantt chart: apt-get install python3-jinja2 graphviz
 python3-matplotlib
@@ -25,8 +26,10 @@ import re
 import sys
 from typing import TYPE_CHECKING
 
+from lokwurmi_tools.accepted import noticed_in
 from lokwurmi_tools.entries import put
 from lokwurmi_tools.faults import Fault
+from lokwurmi_tools.kinds import Values
 from lokwurmi_tools.packages import need
 from lokwurmi_tools.page_chains import chains_of
 from lokwurmi_tools.page_more import changes_of, helps_of, margins_of, priorities_of
@@ -39,6 +42,8 @@ from lokwurmi_tools.words import add_tick, reader_of
 if TYPE_CHECKING:
     import jinja2
 
+# the status by --strict where a task has no bound, as of `lokwurmi --strict session`
+LACKING = 5
 # how many letters of a name stay together on a narrow page
 LINE = 12
 
@@ -73,8 +78,18 @@ def room_of(scale: Scale) -> "jinja2.Environment":
     return room
 
 
-def page_of(words: argparse.Namespace) -> tuple[str, list[str]]:
-    """The text of the page, and where what it tells of a bound isn't what the report says."""
+def tightest(paths: list[Values], chains: list[Values]) -> Values | None:
+    """What has the least room up to its deadline: a path, or a bound of a chain."""
+    found = [it | {"of": "path"} for it in paths]
+    for row in chains:
+        found += [{"name": row["name"], "of": f"chain, by its {it['what']}", "room": it["room"]} for it in row["bars"]]
+    with_room = [it for it in found if it["room"] is not None]
+    return min(with_room, key=lambda it: int(it["room"])) if with_room else None
+
+
+def page_of(words: argparse.Namespace) -> tuple[str, list[str], list[str]]:
+    """The text of the page, where what it tells of a bound isn't what the report says, and the tasks without a
+    bound."""
     system = System(words.file, words.program, Scale(words.tick))
     seen, run = run_of(words, system) if words.trace else (None, None)
     effects = chains_of(words, system, run) if words.chains else None
@@ -93,11 +108,14 @@ def page_of(words: argparse.Namespace) -> tuple[str, list[str]]:
             resources=system.resource_rows(),
             tasks=system.task_rows(seen),
             paths=paths,
+            of_paths=" of paths" if effects else "",
             endless=sum(it["worst"] is None for it in paths),
             overload=len(over),
             missed=sum(it["verdict"] == "missed" for it in paths),
             unknown=sum(it["verdict"] == "unknown" for it in paths),
             with_deadline=sum(it["deadline"] is not None for it in paths),
+            notices=noticed_in(words.file),
+            tight=tightest(paths, effects["rows"] if effects else []),
             causes=causes,
             over=over,
             run=run,
@@ -109,7 +127,7 @@ def page_of(words: argparse.Namespace) -> tuple[str, list[str]]:
             helped=helps_of(words, system) if words.helps else None,
         )
     )
-    return text, system.explained.faults
+    return text, system.explained.faults, [it["name"] for it in system.task_rows(seen) if it["worst"] is None]
 
 
 def asked_for(arguments: list[str] | None) -> argparse.Namespace:
@@ -131,6 +149,8 @@ def asked_for(arguments: list[str] | None) -> argparse.Namespace:
     reader.add_argument("--optimise", action="store_true", help=says)
     says = "what would help the paths that are late, or the tightest one: changes of one number each"
     reader.add_argument("--helps", action="store_true", help=says)
+    says = "status 5 where a task has no bound; the page is written all the same"
+    reader.add_argument("--strict", action="store_true", help=says)
     add_tick(reader)
     add_program(reader)
     words = reader.parse_args(arguments)
@@ -146,8 +166,15 @@ def asked_for(arguments: list[str] | None) -> argparse.Namespace:
 def main(arguments: list[str] | None = None) -> int | None:
     words = asked_for(arguments)
     need("jinja2", *(["matplotlib"] if words.trace else []))
-    text, faults = page_of(words)
+    text, faults, boundless = page_of(words)
     for it in faults:
         print(f"lokwurmi page: an error of this command: {it}", file=sys.stderr)
     put(text, words.to)
-    return 1 if faults else 0
+    if faults:
+        return 1
+    if boundless and words.strict:
+        several = f"{len(boundless)} tasks have" if len(boundless) > 1 else "a task has"
+        told = f"{several} no bound: {', '.join(boundless[:8])}{' ..' if len(boundless) > 8 else ''}"
+        print(f"lokwurmi page: --strict: {told}: the status is {LACKING}", file=sys.stderr)
+        return LACKING
+    return 0

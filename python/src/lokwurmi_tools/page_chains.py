@@ -2,6 +2,8 @@
 import argparse
 from fractions import Fraction
 
+from lokwurmi.chains import JudgedChain, between_ticks, has_ticks_off, judged_between_ticks, waits_of
+from lokwurmi.traces import text_of
 from lokwurmi_tools.chains import Chain, ChainReport, bounds_by, read_chains, verdicts_by
 from lokwurmi_tools.colours import letters_on
 from lokwurmi_tools.kinds import Schedule, Trace, Values
@@ -13,21 +15,18 @@ ASKED = ("reaction", "age")
 
 def parts_of(bounds: ChainReport, what: str) -> list[tuple[str, str, int | None]]:
     """What a bound is the sum of: the name of a task, `wait` or `response`, and the ticks; those of a wait stand before
-    the response of who waits, and of an age behind that of whose register is read."""
-    parts = []
-    for step, after in zip(bounds.steps, [*bounds.steps[1:], None]):
-        if what == "reaction" and step.kind not in ("activation", "merge"):
+    the response of who waits. An age lacks the last wait, unless a merge comes behind it."""
+    waits, parts = waits_of([step.kind for step in bounds.steps])[what], []
+    for place, step in enumerate(bounds.steps):
+        if place in waits:
             parts.append((step.name, "wait", step.wait))
         parts.append((step.name, "response", step.response))
-        if what == "age" and after is not None and after.kind != "activation":
-            parts.append((step.name, "wait", step.wait))
     return parts
 
 
-def limits_of(chain: Chain) -> dict[str, int | None]:
-    """The deadlines of a chain of a file, which are numbers of ticks."""
-    limits = {"reaction": chain.reaction, "age": chain.age}
-    return {what: it if isinstance(it, int) else None for what, it in limits.items()}
+def limits_of(chain: JudgedChain) -> dict[str, int | None]:
+    """The deadlines of a chain."""
+    return {"reaction": chain.reaction_deadline, "age": chain.age_deadline}
 
 
 class ChainTable:
@@ -36,11 +35,19 @@ class ChainTable:
     def __init__(self, words: argparse.Namespace, system: System):
         self.system, self.file = system, words.chains
         self.chains = read_chains(words.chains, system.raw)
-        self.found = verdicts_by(words.program, words.file, words.chains).chains
+        verdicts = verdicts_by(words.program, words.file, words.chains)
+        self.found = verdicts.chains
         several = ((it.name, bounds_by(words.program, words.file, it.tasks)) for it in self.chains)
         self.bounds = {name: it for name, it in several if it}
+        if system.scale.tick is not None:
+            # what is shown as times has to hold between ticks too
+            starts = {it["name"]: it["after"] for it in system.raw.get("task", [])}
+            tasks = {it.name: it.tasks for it in self.chains}
+            is_off = has_ticks_off(text_of(words.chains))
+            self.found = judged_between_ticks(verdicts, tasks, starts, is_off).chains
+            self.bounds = {name: between_ticks(it) for name, it in self.bounds.items()}
         sums = [it for found in self.found.values() for it in (found.reaction, found.age) if it]
-        limits = [it for chain in self.chains for it in limits_of(chain).values() if it]
+        limits = [it for found in self.found.values() for it in limits_of(found).values() if it]
         self.scale = max([1, *sums, *limits]) * Fraction(102, 100)
 
     def share(self, ticks: int) -> str:
@@ -84,7 +91,7 @@ class ChainTable:
         rows = []
         for chain in self.chains:
             latest = seen_of(run, chain.tasks, "whenever").latest if run else dict.fromkeys(ASKED)
-            limits = limits_of(chain)
+            limits = limits_of(self.found[chain.name])
             bars = [self.bar(chain, what, limits[what], latest[what]) for what in ASKED]
             rows.append(
                 {

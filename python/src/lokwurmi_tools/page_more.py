@@ -117,6 +117,7 @@ def priorities_of(words: argparse.Namespace) -> Values:
         "orders": search.looked,
         "order": order,
         "edits": search.script(),
+        "overloaded": [{"on": on, "load": optimise.above(load)} for on, load in search.overloaded().items()],
     }
 
 

@@ -16,6 +16,8 @@ from lokwurmi_tools.runs import read_schedule, read_trace, schedule_in
 
 # a system with more tasks than this is drawn without those that stand alone, and of a longer run the first part
 MOST_DRAWN, MOST_SEGMENTS = 40, 3000
+# the least size of a letter of the graph, in pixels
+LEAST_LETTERS = 9.5
 
 
 def inline(svg: str) -> str:
@@ -24,11 +26,21 @@ def inline(svg: str) -> str:
     return re.sub(r"<metadata>.*?</metadata>", "", re.sub(r"<!--.*?-->\n?", "", svg, flags=re.S), flags=re.S)
 
 
+def with_letters(svg: str) -> str:
+    """The graph, no narrower than its smallest letters can be read, however wide the page is: it can be moved there."""
+    width = re.search(r'<svg width="([\d.]+)pt"', svg)
+    letters = [float(it) for it in re.findall(r'font-size="([\d.]+)"', svg)]
+    if not width or not letters:
+        return svg
+    least = float(width[1]) * LEAST_LETTERS / min(letters)
+    return svg.replace("<svg ", f'<svg style="min-width:{least:.0f}px" ', 1)
+
+
 def picture_of_graph(system: System, registers: Sequence[Chain]) -> tuple[str, bool]:
     """The graph, with who reads what whom wrote in some chains, and whether tasks that stand alone are left out."""
     chains = len(system.tasks) > MOST_DRAWN
     text = graph(system.raw, (system.found_tasks, system.found_paths), chains, registers, system.scale)
-    return inline(drawn_by_dot(text, "svg").decode()), chains
+    return with_letters(inline(drawn_by_dot(text, "svg").decode())), chains
 
 
 def picture_of_run(system: System, schedule: Schedule, trace: Trace, start: int | None, until: int | None) -> Values:

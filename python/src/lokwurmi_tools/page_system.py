@@ -1,6 +1,7 @@
 """A system and what its analysis says, as rows of the tables of a page."""
 from fractions import Fraction
 
+from lokwurmi.documents import activators
 from lokwurmi_tools.accepted import read_system
 from lokwurmi_tools.colours import hues, hues_of_sources, letters_on, shades
 from lokwurmi_tools.explained import Explained
@@ -8,7 +9,7 @@ from lokwurmi_tools.kinds import Found, Values
 from lokwurmi_tools.part_texts import lines_of_overload, lines_of_waits, note_of, stream_text, waits_text, which_of
 from lokwurmi_tools.program import written_by
 from lokwurmi_tools.report import reports_in
-from lokwurmi_tools.system import activators, sources_of
+from lokwurmi_tools.system import sources_of
 from lokwurmi_tools.times import TICKS, Scale
 
 # how many looks at busy windows what bounds are made of may take, which is some seconds

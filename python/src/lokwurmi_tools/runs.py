@@ -3,9 +3,9 @@ from collections.abc import Iterable
 from typing import NamedTuple
 
 from lokwurmi import traces
+from lokwurmi.documents import activators
 from lokwurmi.frames import execution
 from lokwurmi_tools.kinds import Jobs, Schedule, Segment, Times, Trace, Values
-from lokwurmi_tools.system import activators
 
 
 def schedule_in(text: str, file: str, system: Values) -> Schedule:

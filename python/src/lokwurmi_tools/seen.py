@@ -10,10 +10,10 @@ from bisect import bisect_left, bisect_right
 from collections.abc import Iterator
 from typing import NamedTuple
 
+from lokwurmi.documents import activators
 from lokwurmi.frames import execution
 from lokwurmi_tools.kinds import Schedule, Segment, Trace, Values
 from lokwurmi_tools.runs import causes_in, jobs_in, parts_in, segments_of
-from lokwurmi_tools.system import activators
 
 READINGS = {
     "arrival": "as they come",

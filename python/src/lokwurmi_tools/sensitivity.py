@@ -9,6 +9,9 @@ moved alone: two that both move as far as is told may miss a deadline together. 
 another deadline than that of the file, or against one where the file has none. With --deadlines paths with a deadline
 count alone, as for `lokwurmi slack`, and a bound that is `overload` only where such a path goes through its task.
 
+The deadlines are those of paths. Those of a file of chains aren't looked at: a number that moves as far as is told may
+have a chain miss its reaction time or its age. Try the system that comes of it by `lokwurmi chains`.
+
 Both ends of each answer are reports of the proved program: with the number at the value that is told all holds, and one
 step beyond it doesn't. In between the tool halves the range. That nothing holds further on is proved of each single
 step for executions, regions, periods, jitters and speeds, since no bound falls where more is asked for; that the
@@ -241,7 +244,7 @@ class Question:
     def with_region(self, number: Number, steps: int) -> str:
         """The report of a file in which a region is longer."""
         longer = {name: it | {"region": number.value + steps} for name, it in self.tasks.items() if name == number.name}
-        system = self.system | {"format": 3, "task": [longer.get(name, it) for name, it in self.tasks.items()]}
+        system = self.system | {"format": 4, "task": [longer.get(name, it) for name, it in self.tasks.items()]}
         with tempfile.NamedTemporaryFile("w", suffix=".toml", encoding="utf-8") as file:
             file.write(toml_of(system))
             file.flush()

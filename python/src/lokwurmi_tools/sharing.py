@@ -1,5 +1,6 @@
 """Which tasks of a system share a resource, for the tools beside it."""
-from lokwurmi_tools.kinds import WITH_PRIORITIES, Values
+from lokwurmi.limits import WITH_PRIORITIES
+from lokwurmi_tools.kinds import Values
 
 # the greatest length of a window where the file names none
 LIMIT = 1_000_000

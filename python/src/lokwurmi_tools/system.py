@@ -1,13 +1,9 @@
 """What follows from the entries of a system: activators, and the streams that start a task."""
 from typing import Any
 
+from lokwurmi.documents import activators
 from lokwurmi.frames import execution
 from lokwurmi_tools.kinds import Bounds, Stream, Values
-
-
-def activators(task: Values) -> list[str]:
-    """The names of a task's activators."""
-    return [task["after"]] if isinstance(task["after"], str) else task["after"]
 
 
 def longest_region(task: Values, worst: int) -> int:

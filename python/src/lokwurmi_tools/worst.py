@@ -117,7 +117,7 @@ def asked_for(arguments: list[str] | None) -> argparse.Namespace:
     parser.add_argument("--to", metavar="TRACE", help="writes the trace to this file")
     parser.add_argument("--keep", metavar="FOLDER", help="writes the traces of --all into this folder")
     parser.add_argument("--tries", type=int, default=2000, help="how many traces are tried in a search (2000)")
-    parser.add_argument("--seconds", type=float, default=60, help="ends the searches after this time (60)")
+    parser.add_argument("--seconds", type=float, default=60, help="it ends within 5 seconds after this time (60)")
     parser.add_argument("--seed", type=int, default=1, help="another number looks in other places (1)")
     parser.add_argument("--jobs", type=int, default=os.cpu_count(), help="how many traces are replayed side by side")
     add_program(parser)

@@ -25,8 +25,8 @@ from lokwurmi_tools.seen import Late, Run, seen_of
 from lokwurmi_tools.system import sources_of
 
 MOST_EVENTS = 4000
-# of how many plans the next ones are made
-KEPT = 6
+# of how many plans the next ones are made, and in which share of the time is searched
+KEPT, SEARCHED = 6, 0.8
 # how long a trace is for a chain without a bound
 UNBOUNDED = 100_000
 # the status of a run that would be too long, and that of a search that was interrupted
@@ -190,6 +190,7 @@ class ChainSearch:
 
     def __init__(self, options: argparse.Namespace, tasks: list[str], folder: str):
         self.options, self.tasks, self.what, self.status = options, tasks, options.what, 0
+        self.ends = 0.0
         self.system = read_system(options.file)
         bounds = bounds_by(options.program, options.file, tasks)
         self.bound = totals_of(bounds).get(self.what)
@@ -225,7 +226,10 @@ class ChainSearch:
         """The latest that is found in so many tries, by the time, or up to an interrupt."""
         mover, progress = Mover(self.maker, self.draw), Progress("lokwurmi worst")
         pool: list = []
-        ends, of = time.monotonic() + self.options.seconds, "overload" if self.bound is None else self.bound
+        # the rest of the time is for a shorter trace
+        began, seconds = time.monotonic(), self.options.seconds
+        ends, self.ends = began + SEARCHED * seconds, began + seconds
+        of = "overload" if self.bound is None else self.bound
         try:
             for tried in range(self.options.tries):
                 if found := self.look(self.next(tried, pool, mover)):
@@ -241,13 +245,16 @@ class ChainSearch:
         return pool[0] if pool else None
 
     def shortest(self, found: Found) -> Found:
-        """The same in a shorter trace: without sources that it doesn't need, and cut by halving its time."""
+        """The same in a shorter trace, as far as there is time: without sources that it doesn't need, and cut by
+        halving its time."""
         for source in sorted(found.plan.start):
+            if time.monotonic() > self.ends:
+                return found
             plan = found.plan.copy()
             del plan.start[source]
             found = self.same(plan, found) or found
         least, most = 0, self.maker.span
-        while most - least > 1:
+        while most - least > 1 and time.monotonic() <= self.ends:
             self.maker.span = (least + most) // 2
             if shorter := self.same(found.plan, found):
                 found, most = shorter, self.maker.span

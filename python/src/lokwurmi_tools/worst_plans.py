@@ -3,10 +3,12 @@ import itertools
 import random
 from collections.abc import Iterable, Mapping
 
+from lokwurmi.documents import activators
 from lokwurmi.frames import execution
+from lokwurmi.limits import WITH_PRIORITIES
 from lokwurmi_tools.accepted import read_system
-from lokwurmi_tools.kinds import WITH_PRIORITIES, Bounds, Times
-from lokwurmi_tools.system import activators, longest_region
+from lokwurmi_tools.kinds import Bounds, Times
+from lokwurmi_tools.system import longest_region
 
 LATEST = 10_000_000
 MOST_ROWS = 20_000

@@ -19,6 +19,9 @@ from lokwurmi_tools.worst_plans import LATEST, Plan, System, change, known_plans
 
 # how many plans are replayed between two looks at the clock
 TOGETHER = 32
+# the share of the time in which is searched where a trace, or those of --keep, are made short afterwards; the seconds
+# by which a replay may go on after the time, and those that each has at least
+SEARCHED, KEEPING, GRACE, LEAST = 0.8, 0.6, 2.0, 1.0
 # `task` or `path`, and its name
 Target = tuple[str, str]
 # the latest of some tasks and paths
@@ -33,20 +36,33 @@ class Judge:
         self.program, self.scheduler = often(program), program
         # once it is set, plans of a search aren't replayed any more
         self.interrupt = threading.Event()
+        # when all is to be over
+        self.until = float("inf")
+
+    def is_late(self) -> bool:
+        """Whether no time is left."""
+        return time.monotonic() > self.until
 
     def seen(self, number: object, plan: Plan, span: int) -> Shown:
-        """The greatest response of each task and time of each path that was seen."""
+        """The greatest response of each task and time of each path that was seen; nothing of a replay that would go on
+        for too long after the time."""
         trace = os.path.join(self.folder, f"{number}.csv")
         write(trace, rows_of(self.system, plan, span))
-        # a group of its own: an interrupt of the terminal is for this script alone
-        run = subprocess.run(
-            [self.program, "simulate", self.system.path, trace],
-            capture_output=True,
-            text=True,
-            check=False,
-            process_group=0,
-        )
-        os.remove(trace)
+        left = None if self.until == float("inf") else max(LEAST, self.until - time.monotonic() + GRACE)
+        try:
+            # a group of its own: an interrupt of the terminal is for this script alone
+            run = subprocess.run(
+                [self.program, "simulate", self.system.path, trace],
+                capture_output=True,
+                text=True,
+                check=False,
+                process_group=0,
+                timeout=left,
+            )
+        except subprocess.TimeoutExpired:
+            return {}
+        finally:
+            os.remove(trace)
         if run.returncode == 16:
             return {}
         if run.returncode:
@@ -57,14 +73,22 @@ class Judge:
         found = re.findall(r"^(task|path) (\S+) .*worst (\d+)$", run.stdout, re.M)
         return {(kind, name): int(worst) for kind, name, worst in found}
 
-    def all(self, plans: list[Plan], span: int) -> list[Shown]:
-        """What is seen of each plan of a search; nothing of those that an interrupt leaves out."""
-        return list(
-            self.pool.map(lambda it: {} if self.interrupt.is_set() else self.seen(it[0], it[1], span), enumerate(plans))
-        )
+    def all(self, plans: list[Plan], span: int, ends: float) -> list[Shown]:
+        """What is seen of each plan of a search; nothing of those that an interrupt, or the time when it ends, leaves
+        out. The first one is replayed as long as there is any time."""
+
+        def look(it: tuple[int, Plan]) -> Shown:
+            number, plan = it
+            is_over = self.is_late() if number == 0 else time.monotonic() > ends
+            return {} if is_over or self.interrupt.is_set() else self.seen(number, plan, span)
+
+        return list(self.pool.map(look, enumerate(plans)))
 
     def shows(self, plan: Plan, span: int, wanted: Shown) -> bool:
-        """Whether a plan shows what is wanted: the latest of some tasks and paths."""
+        """Whether a plan shows what is wanted: the latest of some tasks and paths. Once the time is over none is
+        looked at any more."""
+        if self.is_late():
+            return False
         answer = self.seen("one", plan, span)
         return all(answer.get(what) == worst for what, worst in wanted.items())
 
@@ -169,7 +193,8 @@ class Search:
                 picks = [pool[min(int(rng.expovariate(0.7)), len(pool) - 1)][1] for _ in range(TOGETHER)]
                 plans = [change(self.system, it, rng, scope.sources, scope.tasks) for it in picks]
             some, plans = plans[:TOGETHER], plans[TOGETHER:]
-            answers = self.judge.all(some, scope.span)
+            # what is known to be bad may take the time of others
+            answers = self.judge.all(some, scope.span, ends if made else last)
             made += len(some)
             self.best.take(some, answers, scope.span)
             pool += [(answer.get(target, -1), plan) for plan, answer in zip(some, answers)]
@@ -178,6 +203,9 @@ class Search:
     def run(self) -> Iterator[Target]:
         """Makes each search, and tells of each target as it was looked for."""
         began, seconds = time.monotonic(), self.options.seconds
+        self.judge.until = began + seconds
+        if self.options.keep or not self.options.all:
+            seconds *= KEEPING if self.options.keep else SEARCHED
         for self.place, target in enumerate(self.targets):
             self.look_for(target, began + seconds * (self.place + 1) / len(self.targets), began + seconds)
             self.progress.clear()
@@ -217,7 +245,7 @@ def cover(judge: Judge, best: Best, targets: list[Target]) -> Iterator[tuple[lis
     """As few traces as are found to do to show the latest of each target, each with what it shows: the plan that shows
     most of what is left comes first."""
     plans = {id(best.found[what][1]): best.found[what][1:] for what in targets if what in best.found}
-    answers = {key: judge.seen("one", plan, span) for key, (plan, span) in plans.items()}
+    answers = {key: {} if judge.is_late() else judge.seen("one", plan, span) for key, (plan, span) in plans.items()}
     left = {what: best.found[what][0] for what in targets if what in best.found}
     while left:
         shows = {
@@ -225,5 +253,13 @@ def cover(judge: Judge, best: Best, targets: list[Target]) -> Iterator[tuple[lis
             for key, answer in answers.items()
         }
         key = max(shows, key=lambda it: len(shows[it]))
+        if not shows[key]:
+            # no time was left to look at them: each by the plan by which it was seen
+            shown = {what: worst for what, worst in left.items() if id(best.found[what][1]) == key}
+            if not shown:
+                plans.pop(key)
+                answers.pop(key)
+                continue
+            shows[key] = shown
         yield shortest(judge, *plans[key], shows[key]), shows[key]
         left = {what: worst for what, worst in left.items() if what not in shows[key]}

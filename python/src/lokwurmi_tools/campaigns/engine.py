@@ -28,22 +28,31 @@ cloudpickle.register_pickle_by_value(worker)
 
 
 class Progress:
-    """A line that is written over in a terminal, else one each ten seconds."""
+    """A line that is written over in a terminal, else one at the beginning, one where the first call is made, and one
+    each ten seconds."""
 
     def __init__(self, what: str, of: int, at: int):
         self.what, self.of, self.begin, self.start, self.told = what, of, at, time.monotonic(), 0.0
         self.at, self.again, self.threads = at, 0, 0
+        # calls that the workers have, and how much these are
+        self.calls, self.under_way, self.is_begun = 0, 0, False
         self.is_shown = sys.stderr.isatty()
 
     def show(self, is_last: bool = False) -> None:
         now = time.monotonic()
-        if now - self.told < (0.2 if self.is_shown else 10) and not is_last:
+        is_first = self.calls > 0 and not self.is_begun
+        if now - self.told < (0.2 if self.is_shown else 10) and not is_last and not is_first:
             return
+        self.is_begun = self.calls > 0
         self.told = now
         took = now - self.start
         line = f"campaign: {self.at} of {self.of} {self.what}, {span(took)}"
         if self.begin < self.at < self.of:
             line += f", some {span(took * (self.of - self.at) / (self.at - self.begin))} to go"
+        if self.calls and self.at < self.of:
+            line += f", {self.under_way} of them under way in {self.calls} call{'s' if self.calls > 1 else ''}"
+        elif not self.threads and self.at < self.of:
+            line += ", workers begin"
         if self.threads and self.at < self.of:
             line += f", {self.threads} calls at a time"
         if self.again:
@@ -217,11 +226,14 @@ def run(
     with contextlib.ExitStack() as at_end, telling_gone(words):
         engine = None
         if left:
+            progress.show()
             engine = Engine(cluster(words, at_end), words, left, together)
             at_end.callback(engine.end)
             engine.fill()
         while engine and engine.running:
             progress.threads, progress.again = engine.threads, engine.again
+            several = [unit for units in engine.running.values() for unit in units]
+            progress.calls, progress.under_way = len(several), sum(unit[1] for unit in several)
             progress.show()
             if future := engine.next():
                 for unit, answer in engine.take(future):

@@ -16,7 +16,7 @@ from typing import NoReturn, TextIO
 
 from lokwurmi_tools.launcher import helping, shown
 from lokwurmi_tools.launcher.graph import Graph, is_kept
-from lokwurmi_tools.launcher.places import TOP, kit_of, note_built, program
+from lokwurmi_tools.launcher.places import TOP, is_other, kit_of, note_built, program
 from lokwurmi_tools.launcher.plan import Plan, at_a_time, clock
 from lokwurmi_tools.launcher.processes import Work
 from lokwurmi_tools.launcher.running import end_by
@@ -262,7 +262,10 @@ class Build:
 def build(crate: str, words: list[str], before: Callable[[], None] = lambda: None) -> None:
     """Builds the program of a crate where it is stale, or ends; words are those of the call that wants it."""
     graph = Graph(crate)
-    if why := graph.why_stale():
+    why = graph.why_stale()
+    if not why and is_other(crate):
+        why = f"{program(crate).relative_to(TOP)} isn't the program that was proved and built here"
+    if why:
         before()
         call = shlex.join(["lokwurmi", "--unproved", *words])
         hint = f". For a first look without proofs, in a minute or so: {call}"

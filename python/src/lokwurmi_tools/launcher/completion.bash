@@ -47,7 +47,7 @@ _lokwurmi_read() {
       ;;
     --workers=*) has_workers=yes ;;
     --while-running) ((${#given[@]} > 1)) && given+=("${COMP_WORDS[at]}") ;;
-    --quiet | --unproved) ((${#given[@]} > 0)) && given+=("${COMP_WORDS[at]}") || before=${COMP_WORDS[at]} ;;
+    --quiet | --unproved | --strict) ((${#given[@]} > 0)) && given+=("${COMP_WORDS[at]}") || before=${COMP_WORDS[at]} ;;
     *) given+=("${COMP_WORDS[at]}") ;;
     esac
   done
@@ -82,10 +82,11 @@ _lokwurmi_operand() {
   fi
 }
 
-# What completes the first word: with --quiet or --unproved before it, a command alone.
+# What completes the first word: with --quiet, --strict or --unproved before it, a command alone.
 _lokwurmi_first() {
   found=("${!_lokwurmi_words[@]}")
   [ "$before" = --unproved ] || found+=("${!_lokwurmi_tools[@]}")
+  [ "$before" != --strict ] || found=(session page)
   [ -n "$before" ] || found+=("${_lokwurmi_own[@]}" help)
 }
 

@@ -8,7 +8,7 @@ from functools import partial
 
 from lokwurmi_tools.launcher import helping
 from lokwurmi_tools.launcher.places import SOURCES, is_installed, program
-from lokwurmi_tools.launcher.table import BY_NAME, OWN_BY_NAME, UNPROVED
+from lokwurmi_tools.launcher.table import BY_NAME, OWN_BY_NAME, STRICT, UNPROVED
 from lokwurmi_tools.launcher.words import note_missing, operands_of, refuse, shown
 
 FAILED = 70
@@ -80,6 +80,15 @@ def unproved(words: list[str]) -> int:
     return answer_unproved(BY_NAME[words[0]], words[1:], operands, is_quiet())
 
 
+def strict(words: list[str]) -> int:
+    """A call whose status tells what else is only said."""
+    if words[:1] == ["--quiet"]:
+        os.environ["LOKWURMI_QUIET"], words = "1", words[1:]
+    from lokwurmi_tools.launcher.strict import perform
+
+    return perform(words, is_quiet(), call_tool)
+
+
 def by_installing(name: str) -> Callable[[list[str]], int]:
     def perform(words: list[str]) -> int:
         from lokwurmi_tools.launcher import installing
@@ -104,6 +113,7 @@ OWN_STEPS: dict[str, Callable[[list[str]], int]] = {
     "--help": helping.answer_help,
     "--version": tell_version,
     "--quiet": put_behind,
+    STRICT: strict,
     UNPROVED: unproved,
     "install": by_installing("install"),
     "uninstall": by_installing("uninstall"),

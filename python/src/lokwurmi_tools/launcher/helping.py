@@ -39,7 +39,8 @@ def help_text() -> str:
 
 def help_of(command: Command) -> str:
     """The words of one command, each with what it stands for, its statuses and an example."""
-    lines = [f"lokwurmi {command.usage}", f"  writes {command.brief}; the answer is proved", ""]
+    lines = [f"lokwurmi {command.usage}", f"  writes {command.brief}; the answer is proved"]
+    lines += [*([f"  {command.premise}"] if command.premise else []), ""]
     lines += [f"  {word:<11}  {WORDS[word].explained}" for word in command.words]
     if command.option == WORKERS:
         lines.append(f"  {'--workers N':<11}  {WORDS['N'].explained}")

@@ -15,6 +15,7 @@ STATUSES = (
         ),
     ),
     ("4", "of audit: the recorded schedule isn't that of the run."),
+    ("5", "by \\-\\-strict alone. Of session: an edit was refused. Of page: a task has no bound."),
     ("10", "the words aren't accepted."),
     (
         "11 to 19",
@@ -77,6 +78,7 @@ def of_command(it: Command) -> str:
         f"writes {it.writes}.",
         f"Status: {it.statuses}." if it.statuses else "",
         f"{it.note}." if it.note else "",
+        f"{it.premise}." if it.premise else "",
         f"Example: lokwurmi {it.name} {it.example}",
     )
 

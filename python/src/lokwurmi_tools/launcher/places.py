@@ -24,7 +24,8 @@ def program(crate: str) -> Path:
 
 
 def built_from(crate: str) -> Path:
-    """The list of what makes a program stale where it is newer, by which the script sees without Python that nothing is."""
+    """The list of what makes a program stale where it is newer, by which the script sees without Python that nothing
+    is."""
     return TOP / "crates" / crate / "out" / "lokwurmi.below"
 
 
@@ -46,6 +47,11 @@ def digest(file: Path) -> str:
 
 def note_built(crate: str, kit: str, product: Path) -> None:
     record_of(crate).write_text(f"{kit}\n{digest(product)}\n", encoding="utf-8")
+
+
+def is_other(crate: str) -> bool:
+    """Whether a build has noted another program than the one that is there, as where one was copied over it."""
+    return record_of(crate).is_file() and not kit_of(crate)
 
 
 def kit_of(crate: str) -> str:

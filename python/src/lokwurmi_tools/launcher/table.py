@@ -13,6 +13,7 @@ VERSION = "1.0"
 KITS = ("rattle-kit-13f", "rattle-kit-13b")
 # the command of the launcher's own that a build without proofs is called by
 UNPROVED = "--unproved"
+STRICT = "--strict"
 MORE_TASKS = "[TASK..]"
 WORKERS = "--workers"
 RUNNING = "--while-running"
@@ -30,6 +31,7 @@ class Command(NamedTuple):
     option: str = ""
     statuses: str = ""
     note: str = ""
+    premise: str = ""
 
     @property
     def usage(self) -> str:
@@ -70,6 +72,7 @@ class Word(NamedTuple):
         return self.most > 0
 
 
+NEAR = "it holds where no source falls silent: events that come farther apart than period and jitter say void it"
 MISSED = "1: a deadline is missed; 2: a bound is overload"
 COMMANDS = (
     Command(
@@ -152,7 +155,7 @@ COMMANDS = (
     Command(
         "audit",
         ("FILE", "TRACE", "SCHEDULE"),
-        "whether a recorded schedule is what the trace brings by the step rules, or where it first differs",
+        "whether a recorded schedule is that of the run under a trace, or where the two first differ",
         "whether a recorded schedule is the run's",
         "examples/round_robin.toml examples/round_robin.trace.csv examples/round_robin.schedule.csv",
         statuses="4: they differ",
@@ -160,10 +163,7 @@ COMMANDS = (
     Command(
         "schedule",
         ("FILE", "TRACE"),
-        (
-            "the schedule that the trace brings by the step rules: which task gets the ticks of its resource, from when"
-            " to when"
-        ),
+        "the schedule of the run under a trace: a row TASK,START,END for each stretch in which a job runs",
         "the schedule of the run under a trace",
         "examples/crossing_chains.toml examples/crossing_chains.trace.csv",
         crate="cpa_schedule",
@@ -172,8 +172,8 @@ COMMANDS = (
         "chain",
         ("FILE", "TASK", MORE_TASKS),
         (
-            "how soon a chain of tasks, each of which reads what the one before wrote last, reacts at the latest, and"
-            " how old its data can be, at the end of a job and until it is overwritten"
+            "bounds of a chain of tasks, each of which reads what the one before wrote last, where no source falls"
+            " silent: its reaction time, and the age of its data at the end of a job and until it is overwritten"
         ),
         "how late a chain reacts, how old data gets",
         "examples/effects.toml sense filter act",
@@ -181,15 +181,18 @@ COMMANDS = (
         option=RUNNING,
         statuses="2: a bound is overload",
         note="--while-running, as the first word or the last: less, where tasks read only while they run",
+        premise=NEAR,
     ),
     Command(
         "chains",
         ("FILE", "CHAINS"),
-        "the same of many chains, which stand in a file with deadlines for their reaction time and their data age",
+        "the same of many chains, which stand in a file with deadlines for their reaction time, the age of their data,"
+        " and how old it gets until it is overwritten",
         "the same of many, beside their deadlines",
         "examples/effects.toml examples/effects.chains.toml",
         crate="cpa_chain",
         statuses=MISSED,
+        premise=NEAR,
     ),
 )
 BY_NAME = {it.name: it for it in COMMANDS}
@@ -207,7 +210,7 @@ WORDS = {
     "CHAINS": Word('chains and their deadlines ("Chains with deadlines")', ending=".toml"),
     "RESOURCE": Word("the name of a preemptive or CAN resource in FILE", "the name of one in FILE", part="resource"),
     "TASK": Word("the name of a task in FILE", "the name of one in FILE", part="task"),
-    MORE_TASKS: Word("up to 31 more, in the order of the data", part="task"),
+    MORE_TASKS: Word("up to 31 more, in the order of the data", "up to 31 more of them", part="task"),
     "NUMBER": Word("the seed, 0 to 4294967295: another one gives others", "0 to 4,294,967,295", 0, 4294967295),
     "SIZE": Word("how many chains, 0 to 128", "0 to 128", 0, 128),
     "TRACES": Word("how many of them, 1 to 10000", "1 to 10,000", 1, 10000),
@@ -230,6 +233,15 @@ OWN = (
     Own("--help [COMMAND]", "this, or a command's words and an example"),
     Own("--version", "the version, the toolchain, the commit"),
     Own("--quiet COMMAND ..", "no more than its output (LOKWURMI_QUIET=1)"),
+    Own(
+        "--strict COMMAND ..",
+        "status 5 where a reader alone would see it",
+        (
+            "COMMAND is session or page. Of session: an edit was refused, so that the reports are of another system."
+            " Of page: a task has no bound. What is written is as ever. For jobs that go by the status."
+        ),
+        "--strict session examples/crossing_chains.toml examples/crossing_chains.script.txt",
+    ),
     Own(
         "--unproved COMMAND ..",
         "a first look: the same sources, no proofs",

@@ -49,7 +49,7 @@ HINTS = {
         (
             "the file is TOML but no system: the line has the number of the reason, and the list and place of the"
             ' entry, from 1, or file 0 for the file as a whole. Where a task\'s "after" is a list, the file has format'
-            " = 2; where a task has a region, it has format = 3. Each reason, and what to change: "
+            " = 2; where a task has a region, it has format = 4. Each reason, and what to change: "
         ),
         "Refusals",
     ),
@@ -158,7 +158,7 @@ def in_words(status: int, line: str, command: Command, words: list[str]) -> bool
     if isinstance(sys.stderr, io.TextIOWrapper):
         sys.stderr.reconfigure(encoding="utf-8", errors="backslashreplace")
     try:
-        from lokwurmi_tools.refusals.front import main
+        from lokwurmi.refusals.front import main
 
         return main([str(status), line, command.name, *found.words]) == 0
     except Exception:

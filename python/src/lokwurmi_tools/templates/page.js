@@ -125,6 +125,14 @@ look.addEventListener("click", () => {
   const is = root.dataset.look ?? (matchMedia("(prefers-color-scheme: dark)").matches ? "dark" : "light");
   root.dataset.look = is === "dark" ? "light" : "dark";
 });
+// the graph in full size, in a window of its own
+const full = document.getElementById("full");
+if (full) {
+  const copy = document.querySelector(".graph svg").cloneNode(true);
+  copy.removeAttribute("style");
+  full.href = URL.createObjectURL(new Blob([new XMLSerializer().serializeToString(copy)], { type: "image/svg+xml" }));
+  full.hidden = false;
+}
 // the number of a resource's tasks leads to them
 for (const it of document.querySelectorAll("button[data-show]")) it.addEventListener("click", () => {
   const tools = document.querySelector(".tools[data-of=task-table]"), list = tools.querySelector("select[name=on]");

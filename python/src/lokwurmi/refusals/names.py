@@ -3,9 +3,8 @@ from __future__ import annotations
 
 from collections.abc import Iterator, Mapping
 
-from lokwurmi.documents import Document, Entry
-from lokwurmi_tools.refusals.remark import printable
-from lokwurmi_tools.system import activators
+from lokwurmi.documents import Document, Entry, activators
+from lokwurmi.refusals.remark import printable
 
 
 def entry_name(document: Document, part: str, at: int) -> str:

@@ -6,7 +6,7 @@ import io
 from collections.abc import Iterator
 from dataclasses import dataclass
 
-from lokwurmi_tools.refusals.remark import File, Span
+from lokwurmi.refusals.remark import File, Span
 
 MOST_ROWS = 200_000
 

@@ -2,10 +2,10 @@
 from __future__ import annotations
 
 from lokwurmi.documents import Document
-from lokwurmi_tools.refusals.names import Names
-from lokwurmi_tools.refusals.remark import File, Remark, listed, mean
-from lokwurmi_tools.refusals.rows import MOST_ROWS, Row, is_number, rows_in
-from lokwurmi_tools.refusals.trace import no_number
+from lokwurmi.refusals.names import Names
+from lokwurmi.refusals.remark import File, Remark, listed, mean
+from lokwurmi.refusals.rows import MOST_ROWS, Row, is_number, rows_in
+from lokwurmi.refusals.trace import no_number
 
 HORIZON = 20_000_000
 FORM = "a row is TASK,START,END: the task ran in the ticks from START to before END"

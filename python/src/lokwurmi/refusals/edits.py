@@ -5,26 +5,26 @@ from __future__ import annotations
 from collections.abc import Callable, Iterator
 from dataclasses import dataclass
 
-from lokwurmi.documents import Document
+from lokwurmi.documents import Document, activators
 from lokwurmi.frames import execution
-from lokwurmi.limits import MOST_ENTRIES, MOST_IN_CHAIN
-from lokwurmi_tools.kinds import WITH_PRIORITIES
-from lokwurmi_tools.refusals.keys import KEYS
-from lokwurmi_tools.refusals.names import Names
-from lokwurmi_tools.refusals.remark import File, Remark, mean
-from lokwurmi_tools.refusals.script import Line, is_form, lines_in
-from lokwurmi_tools.system import activators
+from lokwurmi.limits import MOST_ENTRIES, MOST_IN_CHAIN, WITH_PRIORITIES
+from lokwurmi.refusals.keys import KEYS
+from lokwurmi.refusals.names import Names
+from lokwurmi.refusals.remark import File, Remark, mean
+from lokwurmi.refusals.script import Line, is_form, lines_in
 
 MORE = "Edits that are refused"
 
 
 @dataclass(frozen=True)
 class RefusedEdit:
-    """The number of the line and of the rule, as the program's line has them, and what to say."""
+    """The number of the line and of the rule, as the program's line has them, what to say, and of that the reason
+    alone."""
 
     line: int
     rule: int
     remark: Remark
+    why: str
 
     @property
     def words(self) -> str:
@@ -297,5 +297,6 @@ def refused_edits(document: Document, file: File) -> tuple[int, list[RefusedEdit
         if broken := bench.take(line):
             rule, says, word, helps = broken
             text = f"`{' '.join(line.words)}` was refused: {says}"
-            found.append(RefusedEdit(line.number, rule, Remark(text, line.spans[word], (), helps, "", is_notice=True)))
+            remark = Remark(text, line.spans[word], (), helps, "", is_notice=True)
+            found.append(RefusedEdit(line.number, rule, remark, says))
     return count, found

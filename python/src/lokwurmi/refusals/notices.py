@@ -1,11 +1,10 @@
 """Notices: what a user would want to know of a file that the program accepts."""
 from __future__ import annotations
 
-from lokwurmi.documents import Document
-from lokwurmi_tools.refusals.keys import LOW_BITS, MOST_SHORT
-from lokwurmi_tools.refusals.names import Names, entry_name
-from lokwurmi_tools.refusals.remark import Note, Remark, listed
-from lokwurmi_tools.system import activators
+from lokwurmi.documents import Document, activators
+from lokwurmi.refusals.keys import LOW_BITS, MOST_SHORT
+from lokwurmi.refusals.names import Names, entry_name
+from lokwurmi.refusals.remark import Note, Remark, listed
 
 MOST = 5
 

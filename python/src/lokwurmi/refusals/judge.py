@@ -5,14 +5,12 @@ from __future__ import annotations
 from collections.abc import Callable, Iterator
 from dataclasses import dataclass
 
-from lokwurmi.documents import Document, Entry
-from lokwurmi.limits import MOST_ENTRIES, MOST_IN_CHAIN, MOST_IN_NAME, MOST_STREAMS
-from lokwurmi_tools.kinds import WITH_PRIORITIES
-from lokwurmi_tools.refusals import form
-from lokwurmi_tools.refusals.keys import KEYS, PARTS, is_name, is_name_letter
-from lokwurmi_tools.refusals.names import Names, entry_name
-from lokwurmi_tools.refusals.remark import Note, Remark, listed, mean
-from lokwurmi_tools.system import activators
+from lokwurmi.documents import Document, Entry, activators
+from lokwurmi.limits import MOST_ENTRIES, MOST_IN_CHAIN, MOST_IN_NAME, MOST_STREAMS, WITH_PRIORITIES
+from lokwurmi.refusals import form
+from lokwurmi.refusals.keys import KEYS, PARTS, is_name, is_name_letter
+from lokwurmi.refusals.names import Names, entry_name
+from lokwurmi.refusals.remark import Note, Remark, listed, mean
 
 SECTIONS = {
     2: "2: a number out of its range",
@@ -77,7 +75,10 @@ def each(document: Document) -> Iterator[tuple[str, int, Entry]]:
 # what is told of keys that aren't times, or whose range surprises
 MEANINGS = {
     "priority": "; the smaller number goes first, and 0x1fffffff is the greatest identifier of 29 bits",
-    "payload": " bytes; a longer frame, as of CAN FD, can't be told by its payload",
+    "payload": (
+        " bytes; a longer frame, as of CAN FD, has best and worst in its place: lokwurmi lengths fd 12 --bitrate 500000"
+        " --data-bitrate 2000000 tells those of 12 bytes"
+    ),
     "bit": " ticks: it is the time of a bit, as 2 at 500 kbit/s where a tick is a microsecond",
     "limit": " ticks: the longest busy window that is looked at",
     "region": " ticks: 1 is as without it, and a job with one of at least `worst` is never preempted",

@@ -10,13 +10,12 @@ import tomllib
 from collections.abc import Sequence
 from typing import TextIO
 
-from lokwurmi.documents import Document
-from lokwurmi_tools.refusals import chains, edits, lines, notices, schedule, script
-from lokwurmi_tools.refusals.judge import Refusal, first_refusal
-from lokwurmi_tools.refusals.remark import File, Look, Remark, decoded, listed, nearest, page, printable
-from lokwurmi_tools.refusals.toml_faults import fault_in
-from lokwurmi_tools.refusals.trace import Trace
-from lokwurmi_tools.system import activators
+from lokwurmi.documents import Document, activators
+from lokwurmi.refusals import chains, edits, lines, notices, schedule, script
+from lokwurmi.refusals.judge import Refusal, first_refusal
+from lokwurmi.refusals.remark import File, Look, Remark, decoded, listed, nearest, page, printable
+from lokwurmi.refusals.toml_faults import fault_in
+from lokwurmi.refusals.trace import Trace
 
 UNREADABLE, TOO_LONG, NO_TOML, NO_SYSTEM, SCRIPT, TRACE, DISOBEYS, WORD, SCHEDULE = 11, 12, 13, 14, 15, 16, 17, 18, 19
 MOST_BYTES = {

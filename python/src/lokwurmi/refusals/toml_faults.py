@@ -6,7 +6,7 @@ import tomllib
 
 from lokwurmi.documents import values_in
 from lokwurmi.newer import older, open_mark
-from lokwurmi_tools.refusals.remark import File, Note, Remark, Span
+from lokwurmi.refusals.remark import File, Note, Remark, Span
 
 MORE = "Statuses"
 PLACED = re.compile(r"(.*) \(at (?:line (\d+), column (\d+)|end of document)\)", re.S)
@@ -329,7 +329,8 @@ def unclosed_table(file: File, at: int) -> Remark:
 
 def no_key(file: File, at: int) -> Remark:
     letter = file.text[at : at + 1]
-    before = file.text[:at].rstrip(" \t")
+    # a table may go over several lines
+    before = file.text[:at].rstrip()
     if before.endswith((",", "{")) and open_mark(file.text, at, "{") is not None:
         return unclosed_table(file, at)
     if letter in "}]" and letter:

@@ -5,8 +5,8 @@ import re
 from collections.abc import Iterator
 from dataclasses import dataclass
 
-from lokwurmi_tools.refusals.keys import is_name, is_name_letter
-from lokwurmi_tools.refusals.remark import File, Remark, Span, listed, nearest
+from lokwurmi.refusals.keys import is_name, is_name_letter
+from lokwurmi.refusals.remark import File, Remark, Span, listed, nearest
 
 MOST_LINES = 10_000
 MORE = "The script"

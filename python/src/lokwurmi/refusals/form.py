@@ -5,10 +5,12 @@ import re
 
 from lokwurmi.documents import Document, Entry
 from lokwurmi.limits import TIMES
-from lokwurmi_tools.refusals.keys import (
+from lokwurmi.refusals.keys import (
+    FLEXIBLE,
     KEYS,
     KINDS,
     LOCKS,
+    OFFSETS,
     OTHER_KEYS,
     OTHER_KINDS,
     PARTS,
@@ -19,11 +21,11 @@ from lokwurmi_tools.refusals.keys import (
     holds,
     is_integer,
 )
-from lokwurmi_tools.refusals.names import entry_name
-from lokwurmi_tools.refusals.remark import Note, Remark, listed, nearest, page
+from lokwurmi.refusals.names import entry_name
+from lokwurmi.refusals.remark import Note, Remark, listed, nearest, page
 
 FORM = "1: the form"
-# the key of tasks that format 3 has alone
+# the key of tasks that format 4 has alone
 REGION = "region"
 # the keys whose safe side is below
 ROUNDED_DOWN = ("best", "period", "distance", "deadline")
@@ -36,7 +38,7 @@ TYPES = {
     "integer": "a whole number",
     "truth": "true or false",
     "texts": 'an array of texts, as ["a", "b"]',
-    "after": "a text, or with `format = 2` or 3 an array of texts",
+    "after": "a text, or with `format = 2` or 4 an array of texts",
 }
 
 
@@ -50,14 +52,14 @@ def kind_of(value: object) -> str:
 
 def other_format(document: Document) -> Remark | None:
     value = document.values.get("format")
-    if not is_integer(value) or value in (1, 2, 3):
+    if not is_integer(value) or value in (1, 2, 4):
         return None
     helps = (
-        "write `format = 1`, `format = 2` so that a task's `after` may be a list, or `format = 3` so that a task may"
+        "write `format = 1`, `format = 2` so that a task's `after` may be a list, or `format = 4` so that a task may"
         " have a `region` too"
     )
     return Remark(
-        f"the format {value} isn't known: it is 1, 2 or 3",
+        f"the format {value} isn't known: it is 1, 2 or 4",
         document.root.values["format"].span,
         (),
         helps,
@@ -110,7 +112,7 @@ def wanted_format(document: Document) -> int:
     """The least format with what the tasks have."""
     tasks = [it for it in document.entries["task"] if isinstance(it, dict)]
     if any(REGION in it for it in tasks):
-        return 3
+        return 4
     return 2 if any(isinstance(it.get("after"), list) for it in tasks) else 1
 
 
@@ -136,7 +138,7 @@ def format_of(document: Document) -> Remark | None:
         )
     if not is_integer(value):
         return Remark(
-            f"`format` is {kind_of(value)}, and has to be the whole number 1, 2 or 3",
+            f"`format` is {kind_of(value)}, and has to be the whole number 1, 2 or 4",
             document.root.values["format"].span,
             (),
             helps,
@@ -206,7 +208,13 @@ def unknown_key(document: Document, part: str, at: int, key: str) -> Remark:
         guess = f"; did you mean `{REGION}`?"
         helps = "for so many ticks a job isn't preempted; one with a region of at least `worst` never is"
         if not document.has_regions:
-            helps += "; it needs `format = 3`"
+            helps += "; it needs `format = 4`"
+    elif part in ("source", "task") and bare(key) in OFFSETS:
+        guess = ""
+        helps = (
+            "offsets aren't modelled: the bounds hold however the events of two sources lie to each other, so that they"
+            " hold with offsets too; leave it out"
+        )
     elif part == "resource" and bare(key) == "bitrate":
         guess = ""
         helps = (
@@ -232,7 +240,7 @@ def old_format(document: Document, at: int) -> Remark:
         f"{entry_name(document, 'task', at)}: it has a `{REGION}`, which format {number} hasn't",
         document.key_span("task", at, REGION),
         [Note("the format of this file", document.root.values["format"].span)],
-        f"write `format = 3`, which has all that format {number} has",
+        f"write `format = 4`, which has all that format {number} has",
         FORM,
     )
 
@@ -311,11 +319,17 @@ def unknown_kind(document: Document, at: int) -> Remark:
     guess = f'; did you mean "{near}"?' if near else ""
     helps = "the kinds are preemptive, round-robin, tdma and can"
     if bare(value) in WITH_REGIONS:
-        helps += "; on preemptive, tasks that cooperate have a region each, with format = 3"
+        helps += "; on preemptive, tasks that cooperate have a region each, with format = 4"
     elif bare(value) in WITHOUT_PREEMPTION:
         helps += (
             "; can, with best and worst, is a whole processor without preemption; single tasks that aren't preempted"
-            " stand on preemptive with a region of at least worst, with format = 3"
+            " stand on preemptive with a region of at least worst, with format = 4"
+        )
+    elif bare(value) in FLEXIBLE:
+        guess = '; did you mean "can"?'
+        helps = (
+            "frames of CAN FD stand on can, with the best and worst that lokwurmi lengths tells, as"
+            " lengths fd 64 --bitrate 500000 --data-bitrate 2000000, in place of payload"
         )
     says = f'{entry_name(document, "resource", at)}: the kind "{value}" isn\'t known{guess}'
     return Remark(says, document.value_span("resource", at, "kind"), (), helps, FORM)

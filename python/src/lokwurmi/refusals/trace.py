@@ -3,13 +3,12 @@ from __future__ import annotations
 
 from dataclasses import dataclass, field
 
-from lokwurmi.documents import Document
+from lokwurmi.documents import Document, activators
 from lokwurmi.frames import execution
-from lokwurmi_tools.refusals.keys import KEYS
-from lokwurmi_tools.refusals.names import Names
-from lokwurmi_tools.refusals.remark import File, Note, Remark, listed, mean, nearest
-from lokwurmi_tools.refusals.rows import MOST_ROWS, Row, is_number, rows_in
-from lokwurmi_tools.system import activators
+from lokwurmi.refusals.keys import KEYS
+from lokwurmi.refusals.names import Names
+from lokwurmi.refusals.remark import File, Note, Remark, listed, mean, nearest
+from lokwurmi.refusals.rows import MOST_ROWS, Row, is_number, rows_in
 
 MOST_TIME = 10_000_000
 MOST_PHASE = 1_000_000_000

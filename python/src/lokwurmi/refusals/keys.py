@@ -174,6 +174,9 @@ OTHER_KINDS = {
 # of those kinds the ones of tasks that give way at some places alone, and the ones of tasks that never do
 WITH_REGIONS = ("cooperative", "fpds", "limitedpreemptive")
 WITHOUT_PREEMPTION = ("spnp", "fpnp", "npfp", "nonpreemptive")
+# what others call the time at which a source or a task begins, and CAN FD
+OFFSETS = ("offset", "offsets", "phase", "phases", "start", "startoffset", "startdelay", "releaseoffset")
+FLEXIBLE = ("canfd", "fd", "canflexibledatarate", "isocanfd")
 # what others call a lock of a task, or its ceiling
 LOCKS = ("lock", "locks", "ceiling", "threshold")
 

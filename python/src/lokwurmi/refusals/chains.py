@@ -7,13 +7,13 @@ from collections.abc import Callable, Iterator, Sequence
 
 from lokwurmi.documents import Document
 from lokwurmi.limits import CHAIN_KEYS, MOST_CHAINS, MOST_IN_CHAIN, MOST_IN_NAME, MOST_TICKS
-from lokwurmi_tools.refusals.keys import is_integer, is_name, is_texts
-from lokwurmi_tools.refusals.names import entry_name
-from lokwurmi_tools.refusals.remark import File, Note, Remark, listed, mean, nearest, printable
+from lokwurmi.refusals.keys import is_integer, is_name, is_texts
+from lokwurmi.refusals.names import entry_name
+from lokwurmi.refusals.remark import File, Note, Remark, listed, mean, nearest, printable
 
 MORE = "Chains with deadlines"
 TOP_KEYS = ("format", "chain")
-DEADLINES = ("reaction", "age")
+DEADLINES = ("reaction", "age", "held")
 # what others call a key of a chain
 OTHER_KEYS = {
     "path": "tasks",
@@ -100,7 +100,7 @@ def of_form(chains: Document) -> Found:
                     says,
                     chains.key_span("chain", at, key),
                     (),
-                    "the keys of a chain are name, tasks, reaction and age",
+                    "the keys of a chain are name, tasks, reaction, age and held",
                     MORE,
                 )
             elif not types[key][1](value):

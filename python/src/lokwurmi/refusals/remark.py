@@ -8,7 +8,7 @@ from bisect import bisect_right
 from collections.abc import Sequence
 from dataclasses import dataclass
 
-# the folder of the repository, where this package lies in one: above python/src/lokwurmi_tools/refusals
+# the folder of the repository, where this package lies in one: above python/src/lokwurmi/refusals
 TOP = os.path.normpath(os.path.join(os.path.dirname(os.path.abspath(__file__)), *[os.pardir] * 4))
 # the most columns of a line that are shown
 WIDTH = 100

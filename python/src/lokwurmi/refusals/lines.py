@@ -4,7 +4,7 @@ from __future__ import annotations
 
 import re
 
-from lokwurmi_tools.refusals.judge import SECTIONS
+from lokwurmi.refusals.judge import SECTIONS
 
 REASONS = {
     1: "it hasn't the form: a key that isn't known or is missing, or a value of another type",
@@ -19,7 +19,7 @@ REASONS = {
     10: "`best` is above `worst`",
     11: "it has no task, or one that doesn't come after the one before it",
     12: "there are too many",
-    13: "the format is 1, 2 or 3",
+    13: "the format is 1, 2 or 4",
     14: "it has no activator, one twice, or more than 32 streams",
 }
 MORE = {1: "1: the form", 13: "13: another format", **SECTIONS}

@@ -1,0 +1,57 @@
+"""`--strict`: a status of its own where what was asked for isn't what was answered, for jobs that go by the status.
+
+Of `session` that is an edit that was refused, so that the reports are of another system; of `page` a task without a
+bound.
+"""
+from __future__ import annotations
+
+import sys
+from collections.abc import Callable
+from functools import partial
+
+from lokwurmi_tools.launcher import helping
+from lokwurmi_tools.launcher.places import is_installed, program
+from lokwurmi_tools.launcher.running import run_heard
+from lokwurmi_tools.launcher.table import BY_NAME, STRICT
+from lokwurmi_tools.launcher.telling import tell
+from lokwurmi_tools.launcher.words import note_missing, operands_of, refuse, shown
+
+LACKING = 5
+
+
+def session(words: list[str], quiet: bool) -> int:
+    """The call of `session`, whose status is 5 where it would be 0 to 2 and an edit was refused."""
+    command = BY_NAME["session"]
+    operands = operands_of(command, words)
+    if operands is None:
+        return refuse(["session", *words], helping.names(), quiet)
+    if not is_installed():
+        from lokwurmi_tools.launcher.build import build
+
+        build(command.crate, ["session", *words], partial(note_missing, operands))
+    status, lines = run_heard([str(program(command.crate)), *command.handed(words)], b"line ")
+    if not quiet:
+        tell(status, "\n".join(lines) if status <= 2 else None, ["session", *words])
+    if status > 2 or not lines:
+        return status
+    if not quiet:
+        edits = "an edit was" if len(lines) == 1 else f"{len(lines)} edits were"
+        print(f"lokwurmi: {STRICT}: {edits} refused: the status is {LACKING} in place of {status}", file=sys.stderr)
+    return LACKING
+
+
+def perform(words: list[str], quiet: bool, call_tool: Callable[[list[str]], int]) -> int:
+    """A call with --strict before it."""
+    if words[:1] == ["session"]:
+        return session(words[1:], quiet)
+    if words[:1] == ["page"]:
+        return call_tool(["page", STRICT, *words[1:]])
+    word = f", and {shown(words[0])} is none" if words else ""
+    return refuse([], helping.names(), True) if quiet else refused(f"{STRICT} takes session or page{word}")
+
+
+def refused(why: str) -> int:
+    """Refuses words, and says why."""
+    status = refuse([], helping.names(), True)
+    print(f"lokwurmi: {why}", file=sys.stderr)
+    return status
