@@ -7,10 +7,14 @@ table in docs/FILES.md, and a number just outside its range is refused. Of the f
 refused, the schema refuses those whose reason it can say, and no other. The schema with units is this one with a text
 as another form of each time; --write writes it. docs/lokwurmi.chains.schema.json, of files of chains, is held in the
 same way against the files of chains that there are, and against what docs/FILES.md says of their keys.
+docs/lokwurmi.verdict.schema.json, of what `lokwurmi verdict --json` writes, accepts what is written of each report of
+examples/, with a tick and without, and nothing from which a key is gone or to which one was added. So does
+docs/lokwurmi.diff.schema.json, of what `lokwurmi diff --json` writes, of any two of them.
 
     python3 tests/check_schema.py [--write]
 """
 import copy
+import glob
 import json
 import os
 import re
@@ -18,6 +22,13 @@ import sys
 import tomllib
 
 from calls import TOP, example_systems, hold, reader_of, tell
+
+from lokwurmi.chains import chains_report
+from lokwurmi.diffs import Changes
+from lokwurmi.reports import reports
+from lokwurmi.units import Time
+from lokwurmi.verdicts import Verdicts
+from lokwurmi_tools.verdict import json_of
 
 try:
     import jsonschema
@@ -276,5 +287,59 @@ for file, is_in in (
     ({"format": 1, "chain": [{"name": "c", "tasks": ["a"]}] * 129}, False),
 ):
     hold(chains.is_valid(file) == is_in, f"{CHAINS_FILE}: {str(file)[:60]}")
+
+# what `verdict --json` and `diff --json` write
+
+
+def holders(it):
+    """All objects in a JSON value."""
+    below = it.values() if isinstance(it, dict) else it if isinstance(it, list) else ()
+    return ([it] if isinstance(it, dict) else []) + [found for one in below for found in holders(one)]
+
+
+class Output:
+    """The schema of what a call writes: each of its keys says what it means."""
+
+    def __init__(self, name):
+        self.file = os.path.join("docs", name)
+        schema = json.loads(read(self.file))
+        jsonschema.Draft7Validator.check_schema(schema)
+        self.validator = jsonschema.Draft7Validator(schema)
+        for where, it in {"": schema, **schema["definitions"]}.items():
+            for key, entry in it.get("properties", {}).items():
+                is_said = "description" in entry or key == "name" or "$ref" in entry
+                hold(is_said, f"{self.file}: {where}.{key}: no description")
+
+    def accepts(self, told, what):
+        """Holds that it accepts a text, and none that lacks a key or has another one."""
+        for error in self.validator.iter_errors(told):
+            hold(False, f"{self.file}: {what}: {error.json_path}: {error.message}")
+        is_timed = any(key.endswith("_time") for it in holders(told) for key in it)
+        hold(is_timed == (told["tick"] is not None), f"{self.file}: {what}: times and a tick")
+        # one object of each kind, which has keys of its own
+        for place, it in enumerate({tuple(it): it for it in holders(told)}.values()):
+            for key in list(it):
+                kept = it.pop(key)
+                good = key.endswith("_time") or not self.validator.is_valid(told)
+                hold(good, f"{self.file}: {what}: without {key} of object {place}")
+                it[key] = kept
+            it["another"] = 1
+            hold(not self.validator.is_valid(told), f"{self.file}: {what}: another key in object {place}")
+            del it["another"]
+
+
+VERDICT, DIFF = Output("lokwurmi.verdict.schema.json"), Output("lokwurmi.diff.schema.json")
+SIDE = {"file": "a report", "chains_file": None}
+for tick in (None, Time.of("333ns")):
+    before = None
+    for report in sorted(glob.glob("examples/*.report.txt", root_dir=TOP)):
+        chains_text = report.replace(".report.txt", ".chains.txt")
+        judged = chains_report(read(chains_text), tick) if os.path.exists(os.path.join(TOP, chains_text)) else None
+        found = Verdicts(reports(read(report), tick)[-1], judged)
+        VERDICT.accepts(json.loads(json_of(found, report, judged and chains_text, [])), report)
+        if before:
+            told = Changes(before.bounds, found.bounds).to_dict(True, "2.5%" if tick else None)
+            DIFF.accepts(json.loads(json.dumps({"a": dict(SIDE), "b": dict(SIDE), **told})), report)
+        before = found
 
 tell(f"{len(examples) + len(with_unit) + len(with_chains)} examples; ")

@@ -20,6 +20,7 @@ from typing import TYPE_CHECKING
 
 if TYPE_CHECKING:
     from .chains import Chain, ChainReport, ChainsReport, JudgedChain, Step
+    from .diffs import Change, Changes, Shift, changes_of
     from .engines import Engine, Library, Program, default_engine, use
     from .entries import Path, Resource, Source, Task
     from .errors import (
@@ -63,14 +64,18 @@ if TYPE_CHECKING:
         Verdict,
     )
     from .units import NoticeWarning, NoUnitWarning, Rounding, RoundingWarning, Time, ms, ns, s, us
+    from .verdicts import Bound, Verdicts
 
 __all__ = [
+    "Bound",
     "Buffers",
     "CallFailed",
     "Chain",
     "ChainReport",
     "ChainsRefused",
     "ChainsReport",
+    "Change",
+    "Changes",
     "EditRefused",
     "Engine",
     "FileTooLong",
@@ -104,6 +109,7 @@ __all__ = [
     "Segment",
     "Session",
     "SessionClosed",
+    "Shift",
     "Slack",
     "Source",
     "Step",
@@ -117,7 +123,9 @@ __all__ = [
     "UnitsRefused",
     "Unreadable",
     "Verdict",
+    "Verdicts",
     "WordsRefused",
+    "changes_of",
     "default_engine",
     "generated_system",
     "made_system",
@@ -128,7 +136,19 @@ __all__ = [
     "use",
 ]
 # where these are, the light ones first
-_MODULES = ("errors", "limits", "units", "entries", "reports", "chains", "engines", "live", "model")
+_MODULES = (
+    "errors",
+    "limits",
+    "units",
+    "entries",
+    "reports",
+    "chains",
+    "verdicts",
+    "diffs",
+    "engines",
+    "live",
+    "model",
+)
 
 if not TYPE_CHECKING:
     # each is loaded at its first use, so that whoever needs one module alone doesn't wait for all

@@ -21,6 +21,8 @@ from .units import Converter, Rounding, Time
 if TYPE_CHECKING:
     from pandas import DataFrame
 
+    from .diffs import Changes
+
 OFF = "a tick off for each wait that a bound counts"
 """What a comment of a file of chains says whose deadlines have less, by `lokwurmi ticks`."""
 
@@ -116,6 +118,13 @@ class ChainsReport:
     def verdict(self) -> Verdict:
         """OVERLOAD where a chain has no bound, else MISSED where a deadline is missed, else MET."""
         return worst_of(self.overloads, self.missed)
+
+    def diff(self, other: "ChainsReport") -> "Changes":
+        """What changes from these chains to others, bound by bound."""
+        from .diffs import Changes
+        from .verdicts import bounds_of
+
+        return Changes(bounds_of(chains=self), bounds_of(chains=other))
 
     def _repr_html_(self) -> str:
         return html.chains(self)

@@ -16,6 +16,8 @@ if TYPE_CHECKING:
     from matplotlib.figure import Figure
     from pandas import DataFrame
 
+    from .diffs import Changes
+
 
 class Verdict(Enum):
     """Of a path: its deadline is met, missed, unknown (a task has no bound), or there is none. Of a report: the worst
@@ -213,6 +215,12 @@ class Report:
     def ok(self) -> bool:
         """Whether all tasks have a bound and all deadlines are met."""
         return self.verdict is Verdict.MET
+
+    def diff(self, other: "Report") -> "Changes":
+        """What changes from this report to another one, bound by bound: `lokwurmi.diffs` has chains beside it."""
+        from .diffs import changes_of
+
+        return changes_of(self, other)
 
     def _repr_html_(self) -> str:
         return html.report(self)

@@ -19,6 +19,18 @@ class Command(NamedTuple):
 
 COMMANDS = (
     Command(
+        "verdict",
+        "verdict",
+        "says what is met, missed or unbounded; for CI",
+        "verdict examples/effects.toml --chains examples/effects.chains.toml",
+    ),
+    Command(
+        "diff",
+        "diff",
+        "compares two versions of a system; for CI",
+        "diff examples/gateway.toml examples/gateway_one_stream.toml",
+    ),
+    Command(
         "graph",
         "graph",
         "draws a system: resources, tasks, and who starts whom",

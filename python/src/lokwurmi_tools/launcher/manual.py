@@ -6,7 +6,13 @@ from lokwurmi_tools.launcher.table import COMMANDS, OWN, VERSION, WORDS, Command
 
 STATUSES = (
     ("0", "all is done; no deadline is missed, and no bound is overload."),
-    ("1, 2", "of analyse, session, load and chains: a deadline is missed; of these and chain: a bound is overload."),
+    (
+        "1, 2",
+        (
+            "of analyse, session, load, chains and verdict: a deadline is missed; of these and chain: a bound is"
+            " overload. Of diff: a deadline is newly missed; a bound is lost."
+        ),
+    ),
     (
         "3",
         (
