@@ -72,7 +72,10 @@ class Word(NamedTuple):
         return self.most > 0
 
 
-NEAR = "it holds where no source falls silent: events that come farther apart than period and jitter say void it"
+NEAR = (
+    "it holds where no source falls silent: events that come farther apart than period and jitter say void it;"
+    " events and ends lie on whole ticks"
+)
 MISSED = "1: a deadline is missed; 2: a bound is overload"
 COMMANDS = (
     Command(
