@@ -5,8 +5,8 @@ call, those of what follows reading and judging (the call's less those of a call
 over an unknown task at its end), and those of the analysis alone, without the report. Then it counts calls of
 `simulate` on some of these systems, with events of all sources at their periods.
 
-    python3 bench/count_instructions.py [PROGRAM ..]
-    python3 bench/count_instructions.py BEFORE AFTER --most 2
+    python3 -m bench.count_instructions [PROGRAM ..]
+    python3 -m bench.count_instructions BEFORE AFTER --most 2
 
 It wants valgrind. Programs are builds of this repository at several commits (crates/cpa_cli/out/cpa_cli); without one
 it takes the present build. The same program and file give the same count, whatever else the machine does. All systems
@@ -19,9 +19,9 @@ import sys
 import tempfile
 import tomllib
 
-import time_activators
-from time_analyse import PROGRAM, systems
-from timing import NEEDS_PROGRAM, reader_of
+from bench import time_activators
+from bench.time_analyse import PROGRAM, systems
+from tests.support.calls import NEEDS_PROGRAM, reader_of
 
 # of cpa_fix; in older builds it stood in a module `analysis` of cpa_run or cpa_cli
 ANALYSIS = ("::solving::least_bounds", "::analysis::least_bounds")
@@ -111,7 +111,7 @@ def tell(name, columns, counts, texts, most):
 
 
 def main():
-    reader = reader_of(__doc__, "python3 bench/count_instructions.py", f"valgrind, and {NEEDS_PROGRAM}")
+    reader = reader_of(__doc__, "", f"valgrind, and {NEEDS_PROGRAM}")
     reader.add_argument(
         "programs", metavar="PROGRAM", nargs="*", help="builds of several commits; the present one if absent"
     )

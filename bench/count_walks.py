@@ -8,8 +8,8 @@ the jobs of its busy windows and how often the demand of a window is asked for. 
 ways: from where the program begins, a job longer than the window before; from the window of the same job in the round
 before, which is never longer than the new one; and from the longer of the two.
 
-    python3 bench/count_walks.py
-    python3 bench/count_walks.py --limit 1000000 --first 45 --second 50
+    python3 -m bench.count_walks
+    python3 -m bench.count_walks --limit 1000000 --first 45 --second 50
 """
 import argparse
 

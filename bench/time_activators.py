@@ -15,19 +15,20 @@ overloaded. `session` makes edits of one task's execution that rise and fall in 
 workers. Prints a line a call: seconds of processors and of the clock, both the least of some calls, peak memory, the
 last line of the text.
 
-    python3 bench/time_activators.py                                   all systems and commands
-    python3 bench/time_activators.py chains trees --kind can           two of them, on CAN buses
-    python3 bench/time_activators.py ladders --load 60 --workers 1 2 4 8
-    python3 bench/time_activators.py one chains --commands simulate --calls 1
-    python3 bench/time_activators.py chains --write FOLDER             writes its files, and calls nothing
+    python3 -m bench.time_activators                                   all systems and commands
+    python3 -m bench.time_activators chains trees --kind can           two of them, on CAN buses
+    python3 -m bench.time_activators ladders --load 60 --workers 1 2 4 8
+    python3 -m bench.time_activators one chains --commands simulate --calls 1
+    python3 -m bench.time_activators chains --write FOLDER             writes its files, and calls nothing
 """
 import argparse
 import os
 import sys
 import tempfile
 
-from time_analyse import KINDS, place_in_cycles
-from timing import TOP, spent
+from bench.time_analyse import KINDS, place_in_cycles
+from bench.timing import spent
+from tests.support.calls import TOP
 
 PROGRAM = os.path.join(TOP, "crates/cpa_cli/out/cpa_cli")
 RESOURCES, SOURCES, TASKS, MOST_JOBS = 64, 128, 512, 2_000_000

@@ -8,14 +8,15 @@ overloaded, in leaps and by some ninety ticks a round. With them go systems with
 kind, in chains of 32, and the car network of examples/. Prints a line a system: the least time of some calls, the peak
 memory, the last line.
 
-    python3 bench/time_analyse.py [NAME ..]
+    python3 -m bench.time_analyse [NAME ..]
 """
 import os
 import subprocess
 import tempfile
 import time
 
-from timing import TOP, names_of
+from bench.timing import names_of
+from tests.support.calls import TOP
 
 PROGRAM = os.path.join(TOP, "crates/cpa_cli/out/cpa_cli")
 KINDS = {"preemptive": "preemptive", "round-robin": "round-robin", "tdma": "tdma", "can": "can"}
@@ -118,7 +119,7 @@ def call(path):
 
 def main():
     made = systems()
-    names = names_of(__doc__, "time_analyse.py", list(made))
+    names = names_of(__doc__, list(made))
     subprocess.run(
         [os.path.join(TOP, "lokwurmi"), "analyse", os.path.join(TOP, "examples", "two_tasks.toml")],
         capture_output=True,

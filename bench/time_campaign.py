@@ -2,7 +2,7 @@
 """Times a campaign of hammer on 1, 2, .. processors, up to all of this machine, beside one call of hammer. Outside the
 gate.
 
-    python3 bench/time_campaign.py [--traces N] [--call K] [--rounds R] [--program PROGRAM] [FILE]
+    python3 -m bench.time_campaign [--traces N] [--call K] [--rounds R] [--program PROGRAM] [FILE]
 
 FILE is examples/car_network.toml if absent.
 
@@ -16,7 +16,7 @@ import os
 import subprocess
 import time
 
-from timing import TOP, tool
+from tests.support.calls import TOP, tool
 
 
 def seconds(places, command):

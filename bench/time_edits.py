@@ -6,11 +6,12 @@ alone, and scripts over it: of 1,048,576 bytes with 10,000 edits, of 1,048,576 b
 many edits of one sort. `cpa_bench edits` loads each alone, reads it, and applies its edits. Prints a line a script and
 way: the least time of five calls, and the peak memory of a call.
 
-    python3 bench/time_edits.py [FOLDER for the files]
+    python3 -m bench.time_edits [FOLDER for the files]
 """
 import os
 
-from timing import TOP, built, folder_of, show
+from bench.timing import folder_of, show
+from tests.support.calls import TOP, built
 
 MOST = 1_048_576
 EDITS = 10_000
@@ -72,7 +73,7 @@ def edits(sort):
 
 
 def main():
-    folder = folder_of(__doc__, "time_edits.py")
+    folder = folder_of(__doc__)
     bench = built("cpa_bench")
     large = os.path.join(folder, "large.toml")
     with open(large, "w") as file:

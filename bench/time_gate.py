@@ -10,8 +10,8 @@ crate, and to search for what it makes false. The last lines have the time by th
 how fast the machine was: the seconds that a short loop took one processor before, every five minutes on one that isn't
 measured, where there is one, and after. Times of two runs can be compared only as far as these are alike.
 
-    python3 bench/time_gate.py --processors 2 --anew
-    python3 bench/time_gate.py --log gate.log --edits cpa_units cpa_io
+    python3 -m bench.time_gate --processors 2 --anew
+    python3 -m bench.time_gate --log gate.log --edits cpa_units cpa_io
 """
 import argparse
 import collections

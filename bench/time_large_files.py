@@ -6,13 +6,14 @@ activators, alone and with as many paths as fit that need its last name, and run
 is that of the whole call: start, reading, TOML, judging. Prints a line a file: its shape, its tasks, its bytes, the
 least time of five calls in seconds, and the line that refuses it.
 
-    python3 bench/time_large_files.py [FOLDER for the files]
+    python3 -m bench.time_large_files [FOLDER for the files]
 """
 import os
 import subprocess
 import time
 
-from timing import NEEDS_PROGRAM, TOP, folder_of
+from bench.timing import folder_of
+from tests.support.calls import NEEDS_PROGRAM, TOP
 
 MOST = 1_048_576
 HEAD = 'format=2\nresource=[{name="c",kind="preemptive"}]\nsource=[{name="s",period=9}]\ntask=[\n'
@@ -67,7 +68,7 @@ def task_after_a_list():
 
 def main():
     program = os.path.join(TOP, "lokwurmi")
-    folder = folder_of(__doc__, "time_large_files.py", NEEDS_PROGRAM)
+    folder = folder_of(__doc__, NEEDS_PROGRAM)
     print(f"processors: {os.cpu_count()}")
     made = [(shape.replace(" ", "_"), lambda shape=shape: text(shape, False)) for shape in SHAPES]
     made.append(("flat_one_priority", lambda: text("flat", True)))

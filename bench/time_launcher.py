@@ -5,7 +5,7 @@ The calls take turns, so that what else runs on the machine meets all alike; tol
 the time that processors worked, what each takes beyond the program, and the ratios. The program has to be built.
 Outside the gate.
 
-    python3 bench/time_launcher.py --calls 200 --than 132bc4f
+    python3 -m bench.time_launcher --calls 200 --than 132bc4f
 """
 from __future__ import annotations
 
@@ -18,7 +18,7 @@ import tempfile
 import time
 from dataclasses import dataclass, field
 
-from timing import NEEDS_PROGRAM, TOP, reader_of, written
+from tests.support.calls import NEEDS_PROGRAM, TOP, reader_of, written
 
 PROGRAM = os.path.join(TOP, "crates", "cpa_cli", "out", "cpa_cli")
 REFUSED = 'format = 1\nsource = [{ name = "s", perod = 10 }]\n'
@@ -96,7 +96,7 @@ def ways_in(folder: str, revision: str | None) -> list[Way]:
 
 
 def main() -> None:
-    reader = reader_of(__doc__, "python3 bench/time_launcher.py --calls 200 --than 132bc4f", NEEDS_PROGRAM)
+    reader = reader_of(__doc__, "--calls 200 --than 132bc4f", NEEDS_PROGRAM)
     reader.add_argument("--calls", metavar="N", type=int, default=200, help="how many calls each; 200 if absent")
     reader.add_argument("--than", metavar="REVISION", help="an earlier commit, whose script is called too")
     words = reader.parse_args()

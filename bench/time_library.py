@@ -1,6 +1,6 @@
 """Times a call of the library in this process beside a start of the program.
 
-    python3 bench/time_library.py --times 1000 examples/car_network.toml
+    python3 -m bench.time_library --times 1000 examples/car_network.toml
 
 Both analyse the same file. The start of the program is that of posix_spawn up to its end, with its output thrown away.
 Said are the least and the median of N calls each, in microseconds: of a plain loop in Python, in which an execution is
@@ -10,16 +10,13 @@ the file alone and once with a script of that edit. A library without sessions t
 import argparse
 import os
 import statistics
-import sys
 import tempfile
 import time
 from collections.abc import Callable, Iterator
 from itertools import cycle
 from pathlib import Path
 
-TOP = Path(__file__).resolve().parent.parent
-sys.path.insert(0, str(TOP / "python/src"))
-from lokwurmi import Library, Program, System  # noqa: E402
+from lokwurmi import Library, Program, System
 
 
 def times(count: int, call: Callable[[], object]) -> str:

@@ -7,11 +7,11 @@ Prints a line a case: the least time of some calls, the peak memory of one, the 
 - load and generate of the largest generated system;
 - hammer: the network of a car under 1,000 and 10,000 generated traces, on two processors and on one.
 
-    python3 bench/time_made.py
+    python3 -m bench.time_made
 """
 import os
 
-from timing import least
+from bench.timing import least
 
 TOP = os.path.join(os.path.dirname(os.path.abspath(__file__)), "..")
 PROGRAM = os.path.join(TOP, "crates/cpa_cli/out/cpa_cli")

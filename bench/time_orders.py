@@ -9,14 +9,15 @@ where the lower places are all taken. Two systems more ask for more than there i
 places grow up to the limit, and the tasks with a deadline are the first of the file: one with the limit that a resource
 has by default, one with the greatest. Prints the least seconds of some whole calls, the peak memory, and the last line.
 
-    python3 bench/time_orders.py [FORM ..]
+    python3 -m bench.time_orders [FORM ..]
 """
 import os
 import re
 import subprocess
 import tempfile
 
-from timing import TOP, built, least, names_of
+from bench.timing import least, names_of
+from tests.support.calls import TOP, built
 
 PROGRAM = built("cpa_cli")
 
@@ -73,7 +74,7 @@ def forms(folder):
 
 
 def main():
-    names = names_of(__doc__, "time_orders.py", FORMS)
+    names = names_of(__doc__, FORMS)
     with tempfile.TemporaryDirectory() as folder:
         path = os.path.join(folder, "system")
         made = forms(folder)

@@ -6,11 +6,12 @@ bytes, and a file with as many tasks as fit. `cpa_bench reading` loads each file
 reads it as a system, and `lokwurmi analyse` does all of its work. Prints a line a file and way: the least time of five
 calls, and the peak memory of a call.
 
-    python3 bench/time_reading.py [FOLDER for the files]
+    python3 -m bench.time_reading [FOLDER for the files]
 """
 import os
 
-from timing import built, folder_of, show
+from bench.timing import folder_of, show
+from tests.support.calls import built
 
 MOST = 1_048_576
 
@@ -87,7 +88,7 @@ def many():
 
 
 def main():
-    folder = folder_of(__doc__, "time_reading.py")
+    folder = folder_of(__doc__)
     reader, program = built("cpa_bench"), built("cpa_cli")
     print(f"processors: {os.cpu_count()}")
     for make in (comments, largest, many):

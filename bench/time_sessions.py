@@ -10,11 +10,11 @@ Prints a line a case, from the least time of 5 to 200 calls: the peak memory, th
   session of none less a call that refuses the same file with a fault at its end: so the making of the system and one
   report count with the analysis.
 
-    python3 bench/time_sessions.py
+    python3 -m bench.time_sessions
 """
 import os
 
-from timing import least_over
+from bench.timing import least_over
 
 TOP = os.path.join(os.path.dirname(os.path.abspath(__file__)), "..")
 PROGRAM = os.path.join(TOP, "crates/cpa_cli/out/cpa_cli")

@@ -19,13 +19,14 @@ The chain goes to `schedule` too, and so do (apart) tasks on 2, 8, 32 and 64 pro
 each other: its time grows with the number of resources. These lines tell the seconds of a processor that one call
 takes.
 
-    python3 bench/time_simulate.py [NAME ..]
+    python3 -m bench.time_simulate [NAME ..]
 """
 import os
 import tomllib
 
-from check_runs import Run
-from timing import NEEDS_PROGRAMS, TOP, built, least_over, names_of, spent_over
+from bench.timing import least_over, names_of, spent_over
+from tests.rules.runs import Run
+from tests.support.calls import NEEDS_PROGRAMS, TOP, built
 
 PROGRAM = os.path.join(TOP, "crates/cpa_cli/out/cpa_cli")
 SCHEDULE = built("cpa_schedule")
@@ -125,7 +126,7 @@ def show(what, seconds, peak, last):
 
 
 def main():
-    wanted = names_of(__doc__, "time_simulate.py", [*CASES, "apart"], NEEDS_PROGRAMS)
+    wanted = names_of(__doc__, [*CASES, "apart"], NEEDS_PROGRAMS)
     for name in wanted:
         for command in ("simulate", "buffers") if name in CASES else ():
             show(f"{command} {name}", *least_over([PROGRAM, command], CASES[name](), 5))

@@ -7,11 +7,12 @@ events of one source, of which one breaks the rule at the last two events alone.
 reads it, and judges it once or a hundred times. Prints a line a file and way: the least time of five calls, and the
 peak memory of a call.
 
-    python3 bench/time_traces.py [FOLDER for the files]
+    python3 -m bench.time_traces [FOLDER for the files]
 """
 import os
 
-from timing import built, folder_of, show
+from bench.timing import folder_of, show
+from tests.support.calls import built
 
 MOST = 16_777_216
 ROWS = 200_000
@@ -61,7 +62,7 @@ def events(count, last):
 
 
 def main():
-    folder = folder_of(__doc__, "time_traces.py")
+    folder = folder_of(__doc__)
     reader = built("cpa_bench")
     described = os.path.join(folder, "system.toml")
     with open(described, "w") as file:

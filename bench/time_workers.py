@@ -7,8 +7,8 @@ so many of 1000 ticks to spare: with one to spare the least urgent tasks have bu
 line a system: the least microseconds of a search of many, taken in turns, and how many times as fast two workers are as
 one. The last line is the least time in which a board of 512 words opens, has 64 seats and closes.
 
-    python3 bench/time_workers.py [NAME ..]
-    python3 bench/time_workers.py count [NAME ..]
+    python3 -m bench.time_workers [NAME ..]
+    python3 -m bench.time_workers count [NAME ..]
 
 With `count` valgrind counts the instructions of a search instead, in millions: on one thread without a board, by one
 worker, and by two on the busier and on the other thread.
@@ -18,8 +18,8 @@ import re
 import subprocess
 import tempfile
 
-from time_analyse import TOP, place_in_cycles, systems
-from timing import reader_of
+from bench.time_analyse import place_in_cycles, systems
+from tests.support.calls import TOP, reader_of
 
 PROGRAM = os.path.join(TOP, "crates/cpa_bench/out/cpa_bench")
 WORKERS = (0, 1, 2, 4)
@@ -101,7 +101,7 @@ def count_search(path, folder):
 def main():
     systems_made = made()
     known = ", ".join(systems_made)
-    reader = reader_of(__doc__, "python3 bench/time_workers.py count", "the program cpa_bench, and for count valgrind")
+    reader = reader_of(__doc__, "count", "the program cpa_bench, and for count valgrind")
     says = f"a system, all if absent: {known}; or before them count, which counts instructions"
     reader.add_argument("names", metavar="NAME", nargs="*", help=says)
     names = reader.parse_args().names

@@ -1,49 +1,28 @@
-"""Calls of programs, timed: shared by the scripts of this folder. What they share with those of tests/ is found from
-here too."""
+"""Calls of programs, timed, and the words of measurements."""
 
 import contextlib
 import os
 import shlex
 import subprocess
-import sys
 import tempfile
 import time
 from collections.abc import Iterator, Sequence
 
-sys.path.append(os.path.join(os.path.dirname(os.path.dirname(os.path.abspath(__file__))), "tests"))
+from tests.support.calls import NEEDS_PROGRAM, reader_of
 
-from calls import NEEDS_PROGRAM, NEEDS_PROGRAMS, TOP, built, reader_of, tool, written  # noqa: E402
-
-__all__ = [
-    "NEEDS_PROGRAM",
-    "NEEDS_PROGRAMS",
-    "TOP",
-    "built",
-    "files_of",
-    "folder_of",
-    "least",
-    "least_over",
-    "names_of",
-    "reader_of",
-    "show",
-    "spent",
-    "spent_over",
-    "tool",
-    "written",
-]
 NEEDS_BENCH = "the program cpa_bench, which is built where it isn't there"
 
 
-def folder_of(doc: str | None, script: str, needs: str = NEEDS_BENCH) -> str:
+def folder_of(doc: str | None, needs: str = NEEDS_BENCH) -> str:
     """The folder that is asked for, where the files of a script are put; one for a while where none is named."""
-    reader = reader_of(doc, f"python3 bench/{script} /tmp/files", needs)
+    reader = reader_of(doc, "/tmp/files", needs)
     reader.add_argument("folder", metavar="FOLDER", nargs="?", help="where the files are put; a new folder if absent")
     return reader.parse_args().folder or tempfile.mkdtemp()
 
 
-def names_of(doc: str | None, script: str, known: Sequence[str], needs: str = NEEDS_PROGRAM) -> list[str]:
+def names_of(doc: str | None, known: Sequence[str], needs: str = NEEDS_PROGRAM) -> list[str]:
     """The cases that are asked for by their names, which are all where none is named."""
-    reader = reader_of(doc, f"python3 bench/{script} {shlex.quote(known[0])}", needs)
+    reader = reader_of(doc, shlex.quote(known[0]), needs)
     reader.add_argument("names", metavar="NAME", nargs="*", help=f"a case, all if absent: {', '.join(known)}")
     names = reader.parse_args().names
     if unknown := [it for it in names if it not in known]:

@@ -19,9 +19,10 @@ static int stop(lokwurmi_handle *handle, uint8_t status, const uint8_t *text, si
 }
 
 int main(int argc, char **argv) {
-    static uint8_t system[1048577];
+    static uint8_t system[LOKWURMI_MOST_FILE_BYTES + 1];
     lokwurmi_handle handle = LOKWURMI_CLOSED;
-    uint64_t bounds[512], place, greatest, last;
+    static uint64_t bounds[LOKWURMI_MOST_TASKS];
+    uint64_t place, greatest, last;
     uint8_t out[256], status;
     char edit[128];
     size_t len, used;
@@ -47,7 +48,7 @@ int main(int argc, char **argv) {
         if (status != LOKWURMI_OK) {
             return stop(&handle, status, out, used, sizeof out);
         }
-        status = lokwurmi_bounds(&handle, bounds, 512, &used);
+        status = lokwurmi_bounds(&handle, bounds, LOKWURMI_MOST_TASKS, &used);
         if (place >= used) {
             return stop(&handle, LOKWURMI_WORDS_REFUSED, out, 0, sizeof out);
         }

@@ -38,7 +38,8 @@ enum lokwurmi_status {
     LOKWURMI_DIFFERS = 4,           /* audit: the schedule isn't that of the run */
     LOKWURMI_WORDS_REFUSED = 10,    /* a number is out of its range, or a name is no text of UTF-8, or a handle isn't open (of open: is open already);
                                        no text is given. Of chain also: the names are refused as words, with the program's text `words refused` */
-    LOKWURMI_TOO_LONG = 12,         /* a system, a script or a text of chains has more than 1,048,576 bytes, a trace or a schedule more than 16,777,216 */
+    LOKWURMI_TOO_LONG = 12,         /* a system, a script or a text of chains has more than 1,048,576 bytes; a system of format 4, a trace or a schedule
+                                       more than 16,777,216 */
     LOKWURMI_NOT_TOML = 13,         /* the system isn't TOML, or the chains aren't */
     LOKWURMI_SYSTEM_REFUSED = 14,   /* it is TOML and no system; the text has the reason, the list and the place of the entry */
     LOKWURMI_SCRIPT_REFUSED = 15,   /* the script is refused; the text has the line. Of edit: it isn't one edit */
@@ -111,6 +112,11 @@ typedef struct lokwurmi_handle {
 /* Stands among the numbers of lokwurmi_bounds and lokwurmi_latencies for a task or a path without a bound, which is `overload` in a report. */
 #define LOKWURMI_UNBOUNDED UINT64_MAX
 
+/* The most bytes of a system's file, and the most tasks and paths of a system: those of format 4. Formats 1 and 2 allow 1,048,576, 512 and 128. */
+#define LOKWURMI_MOST_FILE_BYTES 16777216
+#define LOKWURMI_MOST_TASKS 8192
+#define LOKWURMI_MOST_PATHS 2048
+
 /* Opens a closed handle on a system, which is analysed. Where the system is refused the status is 12, 13 or 14, the text is the program's line, and
  * the handle stays closed. With 0 no text is given. With 30 the handle stays closed. */
 uint8_t lokwurmi_open(lokwurmi_handle *handle, const uint8_t *system, size_t system_len, uint8_t *out, size_t out_len, size_t *used);
@@ -123,11 +129,13 @@ uint8_t lokwurmi_open(lokwurmi_handle *handle, const uint8_t *system, size_t sys
 uint8_t lokwurmi_edit(lokwurmi_handle *handle, const uint8_t *edit, size_t edit_len, uint8_t *out, size_t out_len, size_t *used);
 
 /* The worst-case response times of the tasks of the kept system, in ticks, in the order of its tasks: the numbers of its report. They are written to
- * bounds as far as it has room, for length numbers, and *used is how many there are, at most 512. The status is the verdict on the system, as of a
- * report: 0, 1 or 2. An added task is the last one; where one is removed, those behind it move up. */
+ * bounds as far as it has room, for length numbers, and *used is how many there are: at most LOKWURMI_MOST_TASKS, and 512 where the system's file has
+ * format 1 or 2. The status is the verdict on the system, as of a report: 0, 1 or 2. An added task is the last one; where one is removed, those behind
+ * it move up. */
 uint8_t lokwurmi_bounds(lokwurmi_handle *handle, uint64_t *bounds, size_t length, size_t *used);
 
-/* The worst-case latencies of the paths of the kept system, likewise, in the order of its paths, of which there are at most 128. */
+/* The worst-case latencies of the paths of the kept system, likewise, in the order of its paths: at most LOKWURMI_MOST_PATHS, and 128 where the system's
+ * file has format 1 or 2. */
 uint8_t lokwurmi_latencies(lokwurmi_handle *handle, uint64_t *latencies, size_t length, size_t *used);
 
 /* The report of the kept system: text and status are those of lokwurmi_analyse for a file of the system as edited. */

@@ -6,7 +6,7 @@
 
 /* The bytes of a file, at most one more than a system file may have; NULL where it can't be read. */
 static uint8_t *read_file(const char *name, size_t *len) {
-    const size_t most = 1048577;
+    const size_t most = LOKWURMI_MOST_FILE_BYTES + 1;
     FILE *file = fopen(name, "rb");
     uint8_t *text = malloc(most);
     if (file != NULL && text != NULL) {

@@ -54,6 +54,7 @@ NEEDS = {
     "check_reports": "cpa_cli",
     "check_runs": "cpa_cli cpa_schedule",
     "check_orders": "cpa_cli",
+    "check_large": "cpa_cli module:numpy",
     "check_slack": "cpa_cli",
     "check_effects": PROGRAMS,
     "examples": PROGRAMS,
@@ -64,10 +65,12 @@ NEEDS = {
     "check_docs": f"{PROGRAMS} {DRAWS} {IMPORTS}",
     "check_messages": PROGRAMS,
     "check_launcher": "command:script",
+    "check_builds": "command:script",
     "check_installed": f"{PROGRAMS} noted command:unshare file:library/out/liblokwurmi.a {DRAWS}",
     "check_python": "debian:mypy debian:pyflakes3 debian:pycodestyle debian:isort debian:black",
     "check_schema": "module:jsonschema",
     "check_tools": f"{PROGRAMS} {DRAWS}",
+    "check_gantt": f"{PROGRAMS} {DRAWS}",
     "check_page": f"{PROGRAMS} {DRAWS} module:selenium command:chromedriver",
     "check_chain_tools": f"{PROGRAMS} {DRAWS}",
     "check_explain": "cpa_cli module:matplotlib",
@@ -75,14 +78,18 @@ NEEDS = {
     "check_sensitivity": "cpa_cli module:matplotlib",
     "check_optimise": "cpa_cli",
     "check_imports": f"cpa_cli {IMPORTS}",
+    "check_import_options": f"cpa_cli {IMPORTS}",
     "check_damaged_imports": IMPORTS,
     "check_logs": f"{PROGRAMS} {IMPORTS}",
+    "check_log_files": f"{PROGRAMS} {IMPORTS}",
     "check_networks": f"cpa_cli {IMPORTS}",
     "check_ticks": f"{PROGRAMS} {IMPORTS}",
     "check_told": f"{PROGRAMS} {DRAWS}",
     "check_ci": f"{PROGRAMS} module:jsonschema",
+    "check_diff": f"{PROGRAMS} module:jsonschema",
     "check_worst": f"{PROGRAMS} {DRAWS}",
     "check_campaign": "cpa_cli module:distributed command:dask-scheduler",
+    "check_campaign_clusters": "cpa_cli module:distributed command:dask-scheduler",
     "list_reached": "command:rt",
 }
 # the checks of --quick, with fewer cases of those that draw them: what isn't proved comes first, and then the rules
@@ -94,18 +101,22 @@ QUICK = {
     "examples": "",
     "check_told": "",
     "check_ci": "3",
+    "check_diff": "3",
     "check_completion": "",
     "python_tests": "",
     "check_ticks": "2",
     "check_networks": "2",
     "check_imports": "2",
+    "check_import_options": "",
     "check_damaged_imports": "2",
     "check_logs": "2",
+    "check_log_files": "",
     "check_docs": "",
     "check_chain_tools": "",
     "check_python": "",
     "check_messages": "--random 100",
     "check_tools": "",
+    "check_gantt": "",
     "check_reports": "100",
     "check_runs": "20",
     "check_optimise": "5 1",
@@ -137,7 +148,9 @@ class Found(NamedTuple):
 
 def name_of(call: str) -> str:
     """The name of the script of a call; that of the folder where a module of Python's own runs what is there."""
-    script = re.search(r"([\w/]+)\.(?:py|sh)\b", call)
+    if module := re.search(r" -m (?:tests|bench)\.[\w.]*?(\w+)(?: |$)", call):
+        return module[1]
+    script = re.search(r"([\w/]+)\.sh\b", call)
     if not script:
         return "python_tests"
     folder, _, name = script[1].rpartition("/")
@@ -148,15 +161,16 @@ def checks_in(page: str) -> list[Check]:
     """The checks that a page lists, in its order."""
     calls: list[str] = []
     for row in ROW.findall(page):
-        for call in re.findall(r"`([^`]+)`", row):
-            calls.append(call if " " in call else f"python3 tests/{call}")
+        first, *more = re.findall(r"`([^`]+)`", row)
+        # further ones stand in the folder of the first
+        calls += [first, *(it if " " in it else f"{first.rpartition('.')[0]}.{it}" for it in more)]
     return [Check(name_of(it), it) for it in calls]
 
 
 def quick_ones(checks: list[Check]) -> list[Check]:
     """Those of --quick, in its order, with what they are to try."""
     by_name = {it.name: it.call for it in checks}
-    bare = {it: re.sub(r"(\.(?:py|sh)) \d+$", r"\1", call) for it, call in by_name.items()}
+    bare = {it: re.sub(r" \d+$", "", call) for it, call in by_name.items()}
     return [Check(it, f"{bare[it]} {words}".rstrip()) for it, words in QUICK.items()]
 
 
@@ -166,8 +180,8 @@ def quick_ones(checks: list[Check]) -> list[Check]:
 def lacks_program(crate: str) -> str:
     """Why a program can't be called at once; a check that called it would build it first, which takes up to an hour."""
     sys.path.append(str(TOP / "python" / "src"))
-    from lokwurmi_tools.launcher.graph import Graph
-    from lokwurmi_tools.launcher.places import is_other
+    from lokwurmi_tools.launcher.crates import Graph
+    from lokwurmi_tools.launcher.records import is_other
 
     why = Graph(crate).why_stale(called=crate)
     if not why and is_other(crate):
@@ -177,7 +191,7 @@ def lacks_program(crate: str) -> str:
 
 def lacks_note(_: str) -> str:
     """Why an installed copy can't be had at once: it is one of programs that ./lokwurmi has built."""
-    from lokwurmi_tools.launcher.places import kit_of
+    from lokwurmi_tools.launcher.records import kit_of
 
     lacking = [it for it in PROGRAMS.split() if not kit_of(it)]
     return f"./lokwurmi hasn't built {lacking[0]}" if lacking else ""

@@ -17,7 +17,7 @@ from random import Random
 # the package of this repository, where none is installed
 sys.path.append(str(Path(__file__).resolve().parents[2] / "python/src"))
 from lokwurmi import LokwurmiError, System, default_engine  # noqa: E402
-from lokwurmi_tools.progress import Progress  # noqa: E402
+from lokwurmi_tools.shared.progress import Progress  # noqa: E402
 
 LEAST, GREATEST = 70, 130
 Bounds = dict[str, int | None]

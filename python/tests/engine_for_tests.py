@@ -2,7 +2,7 @@
 import unittest
 
 from lokwurmi import Library, NoEngine, Program, default_engine
-from lokwurmi.engines import Engine
+from lokwurmi.calls.engines import Engine
 
 
 def need_engine(command: str = "analyse") -> None:

@@ -1,7 +1,29 @@
 """Systems at random, of all kinds, most of them accepted."""
 from random import Random
 
-from lokwurmi import Kind, System
+from lokwurmi import Kind, Resource, System
+from lokwurmi.files.documents import activators
+from lokwurmi.model.entries import keys_of
+
+FAULTS = [
+    ("best", 0),
+    ("worst", 1_000_001),
+    ("on", "nowhere"),
+    ("after", "nothing"),
+    ("after", []),
+    ("priority", -1),
+    ("slot", 0),
+    ("payload", 9),
+    ("name", "a b"),
+    ("after", None),
+    ("best", "1"),
+    ("worst", 1.5),
+    ("name", "s0"),
+    ("extended", True),
+    ("priority", None),
+    ("name", '\u00e4\x7f\t"\\'),
+]
+"""What makes a task wrong: a key and a value; where it comes after None, it comes after itself."""
 
 
 def random_system(draw: Random, faulty: float = 0.1) -> System:
@@ -16,70 +38,52 @@ def random_system(draw: Random, faulty: float = 0.1) -> System:
             it.gap = draw.randint(0, 20)
         if it.kind == Kind.CAN and draw.random() < 0.5:
             it.bit = draw.randint(1, 2)
-    for k in range(draw.randint(1, 5)):
-        period = draw.choice([50, 100, 200, 250, 500, 1000])
-        system.source(
-            f"s{k}",
-            period,
-            jitter=draw.choice([None, 0, draw.randint(0, 2 * period)]),
-            distance=draw.choice([None, draw.randint(0, period // 2)]),
-        )
+    add_sources(draw, system)
     priorities = list(range(40))
     draw.shuffle(priorities)
     for k in range(draw.randint(0, 14)):
-        on = draw.choice(resources)
-        before = [*system.sources, *system.tasks]
-        after = (
-            draw.choice(before) if draw.random() < 0.8 else draw.sample(before, min(len(before), draw.randint(1, 3)))
-        )
-        task = system.task(f"t{k}", on=on, after=after)
-        if on.kind == Kind.CAN and draw.random() < 0.7:
-            task.payload = draw.randint(0, 8)
-            task.extended = draw.choice([None, True, False])
-        else:
-            task.best = draw.randint(1, 10)
-            task.worst = task.best + draw.randint(0, 20)
-        if on.kind in (Kind.PREEMPTIVE, Kind.CAN):
-            task.priority = priorities[k]
-        else:
-            task.slot = draw.randint(1, 20)
-    for k in range(draw.randint(0, 3)):
-        if system.tasks:
-            chain = [draw.choice(list(system.tasks))]
-            while True:
-                behind = [
-                    it.name
-                    for it in system.tasks.values()
-                    if chain[-1] in (it.after if isinstance(it.after, list) else [it.after])
-                ]
-                if not behind or draw.random() < 0.2:
-                    break
-                chain.append(draw.choice(behind))
-            system.path(f"p{k}", chain, deadline=draw.choice([None, draw.randint(1, 500)]))
+        add_task(draw, system, f"t{k}", draw.choice(resources), priorities[k])
+    add_paths(draw, system)
     if system.tasks and draw.random() < faulty:
         task = draw.choice(list(system.tasks.values()))
-        name, value = draw.choice(
-            [
-                ("best", 0),
-                ("worst", 1_000_001),
-                ("on", "nowhere"),
-                ("after", "nothing"),
-                ("after", []),
-                ("priority", -1),
-                ("slot", 0),
-                ("payload", 9),
-                ("name", "a b"),
-                ("after", task.name),
-                ("best", "1"),
-                ("worst", 1.5),
-                ("name", "s0"),
-                ("extended", True),
-                ("priority", None),
-                ("name", '\u00e4\x7f\t"\\'),
-            ]
-        )
-        setattr(task, name, value)
+        name, value = draw.choice(FAULTS)
+        setattr(task, name, task.name if (name, value) == ("after", None) else value)
     return system
+
+
+def add_sources(draw: Random, system: System) -> None:
+    for k in range(draw.randint(1, 5)):
+        period = draw.choice([50, 100, 200, 250, 500, 1000])
+        jitter = draw.choice([None, 0, draw.randint(0, 2 * period)])
+        system.source(f"s{k}", period, jitter=jitter, distance=draw.choice([None, draw.randint(0, period // 2)]))
+
+
+def add_task(draw: Random, system: System, name: str, on: Resource, priority: int) -> None:
+    before = [*system.sources, *system.tasks]
+    after = draw.choice(before) if draw.random() < 0.8 else draw.sample(before, min(len(before), draw.randint(1, 3)))
+    task = system.task(name, on=on, after=after)
+    if on.kind == Kind.CAN and draw.random() < 0.7:
+        task.payload = draw.randint(0, 8)
+        task.extended = draw.choice([None, True, False])
+    else:
+        task.best = draw.randint(1, 10)
+        task.worst = task.best + draw.randint(0, 20)
+    if on.kind in (Kind.PREEMPTIVE, Kind.CAN):
+        task.priority = priority
+    else:
+        task.slot = draw.randint(1, 20)
+
+
+def add_paths(draw: Random, system: System) -> None:
+    count = draw.randint(0, 3)
+    for k in range(count if system.tasks else 0):
+        chain = [draw.choice(list(system.tasks))]
+        while True:
+            behind = [it.name for it in system.tasks.values() if chain[-1] in activators(keys_of(it))]
+            if not behind or draw.random() < 0.2:
+                break
+            chain.append(draw.choice(behind))
+        system.path(f"p{k}", chain, deadline=draw.choice([None, draw.randint(1, 500)]))
 
 
 def random_edit(draw: Random, system: System) -> str:

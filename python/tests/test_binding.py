@@ -11,7 +11,8 @@ import unittest
 from pathlib import Path
 
 from lokwurmi import Library, NoEngine, Program, System, SystemRefused
-from lokwurmi.engines import KeptByLibrary, KeptByScript, keep
+from lokwurmi.calls.engines import KeptByScript, keep
+from lokwurmi.calls.library import KeptByLibrary
 
 HERE = Path(__file__).resolve().parent
 

@@ -1,4 +1,4 @@
-"""Chains and schedules. Expected numbers are the sums of docs/FILES.md, "Chains that read registers"."""
+"""Chains and schedules. Expected numbers are the sums of docs/FILES.md, "Effect chains"."""
 import pickle
 import unittest
 import warnings
@@ -20,7 +20,7 @@ from lokwurmi import (
     ms,
     us,
 )
-from lokwurmi.chains import chains_in
+from lokwurmi.files.chain_files import chains_in
 
 TOP = Path(__file__).resolve().parents[2]
 EXAMPLES = TOP / "examples"

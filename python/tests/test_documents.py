@@ -5,8 +5,8 @@ import unittest
 from pathlib import Path
 
 from lokwurmi import LokwurmiError, System
-from lokwurmi.chains import chains_in
-from lokwurmi.documents import Document
+from lokwurmi.files.chain_files import chains_in
+from lokwurmi.files.documents import Document
 
 NEWER = """\ufeffformat = 2
 resource = [{

@@ -5,17 +5,60 @@ from collections import Counter
 from concurrent.futures import ThreadPoolExecutor
 from pathlib import Path
 from random import Random
+from typing import Any
 
 from engine_for_tests import both_engines
 from made import random_system
 
 import lokwurmi
 from lokwurmi import Chain, Library, NoEngine, System
-from lokwurmi.chains import written
-from lokwurmi_tools.progress import Progress
+from lokwurmi.files.chain_files import written
+from lokwurmi_tools.shared.progress import Progress
 
 TOP = Path(__file__).resolve().parents[2]
 EXAMPLES = TOP / "examples"
+GOOD = (EXAMPLES / "two_tasks.toml").read_bytes()
+LONG = b"#" * 1_048_577
+REFUSED: list[tuple[str, list[bytes], tuple[Any, ...]]] = [
+    ("analyse", [b""], ()),
+    ("analyse", [b"x = ["], ()),
+    ("analyse", [LONG], ()),
+    ("analyse", [b"\xff"], ()),
+    ("analyse", [b"\0"], ()),
+    ("session", [GOOD, b"exec b 2"], ()),
+    ("session", [GOOD, LONG], ()),
+    ("session", [GOOD, b"report\n" * 10_001], ()),
+    ("simulate", [GOOD, b"event,sa,5\nevent,sa,4\n"], ()),
+    ("simulate", [GOOD, b"event,sa,5\nevent,sa,6\n"], ()),
+    ("simulate", [GOOD, b"event,zz,5\n"], ()),
+    ("audit", [GOOD, b"", b"a,5,3\n"], ()),
+    ("audit", [GOOD, b"", b""], ()),
+    ("assign", [GOOD], ("zz",)),
+    ("slack", [GOOD], ("zz",)),
+    ("hammer", [GOOD], (0, 0)),
+    ("hammer", [GOOD], (2**32, 1)),
+    ("hammer", [GOOD], (0, 10_001)),
+    ("generate", [], (2**40, 1)),
+    ("generate", [], (1, 129)),
+    ("generate", [], (-1, 1)),
+    ("generate", [], (2**70, 1)),
+    ("generate", [], (1, 0)),
+    ("generate", [], (4_294_967_295, 128)),
+    ("schedule", [GOOD, b"event,zz,5\n"], ()),
+    ("chain", [GOOD], ()),
+    ("chain", [GOOD], ("zz",)),
+    ("chain", [GOOD], ("a", "zz", "--while-running")),
+    ("chain", [GOOD], ("a",) * 32),
+    ("chain", [GOOD], ("a",) * 33),
+    ("chain", [GOOD], ("-a",)),
+    ("chain", [GOOD], ("",)),
+    ("chain", [b"x = ["], ("zz",)),
+    ("chains", [GOOD, b"x = ["], ()),
+    ("chains", [GOOD, b"format = 2\n"], ()),
+    ("chains", [GOOD, LONG], ()),
+    ("chains", [GOOD, b'format = 1\nchain = [{ name = "c", tasks = ["zz"] }]\n'], ()),
+]
+"""Calls most of which are refused, each with its files and its words."""
 
 
 class LikeTheProgram(unittest.TestCase):
@@ -93,47 +136,7 @@ class LikeTheProgram(unittest.TestCase):
         print(f"random systems by status: {dict(sorted(seen.items()))}")
 
     def test_refusals(self) -> None:
-        good = (EXAMPLES / "two_tasks.toml").read_bytes()
-        long = b"#" * 1_048_577
-        for command, files, words in (
-            ("analyse", [b""], ()),
-            ("analyse", [b"x = ["], ()),
-            ("analyse", [long], ()),
-            ("analyse", [b"\xff"], ()),
-            ("analyse", [b"\0"], ()),
-            ("session", [good, b"exec b 2"], ()),
-            ("session", [good, long], ()),
-            ("session", [good, b"report\n" * 10_001], ()),
-            ("simulate", [good, b"event,sa,5\nevent,sa,4\n"], ()),
-            ("simulate", [good, b"event,sa,5\nevent,sa,6\n"], ()),
-            ("simulate", [good, b"event,zz,5\n"], ()),
-            ("audit", [good, b"", b"a,5,3\n"], ()),
-            ("audit", [good, b"", b""], ()),
-            ("assign", [good], ("zz",)),
-            ("slack", [good], ("zz",)),
-            ("hammer", [good], (0, 0)),
-            ("hammer", [good], (2**32, 1)),
-            ("hammer", [good], (0, 10_001)),
-            ("generate", [], (2**40, 1)),
-            ("generate", [], (1, 129)),
-            ("generate", [], (-1, 1)),
-            ("generate", [], (2**70, 1)),
-            ("generate", [], (1, 0)),
-            ("generate", [], (4_294_967_295, 128)),
-            ("schedule", [good, b"event,zz,5\n"], ()),
-            ("chain", [good], ()),
-            ("chain", [good], ("zz",)),
-            ("chain", [good], ("a", "zz", "--while-running")),
-            ("chain", [good], ("a",) * 32),
-            ("chain", [good], ("a",) * 33),
-            ("chain", [good], ("-a",)),
-            ("chain", [good], ("",)),
-            ("chain", [b"x = ["], ("zz",)),
-            ("chains", [good, b"x = ["], ()),
-            ("chains", [good, b"format = 2\n"], ()),
-            ("chains", [good, long], ()),
-            ("chains", [good, b'format = 1\nchain = [{ name = "c", tasks = ["zz"] }]\n'], ()),
-        ):
+        for command, files, words in REFUSED:
             with self.subTest((command, words)):
                 self.compare(command, files, words)
 

@@ -6,7 +6,7 @@ from importlib import import_module
 
 import lokwurmi
 
-HEAVY = ("chains", "engines", "live", "model", "reports", "units")
+HEAVY = ("results.effect_chains", "calls.engines", "calls.sessions", "calls.system", "results.reports", "model.units")
 
 
 def loaded_by(statement: str) -> set[str]:
@@ -35,8 +35,9 @@ class Loading(unittest.TestCase):
 
     def test_little(self) -> None:
         self.assertEqual(loaded_by("import lokwurmi"), set())
-        self.assertEqual(loaded_by("from lokwurmi import LokwurmiError"), {"errors"})
-        self.assertEqual(loaded_by("import lokwurmi\nlokwurmi.limits.Kind"), {"limits"})
+        light = {"errors", "model", "model.formats", "model.limits", "model.statuses", "refusals", "refusals.reasons"}
+        self.assertEqual(loaded_by("from lokwurmi import LokwurmiError"), light)
+        self.assertEqual(loaded_by("import lokwurmi\nlokwurmi.Kind"), light)
         # a refusal is told in words while somebody waits
         self.assertEqual(set(HEAVY) & loaded_by("import lokwurmi.refusals.front"), set())
 

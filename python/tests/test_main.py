@@ -69,8 +69,8 @@ class Main(unittest.TestCase):
             file.write_text('format = 1\nresource = [{ name = "cpu", kind = "preemptive", limit = 0 }]\n')
             self.assertEqual(
                 self.call(file)[2],
-                f"{file}: resource 'cpu': a number out of its range (reason 2): limit is 0, and 1 to 10,000,000 are"
-                " possible\n",
+                f"{file}: resource 'cpu': a number out of its range (reason 2): `limit` is 0, below 1: `limit` is 1 to"
+                " 10000000 ticks: the longest busy window that is looked at\n",
             )
             file.write_text("x = [")
             self.assertEqual(self.call(file)[:2], (13, f"not TOML {file}\n"))
@@ -103,11 +103,11 @@ class Doctests(unittest.TestCase):
     def test_modules(self) -> None:
         need_engine()
         tried = 0
-        for it in pkgutil.iter_modules(lokwurmi.__path__):
+        for it in pkgutil.walk_packages(lokwurmi.__path__, "lokwurmi."):
             # the shared library lies among the modules, and is none
-            if it.name in ("charts", "__main__", "liblokwurmi"):
+            if it.name.rpartition(".")[2] in ("charts", "__main__", "liblokwurmi"):
                 continue
-            found = doctest.testmod(importlib.import_module(f"lokwurmi.{it.name}"))
+            found = doctest.testmod(importlib.import_module(it.name))
             self.assertEqual(found.failed, 0, it.name)
             tried += found.attempted
         found = doctest.testmod(lokwurmi)

@@ -26,10 +26,11 @@ from lokwurmi import (
     Verdict,
     WordsRefused,
     default_engine,
-    errors,
     made_system,
 )
 from lokwurmi.errors import LokwurmiError
+from lokwurmi.refusals.program_lines import error_of
+from lokwurmi.refusals.reasons import EDIT_RULES, SYSTEM_REASONS
 
 TOP = Path(__file__).resolve().parents[2]
 EXAMPLES = TOP / "examples"
@@ -98,11 +99,11 @@ class Calls(unittest.TestCase):
         need_engine("schedule")
         with warnings.catch_warnings():
             warnings.simplefilter("ignore", RoundingWarning)
-            for page in ("docs/LIBRARY.md", "docs/PYTHON.md", "python/README.md", "docs/COMING_FROM.md"):
+            for page in ("docs/LIBRARY.md", "python/README.md", "docs/PYTHON.md"):
                 with self.subTest(page):
                     seen = self.follow(page)
         self.assertEqual(seen["s"], System.from_file(EXAMPLES / "pycpa_first.toml"))
-        self.assertEqual(list(seen["bounds"].values()), [10, 13, 2, 19])
+        self.assertEqual([it.worst for it in seen["results"].tasks.values()], [10, 13, 2, 19])
 
     def test_processes(self) -> None:
         """Systems and what comes of them may be sent to other processes."""
@@ -182,21 +183,24 @@ class Calls(unittest.TestCase):
     def test_out_of_range(self) -> None:
         """The number and its range are told; where they aren't known, a distance is spoken of only of a source."""
         for change, told in (
-            (lambda it: setattr(it.tasks["b"], "region", 0), "task 'b': .*: region is 0, and 1 to 1,000,000 are"),
-            (lambda it: setattr(it.tasks["b"], "priority", -1), "task 'b': .*: priority is -1, and 0 to 536,870,911"),
             (
-                lambda it: setattr(it.sources["sa"], "distance", 10**6),
-                "distance is 1000000, and at most the period, ",
+                lambda it: setattr(it.tasks["b"], "region", 0),
+                "task 'b': .*: `region` is 0, below 1: `region` is 1 to 10000000 ticks",
             ),
-            (lambda it: setattr(it.resources["cpu"], "limit", 0), "resource 'cpu': .*: limit is 0, and 1 to 10,000,"),
+            (
+                lambda it: setattr(it.tasks["b"], "priority", -1),
+                "task 'b': .*: `priority` is -1, below 0: `priority` is 0 to 536870911",
+            ),
+            (lambda it: setattr(it.sources["sa"], "distance", 10**6), "the distance 1000000 is above the period: "),
+            (
+                lambda it: setattr(it.resources["cpu"], "limit", 0),
+                "resource 'cpu': .*: `limit` is 0, below 1: `limit` is 1 to 10000000 ticks",
+            ),
         ):
             system = two_tasks()
             change(system)
             with self.assertRaisesRegex(SystemRefused, told):
                 system.analyse()
-        for part, is_told in (("source", True), ("task", False)):
-            told = str(SystemRefused(14, "", 2, part, 1))
-            self.assertEqual("a distance is at most the period" in told, is_told, told)
 
     def test_each_reason(self) -> None:
         """Each example of docs/FILES.md is refused by its reason."""
@@ -245,13 +249,24 @@ class Files(unittest.TestCase):
         """What can't be a system of objects says where, and what to write."""
         for text, why in (
             ("x = [", "isn't TOML: Invalid value"),
-            ("format = 3", "the format is 3: write format = 1"),
-            ("format = true", "the format is True: write format = 1"),
-            ("format = 1\ntasks = []", "tasks is no key of a system; the keys are format, resource, source"),
-            ("format = 1\ntask = 5", r"task is no list of entries: write task = \[{ name"),
-            ("format = 1\ntask = [5]", "task 1 is no table"),
-            ("format = 1\nsource = [{ name = 's', period = 1 }, { name = 't' }]", "source 2 lacks period"),
-            ("format = 1\nsource = [{ name = 's', colour = 1 }]", "source 1 has a key colour; the keys are name"),
+            ("format = 3", "line 1: the format 3 isn't known: it is 1, 2 or 4"),
+            ("format = true", "line 1: `format` is a truth value, and has to be the whole number 1, 2 or 4"),
+            (
+                "format = 1\ntasks = []",
+                "line 2: the key `tasks` isn't known at the top of the file; did you mean `task`",
+            ),
+            (
+                "format = 1\ntask = 5",
+                r"`task` is a whole number, and has to be an array of tables: write a section \[\[task",
+            ),
+            ("format = 1\ntask = [5]", "line 2: task 1 is a whole number, and has to be a table"),
+            (
+                "format = 1\nsource = [{ name = 's', period = 1 }, { name = 't' }]",
+                'line 2: source "t": the key `period` is missing',
+            ),
+            ("format = 1\npath = [{ name = 4, tasks = [] }]", "line 2: path 1 of the file: `name` is a whole number"),
+            ("format = 1\nsource = [{ name = 's', period = 1 }, { name = 's', period = 1 }]", 'the name "s" is taken'),
+            ("format = 1\nsource = [{ name = 's', colour = 1 }]", 'line 2: source "s": the key `colour` isn.t known'),
         ):
             with self.assertRaisesRegex(LokwurmiError, why):
                 System.from_toml(text)
@@ -288,16 +303,14 @@ class Files(unittest.TestCase):
 class Words(unittest.TestCase):
     def test_reasons_are_those_of_the_page(self) -> None:
         text = (TOP / "docs/FILES.md").read_text(encoding="utf-8")
-        self.assertEqual(
-            {int(number): words for number, words in re.findall(r"^### (\d+): (.+)$", text, re.M)}, errors.REASONS
-        )
-        self.assertEqual(set(errors.HELP), set(errors.REASONS))
+        headings = {int(number): words for number, words in re.findall(r"^### (\d+): (.+)$", text, re.M)}
+        self.assertEqual(headings, {number: it.heading for number, it in SYSTEM_REASONS.items()})
         section = text[text.index("### Edits that are refused") :].split("\n## ")[0]
         rules = re.findall(r"^\| (\d) \| ", section, re.M)
-        self.assertEqual([int(it) for it in rules], list(errors.RULES))
+        self.assertEqual([int(it) for it in rules], list(EDIT_RULES))
 
     def test_not_toml(self) -> None:
-        self.assertIsInstance(errors.refusal(13, "not TOML system\n"), NotToml)
+        self.assertIsInstance(error_of(13, "not TOML system\n"), NotToml)
 
 
 if __name__ == "__main__":

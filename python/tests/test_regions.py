@@ -115,7 +115,7 @@ class Calls(unittest.TestCase):
             self.assertEqual(bounds(system), dict(session.bounds))
 
     def test_refusals(self) -> None:
-        for region, on, reason in ((0, "cpu", 2), (1_000_001, "cpu", 2), ("long", "cpu", 1), (1, "bus", 9)):
+        for region, on, reason in ((0, "cpu", 2), (10_000_001, "cpu", 2), ("long", "cpu", 1), (1, "bus", 9)):
             system = logging(region)  # type: ignore[arg-type]
             system.can("bus")
             system.tasks["log"].on = on
@@ -139,13 +139,16 @@ class Files(unittest.TestCase):
 
     def test_older_formats(self) -> None:
         """A file whose format hasn't what its tasks have is refused, as `analyse` does."""
-        for number, wanted in ((1, "line 11: task 2 has a region, which format 1 hasn't"), (2, "write format = 4")):
+        for number, wanted in (
+            (1, 'line 11: task "log": it has a `region`, which format 1 hasn.t'),
+            (2, "write `format = 4`"),
+        ):
             text = logging(5).to_toml().replace("format = 4", f"format = {number}")
             with self.assertRaisesRegex(LokwurmiError, wanted):
                 System.from_toml(text)
         system = logging()
         system.tasks["log"].after = ["often", "seldom"]
-        with self.assertRaisesRegex(LokwurmiError, "a list in after, which format 1 hasn't: write format = 2"):
+        with self.assertRaisesRegex(LokwurmiError, "`after` is a list, which format 1 hasn't: write `format = 2`"):
             System.from_toml(system.to_toml().replace("format = 2", "format = 1"))
 
     def test_examples(self) -> None:
@@ -179,7 +182,7 @@ class Times(unittest.TestCase):
         self.assertEqual(self.numbers(us(19), us("19.5")), (20, 20))
         self.assertEqual(self.numbers("19.2us", us("19.5")), (21, 21))
         self.assertEqual(self.numbers(us(20), us(20)), (21, 21))
-        self.assertEqual(self.numbers("2 s", us(20)), (1_000_000, 21))
+        self.assertEqual(self.numbers("20 s", us(20)), (10_000_000, 21))
         # a region of no time is none, and a number counts ticks
         self.assertEqual(self.numbers("0us", us(20)), (1, 20))
         self.assertEqual(self.numbers(1, us(1)), (1, 1))
@@ -209,7 +212,7 @@ class Times(unittest.TestCase):
         self.assertEqual(sorted(str(it.message) for it in warned), told)
         for region, what in (
             ("5.5us", "5.5us is rounded up to 7, with a tick more"),
-            ("2 s", "2s is 1000000, the most, which is as long as any execution"),
+            ("20 s", "20s is 10000000, the most, which is as long as any execution"),
         ):
             found = [str(it) for it in self.ticked(region, us(20)).roundings if it.key == "region"]
             self.assertEqual(found, [f"task log: region of {what}"])

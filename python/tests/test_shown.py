@@ -6,9 +6,9 @@ import unittest
 from html.parser import HTMLParser
 from pathlib import Path
 
-from lokwurmi import Chain, Kind, NotInstalled, System
-from lokwurmi import chains as chain_results
-from lokwurmi import ms, reports, us
+from lokwurmi import Chain, Kind, NotInstalled, System, ms, us
+from lokwurmi.results import effect_chains as chain_results
+from lokwurmi.results import reports
 
 SRC = Path(__file__).resolve().parents[1] / "src"
 REPORT = """task a cpu period 10 jitter 0 distance 0 best 1 worst 3
@@ -191,7 +191,8 @@ class Absent(unittest.TestCase):
         script = (
             "import sys\n"
             "sys.modules['matplotlib'] = sys.modules['pandas'] = None\n"
-            "from lokwurmi import NotInstalled, reports\n"
+            "from lokwurmi import NotInstalled\n"
+            "from lokwurmi.results import reports\n"
             "report = reports.reports('summary tasks 0 overload 0 missed 0\\n')[0]\n"
             "for call in (report.plot, report.to_dataframe):\n"
             "    try:\n"

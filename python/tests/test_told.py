@@ -18,7 +18,7 @@ from lokwurmi import (
     WordsRefused,
     ms,
 )
-from lokwurmi.reports import buffers, order
+from lokwurmi.results.reports import buffers, order
 
 
 def small(tick=None):

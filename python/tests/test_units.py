@@ -9,10 +9,11 @@ from pathlib import Path
 from engine_for_tests import need_engine
 
 from lokwurmi import NoTick, NoUnitWarning, RoundingWarning, System, Time, UnitsRefused, ms, ns, s, us
-from lokwurmi.entries import keys_of
 from lokwurmi.frames import classical, error, ethernet, execution, flexible, frame_bits, padded
-from lokwurmi.limits import UP
-from lokwurmi.units import Converter, bit_of, tick_of
+from lokwurmi.model.conversion import Converter
+from lokwurmi.model.entries import keys_of
+from lokwurmi.model.limits import UP
+from lokwurmi.model.units import bit_of, tick_of
 
 TOP = Path(__file__).resolve().parents[2]
 

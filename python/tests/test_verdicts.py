@@ -4,9 +4,9 @@ import unittest
 import warnings
 
 from lokwurmi import Shift, UnitsRefused, Verdicts, changes_of, us
-from lokwurmi.chains import chains_report
-from lokwurmi.diffs import Limit
-from lokwurmi.reports import Verdict, reports
+from lokwurmi.results.differences import Limit
+from lokwurmi.results.effect_chains import chains_report
+from lokwurmi.results.reports import Verdict, reports
 
 LINE = "task {} cpu period 20 jitter 0 distance 0 best 1 worst {}\n"
 BEFORE = (

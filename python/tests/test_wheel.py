@@ -43,7 +43,7 @@ class Wheels(unittest.TestCase):
             name, files = self.wheel(source, Path(room, "two"))
             self.assertRegex(name, r"^lokwurmi-[\d.]+-py3-none-any\.whl$")
             self.assertNotIn("lokwurmi/liblokwurmi.so", files)
-            self.assertIn("lokwurmi/units.py", files)
+            self.assertIn("lokwurmi/model/units.py", files)
 
 
 if __name__ == "__main__":

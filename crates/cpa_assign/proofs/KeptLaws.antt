@@ -18,7 +18,7 @@ use Rattle.cpa_model.specs.declared.entries.Turn.TheVariants.{Priority}
 use Rattle.cpa_model.specs.declared.entries.Activator.{Activator}
 use Rattle.cpa_model.specs.declared.entries.Activator.TheVariants.{Source as FromSource, Task as FromTask}
 use Rattle.cpa_model.specs.SystemLists.{SystemLists, task_at, resource_at, task_places, is_on, is_task, priority_of, no_task}
-use Rattle.cpa_model.specs.Rules.{IsSystem, IsTask, IsPath, IsActivator, TurnFits, HaveOwnPriorities}
+use Rattle.cpa_model.specs.Rules.{IsSizedTask, IsSystem, IsTask, IsPath, IsActivator, TurnFits, HaveOwnPriorities}
 use Rattle.cpa_local.proofs.PassingPlaces.{map-map}
 use Rattle.cpa_assign.specs.Orders.{is_member, place_in, kth_priority, number_up_to, ordered_task, with_order, HasPriorities, IsOrder}
 use Rattle.cpa_assign.proofs.OrderLaws.{place-less, place-own}
@@ -85,6 +85,14 @@ module _ (s : SystemLists) (r : ℕ) (o : List ℕ) (rules : IsSystem s) (kind :
             (record { placed = it.placed; some = it.some; activated = All-weaker (IsActivator s) (IsActivator t) activated (task_at s j).after it.activated; different = it.different; some_best = it.some_best; ordered = it.ordered; worst = it.worst; turn_fits = it.turn_fits; region_fits = it.region_fits })
       ]
 
+  small_kept : (j : ℕ) → j < length s.tasks → IsSizedTask s.size (ordered_task s r o j)
+  small_kept j less =
+      let it : IsSizedTask s.size (task_at s j) = rules.sized.times j no_task less in
+      elim (cases_Bool (is_on s r j)) [
+        | inl on ↦ rw on (record { worst = it.worst; slot = omega arith; region = it.region })
+        | inr off ↦ rw off it
+      ]
+
   path_kept : (p : Path) → IsPath s p → IsPath t p
   path_kept p path =
       record {
@@ -130,6 +138,14 @@ module _ (s : SystemLists) (r : ℕ) (o : List ℕ) (rules : IsSystem s) (kind :
   unfolding with_order
   order_keeps_rules =
       record {
+        sized = record {
+          resources = rules.sized.resources;
+          sources = rules.sized.sources;
+          tasks = omega (arith, long, rules.sized.tasks);
+          paths = rules.sized.paths;
+          limits = rules.sized.limits;
+          times = λ j d less. let less_s : j < length s.tasks = omega (arith, less, long) in rw (ordered-at s r o j d less_s) (small_kept j less_s);
+        };
         few_resources = rules.few_resources;
         few_sources = rules.few_sources;
         few_tasks = omega (arith, long, rules.few_tasks);

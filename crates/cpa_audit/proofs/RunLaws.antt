@@ -160,15 +160,15 @@ flat-one f a zero few = omega arith
 flat-one f a (suc n) few =
     omega (arith, ap length (flat_map-cons f a (range_with_len (a + 1) n)), length-append (f a) (flat_map f (range_with_len (a + 1) n)), few a, flat-one f (a + 1) n few)
 
-flat-many : (f : ℕ → List Segment) (a n : ℕ) → ((r : ℕ) → length (f r) ≤ 64) → length (flat_map f (range_with_len a n)) ≤ n * 64
+flat-many : (f : ℕ → List Segment) (a n : ℕ) → ((r : ℕ) → length (f r) ≤ 128) → length (flat_map f (range_with_len a n)) ≤ n * 128
 flat-many f a zero few = omega arith
 flat-many f a (suc n) few =
     omega (arith, ap length (flat_map-cons f a (range_with_len (a + 1) n)), length-append (f a) (flat_map f (range_with_len (a + 1) n)), few a, flat-many f (a + 1) n few)
 
-pub partly-few : (s : SystemLists) (tr : TraceLists) (t k : ℕ) → length s.resources ≤ 64 → length (partly s tr t k) ≤ t * 64 + k
+pub partly-few : (s : SystemLists) (tr : TraceLists) (t k : ℕ) → length s.resources ≤ 128 → length (partly s tr t k) ≤ t * 128 + k
 partly-few s tr t k few =
-    let each : (u : ℕ) → length (starting s tr u) ≤ 64 = λ u. rw (starting-is s tr u) (omega (arith, flat-one (segment_at s tr u) 0 (length s.resources) (segment-few s tr u))) in
-    let before : length (started s tr t) ≤ t * 64 = rw (started-is s tr t) (flat-many (starting s tr) 0 t each) in
+    let each : (u : ℕ) → length (starting s tr u) ≤ 128 = λ u. rw (starting-is s tr u) (omega (arith, flat-one (segment_at s tr u) 0 (length s.resources) (segment-few s tr u))) in
+    let before : length (started s tr t) ≤ t * 128 = rw (started-is s tr t) (flat-many (starting s tr) 0 t each) in
     omega (arith, before, length-append (started s tr t) (flat_map (segment_at s tr t) (range_with_len 0 k)), flat-one (segment_at s tr t) 0 k (segment-few s tr t))
 
 -- ---- at the end of the run

@@ -10,7 +10,7 @@ use cpa_events::{MAX_MODEL_JITTER, Model, Stream};
 fn stream(period: u64, jitter: u64, distance: u64) -> Stream
     requires some { 1 ≤ period }
     requires period { period ≤ 1_000_000_000 }
-    requires jitter { jitter ≤ 2_000_000_000 }
+    requires jitter { jitter ≤ 4_200_000_000 }
     requires distance { distance ≤ 1_000_000_000 }
     ensures { IsStreamInRange result }
 {
@@ -168,5 +168,5 @@ fn largest_numbers(rt: HostRuntime) {
     let model = Model::one(stream(1, MAX_MODEL_JITTER, 0));
     let n = 4_294_967_296;
     let numbers = (model.eta_plus(n), model.delta_minus(n), model.delta_plus(n));
-    assert!(rt; numbers == (6_294_967_296, 2_294_967_295, 6_294_967_295));
+    assert!(rt; numbers == (8_494_967_296, 94_967_295, 8_494_967_295));
 }

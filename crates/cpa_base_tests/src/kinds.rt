@@ -114,7 +114,7 @@ fn preemptive_bursts(rt: HostRuntime) {
     let rivals = [rival(13, 0, 3, 0, 3), rival(17, 20, 2, 0, 2)];
     let later = cpa_spp::respond(&every(5, 100), 2, 0, &rivals, 1000);
     assert!(rt; late == Bound::Within(37) && later == Bound::Within(72));
-    let largest_jitter = cpa_spp::respond(&every(1, MAX_JITTER), 1_000_000, 0, &[], MAX_LIMIT);
+    let largest_jitter = cpa_spp::respond(&every(1, MAX_JITTER), 10_000_000, 0, &[], MAX_LIMIT);
     // Without a bound on a rival's input there is none.
     let rivals = [rival(10, 0, 3, 0, 3), endless(None, 1, 0)];
     let beside_endless = cpa_spp::respond(&every(20, 0), 7, 0, &rivals, 1000);
@@ -153,7 +153,13 @@ fn tdma(rt: HostRuntime) {
         let found = cpa_tdma::respond(&every(10, 25), 2, 4, 4, limit);
         wrong = tell(wrong, case, found == bound);
     }
-    let largest_gap = cpa_tdma::respond(&every(MAX_PERIOD, 0), 1_000_000, 1, 1_000_001, MAX_LIMIT);
+    let largest_gap = cpa_tdma::respond(
+        &every(MAX_PERIOD, 0),
+        10_000_000,
+        1,
+        10_000_001,
+        MAX_LIMIT,
+    );
     wrong = tell(wrong, "largest_gap", largest_gap == Bound::Overload);
     assert!(rt; wrong.is_none(), "{wrong:?}");
 }

@@ -7,9 +7,12 @@ ghost use Rattle.cpa_window.specs.Rivals.{IsRival, AreRivals};
 
 use cpa_events::{Model, Stream};
 use cpa_units::Bound;
-use cpa_units::limits::{MAX_JITTER, MAX_LIMIT, MAX_PERIOD};
+use cpa_units::limits::{MAX_JITTER, MAX_PERIOD};
 use cpa_window::Rival;
 use std::alloc::{AllocError, Global};
+
+/// The window limit of the cases: the greatest of a small system, with which results were taken.
+const LIMIT: u64 = 10_000_000;
 
 /// How many rivals the task has.
 const RIVALS: u64 = 511;
@@ -79,13 +82,13 @@ impl Rivals {
     pub fn bound(&self, case: &str) -> Option<Bound> {
         let (quiet, busy) = (self.quiet.as_slice(), self.busy.as_slice());
         match case {
-            "preemptive-quiet" => Some(cpa_spp::respond(&late(1), 1, 0, quiet, MAX_LIMIT)),
-            "preemptive-busy" => Some(cpa_spp::respond(&late(1), 1, 0, busy, MAX_LIMIT)),
-            "round-robin-quiet" => Some(cpa_rr::respond(&late(1), 1, 1, quiet, MAX_LIMIT)),
-            "round-robin-busy" => Some(cpa_rr::respond(&late(1), 1, 1, busy, MAX_LIMIT)),
-            "can-quiet" => Some(cpa_can::respond(&late(102), 1, 1000, quiet, 1, MAX_LIMIT)),
-            "can-busy" => Some(cpa_can::respond(&late(202), 1, 1000, busy, 1, MAX_LIMIT)),
-            "tdma" => Some(cpa_tdma::respond(&late(1), 1, 1, 1, MAX_LIMIT)),
+            "preemptive-quiet" => Some(cpa_spp::respond(&late(1), 1, 0, quiet, LIMIT)),
+            "preemptive-busy" => Some(cpa_spp::respond(&late(1), 1, 0, busy, LIMIT)),
+            "round-robin-quiet" => Some(cpa_rr::respond(&late(1), 1, 1, quiet, LIMIT)),
+            "round-robin-busy" => Some(cpa_rr::respond(&late(1), 1, 1, busy, LIMIT)),
+            "can-quiet" => Some(cpa_can::respond(&late(102), 1, 1000, quiet, 1, LIMIT)),
+            "can-busy" => Some(cpa_can::respond(&late(202), 1, 1000, busy, 1, LIMIT)),
+            "tdma" => Some(cpa_tdma::respond(&late(1), 1, 1, 1, LIMIT)),
             _ => None,
         }
     }

@@ -15,7 +15,7 @@ use std::snapshot::Snapshot;
 
 type BoardTable = Table<(), View, Snapshot<Vec<u64>>, Rises, Global>;
 
-/// Up to 512 words and a number of claims. Threads share it, and step on it by their seats. Contracts
+/// Up to 8192 words and a number of claims. Threads share it, and step on it by their seats. Contracts
 /// see which board it is.
 #[derive(Drop)]
 pub struct Board {
@@ -50,11 +50,11 @@ fn opened<J: Named, P: Caps>(
 }
 
 impl Board {
-    /// A board with these words, at most 512 and each at most its cap, no claims, and a seat that has seen
+    /// A board with these words, at most 8192 and each at most its cap, no claims, and a seat that has seen
     /// them. Whatever steps are taken on it, no word falls, none passes its cap, and no seat has seen more
     /// than the words are. Refused only when out of memory.
     pub fn start<P: Caps>(alloc: Global, words: &[u64], caps: &P) -> Result<(Board, Seat), NoMemory>
-        requires count { length words.now ≤ 512 }
+        requires count { length words.now ≤ 8192 }
         requires caps { AreAtMost words.now (P.caps caps.now) }
         ensures seat { IfOk result (λ r. r.1 ≡ record { board = r.0; starts = words.now; caps = P.caps caps.now; seen = words.now }) }
         ensures rises { WordsOnlyRise (opening words.now (P.caps caps.now)) }

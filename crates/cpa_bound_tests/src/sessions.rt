@@ -1,5 +1,3 @@
-ghost use Rattle.std.specs.Prelude.{◌≤◌};
-
 use crate::systems::ENDLESS_JITTER;
 use cpa_cases::TWO_TASKS;
 use cpa_edit::{Edit, EditFault, EditRefusal, Step, read_script};
@@ -288,17 +286,17 @@ const CASES: [Case; 17] = [
     },
 ];
 
-/// A session on a system, whose tasks it marks. The trail has room for 512 tasks.
-fn start(alloc: Global, text: &str, trail: &mut Trail) -> Result<Session, Fail>
-    requires { 512 ≤ trail.old.room }
-{
+/// A session on a system, and a trail with the marks of its tasks.
+fn start(alloc: Global, text: &str) -> Result<(Session, Trail), Fail> {
     let system = read_system(alloc, text.as_bytes())?;
-    Ok(Session::start(&(), alloc, system, &mut OneByOne, trail)?)
+    let mut trail = Trail::of_size(alloc, system.size())?;
+    let session = Session::start(&(), alloc, system, &mut OneByOne, &mut trail)?;
+    Ok((session, trail))
 }
 
 /// Makes an edit, and answers the rule that it breaks, else 0. The trail is left with the marks of the edit.
 fn make(alloc: Global, session: &mut Session, edit: &Edit, trail: &mut Trail) -> Result<u8, Fail> {
-    *trail = Trail::with_room(alloc, 512)?;
+    *trail = Trail::of_size(alloc, session.system().size())?;
     match session.edit(&(), alloc, edit, &mut OneByOne, trail) {
         Ok(()) => Ok(0),
         Err(EditFault::Refused(EditRefusal(number))) => Ok(number),
@@ -331,8 +329,7 @@ fn has_tasks(session: &Session, tasks: &[(u64, Bound)]) -> bool {
 
 fn is_met(alloc: Global, case: &Case) -> Result<bool, Fail> {
     let script = read_script(alloc, case.script.as_bytes())?;
-    let mut trail = Trail::with_room(alloc, 512)?;
-    let mut session = start(alloc, case.system, &mut trail)?;
+    let (mut session, mut trail) = start(alloc, case.system)?;
     let mut broken = 0;
     for k in 0..script.len() {
         if let Step::Change(edit) = script.step(k) {
@@ -366,7 +363,7 @@ fn are_equal(first: &Vector, second: &Vector) -> bool {
 fn edits_or_keeps(alloc: Global, session: &mut Session, edit: &Edit) -> Result<bool, Fail> {
     let bounds = session.bounds().copy(alloc)?;
     let file = print_system(alloc, session.system())?;
-    let mut trail = Trail::with_room(alloc, 512)?;
+    let mut trail = Trail::of_size(alloc, session.system().size())?;
     match session.edit(&(), alloc, edit, &mut OneByOne, &mut trail) {
         Err(EditFault::Memory) => {
             let now = print_system(alloc, session.system())?;
@@ -383,7 +380,7 @@ fn edits_or_keeps(alloc: Global, session: &mut Session, edit: &Edit) -> Result<b
 fn edit_without_memory(rt: HostRuntime) -> Result<(), Fail> {
     let alloc = rt.alloc();
     let script = read_script(alloc, SESSION_REPORTS.as_bytes())?;
-    let mut session = start(alloc, TWO_TASKS, &mut Trail::with_room(alloc, 512)?)?;
+    let (mut session, _) = start(alloc, TWO_TASKS)?;
     let mut right = true;
     for k in 0..script.len() {
         if let Step::Change(edit) = script.step(k) {

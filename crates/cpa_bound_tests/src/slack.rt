@@ -58,7 +58,7 @@ fn line(
     if task.0 >= system.tasks() {
         return Ok(Vec::new(alloc));
     }
-    let mut trail = Trail::with_room(alloc, 512)?;
+    let mut trail = Trail::of_size(alloc, system.size())?;
     let slack = find_slack(&(), alloc, &system, task, &mut OneByOne, &mut trail)?;
     Ok(slack_text(alloc, &system, task, &slack)?)
 }

@@ -16,7 +16,7 @@ pub fn buffer(system: &System, task: TaskId, x: &Vector) -> Bound
     requires there { task.0 < length system.now.tasks }
     requires vector { IsVector system.now x.now }
     ensures value { result ≡ buffer_of system.now x.now task.0 }
-    ensures few { RespectsLimit (2 ^ 36) result }
+    ensures few { RespectsLimit (2 ^ 38) result }
 {
     match x.get(task) {
         Bound::Overload => Bound::Overload,

@@ -1,10 +1,10 @@
 -- What is known of what is planned.
 use Rattle.std.proofs.Common.{◌≡◌, ℕ, List, refl, ap, subst}
-use Rattle.cpa_units.specs.declared.limits.TheConstants.{MAX_SYSTEM_FILE}
+use Rattle.cpa_units.specs.declared.limits.TheConstants.{MAX_LARGE_FILE}
 use Rattle.cpa_model.specs.SystemLists.{SystemLists}
 use Rattle.cpa_model.specs.Rules.{IsSystem}
-use Rattle.cpa_file.specs.Reading.{Reading, NotToml, Refused, Accepted, reading_of}
-use Rattle.cpa_file.proofs.ReadingLaws.{accepted-is_system}
+use Rattle.cpa_file.specs.Reading.{Reading, NotToml, TooLong, Refused, Accepted, file_reading_of}
+use Rattle.cpa_file.proofs.ReadingLaws.{file-is_system}
 use Rattle.cpa_trace.specs.Trace.{TraceLists}
 use Rattle.cpa_call.specs.declared.loading.Traced.{Traced}
 use Rattle.cpa_call.specs.Plans.{Held, Plan, Do, Refuse, Missing, and_then, content_in, system_by, system_in, trace_in, traced, traced_in}
@@ -20,14 +20,15 @@ then-done Missing next b e = let no : ⊥ = cc in absurd no
 
 read-system : (file : List ℕ) (r : Reading) (s : SystemLists) → system_by file r ≡ Do s → r ≡ Accepted s
 read-system file NotToml s e = cc
+read-system file TooLong s e = cc
 read-system file (Refused r) s e = cc
 read-system file (Accepted t) s e = ap Accepted (done-same t s e)
 
 -- a system that a file stands for keeps the rules
 pub planned-system : (held : Held) (file : List ℕ) (s : SystemLists) → system_in held file ≡ Do s → IsSystem s
 planned-system held file s e =
-    let h = then-done (content_in held file MAX_SYSTEM_FILE) (λ bytes. system_by file (reading_of bytes)) s e in
-    accepted-is_system h.0 s (read-system file (reading_of h.0) s h.2)
+    let h = then-done (content_in held file MAX_LARGE_FILE) (λ bytes. system_by file (file_reading_of bytes)) s e in
+    file-is_system h.0 s (read-system file (file_reading_of h.0) s h.2)
 
 traced-system : (s : SystemLists) (tr : TraceLists) (t : Traced) → traced s tr ≡ Do t → s ≡ t.system
 traced-system s tr t e = ap (λ (x : Traced). x.system) (done-same {A = Traced} (record { system = s; trace = tr }) t e)

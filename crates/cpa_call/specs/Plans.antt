@@ -1,8 +1,8 @@
 -- What comes of the files that a call names, or why it is refused: the order of refusals.
 use Rattle.std.specs.Prelude.{◌≡◌, ◌⊎◌, ℕ, Bool, true, nat_lt, if◌then◌else◌, List, length, Option, Some, None, Result, Ok, Err}
-use Rattle.cpa_units.specs.declared.limits.TheConstants.{MAX_SYSTEM_FILE, MAX_TRACE_FILE}
+use Rattle.cpa_units.specs.declared.limits.TheConstants.{MAX_LARGE_FILE, MAX_TRACE_FILE}
 use Rattle.cpa_model.specs.SystemLists.{SystemLists}
-use Rattle.cpa_file.specs.Reading.{Reading, NotToml, Refused, Accepted, reading_of}
+use Rattle.cpa_file.specs.Reading.{Reading, NotToml, TooLong, Refused, Accepted, file_reading_of}
 use Rattle.cpa_trace.specs.declared.breach.Breach.{Breach}
 use Rattle.cpa_trace.specs.declared.fault.TraceFault.{TraceFault}
 use Rattle.cpa_trace.specs.Trace.{TraceLists}
@@ -37,14 +37,15 @@ content_by file most (Some bytes) = if nat_lt most (length bytes) then Refuse 12
 abbrev pub content_in : Held → List ℕ → ℕ → Plan (List ℕ)
 content_in held file most = content_by file most (held file)
 
--- the system that a file stands for
+-- the system that a file stands for, which has no more bytes than its format allows
 abbrev pub system_by : List ℕ → Reading → Plan SystemLists
 system_by file NotToml = Refuse 13 (not_toml file)
+system_by file TooLong = Refuse 12 (too_long file)
 system_by file (Refused r) = Refuse 14 (system_refused r)
 system_by file (Accepted s) = Do s
 
 abbrev pub system_in : Held → List ℕ → Plan SystemLists
-system_in held file = and_then (content_in held file MAX_SYSTEM_FILE) (λ bytes. system_by file (reading_of bytes))
+system_in held file = and_then (content_in held file MAX_LARGE_FILE) (λ bytes. system_by file (file_reading_of bytes))
 
 -- the trace that a file is, where it obeys the system
 abbrev pub unless_breach : SystemLists → TraceLists → Option Breach → Plan TraceLists

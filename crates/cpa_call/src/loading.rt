@@ -2,7 +2,7 @@
 
 ghost use Rattle.std.specs.Prelude.{◌≡◌, ◌≤◌, true, length, vec_len, Some, Ok, IfOk, IfErr};
 ghost use Rattle.cpa_units.specs.declared.limits.TheConstants.{MAX_TRACE_FILE};
-ghost use Rattle.cpa_file.specs.Reading.{Reading, reading_of, IsReadFault};
+ghost use Rattle.cpa_file.specs.Reading.{Reading, file_reading_of, IsReadFault};
 ghost use Rattle.cpa_trace.specs.Reading.{trace_of};
 ghost use Rattle.cpa_sim.specs.Outcome.{CanReplay};
 ghost use Rattle.cpa_call.specs.Plans.{Do, Refuse, content_in, system_by, system_in, trace_by, trace_in, traced_in, IsSecond};
@@ -12,12 +12,12 @@ ghost use Rattle.cpa_call.specs.Ends.{IsEndOf, HasStatus, IsUnreadFile, IsNoUnre
 use crate::errors::{InputError, Reply};
 use crate::lines::{breach_line, file_line, refusal_line, trace_line};
 use crate::statuses;
-use cpa_file::{FileRefusal, read_system};
+use cpa_file::{FileRefusal, read_system_file as read_file};
 use cpa_io::{Files, LoadFault};
 use cpa_model::System;
 use cpa_trace::{Trace, TraceFault, obeys, read_trace};
 use cpa_units::NoMemory;
-use cpa_units::limits::{MAX_SYSTEM_FILE, MAX_TRACE_FILE};
+use cpa_units::limits::{MAX_LARGE_FILE, MAX_TRACE_FILE};
 use std::alloc::Global;
 
 /// A system, with a trace that obeys it.
@@ -65,6 +65,10 @@ fn refuse_system(alloc: Global, file: &str, refusal: FileRefusal) -> Result<Repl
             status: statuses::NOT_TOML,
             text: file_line(alloc, b"not TOML ", file)?,
         }),
+        FileRefusal::TooLong => Ok(Reply {
+            status: statuses::FILE_TOO_LONG,
+            text: file_line(alloc, b"too long ", file)?,
+        }),
         FileRefusal::Refused(refusal) => Ok(Reply {
             status: statuses::SYSTEM_REFUSED,
             text: refusal_line(alloc, refusal)?,
@@ -87,12 +91,12 @@ fn end_system(alloc: Global, file: &str, refusal: FileRefusal) -> InputError
 
 /// The system that the bytes of a file stand for.
 fn read_system_file(alloc: Global, file: &str, bytes: &[u8]) -> Result<System, InputError>
-    ensures planned { IfOk result (λ s. system_by file.now (reading_of bytes.now) ≡ Do s) }
-    ensures ended { IfErr result (IsEndOf (system_by file.now (reading_of bytes.now))) }
+    ensures planned { IfOk result (λ s. system_by file.now (file_reading_of bytes.now) ≡ Do s) }
+    ensures ended { IfErr result (IsEndOf (system_by file.now (file_reading_of bytes.now))) }
     ensures status { IfErr result HasStatus }
     ensures unread { IfErr result IsNoUnread }
 {
-    match read_system(alloc, bytes) {
+    match read_file(alloc, bytes) {
         Ok(system) => Ok(system),
         Err(refusal) => Err(end_system(alloc, file, refusal)),
     }
@@ -108,7 +112,7 @@ pub fn load_system<F: Files>(alloc: Global, files: &mut F, file: &str) -> Result
     ensures held { F.held files.new ≡ F.held files.old }
     ensures rises { F.faults files.old ≤ F.faults files.new }
 {
-    let bytes = load_file(alloc, files, file, MAX_SYSTEM_FILE)?;
+    let bytes = load_file(alloc, files, file, MAX_LARGE_FILE)?;
     read_system_file(alloc, file, bytes.as_slice())
 }
 

@@ -171,6 +171,7 @@ pub(crate) fn read_chains(
     let document = match read_document(alloc, bytes) {
         Ok(document) => document,
         Err(FileRefusal::NotToml) => return Err(ChainsFault::NotToml),
+        Err(FileRefusal::TooLong) => unreachable!(),
         Err(FileRefusal::Refused(_)) => unreachable!(),
         Err(FileRefusal::Memory) => return Err(ChainsFault::Memory),
     };

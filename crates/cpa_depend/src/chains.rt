@@ -82,10 +82,10 @@ pub fn has_cyclic_chain(system: &System, res: ResId) -> bool
 }
 
 /// Exactly what each resource reads, by its place; places from the number of resources on say nothing.
-pub fn reads_of_all(system: &System) -> [ResSet; 64]
+pub fn reads_of_all(system: &System) -> [ResSet; 128]
     ensures { AreReads system.now result }
 {
-    let mut all = [ResSet::none(); 64];
+    let mut all = [ResSet::none(); 128];
     for place in 0..system.resources() {
         all[place as usize] = reads(system, ResId(place));
     }

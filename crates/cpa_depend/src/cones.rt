@@ -9,7 +9,7 @@ use cpa_model::System;
 use cpa_units::{ResId, ResSet};
 
 /// The set with resources that read a member; none where each such resource is a member.
-fn widened(system: &System, reads: &[ResSet; 64], set: ResSet) -> Option<ResSet>
+fn widened(system: &System, reads: &[ResSet; 128], set: ResSet) -> Option<ResSet>
     requires reads { AreReads system.now reads.now }
     ensures { MatchOption result (IsClosedUnder system.now set) (λ wider. IsWiderWithin system.now set wider) }
 {
@@ -36,7 +36,7 @@ pub fn cone(system: &System, from: ResSet) -> ResSet
 }
 
 /// The same, by a table of what each resource reads.
-pub fn cone_by(system: &System, reads: &[ResSet; 64], from: ResSet) -> ResSet
+pub fn cone_by(system: &System, reads: &[ResSet; 128], from: ResSet) -> ResSet
     requires reads { AreReads system.now reads.now }
     requires from { (r : ℕ) → Members from r → r < length system.now.resources }
     ensures { (r : ℕ) → Members result r ↔ InCone system.now (Members from) r }

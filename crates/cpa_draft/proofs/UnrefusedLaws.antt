@@ -4,6 +4,7 @@ use Rattle.std.specs.List.{list_all, list_any, filter_map}
 use Rattle.std.proofs.lemmas.Bool.{true≢false, le-leb, leb-true, ltb-true, ltb-false, cases_Bool, false_from_ne_true}
 use Rattle.std.proofs.lemmas.Option.{none-some}
 use Rattle.cpa_units.specs.Name.{is_name}
+use Rattle.cpa_units.specs.Sizes.{most_resources, most_sources, most_tasks, most_paths}
 use Rattle.cpa_draft.specs.First.{first_place, first_known}
 use Rattle.cpa_draft.specs.Names.{source_names, resource_names, place_of, kind_of, link_of, links_of, is_nothing, is_task}
 use Rattle.cpa_draft.specs.Chains.{first_longer}
@@ -20,10 +21,10 @@ use Rattle.cpa_draft.proofs.ListLaws.{not-false}
 
 -- what no reason gives, entry by entry
 pub record IsUnrefused (d : DraftLists) : Type 0 where
-  pub resources_fit : All (λ r. resource_fits r ≡ true) d.resources
-  pub sources_fit : All (λ r. source_fits r ≡ true) d.sources
-  pub tasks_fit : All (λ t. task_fits t ≡ true) d.tasks
-  pub paths_fit : All (λ p. path_fits p ≡ true) d.paths
+  pub resources_fit : All (λ r. resource_fits d.size r ≡ true) d.resources
+  pub sources_fit : All (λ r. source_fits d.size r ≡ true) d.sources
+  pub tasks_fit : All (λ t. task_fits d.size t ≡ true) d.tasks
+  pub paths_fit : All (λ p. path_fits d.size p ≡ true) d.paths
   pub resources_named : All (λ (r : DraftResource). is_name r.name ≡ true) d.resources
   pub sources_named : All (λ (r : DraftSource). is_name r.name ≡ true) d.sources
   pub tasks_named : All (λ (t : DraftTask). is_name t.name ≡ true) d.tasks
@@ -41,10 +42,10 @@ pub record IsUnrefused (d : DraftLists) : Type 0 where
   pub tasks_suit : All (λ (t : DraftTask). task_misfits (kind_of d t.on) t ≡ false) d.tasks
   pub ordered : All (λ t. is_crossed t ≡ false) d.tasks
   pub linked : All (λ (p : DraftPath). (nat_le (length p.tasks) 0 || not (is_linked d p.tasks)) ≡ false) d.paths
-  pub few_resources : length d.resources ≤ 64
-  pub few_sources : length d.sources ≤ 128
-  pub few_tasks : length d.tasks ≤ 512
-  pub few_paths : length d.paths ≤ 128
+  pub few_resources : length d.resources ≤ most_resources d.size
+  pub few_sources : length d.sources ≤ most_sources d.size
+  pub few_tasks : length d.tasks ≤ most_tasks d.size
+  pub few_paths : length d.paths ≤ most_paths d.size
   pub fed : first_place (is_misfed d) d.tasks ≡ None
 
 or_none : {X : Type 0} (a b : Option X) → (a or_else b) ≡ None → (a ≡ None) × (b ≡ None)
@@ -121,10 +122,10 @@ unrefused d h =
     let suit = or_none _ _ kind.second in
     let many = four _ _ _ _ a.1 in
     record {
-      resources_fit = passes 2 _ resource_fits d.resources range.first;
-      sources_fit = passes 2 _ source_fits d.sources range.second;
-      tasks_fit = passes 2 _ task_fits d.tasks range.third;
-      paths_fit = passes 2 _ path_fits d.paths range.fourth;
+      resources_fit = passes 2 _ (resource_fits d.size) d.resources range.first;
+      sources_fit = passes 2 _ (source_fits d.size) d.sources range.second;
+      tasks_fit = passes 2 _ (task_fits d.size) d.tasks range.third;
+      paths_fit = passes 2 _ (path_fits d.size) d.paths range.fourth;
       resources_named = passes 3 _ (λ (r : DraftResource). is_name r.name) d.resources form.first;
       sources_named = passes 3 _ (λ (r : DraftSource). is_name r.name) d.sources form.second;
       tasks_named = passes 3 _ (λ (t : DraftTask). is_name t.name) d.tasks form.third;
@@ -142,10 +143,10 @@ unrefused d h =
       tasks_suit = fails 9 _ (λ (t : DraftTask). task_misfits (kind_of d t.on) t) d.tasks suit.1;
       ordered = fails 10 _ is_crossed d.tasks kind.third;
       linked = fails 11 _ (λ (p : DraftPath). nat_le (length p.tasks) 0 || not (is_linked d p.tasks)) d.paths kind.fourth;
-      few_resources = few 64 d.resources (at_none 12 _ _ many.first);
-      few_sources = few 128 d.sources (at_none 12 _ _ many.second);
-      few_tasks = few 512 d.tasks (at_none 12 _ _ many.third);
-      few_paths = few 128 d.paths (at_none 12 _ _ many.fourth);
+      few_resources = few (most_resources d.size) d.resources (at_none 12 _ _ many.first);
+      few_sources = few (most_sources d.size) d.sources (at_none 12 _ _ many.second);
+      few_tasks = few (most_tasks d.size) d.tasks (at_none 12 _ _ many.third);
+      few_paths = few (most_paths d.size) d.paths (at_none 12 _ _ many.fourth);
       fed = at_none 14 _ _ z.1;
     }
 
@@ -158,10 +159,10 @@ not_refused d u =
     (none_or _ (by_links d)
     (none_or (out_of_range d) (by_own_names d)
     (from_four _ _ _ _ (record {
-      first = from_passes 2 _ resource_fits d.resources u.resources_fit;
-      second = from_passes 2 _ source_fits d.sources u.sources_fit;
-      third = from_passes 2 _ task_fits d.tasks u.tasks_fit;
-      fourth = from_passes 2 _ path_fits d.paths u.paths_fit;
+      first = from_passes 2 _ (resource_fits d.size) d.resources u.resources_fit;
+      second = from_passes 2 _ (source_fits d.size) d.sources u.sources_fit;
+      third = from_passes 2 _ (task_fits d.size) d.tasks u.tasks_fit;
+      fourth = from_passes 2 _ (path_fits d.size) d.paths u.paths_fit;
     }))
     (none_or (no_name d) (known_name d)
     (from_four _ _ _ _ (record {
@@ -188,9 +189,9 @@ not_refused d u =
       fourth = from_fails 11 _ (λ (p : DraftPath). nat_le (length p.tasks) 0 || not (is_linked d p.tasks)) d.paths u.linked;
     })))
     (from_four _ _ _ _ (record {
-      first = none_at 12 _ _ (from_few 64 d.resources u.few_resources);
-      second = none_at 12 _ _ (from_few 128 d.sources u.few_sources);
-      third = none_at 12 _ _ (from_few 512 d.tasks u.few_tasks);
-      fourth = none_at 12 _ _ (from_few 128 d.paths u.few_paths);
+      first = none_at 12 _ _ (from_few (most_resources d.size) d.resources u.few_resources);
+      second = none_at 12 _ _ (from_few (most_sources d.size) d.sources u.few_sources);
+      third = none_at 12 _ _ (from_few (most_tasks d.size) d.tasks u.few_tasks);
+      fourth = none_at 12 _ _ (from_few (most_paths d.size) d.paths u.few_paths);
     })))
     (none_at 14 _ _ u.fed)

@@ -1,13 +1,15 @@
 -- A system as it was read.
 use Rattle.std.specs.Prelude.{ℕ, List, [], None, slice_index_or}
+use Rattle.cpa_units.specs.declared.limits.Size.{Size}
 use Rattle.cpa_draft.specs.declared.draft.DraftResource.{DraftResource}
 use Rattle.cpa_draft.specs.declared.draft.DraftSource.{DraftSource}
 use Rattle.cpa_draft.specs.declared.draft.DraftTask.{DraftTask}
 use Rattle.cpa_draft.specs.declared.draft.DraftPath.{DraftPath}
 use Rattle.cpa_draft.specs.declared.draft.KindWord.TheVariants as word
 
--- the entries, in their order
+-- the entries, in their order, and how large a system of them may be
 pub record DraftLists : Type 0 where
+  pub size : Size
   pub resources : List DraftResource
   pub sources : List DraftSource
   pub tasks : List DraftTask

@@ -2,7 +2,9 @@
 use Rattle.std.specs.Prelude.{ℕ, ◌+◌, ◌-◌, ◌&&◌, ◌||◌, ◌==◌, nat_le, nat_lt, if◌then◌else◌, not, Bool, true, false, List, [], ◌∷◌, Option, Some, None, is_some, is_none, unwrap_or, option_map, length, take, slice_index_or}
 use Rattle.std.specs.List.{list_all, list_any, filter_map, range_with_len}
 use Rattle.cpa_units.specs.Name.{is_name}
-use Rattle.cpa_units.specs.declared.limits.TheConstants.{MAX_RESOURCES, MAX_TASKS, MAX_SOURCES, MAX_PATHS, MAX_CHAIN, MAX_PERIOD, MAX_JITTER, MAX_EXECUTION, MAX_GAP, MAX_BIT, MAX_LIMIT, MAX_PRIORITY, MAX_PAYLOAD}
+use Rattle.cpa_units.specs.declared.limits.Size.{Size}
+use Rattle.cpa_units.specs.declared.limits.TheConstants.{MAX_CHAIN, MAX_PERIOD, MAX_JITTER, MAX_BIT, MAX_PRIORITY, MAX_PAYLOAD}
+use Rattle.cpa_units.specs.Sizes.{most_resources, most_sources, most_tasks, most_paths, most_execution, most_region, most_gap, most_limit}
 use Rattle.cpa_events.specs.declared.TheConstants.{MAX_STREAMS}
 use Rattle.cpa_draft.specs.Numbers.{nat_of, nat_or, is_within, may_be_within}
 use Rattle.cpa_draft.specs.First.{first_place, first_known}
@@ -39,28 +41,28 @@ abbrev pub first_with : {X : Type 0} → ℕ → Part → (X → Bool) → List 
 first_with reason part marks xs = first_marked reason part (λ k x. marks x) xs
 
 -- the numbers of an entry are in their ranges, and its distance is at most its period
-abbrev pub resource_fits : DraftResource → Bool
-resource_fits r = may_be_within 1 MAX_LIMIT r.limit && may_be_within 0 MAX_GAP r.gap && may_be_within 1 MAX_BIT r.bit
+abbrev pub resource_fits : Size → DraftResource → Bool
+resource_fits z r = may_be_within 1 (most_limit z) r.limit && may_be_within 0 (most_gap z) r.gap && may_be_within 1 MAX_BIT r.bit
 
-abbrev pub source_fits : DraftSource → Bool
-source_fits r = is_within 1 MAX_PERIOD r.period && may_be_within 0 MAX_JITTER r.jitter && may_be_within 0 (nat_of r.period) r.distance
+abbrev pub source_fits : Size → DraftSource → Bool
+source_fits z r = is_within 1 MAX_PERIOD r.period && may_be_within 0 MAX_JITTER r.jitter && may_be_within 0 (nat_of r.period) r.distance
 
-abbrev pub task_fits : DraftTask → Bool
-task_fits t =
-    (may_be_within 1 MAX_EXECUTION t.best && may_be_within 1 MAX_EXECUTION t.worst)
+abbrev pub task_fits : Size → DraftTask → Bool
+task_fits z t =
+    (may_be_within 1 (most_execution z) t.best && may_be_within 1 (most_execution z) t.worst)
     && may_be_within 0 MAX_PAYLOAD t.payload && may_be_within 0 MAX_PRIORITY t.priority
-    && may_be_within 1 MAX_EXECUTION t.slot && may_be_within 1 MAX_EXECUTION t.region
+    && may_be_within 1 (most_execution z) t.slot && may_be_within 1 (most_region z) t.region
 
-abbrev pub path_fits : DraftPath → Bool
-path_fits p = may_be_within 1 MAX_PERIOD p.deadline
+abbrev pub path_fits : Size → DraftPath → Bool
+path_fits z p = may_be_within 1 MAX_PERIOD p.deadline
 
 -- 2: a number is out of its range
 unfoldable pub out_of_range : DraftLists → Option Refusal
 out_of_range d =
-    first_with 2 Resource (λ r. not (resource_fits r)) d.resources
-    or_else first_with 2 Source (λ r. not (source_fits r)) d.sources
-    or_else first_with 2 Task (λ t. not (task_fits t)) d.tasks
-    or_else first_with 2 Path (λ p. not (path_fits p)) d.paths
+    first_with 2 Resource (λ r. not (resource_fits d.size r)) d.resources
+    or_else first_with 2 Source (λ r. not (source_fits d.size r)) d.sources
+    or_else first_with 2 Task (λ t. not (task_fits d.size t)) d.tasks
+    or_else first_with 2 Path (λ p. not (path_fits d.size p)) d.paths
 
 -- 3: an entry's own name hasn't the form of one
 unfoldable pub no_name : DraftLists → Option Refusal
@@ -175,10 +177,10 @@ unlinked d = first_with 11 Path (λ (p : DraftPath). nat_le (length p.tasks) 0 |
 -- 12: more entries than the limit
 unfoldable pub too_many : DraftLists → Option Refusal
 too_many d =
-    first_marked 12 Resource (λ k r. nat_le MAX_RESOURCES k) d.resources
-    or_else first_marked 12 Source (λ k r. nat_le MAX_SOURCES k) d.sources
-    or_else first_marked 12 Task (λ k t. nat_le MAX_TASKS k) d.tasks
-    or_else first_marked 12 Path (λ k p. nat_le MAX_PATHS k) d.paths
+    first_marked 12 Resource (λ k r. nat_le (most_resources d.size) k) d.resources
+    or_else first_marked 12 Source (λ k r. nat_le (most_sources d.size) k) d.sources
+    or_else first_marked 12 Task (λ k t. nat_le (most_tasks d.size) k) d.tasks
+    or_else first_marked 12 Path (λ k p. nat_le (most_paths d.size) k) d.paths
 
 -- some name is there twice
 abbrev pub has_double : List (List ℕ) → Bool

@@ -3,6 +3,7 @@
 ghost use Rattle.std.specs.Prelude.{◌≡◌};
 
 use crate::numbers::natural_or;
+use cpa_units::limits::Size;
 use std::marker::Model;
 use std::slice;
 
@@ -145,9 +146,10 @@ pub struct DraftPath {
     pub deadline: Option<i64>,
 }
 
-/// The entries of a system file, in their order.
+/// The entries of a system file, in their order, and how large the system may be.
 #[derive(Debug, Drop)]
 pub struct Draft {
+    pub size: Size,
     pub resources: Vec<DraftResource>,
     pub sources: Vec<DraftSource>,
     pub tasks: Vec<DraftTask>,
@@ -159,13 +161,20 @@ impl Model for Draft {
 
     ghost Value = { DraftLists };
 
-    ghost view = { λ d. record { resources = d.resources.items; sources = d.sources.items; tasks = d.tasks.items; paths = d.paths.items } };
+    ghost view = { λ d. record { size = d.size; resources = d.resources.items; sources = d.sources.items; tasks = d.tasks.items; paths = d.paths.items } };
 }
 
 impl Draft {
     ghost use Rattle.std.specs.Prelude.{option_map};
     ghost use Rattle.cpa_draft.specs.Numbers.{nat_or};
     ghost use Rattle.cpa_draft.specs.DraftLists.{resource_at};
+
+    /// How large the system may be.
+    pub fn size(&self) -> Size
+        ensures { result ≡ self.now.size }
+    {
+        self.size
+    }
 
     pub fn resource_entries(&self) -> &[DraftResource]
         ensures { result.now ≡ self.now.resources }

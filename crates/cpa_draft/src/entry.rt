@@ -8,9 +8,7 @@ ghost use Rattle.cpa_draft.specs.Refusals.{resource_fits, source_fits, task_fits
 use crate::draft::{DraftPath, DraftResource, DraftSource, DraftTask, Raw};
 use crate::numbers::{is_within, may_be_within, natural};
 use cpa_units::is_name;
-use cpa_units::limits::{
-    MAX_BIT, MAX_EXECUTION, MAX_GAP, MAX_JITTER, MAX_LIMIT, MAX_PAYLOAD, MAX_PERIOD, MAX_PRIORITY,
-};
+use cpa_units::limits::{MAX_BIT, MAX_JITTER, MAX_PAYLOAD, MAX_PERIOD, MAX_PRIORITY, Size};
 
 /// What has a name, or is one.
 pub trait Named {
@@ -25,12 +23,13 @@ pub trait Named {
 /// An entry of one of the four lists.
 pub trait Entry {
     ghost use Rattle.std.specs.Prelude.{◌≡◌, Bool};
+    ghost use Rattle.cpa_units.specs.declared.limits.Size.{Size};
 
-    /// Whether all numbers are in their ranges.
-    ghost fits: { Self → Bool };
+    /// Whether all numbers are in their ranges, which go by the size that a system may have.
+    ghost fits: { Size → Self → Bool };
 
-    fn fits(&self) -> bool
-        ensures { result ≡ fits self.now };
+    fn fits(&self, size: Size) -> bool
+        ensures { result ≡ fits size self.now };
 }
 
 impl Named for Raw {
@@ -52,9 +51,9 @@ impl Named for DraftResource {
 impl Entry for DraftResource {
     ghost fits = { resource_fits };
 
-    fn fits(&self) -> bool {
-        may_be_within(1, MAX_LIMIT, self.limit)
-            && may_be_within(0, MAX_GAP, self.gap)
+    fn fits(&self, size: Size) -> bool {
+        may_be_within(1, size.most_limit(), self.limit)
+            && may_be_within(0, size.most_gap(), self.gap)
             && may_be_within(1, MAX_BIT, self.bit)
     }
 }
@@ -70,7 +69,7 @@ impl Named for DraftSource {
 impl Entry for DraftSource {
     ghost fits = { source_fits };
 
-    fn fits(&self) -> bool {
+    fn fits(&self, _size: Size) -> bool {
         is_within(1, MAX_PERIOD, self.period)
             && may_be_within(0, MAX_JITTER, self.jitter)
             && may_be_within(0, natural(self.period), self.distance)
@@ -88,13 +87,13 @@ impl Named for DraftTask {
 impl Entry for DraftTask {
     ghost fits = { task_fits };
 
-    fn fits(&self) -> bool {
-        may_be_within(1, MAX_EXECUTION, self.best)
-            && may_be_within(1, MAX_EXECUTION, self.worst)
+    fn fits(&self, size: Size) -> bool {
+        may_be_within(1, size.most_execution(), self.best)
+            && may_be_within(1, size.most_execution(), self.worst)
             && may_be_within(0, MAX_PAYLOAD, self.payload)
             && may_be_within(0, MAX_PRIORITY, self.priority)
-            && may_be_within(1, MAX_EXECUTION, self.slot)
-            && may_be_within(1, MAX_EXECUTION, self.region)
+            && may_be_within(1, size.most_execution(), self.slot)
+            && may_be_within(1, size.most_region(), self.region)
     }
 }
 
@@ -109,20 +108,20 @@ impl Named for DraftPath {
 impl Entry for DraftPath {
     ghost fits = { path_fits };
 
-    fn fits(&self) -> bool {
+    fn fits(&self, _size: Size) -> bool {
         may_be_within(1, MAX_PERIOD, self.deadline)
     }
 }
 
 /// The first entry with a number out of its range.
-pub(crate) fn first_unfit<E: Entry>(entries: &[E]) -> Option<usize>
-    ensures place { result ≡ first_place (λ k e. not (E.fits e)) entries.now }
+pub(crate) fn first_unfit<E: Entry>(size: Size, entries: &[E]) -> Option<usize>
+    ensures place { result ≡ first_place (λ k e. not (E.fits size e)) entries.now }
     ensures within { IfSome result (λ k. k < 2 ^ 64 - 1) }
 {
     entries
         .iter()
         .enumerate()
-        .position(|(_, entry)| !entry.fits())
+        .position(|(_, entry)| !entry.fits(size))
 }
 
 /// The first entry whose name hasn't the form of one.

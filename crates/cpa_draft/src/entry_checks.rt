@@ -17,7 +17,6 @@ use crate::links::{Link, Links, links_at};
 use crate::names::{Names, add_names};
 use crate::refusal::{Part, Refusal};
 use crate::tables::Tables;
-use cpa_units::limits::{MAX_PATHS, MAX_RESOURCES, MAX_SOURCES, MAX_TASKS};
 use std::alloc::{AllocError, Global};
 
 pub(crate) fn refuse(reason: u8, part: Part, place: usize) -> Option<Refusal>
@@ -72,10 +71,10 @@ pub(crate) fn refuse_out_of_range(draft: &Draft) -> Option<Refusal>
 {
     first_refused(
         2,
-        first_unfit(draft.resource_entries()),
-        first_unfit(draft.source_entries()),
-        first_unfit(draft.task_entries()),
-        first_unfit(draft.path_entries()),
+        first_unfit(draft.size(), draft.resource_entries()),
+        first_unfit(draft.size(), draft.source_entries()),
+        first_unfit(draft.size(), draft.task_entries()),
+        first_unfit(draft.size(), draft.path_entries()),
     )
 }
 
@@ -252,9 +251,9 @@ pub(crate) fn refuse_too_many(draft: &Draft) -> Option<Refusal>
 {
     first_refused(
         12,
-        first_past(MAX_RESOURCES, draft.resource_entries()),
-        first_past(MAX_SOURCES, draft.source_entries()),
-        first_past(MAX_TASKS, draft.task_entries()),
-        first_past(MAX_PATHS, draft.path_entries()),
+        first_past(draft.size().most_resources(), draft.resource_entries()),
+        first_past(draft.size().most_sources(), draft.source_entries()),
+        first_past(draft.size().most_tasks(), draft.task_entries()),
+        first_past(draft.size().most_paths(), draft.path_entries()),
     )
 }

@@ -13,7 +13,7 @@ use cpa_model::System;
 use cpa_units::{Name, ResId, ResSet, SourceId, TaskId};
 
 fn only(res: ResId) -> ResSet
-    requires { res.0 < 64 }
+    requires { res.0 < 128 }
     ensures { (r : ℕ) → holds result r ≡ (r == res.0) }
 {
     ResSet::none().with(res)
@@ -37,7 +37,7 @@ fn fed_by(system: &System, source: SourceId) -> ResSet
 fn resource_of_task(system: &System, task: &Name) -> ResId
     requires { is_none (task_named system.now task.now) ≡ false }
     ensures value { result.0 ≡ resource_of_task system.now task.now }
-    ensures small { result.0 < 64 }
+    ensures small { result.0 < 128 }
 {
     system.has_rules();
     resource_of(system, task_named(system, task))

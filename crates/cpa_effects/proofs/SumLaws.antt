@@ -134,16 +134,16 @@ one-more f k sum part more before here is =
     is ∙ ap (λ b. bound_plus b part) before ∙ ap (bound_plus (sum_bounds f (range_with_len 0 k))) here
     ∙ sym (ap (sum_bounds f) (places-more k) ∙ sum-last f (range_with_len 0 k) k)
 
-pub limit-more : (k : ℕ) (sum part more : Bound) → RespectsLimit (k * 4000000000) sum → RespectsLimit 4000000000 part → more ≡ bound_plus sum part → RespectsLimit ((k + 1) * 4000000000) more
+pub limit-more : (k : ℕ) (sum part more : Bound) → RespectsLimit (k * 5300000000) sum → RespectsLimit 5300000000 part → more ≡ bound_plus sum part → RespectsLimit ((k + 1) * 5300000000) more
 limit-more k sum part more before here is =
-    subst (RespectsLimit ((k + 1) * 4000000000)) (sym is)
-    (weaker_limit (k * 4000000000 + 4000000000) ((k + 1) * 4000000000) (bound_plus sum part) (omega arith) (plus-limit (k * 4000000000) 4000000000 sum part before here))
+    subst (RespectsLimit ((k + 1) * 5300000000)) (sym is)
+    (weaker_limit (k * 5300000000 + 5300000000) ((k + 1) * 5300000000) (bound_plus sum part) (omega arith) (plus-limit (k * 5300000000) 5300000000 sum part before here))
 
-pub next-small : (st : Stream) → IsStreamInRange st → next_of st ≤ 3000000000
+pub next-small : (st : Stream) → IsStreamInRange st → next_of st ≤ 5200000000
 unfolding stream_delta_plus
 next-small st h = omega (arith, h.period, h.jitter)
 
-pub next-small_at : (m : Model) (k : ℕ) (st : Stream) → IsModelInRange m → k < length m → st ≡ slice_index_or m k st → next_of st ≤ 3000000000
+pub next-small_at : (m : Model) (k : ℕ) (st : Stream) → IsModelInRange m → k < length m → st ≡ slice_index_or m k st → next_of st ≤ 5200000000
 next-small_at m k st h less is = next-small st (subst IsStreamInRange (sym is) (h.each k st less))
 
 -- ---- what loops of a chain's bounds know
@@ -156,14 +156,14 @@ base-limit Register n old renewed h g = g
 base-limit Merge n old renewed h g = g
 base-limit Activation n old renewed h g = h
 
-cost-limit : (g : Passage) (n : ℕ) (response old renewed : Bound) → RespectsLimit n old → RespectsLimit n renewed → RespectsLimit 1000000000 response → RespectsLimit (n + 4000000000) (backward_cost g response old renewed)
+cost-limit : (g : Passage) (n : ℕ) (response old renewed : Bound) → RespectsLimit n old → RespectsLimit n renewed → RespectsLimit 1000000000 response → RespectsLimit (n + 5300000000) (backward_cost g response old renewed)
 cost-limit (By step) n response old renewed h g r =
-    weaker_limit (n + 1000000000) (n + 4000000000) (bound_plus (read_from step old renewed) response) (omega arith) (plus-limit n 1000000000 (read_from step old renewed) response (base-limit step n old renewed h g) r)
-cost-limit FromAbove n response old renewed h g r = weaker_limit n (n + 4000000000) renewed (omega arith) g
-cost-limit OfOneSource n response old renewed h g r = weaker_limit n (n + 4000000000) old (omega arith) h
+    weaker_limit (n + 1000000000) (n + 5300000000) (bound_plus (read_from step old renewed) response) (omega arith) (plus-limit n 1000000000 (read_from step old renewed) response (base-limit step n old renewed h g) r)
+cost-limit FromAbove n response old renewed h g r = weaker_limit n (n + 5300000000) renewed (omega arith) g
+cost-limit OfOneSource n response old renewed h g r = weaker_limit n (n + 5300000000) old (omega arith) h
 
-pub renewed-small : (w : Bound) → RespectsLimit 3000000000 w → RespectsLimit ((0 + 1) * 4000000000) w
-renewed-small w h = weaker_limit 3000000000 ((0 + 1) * 4000000000) w (omega arith) h
+pub renewed-small : (w : Bound) → RespectsLimit 5200000000 w → RespectsLimit ((0 + 1) * 5300000000) w
+renewed-small w h = weaker_limit 5200000000 ((0 + 1) * 5300000000) w (omega arith) h
 
 module _ (reading : Reading) (s : SystemLists) (x : List Bound) (tasks : List TaskId) where
   pub renewed-next : (k : ℕ) → renewed_after reading s x tasks (k + 1) ≡ bound_plus (renewed_after reading s x tasks k) (forward reading s x tasks k)
@@ -194,10 +194,10 @@ module _ (reading : Reading) (s : SystemLists) (x : List Bound) (tasks : List Ta
   arrives-more k old renewed next one two is =
       is ∙ ((λ i. backward_cost (passage_in reading s tasks k) (bound_of x (task_in tasks k).0) (one i) (two i)) ∙ sym (arrives-next k))
 
-  pub arrives-small : (k : ℕ) (old renewed next : Bound) → IsVector s x → (task_in tasks k).0 < length s.tasks → RespectsLimit ((k + 1) * 4000000000) old → RespectsLimit ((k + 1) * 4000000000) renewed
-      → next ≡ backward_cost (passage_in reading s tasks k) (bound_of x (task_in tasks k).0) old renewed → RespectsLimit (((k + 1) + 1) * 4000000000) next
+  pub arrives-small : (k : ℕ) (old renewed next : Bound) → IsVector s x → (task_in tasks k).0 < length s.tasks → RespectsLimit ((k + 1) * 5300000000) old → RespectsLimit ((k + 1) * 5300000000) renewed
+      → next ≡ backward_cost (passage_in reading s tasks k) (bound_of x (task_in tasks k).0) old renewed → RespectsLimit (((k + 1) + 1) * 5300000000) next
   arrives-small k old renewed next vector there h g is =
-      let e : (k + 1) * 4000000000 + 4000000000 ≡ ((k + 1) + 1) * 4000000000 = omega arith in
+      let e : (k + 1) * 5300000000 + 5300000000 ≡ ((k + 1) + 1) * 5300000000 = omega arith in
       subst (λ n. RespectsLimit n next) e
-      (subst (RespectsLimit ((k + 1) * 4000000000 + 4000000000)) (sym is)
-      (cost-limit (passage_in reading s tasks k) ((k + 1) * 4000000000) (bound_of x (task_in tasks k).0) old renewed h g (weaker_limit MAX_LIMIT 1000000000 (bound_of x (task_in tasks k).0) (omega arith) (vector.high (task_in tasks k).0 there))))
+      (subst (RespectsLimit ((k + 1) * 5300000000 + 5300000000)) (sym is)
+      (cost-limit (passage_in reading s tasks k) ((k + 1) * 5300000000) (bound_of x (task_in tasks k).0) old renewed h g (weaker_limit MAX_LIMIT 1000000000 (bound_of x (task_in tasks k).0) (omega arith) (vector.high (task_in tasks k).0 there))))

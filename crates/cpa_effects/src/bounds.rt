@@ -18,7 +18,7 @@ use cpa_units::{Bound, TaskId, Vector};
 fn next_event(model: &Model) -> u64
     requires { IsModelInRange model.now }
     ensures value { result ≡ next_event model.now }
-    ensures few { result ≤ 3000000000 }
+    ensures few { result ≤ 5200000000 }
 {
     let mut least = model.get(0).delta_plus(2);
     for k in 0..model.len() {
@@ -34,7 +34,7 @@ pub fn wait(system: &System, task: TaskId, x: &Vector) -> Bound
     requires there { task.0 < length system.now.tasks }
     requires vector { IsVector system.now x.now }
     ensures value { result ≡ wait_of system.now x.now task.0 }
-    ensures few { RespectsLimit 3000000000 result }
+    ensures few { RespectsLimit 5200000000 result }
 {
     match input(system, task, x) {
         None => Bound::Overload,
@@ -43,9 +43,9 @@ pub fn wait(system: &System, task: TaskId, x: &Vector) -> Bound
 }
 
 fn reading_wait(step: Step, wait: Bound) -> Bound
-    requires { RespectsLimit 3000000000 wait }
+    requires { RespectsLimit 5200000000 wait }
     ensures value { result ≡ reading_wait step wait }
-    ensures few { RespectsLimit 3000000000 result }
+    ensures few { RespectsLimit 5200000000 result }
 {
     match step {
         Step::Register => wait,
@@ -55,10 +55,10 @@ fn reading_wait(step: Step, wait: Bound) -> Bound
 }
 
 fn read_from(step: Step, old: Bound, renewed: Bound) -> Bound
-    requires old { RespectsLimit 140000000000 old }
-    requires renewed { RespectsLimit 140000000000 renewed }
+    requires old { RespectsLimit 190000000000 old }
+    requires renewed { RespectsLimit 190000000000 renewed }
     ensures value { result ≡ read_from step old renewed }
-    ensures few { RespectsLimit 140000000000 result }
+    ensures few { RespectsLimit 190000000000 result }
 {
     match step {
         Step::Register => renewed,
@@ -71,9 +71,9 @@ fn read_from(step: Step, old: Bound, renewed: Bound) -> Bound
 fn with_response(system: &System, x: &Vector, task: TaskId, before: Bound) -> Bound
     requires there { task.0 < length system.now.tasks }
     requires vector { IsVector system.now x.now }
-    requires few { RespectsLimit 140000000000 before }
+    requires few { RespectsLimit 190000000000 before }
     ensures value { result ≡ bound_plus before (bound_of x.now task.0) }
-    ensures few { RespectsLimit 141000000000 result }
+    ensures few { RespectsLimit 191000000000 result }
 {
     before.plus(x.get(task))
 }
@@ -82,9 +82,9 @@ fn with_response(system: &System, x: &Vector, task: TaskId, before: Bound) -> Bo
 fn with_wait(system: &System, x: &Vector, task: TaskId, wait: Bound) -> Bound
     requires there { task.0 < length system.now.tasks }
     requires vector { IsVector system.now x.now }
-    requires few { RespectsLimit 3000000000 wait }
+    requires few { RespectsLimit 5200000000 wait }
     ensures value { result ≡ bound_plus (bound_of x.now task.0) wait }
-    ensures few { RespectsLimit 4000000000 result }
+    ensures few { RespectsLimit 5300000000 result }
 {
     x.get(task).plus(wait)
 }
@@ -95,7 +95,7 @@ fn forward(reading: Reading, system: &System, x: &Vector, tasks: &[TaskId], k: u
     requires there { All (λ (i : TaskId). i.0 < length system.now.tasks) tasks.now }
     requires vector { IsVector system.now x.now }
     ensures value { result ≡ forward reading system.now x.now tasks.now k }
-    ensures few { RespectsLimit 4000000000 result }
+    ensures few { RespectsLimit 5300000000 result }
 {
     let before = tasks[k];
     let next = tasks[k + 1];
@@ -121,8 +121,8 @@ fn backward(
     requires next { k + 1 < length tasks.now }
     requires there { All (λ (i : TaskId). i.0 < length system.now.tasks) tasks.now }
     requires vector { IsVector system.now x.now }
-    requires old { RespectsLimit 140000000000 old }
-    requires renewed { RespectsLimit 140000000000 renewed }
+    requires old { RespectsLimit 190000000000 old }
+    requires renewed { RespectsLimit 190000000000 renewed }
     ensures value { result ≡ backward_cost (passage_in reading system.now tasks.now k) (bound_of x.now (task_in tasks.now k).0) old renewed }
 {
     let before = tasks[k];
@@ -143,7 +143,7 @@ pub fn latency_by(reading: Reading, system: &System, x: &Vector, tasks: &[TaskId
     requires there { All (λ (i : TaskId). i.0 < length system.now.tasks) tasks.now }
     requires vector { IsVector system.now x.now }
     ensures value { result ≡ latency_by reading system.now x.now tasks.now }
-    ensures few { RespectsLimit 140000000000 result }
+    ensures few { RespectsLimit 190000000000 result }
 {
     let last = tasks.len() - 1;
     let mut sum = Bound::Within(0);
@@ -175,7 +175,7 @@ pub fn age_by(reading: Reading, system: &System, x: &Vector, tasks: &[TaskId]) -
     requires there { All (λ (i : TaskId). i.0 < length system.now.tasks) tasks.now }
     requires vector { IsVector system.now x.now }
     ensures value { result ≡ age_by reading system.now x.now tasks.now }
-    ensures few { RespectsLimit 140000000000 result }
+    ensures few { RespectsLimit 190000000000 result }
 {
     let last = tasks.len() - 1;
     let mut old = Bound::Within(0);
@@ -213,7 +213,7 @@ pub fn latency(system: &System, x: &Vector, tasks: &[TaskId]) -> Bound
     requires there { All (λ (i : TaskId). i.0 < length system.now.tasks) tasks.now }
     requires vector { IsVector system.now x.now }
     ensures value { result ≡ latency_of system.now x.now tasks.now }
-    ensures few { RespectsLimit 140000000000 result }
+    ensures few { RespectsLimit 190000000000 result }
 {
     latency_by(Reading::Anywhere, system, x, tasks)
 }
@@ -236,7 +236,7 @@ pub fn age(system: &System, x: &Vector, tasks: &[TaskId]) -> Bound
     requires there { All (λ (i : TaskId). i.0 < length system.now.tasks) tasks.now }
     requires vector { IsVector system.now x.now }
     ensures value { result ≡ age_of system.now x.now tasks.now }
-    ensures few { RespectsLimit 140000000000 result }
+    ensures few { RespectsLimit 190000000000 result }
 {
     age_by(Reading::Anywhere, system, x, tasks)
 }

@@ -202,16 +202,16 @@ pub one-jitter : (s : Stream) (most : ℕ) → s.jitter ≤ most → HasJitterUp
 one-jitter s most h = only_one (λ r. r.jitter ≤ most) s h
 
 -- the events of a window at the greatest numbers, and their work: the room that sums of them need
-pub eta_plus-few : (m : Model) (window : ℕ) → IsModelInRange m → window ≤ 100000000 → eta_plus m window ≤ 2 ^ 36
+pub eta_plus-few : (m : Model) (window : ℕ) → IsModelInRange m → window ≤ 1000000000 → eta_plus m window ≤ 2 ^ 38
 eta_plus-few m window r short =
     let le = eta_plus-le m window r.each in
-    let most : length m * (window + MAX_MODEL_JITTER) ≤ 32 * 2 ^ 31 =
-    let wide : window + MAX_MODEL_JITTER ≤ 2 ^ 31 = omega arith in mul-le-mul r.few wide in
+    let most : length m * (window + MAX_MODEL_JITTER) ≤ 32 * 2 ^ 33 =
+    let wide : window + MAX_MODEL_JITTER ≤ 2 ^ 33 = omega arith in mul-le-mul r.few wide in
     omega arith
 
-pub eta_plus-work : (m : Model) (window worst : ℕ) → IsModelInRange m → window ≤ 100000000 → worst ≤ MAX_EXECUTION → eta_plus m window * worst ≤ 2 ^ 56
+pub eta_plus-work : (m : Model) (window worst : ℕ) → IsModelInRange m → window ≤ 1000000000 → worst ≤ MAX_EXECUTION → eta_plus m window * worst ≤ 2 ^ 62
 eta_plus-work m window worst r short small =
-    let little : worst ≤ 2 ^ 20 = omega arith in
+    let little : worst ≤ 2 ^ 24 = omega arith in
     mul-le-mul (eta_plus-few m window r short) little
 
 -- ---- denser models, and what tasks send on

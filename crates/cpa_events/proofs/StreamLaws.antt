@@ -34,13 +34,13 @@ stream_delta_minus-mono m (suc a) zero h = absurd (omega arith)
 stream_delta_minus-mono m (suc a) (suc b) h = stream_delta_minus-mono_suc m a b (omega arith)
 
 -- the room that it needs
-pub stream_delta_minus-small : (m : Stream) (n : ℕ) → IsStreamInRange m → n ≤ 2 ^ 32 → stream_delta_minus m n ≤ 2 ^ 32 * MAX_PERIOD
+pub stream_delta_minus-small : (m : Stream) (n : ℕ) → IsStreamInRange m → n ≤ 2 ^ 33 → stream_delta_minus m n ≤ 2 ^ 33 * MAX_PERIOD
 unfolding stream_delta_minus
 stream_delta_minus-small m zero r few = omega arith
 stream_delta_minus-small m (suc gaps) r few =
-    let near : gaps ≤ 2 ^ 32 = omega arith in
-    let period : gaps * m.period ≤ 2 ^ 32 * MAX_PERIOD = mul-le-mul near r.period in
-    let less : gaps * m.period - m.jitter ≤ 2 ^ 32 * MAX_PERIOD = omega arith in
+    let near : gaps ≤ 2 ^ 33 = omega arith in
+    let period : gaps * m.period ≤ 2 ^ 33 * MAX_PERIOD = mul-le-mul near r.period in
+    let less : gaps * m.period - m.jitter ≤ 2 ^ 33 * MAX_PERIOD = omega arith in
     max-le (mul-le-mul near r.distance) less
 
 -- a denser stream's events may come sooner

@@ -110,7 +110,7 @@ impl Model {
     #[inline(always)]
     pub fn delta_minus(&self, n: u64) -> u64
         requires model { IsModelInRange self.now }
-        requires events { n ≤ 2 ^ 32 }
+        requires events { n ≤ 2 ^ 33 }
         ensures { result ≡ delta_minus self.now n }
     {
         match self.only() {
@@ -138,7 +138,7 @@ impl Model {
     pub fn delta_plus(&self, n: u64) -> u64
         requires model { IsModelInRange self.now }
         requires one { length self.now ≡ 1 }
-        requires events { n ≤ 2 ^ 32 }
+        requires events { n ≤ 2 ^ 33 }
         ensures { result ≡ delta_plus self.now n }
     {
         self.get(0).delta_plus(n)
@@ -280,7 +280,7 @@ fn steady(streams: &[CompactStream], delta: u64) -> u64
 #[inline(never)]
 fn least_time(streams: &[CompactStream], n: u64) -> u64
     requires streams { IsModelInRange streams.now }
-    requires events { n ≤ 2 ^ 32 }
+    requires events { n ≤ 2 ^ 33 }
     ensures { result ≡ delta_minus streams.now n }
 {
     least_room(streams, n, least_alone(streams, n))
@@ -289,9 +289,9 @@ fn least_time(streams: &[CompactStream], n: u64) -> u64
 /// The least of the times in which the streams have n events, each alone.
 fn least_alone(streams: &[CompactStream], n: u64) -> u64
     requires streams { IsModelInRange streams.now }
-    requires events { n ≤ 2 ^ 32 }
+    requires events { n ≤ 2 ^ 33 }
     ensures room { n ≤ eta_plus streams.now (result + 1) }
-    ensures small { result ≤ 2 ^ 32 * MAX_PERIOD }
+    ensures small { result ≤ 2 ^ 33 * MAX_PERIOD }
 {
     let mut least = streams[0].stream().delta_minus(n);
     for stream in streams {

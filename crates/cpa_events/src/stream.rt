@@ -8,14 +8,14 @@ ghost use Rattle.cpa_events.specs.Streams.{stream_delta_minus, stream_delta_plus
 use cpa_units::limits::{MAX_LIMIT, MAX_PERIOD};
 
 /// The greatest jitter of a stream, in ticks: that of a source, and what the tasks of a chain add.
-pub const MAX_MODEL_JITTER: u64 = 2_000_000_000;
+pub const MAX_MODEL_JITTER: u64 = 4_200_000_000;
 
 /// A stream of events, in ticks.
 #[derive(Clone, Copy, Debug, PartialEq, Eq)]
 pub struct Stream {
     /// One event comes in each period on average; from 1 to a thousand million.
     pub period: u64,
-    /// By how much an event may come late; at most two thousand million.
+    /// By how much an event may come late; at most 4.2 thousand million.
     pub jitter: u64,
     /// Any two events are at least so far apart; at most a thousand million, 0 where they needn't be.
     pub distance: u64,
@@ -45,9 +45,9 @@ impl Stream {
     #[inline(always)]
     pub fn delta_minus(&self, n: u64) -> u64
         requires stream { IsStreamInRange self.now }
-        requires events { n ≤ 2 ^ 32 }
+        requires events { n ≤ 2 ^ 33 }
         ensures value { result ≡ stream_delta_minus self.now n }
-        ensures small { result ≤ 2 ^ 32 * MAX_PERIOD }
+        ensures small { result ≤ 2 ^ 33 * MAX_PERIOD }
     {
         if n == 0 {
             return 0;
@@ -70,7 +70,7 @@ impl Stream {
     /// The greatest time from the first to the last of n events in a row, in ticks.
     pub fn delta_plus(&self, n: u64) -> u64
         requires stream { IsStreamInRange self.now }
-        requires events { n ≤ 2 ^ 32 }
+        requires events { n ≤ 2 ^ 33 }
         ensures { result ≡ stream_delta_plus self.now n }
     {
         if n < 2 {

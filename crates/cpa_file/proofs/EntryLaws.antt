@@ -4,6 +4,7 @@ use Rattle.std.specs.List.{list_all}
 use Rattle.std.proofs.lemmas.Bool.{and_from}
 use Rattle.std.proofs.lemmas.Option.{none-some, same_Some}
 use Rattle.toml.specs.Data.{Data, Items, no_items, item}
+use Rattle.cpa_units.specs.declared.limits.Size.{Size}
 use Rattle.cpa_draft.specs.declared.draft.DraftTask.{DraftTask}
 use Rattle.std.specs.Prelude.{codes, All}
 use Rattle.std.proofs.lemmas.List.Sums.{AllPass-from_list_all}
@@ -17,7 +18,7 @@ use Rattle.cpa_draft.specs.declared.refusal.Refusal.{Refusal}
 use Rattle.cpa_file.specs.Document.{refusal, is_other_format, integer_at, has_form, items_at, in_part, entries_of, entries_at, joined, lists_of, draft_of}
 use Rattle.cpa_file.specs.declared.format.Format.{Format}
 use Rattle.cpa_file.specs.Fields.{◌>>=◌}
-use Rattle.cpa_file.specs.Formats.{format_with}
+use Rattle.cpa_file.specs.Formats.{format_with, size_of}
 use Rattle.cpa_file.specs.Lists.{read_all, with_entry}
 use Rattle.cpa_file.specs.Entries.{task_entry, task_fields, with_executions}
 use Rattle.cpa_model.specs.Built.{has_executions}
@@ -63,12 +64,12 @@ tasks_in format part (Some ds) ts e = by (read_all (task_entry format) 1 ds) ref
     by (Ok us) here e = let same : us ≡ ts = cc in read_all-keeps (task_entry format) has_executions (task_entry-executions format) 1 ds ts (here ∙ ap Ok same)
     by (Err k) here e = cc
 
-joined-tasks : (a : Result (List DraftResource) Refusal) (b : Result (List DraftSource) Refusal) (c : Result (List DraftTask) Refusal) (e : Result (List DraftPath) Refusal) (d : DraftLists) → joined a b c e ≡ Ok d → c ≡ Ok d.tasks
-joined-tasks (Err r) b c e d h = cc
-joined-tasks (Ok rs) (Err r) c e d h = cc
-joined-tasks (Ok rs) (Ok ss) (Err r) e d h = cc
-joined-tasks (Ok rs) (Ok ss) (Ok ts) (Err r) d h = cc
-joined-tasks (Ok rs) (Ok ss) (Ok ts) (Ok ps) d h = ap (λ (r : Result DraftLists Refusal). by r) h
+joined-tasks : (z : Size) (a : Result (List DraftResource) Refusal) (b : Result (List DraftSource) Refusal) (c : Result (List DraftTask) Refusal) (e : Result (List DraftPath) Refusal) (d : DraftLists) → joined z a b c e ≡ Ok d → c ≡ Ok d.tasks
+joined-tasks z (Err r) b c e d h = cc
+joined-tasks z (Ok rs) (Err r) c e d h = cc
+joined-tasks z (Ok rs) (Ok ss) (Err r) e d h = cc
+joined-tasks z (Ok rs) (Ok ss) (Ok ts) (Err r) d h = cc
+joined-tasks z (Ok rs) (Ok ss) (Ok ts) (Ok ps) d h = ap (λ (r : Result DraftLists Refusal). by r) h
   where
     by : Result DraftLists Refusal → Result (List DraftTask) Refusal
     by (Ok d) = Ok d.tasks
@@ -76,7 +77,7 @@ joined-tasks (Ok rs) (Ok ss) (Ok ts) (Ok ps) d h = ap (λ (r : Result DraftLists
 
 lists-executions : (format : Format) (x : Data) (d : DraftLists) → lists_of format x ≡ Ok d → list_all has_executions d.tasks ≡ true
 unfolding lists_of entries_at
-lists-executions format x d e = tasks_in format Task (items_at (codes "task") x) d.tasks (joined-tasks _ _ (entries_of Task (task_entry format) (items_at (codes "task") x)) _ d e)
+lists-executions format x d e = tasks_in format Task (items_at (codes "task") x) d.tasks (joined-tasks (size_of format) _ _ (entries_of Task (task_entry format) (items_at (codes "task") x)) _ d e)
 
 -- of each draft
 pub draft-executions : (x : Data) (d : DraftLists) → draft_of x ≡ Ok d → All (λ t. has_executions t ≡ true) d.tasks

@@ -1,8 +1,9 @@
 -- What is printed is read as the draft that says the same.
-use Rattle.std.proofs.Common.{◌≡◌, ℕ, suc, ◌+◌, ◌≤◌, Bool, true, false, List, [], ◌∷◌, map, length, inl, inr, Option, Some, None, Ok, String, Global, Ordering, Less, Equal, Greater, string_bytes, refl, sym, subst, ◌∙◌, arith}
+use Rattle.std.proofs.Common.{get_or, ◌≡◌, ℕ, suc, ◌+◌, ◌≤◌, Bool, true, false, List, [], ◌∷◌, map, length, inl, inr, Option, Some, None, Ok, String, Global, Ordering, Less, Equal, Greater, string_bytes, refl, sym, subst, ◌∙◌, arith}
 use Rattle.std.specs.Prelude.{◌==◌}
 use Rattle.std.specs.List.{list_all}
-use Rattle.std.proofs.lemmas.Bool.{cases_Bool, and_parts, false≢true, eqb-true}
+use Rattle.std.proofs.lemmas.Bool.{cases_Bool, and_parts, false≢true, eqb-true, eq-eqb}
+use Rattle.std.proofs.lemmas.List.Sums.{list_all-from_AllPass}
 use Rattle.std.proofs.lemmas.Bool.Decides.{nat_tests}
 use Rattle.std.specs.Ordering.{match_ordering}
 use Rattle.std.specs.String.{string_cmp}
@@ -10,6 +11,9 @@ use Rattle.std.specs.BTreeMap.{insert_entry}
 use Rattle.toml.specs.Data.{Data, Members, items_depth, members_depth, depth, table, as_str, has_valid_dates, items_have_valid_dates, members_have_valid_dates}
 use Rattle.toml.specs.View.{view, members_view, items_of}
 use Rattle.toml.specs.declared.value.Value.{Value}
+use Rattle.cpa_units.specs.declared.limits.Size.{Size}
+use Rattle.cpa_units.specs.declared.limits.Size.TheVariants.{Small, Large}
+use Rattle.cpa_units.specs.Sizes.{most_region}
 use Rattle.cpa_units.specs.declared.places.TaskId.{TaskId}
 use Rattle.cpa_model.specs.declared.entries.Resource.{Resource}
 use Rattle.cpa_model.specs.declared.entries.Source.{Source}
@@ -19,7 +23,9 @@ use Rattle.cpa_model.specs.declared.entries.Kind.{Kind}
 use Rattle.cpa_model.specs.declared.entries.Kind.TheVariants.{Preemptive, RoundRobin, Tdma, Can}
 use Rattle.cpa_model.specs.declared.entries.Turn.{Turn}
 use Rattle.cpa_model.specs.declared.entries.Turn.TheVariants.{Priority, Slot}
-use Rattle.cpa_model.specs.SystemLists.{SystemLists, task_at, activator_name}
+use Rattle.cpa_model.specs.SystemLists.{SystemLists, resource_at, task_at, activator_name}
+use Rattle.cpa_model.specs.Rules.{IsSystem}
+use Rattle.cpa_model.proofs.SystemLaws.{region-range}
 use Rattle.cpa_file.specs.declared.format.Format.{Format}
 use Rattle.cpa_file.specs.declared.format.Format.TheVariants.{One, Two, Four}
 use Rattle.cpa_file.specs.Fields.{required, optional, has_only}
@@ -29,7 +35,11 @@ use Rattle.cpa_file.specs.Entries.{resource_entry, source_entry, as_after, task_
 use Rattle.cpa_file.specs.Document.{draft_of, lists_of, has_form, entries_at, items_at}
 use Rattle.cpa_model.specs.declared.entries.Activator.{Activator}
 use Rattle.cpa_model.specs.Redraft.{redraft_resource, redraft_source, redraft_task, redraft_path, redraft}
-use Rattle.cpa_file.specs.Printed.{put, resource_data, source_data, activator_data, after_data, task_names_data, task_data, has_one, has_no_region, name_data, path_data, system_data}
+use Rattle.cpa_file.specs.Printed.{put, resource_data, source_data, activator_data, after_data, task_names_data, task_data, has_one, name_data, path_data, system_data}
+
+-- a region of no more than a tick
+abbrev has_no_region : Task → Bool
+has_no_region t = t.region == 1
 
 put_by : (o : Ordering) (a b c : List (String Global × Value)) → members_view (match_ordering o a b c) ≡ match_ordering o (members_view a) (members_view b) (members_view c)
 put_by Less a b c = refl
@@ -118,42 +128,54 @@ path_by s p (Some deadline) = rw (names-printed s p.tasks) refl
 path-printed : (s : SystemLists) (p : Path) → path_entry (path_data s p) ≡ Some (redraft_path s p)
 path-printed s p = path_by s p p.deadline
 
--- the document of a system is read as its draft
-pub draft_of-printed : (s : SystemLists) → draft_of (system_data s) ≡ Ok (redraft s)
+-- the document of a system is read as its draft: that of a small one has no region
+draft_by : (z : Size) (s : SystemLists) → (z ≡ Small → list_all has_no_region s.tasks ≡ true) → let u : SystemLists = record s { size = z } in draft_of (system_data u) ≡ Ok (redraft u)
 unfolding draft_of lists_of has_form entries_at items_at system_data has_only redraft
-draft_of-printed s = elim (cases_Bool (list_all has_no_region s.tasks)) [
-  | inl plain ↦ elim (cases_Bool (list_all has_one s.tasks)) [
-    | inl one ↦
-        rw (
-          plain,
-          one,
-          read_all-printed resource_entry resource_data redraft_resource resource-printed 1 s.resources,
-          read_all-printed source_entry source_data redraft_source source-printed 1 s.sources,
-          one_each-printed s 1 s.tasks plain one,
-          read_all-printed path_entry (path_data s) (redraft_path s) (path-printed s) 1 s.paths,
-        )
-        refl
-    | inr several ↦
-        rw (
-          plain,
-          several,
-          read_all-printed resource_entry resource_data redraft_resource resource-printed 1 s.resources,
-          read_all-printed source_entry source_data redraft_source source-printed 1 s.sources,
-          two-printed s 1 s.tasks plain,
-          read_all-printed path_entry (path_data s) (redraft_path s) (path-printed s) 1 s.paths,
-        )
-        refl
-  ]
-  | inr regions ↦
-      rw (
-        regions,
-        read_all-printed resource_entry resource_data redraft_resource resource-printed 1 s.resources,
-        read_all-printed source_entry source_data redraft_source source-printed 1 s.sources,
-        read_all-printed (task_entry Four) (task_data s) (redraft_task s) (task-printed s) 1 s.tasks,
-        read_all-printed path_entry (path_data s) (redraft_path s) (path-printed s) 1 s.paths,
-      )
-      refl
-]
+draft_by Small s plain =
+    let u : SystemLists = record s { size = Small } in
+    elim (cases_Bool (list_all has_one s.tasks)) [
+      | inl one ↦
+          rw (
+            one,
+            read_all-printed resource_entry resource_data redraft_resource resource-printed 1 s.resources,
+            read_all-printed source_entry source_data redraft_source source-printed 1 s.sources,
+            one_each-printed u 1 s.tasks (plain refl) one,
+            read_all-printed path_entry (path_data u) (redraft_path u) (path-printed u) 1 s.paths,
+          )
+          refl
+      | inr several ↦
+          rw (
+            several,
+            read_all-printed resource_entry resource_data redraft_resource resource-printed 1 s.resources,
+            read_all-printed source_entry source_data redraft_source source-printed 1 s.sources,
+            two-printed u 1 s.tasks (plain refl),
+            read_all-printed path_entry (path_data u) (redraft_path u) (path-printed u) 1 s.paths,
+          )
+          refl
+    ]
+draft_by Large s plain =
+    let u : SystemLists = record s { size = Large } in
+    rw (
+      read_all-printed resource_entry resource_data redraft_resource resource-printed 1 s.resources,
+      read_all-printed source_entry source_data redraft_source source-printed 1 s.sources,
+      read_all-printed (task_entry Four) (task_data u) (redraft_task u) (task-printed u) 1 s.tasks,
+      read_all-printed path_entry (path_data u) (redraft_path u) (path-printed u) 1 s.paths,
+    )
+    refl
+
+no-region : (t : Task) → 1 ≤ t.region → t.region ≤ 1 → has_no_region t ≡ true
+no-region t some few = eq-eqb t.region 1 (omega arith)
+
+no-regions : (s : SystemLists) → IsSystem s → s.size ≡ Small → list_all has_no_region s.tasks ≡ true
+no-regions s rules small =
+    list_all-from_AllPass has_no_region s.tasks
+    (λ k t less.
+    let most : (get_or s.tasks k t).region ≤ most_region Small = subst (λ z. (get_or s.tasks k t).region ≤ most_region z) small (rules.sized.times k t less).region in
+    let u = get_or s.tasks k t in
+    no-region u (region-range (resource_at s u.res.0).kind u.region (rules.tasks k t less).region_fits).0 most)
+
+pub draft_of-printed : (s : SystemLists) → IsSystem s → draft_of (system_data s) ≡ Ok (redraft s)
+draft_of-printed s rules = draft_by s.size s (no-regions s rules)
 
 -- no printed document is deep
 

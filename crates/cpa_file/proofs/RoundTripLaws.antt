@@ -11,4 +11,4 @@ use Rattle.cpa_file.proofs.PrintLaws.{draft_of-printed}
 pub printed-reads : (s : SystemLists) (bytes : List ℕ) → IsSystem s → IsPrinted s bytes → reading_of bytes ≡ Accepted s
 unfolding reading_of
 printed-reads s bytes rules p =
-    rw p.document (ap (λ d. by_draft (draft_of d)) p.same ∙ ap by_draft (draft_of-printed s) ∙ (rw (redraft-accepted s rules) (ap Accepted (redraft-stands s rules))))
+    rw p.document (ap (λ d. by_draft (draft_of d)) p.same ∙ ap by_draft (draft_of-printed s rules) ∙ (rw (redraft-accepted s rules) (ap Accepted (redraft-stands s rules))))

@@ -19,5 +19,6 @@ read_fault read_fault_is.Memory = codes "out of memory"
 
 abbrev pub file_refusal : FileRefusal → List ℕ
 file_refusal file_refusal_is.NotToml = codes "not TOML"
+file_refusal file_refusal_is.TooLong = codes "too long"
 file_refusal (file_refusal_is.Refused refusal) = refusal_text refusal
 file_refusal file_refusal_is.Memory = codes "out of memory"

@@ -1,5 +1,7 @@
 -- The formats of system files.
 use Rattle.std.specs.Prelude.{ℤ, Bool, true, false, Option, Some, None, if◌then◌else◌}
+use Rattle.cpa_units.specs.declared.limits.Size.{Size}
+use Rattle.cpa_units.specs.declared.limits.Size.TheVariants.{Small, Large}
 use Rattle.cpa_draft.specs.Numbers.{is_within}
 use Rattle.cpa_file.specs.declared.format.Format.{Format}
 use Rattle.cpa_file.specs.declared.format.Format.TheVariants.{One, Two, Four}
@@ -20,3 +22,9 @@ abbrev pub has_regions : Format → Bool
 has_regions One = false
 has_regions Two = false
 has_regions Four = true
+
+-- in format 4 a system may be large
+abbrev pub size_of : Format → Size
+size_of One = Small
+size_of Two = Small
+size_of Four = Large

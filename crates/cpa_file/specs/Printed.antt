@@ -6,6 +6,8 @@ use Rattle.std.specs.Cmp.Lexicographic.{slice_cmp}
 use Rattle.toml.specs.Data.{Data, Members, no_members, member, string, integer, array, table}
 use Rattle.toml.specs.View.{items_of}
 use Rattle.toml.specs.Text.{IsDocumentText}
+use Rattle.cpa_units.specs.declared.limits.Size.{Size}
+use Rattle.cpa_units.specs.declared.limits.Size.TheVariants.{Small, Large}
 use Rattle.cpa_units.specs.declared.places.TaskId.{TaskId}
 use Rattle.cpa_model.specs.declared.entries.Resource.{Resource}
 use Rattle.cpa_model.specs.declared.entries.Source.{Source}
@@ -82,18 +84,17 @@ path_data s p = table (with_deadline p.deadline (put (codes "tasks") (array (ite
 abbrev pub list_data : List Data → Data
 list_data ds = array (items_of ds)
 
--- a task has one activator, and a region of no more than a tick
+-- a task has one activator
 abbrev pub has_one : Task → Bool
 has_one t = length t.after == 1
 
-abbrev pub has_no_region : Task → Bool
-has_no_region t = t.region == 1
+-- the least format that can say a system of this size, where each task has one activator or some has several
+abbrev pub format_for : Size → Bool → ℕ
+format_for Small one = if one then 1 else 2
+format_for Large one = 4
 
--- the least format that can say the system
 abbrev pub format_of : SystemLists → ℕ
-format_of s =
-    if list_all has_no_region s.tasks then (if list_all has_one s.tasks then 1 else 2)
-    else 4
+format_of s = format_for s.size (list_all has_one s.tasks)
 
 -- the document
 unfoldable pub system_data : SystemLists → Data

@@ -46,6 +46,7 @@ impl fmt::Display for FileRefusal {
     fn fmt<W: fmt::Write>(&self, f: &mut fmt::Formatter<W>) -> fmt::Result {
         match self {
             FileRefusal::NotToml => f.write_str("not TOML"),
+            FileRefusal::TooLong => f.write_str("too long"),
             FileRefusal::Refused(refusal) => write!(f, "{refusal}"),
             FileRefusal::Memory => f.write_str("out of memory"),
         }

@@ -1,7 +1,9 @@
 //! The formats of system files.
 
 ghost use Rattle.std.specs.Prelude.{◌≡◌};
-ghost use Rattle.cpa_file.specs.Formats.{format_with, has_lists, has_regions};
+ghost use Rattle.cpa_file.specs.Formats.{format_with, has_lists, has_regions, size_of};
+
+use cpa_units::limits::Size;
 
 /// What a system file may say: each format what those before it may, and more.
 #[derive(Clone, Copy, Debug, PartialEq, Eq)]
@@ -10,7 +12,7 @@ pub enum Format {
     One,
     /// Tasks with several activators.
     Two,
-    /// Tasks with regions.
+    /// Tasks with regions, and large systems.
     Four,
 }
 
@@ -52,6 +54,17 @@ impl Format {
             Format::One => false,
             Format::Two => false,
             Format::Four => true,
+        }
+    }
+
+    /// How large a system may be.
+    pub(crate) fn size(self) -> Size
+        ensures { result ≡ size_of self }
+    {
+        match self {
+            Format::One => Size::Small,
+            Format::Two => Size::Small,
+            Format::Four => Size::Large,
         }
     }
 }

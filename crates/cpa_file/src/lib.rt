@@ -15,4 +15,4 @@ pub use fault::ReadFault;
 pub use fields::{only_has, optional_integer, required_text};
 pub use format::Format;
 pub use print::print_system;
-pub use read::{FileRefusal, format_of, read_document, read_system};
+pub use read::{FileRefusal, format_of, read_document, read_system, read_system_file};

@@ -8,11 +8,12 @@ ghost use Rattle.toml.specs.View.{view, table_view};
 ghost use Rattle.cpa_model.specs.Rules.{IsSystem, IsResource, IsSource, IsActivator, IsTask, IsPath, KindFits};
 ghost use Rattle.cpa_model.specs.SystemLists.{resource_at, source_at, task_at, path_at, task_places, slot_of, activator_name};
 ghost use Rattle.cpa_file.specs.Reading.{reading_of, Accepted};
-ghost use Rattle.cpa_file.specs.Printed.{put, kind_text, with_kind_number, resource_data, source_data, with_turn, with_region, activator_data, after_data, task_names_data, task_data, has_one, has_no_region, format_of, with_deadline, name_data, path_data, system_data, IsPrinted};
+ghost use Rattle.cpa_file.specs.Printed.{put, kind_text, with_kind_number, resource_data, source_data, with_turn, with_region, activator_data, after_data, task_names_data, task_data, has_one, format_of, with_deadline, name_data, path_data, system_data, IsPrinted};
 
 use cpa_model::{
     Activator, Activators, Kind, Path, Resource, Source, System, Task, TaskList, Turn,
 };
+use cpa_units::limits::Size;
 use cpa_units::{Name, NoMemory, PathId, ResId, SourceId, TaskId};
 use std::alloc::Global;
 use toml::ser::Error;
@@ -286,28 +287,13 @@ fn have_one(system: &System) -> bool
     true
 }
 
-/// Whether no task has a region of more than a tick.
-fn have_no_region(system: &System) -> bool
-    ensures { result ≡ list_all has_no_region system.now.tasks }
-{
-    for k in 0..system.tasks() {
-        if system.task(TaskId(k)).region != 1 {
-            return false;
-        }
-    }
-    true
-}
-
-/// The least format that can say the system.
+/// The least format that can say a system of its size: no small one has a region.
 fn format_of(system: &System) -> u64
     ensures { result ≡ format_of system.now }
 {
-    if !have_no_region(system) {
-        4
-    } else if have_one(system) {
-        1
-    } else {
-        2
+    match system.size() {
+        Size::Small => { if have_one(system) { 1 } else { 2 } }
+        Size::Large => 4,
     }
 }
 

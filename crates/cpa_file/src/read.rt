@@ -3,9 +3,9 @@
 ghost use Rattle.std.specs.Prelude.{◌≡◌, is_some, true, codes, IfOk, IfErr};
 ghost use Rattle.toml.specs.View.{view, items_view, table_view};
 ghost use Rattle.toml.specs.Data.{Data, table};
-ghost use Rattle.cpa_file.specs.Reading.{reading_of, Accepted, IsReadFault};
+ghost use Rattle.cpa_file.specs.Reading.{by_draft, reading_of, file_reading_of, Accepted, IsReadFault};
 ghost use Rattle.cpa_file.specs.Given.{GivesDraft, GivesPart, GivesDocument};
-ghost use Rattle.cpa_file.specs.Document.{is_other_format, integer_at, items_at, entries_at, has_form, lists_of, draft_of, document_of};
+ghost use Rattle.cpa_file.specs.Document.{is_other_format, integer_at, items_at, entries_at, has_form, lists_of, draft_of, document_of, size_in};
 
 use crate::entries::{Entry, ListFault, read_entries};
 use crate::fields::only_has;
@@ -13,6 +13,7 @@ use crate::format::Format;
 use cpa_model::{
     BuildFault, Draft, DraftPath, DraftResource, DraftSource, DraftTask, Part, Refusal, System,
 };
+use cpa_units::limits::{MAX_SYSTEM_FILE, Size};
 use std::alloc::Global;
 use toml::Value;
 
@@ -21,6 +22,8 @@ use toml::Value;
 pub enum FileRefusal {
     /// Its bytes are no TOML document.
     NotToml,
+    /// They are more than its format allows.
+    TooLong,
     /// A reason applies to the document: the first, with its first place.
     Refused(Refusal),
     /// A growth of memory was refused.
@@ -114,6 +117,7 @@ fn read_lists(alloc: Global, format: Format, document: &Value) -> Result<Draft, 
     let tasks = read_part::<DraftTask>(alloc, format, Part::Task, document, "task")?;
     let paths = read_part::<DraftPath>(alloc, format, Part::Path, document, "path")?;
     Ok(Draft {
+        size: format.size(),
         resources,
         sources,
         tasks,
@@ -160,14 +164,58 @@ pub fn read_document(alloc: Global, bytes: &[u8]) -> Result<Value, FileRefusal>
     }
 }
 
-/// The system that the bytes of a file stand for.
+/// The system that the bytes of a file stand for, however many they are.
 #[tactic(auto, unfolding(crate::specs::Reading::reading_of))]
 pub fn read_system(alloc: Global, bytes: &[u8]) -> Result<System, FileRefusal>
     ensures ok { IfOk result (λ s. reading_of bytes.now ≡ Accepted s) }
     ensures refused { IfErr result (λ e. IsReadFault e (reading_of bytes.now)) }
 {
     let document = read_document(alloc, bytes)?;
-    let draft = read_draft(alloc, &document)?;
+    system_of(alloc, &document)
+}
+
+/// How large a system of a document may be, by its format.
+#[tactic(auto, unfolding(crate::specs::Document::size_in))]
+fn size_in(document: &Value) -> Size
+    ensures { result ≡ size_in (view document.now) }
+{
+    Format::with(format_of(document)).size()
+}
+
+/// The system that the bytes of a file stand for, where its format allows so many. What is no TOML document may have
+/// as many as a file of formats 1 and 2.
+#[tactic(auto, unfolding(crate::specs::Reading::reading_of, crate::specs::Reading::file_reading_of))]
+pub fn read_system_file(alloc: Global, bytes: &[u8]) -> Result<System, FileRefusal>
+    ensures ok { IfOk result (λ s. file_reading_of bytes.now ≡ Accepted s) }
+    ensures refused { IfErr result (λ e. IsReadFault e (file_reading_of bytes.now)) }
+{
+    let count = bytes.len() as u64;
+    match read_document(alloc, bytes) {
+        Ok(document) => {
+            if count > size_in(&document).most_file() {
+                return Err(FileRefusal::TooLong);
+            }
+            system_of(alloc, &document)
+        }
+        Err(FileRefusal::NotToml) => {
+            if count > MAX_SYSTEM_FILE {
+                Err(FileRefusal::TooLong)
+            } else {
+                Err(FileRefusal::NotToml)
+            }
+        }
+        Err(FileRefusal::TooLong) => unreachable!(),
+        Err(FileRefusal::Refused(_)) => unreachable!(),
+        Err(FileRefusal::Memory) => Err(FileRefusal::Memory),
+    }
+}
+
+/// The system that a document stands for.
+fn system_of(alloc: Global, document: &Value) -> Result<System, FileRefusal>
+    ensures ok { IfOk result (λ s. by_draft (draft_of (view document.now)) ≡ Accepted s) }
+    ensures refused { IfErr result (λ e. IsReadFault e (by_draft (draft_of (view document.now)))) }
+{
+    let draft = read_draft(alloc, document)?;
     match System::build(alloc, draft) {
         Ok(system) => Ok(system),
         Err(BuildFault::Refused(refusal)) => Err(FileRefusal::Refused(refusal)),

@@ -32,7 +32,7 @@ impl Model for Readings {
 
     ghost view = { λ r. r.kept.items };
 
-    ghost invariant = { λ r. length r.kept.items ≤ 64 };
+    ghost invariant = { λ r. length r.kept.items ≤ 128 };
 }
 
 /// Adds an entry at the end.

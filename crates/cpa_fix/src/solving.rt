@@ -62,7 +62,7 @@ pub fn solve_within<H: Sync, R: Round<H>>(
     rt: &H,
     alloc: Global,
     system: &System,
-    reads: &[ResSet; 64],
+    reads: &[ResSet; 128],
     reach: ResSet,
     start: Vector,
     kept: Readings,
@@ -97,7 +97,7 @@ pub fn solve_within<H: Sync, R: Round<H>>(
 /// clean; none where all are.
 fn dirty_resources(
     system: &System,
-    reads: &[ResSet; 64],
+    reads: &[ResSet; 128],
     reach: ResSet,
     x: &Vector,
     readings: &Readings,

@@ -9,5 +9,6 @@ pub mod ApartLaws
 pub mod ObeyLaws
 pub mod ShiftLaws
 pub mod ReplayLaws
+pub mod MostLaws
 pub mod SeenLaws
 pub mod TaskLaws

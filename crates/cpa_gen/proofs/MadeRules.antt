@@ -7,6 +7,7 @@ use Rattle.std.proofs.lemmas.List.{append-nil}
 use Rattle.std.proofs.lemmas.List.Elements.{All-nil, All-cons}
 use Rattle.std.proofs.Math.Nat.{mod-lt}
 use Rattle.cpa_units.specs.Name.{is_name}
+use Rattle.cpa_units.specs.declared.limits.Size.TheVariants.{Small}
 use Rattle.cpa_units.specs.declared.places.TaskId.{TaskId}
 use Rattle.cpa_units.specs.declared.places.ResId.{ResId}
 use Rattle.cpa_model.specs.declared.entries.Resource.{Resource}
@@ -20,7 +21,7 @@ use Rattle.cpa_model.specs.declared.entries.Turn.TheVariants as turn
 use Rattle.cpa_model.specs.Chains.{activators, chain_steps, depth_within, streams_step, streams_within}
 use Rattle.cpa_model.specs.SystemLists.{SystemLists, is_task, no_resource, no_task, priority_of, resource_at, task_at}
 use Rattle.cpa_model.proofs.SystemLaws.{tick-fits}
-use Rattle.cpa_model.specs.Rules.{AllDiffer, HaveOwnPriorities, IsActivator, IsLinked, IsPath, IsResource, IsSource, IsSystem, IsTask, TurnFits, activity_names}
+use Rattle.cpa_model.specs.Rules.{AllDiffer, HaveOwnPriorities, IsActivator, IsLinked, IsPath, IsResource, IsSized, IsSizedResource, IsSizedTask, IsSource, IsSystem, IsTask, TurnFits, activity_names}
 use Rattle.cpa_gen.specs.declared.chains.Chain.{Chain}
 use Rattle.cpa_gen.specs.Chains.{IsChain, chain_at, no_chain}
 use Rattle.cpa_gen.specs.MadeSystems.{buses, chain_of, made_path, made_resource, made_source, made_system, numbered, processors, task_made, task_of_chain}
@@ -31,6 +32,7 @@ use Rattle.cpa_gen.proofs.Names.{bus_named, ended_same, first_named, frame_named
 -- the lists of a generated system
 abbrev pub lists : ℕ → ℕ → SystemLists
 lists number size = record {
+  size = Small;
   resources = table (made_resource size) (processors size + buses size);
   sources = table (λ k. made_source k (chain_of number size k)) size;
   tasks = table (task_made number size) (3 * size);
@@ -51,6 +53,10 @@ resource_if b size r =
 resource_fits : (b : Bool) (size r : ℕ) → IsResource (resource_if b size r)
 resource_fits true size r = record { some_limit = omega arith; limit = omega arith; kind_fits = tt }
 resource_fits false size r = record { some_limit = omega arith; limit = omega arith; kind_fits = (omega arith, omega arith) }
+
+resource_small : (b : Bool) (size r : ℕ) → IsSizedResource Small (resource_if b size r)
+resource_small true size r = (omega arith, omega arith)
+resource_small false size r = (omega arith, omega arith)
 
 resource_named : (b : Bool) (size r : ℕ) → r < 128 → is_name (resource_if b size r).name ≡ true
 resource_named true size r l = processor_named r l
@@ -162,6 +168,12 @@ task_fits number size (suc (suc zero)) k few l m =
       region_fits = tick-fits (resource_at (lists number size) (chain_of number size k).processor).kind;
     }
 task_fits number size (suc (suc (suc t))) k few l m = absurd (omega (arith, l))
+
+task_small : (number size t k : ℕ) → t < 3 → k < size → IsSizedTask Small (task_of_chain t size k (chain_of number size k))
+task_small number size zero k l m = let c = chain_fits number size k (omega (arith, m)) in record { worst = omega (arith, c.first); slot = omega arith; region = omega arith }
+task_small number size (suc zero) k l m = let c = chain_fits number size k (omega (arith, m)) in record { worst = omega (arith, c.payload); slot = omega arith; region = omega arith }
+task_small number size (suc (suc zero)) k l m = let c = chain_fits number size k (omega (arith, m)) in record { worst = omega (arith, c.last); slot = omega arith; region = omega arith }
+task_small number size (suc (suc (suc t))) k l m = absurd (omega (arith, l))
 
 task_named : (size t k : ℕ) (c : Chain) → k < 128 → is_name (task_of_chain t size k c).name ≡ true
 task_named size zero k c l = first_named k l
@@ -323,8 +335,20 @@ names_differ number size few =
     task_pair : (i j : ℕ) → i < j → j < 3 * size → ((i / 3 ≡ j / 3) × (i % 3 ≡ j % 3)) → ⊥
     task_pair i j l m p = omega (arith, l, p.0, p.1, place_is i, place_is j)
 
+-- it is small
+lists_sized : (number size : ℕ) → size ≤ 128 → IsSized (lists number size)
+lists_sized number size few = record {
+  resources = omega (arith, table_length (made_resource size) (processors size + buses size), few_processors size few, few_buses size few);
+  sources = omega (arith, table_length (λ k. made_source k (chain_of number size k)) size, few);
+  tasks = omega (arith, table_length (task_made number size) (3 * size), few);
+  paths = omega (arith, table_length (λ k. made_path k (chain_of number size k)) size, few);
+  limits = all_table (IsSizedResource Small) (made_resource size) (processors size + buses size) (λ r l. resource_small (nat_lt r (processors size)) size r);
+  times = all_table (IsSizedTask Small) (task_made number size) (3 * size) (λ i l. task_small number size (i % 3) (i / 3) (thirds i) (third size i l));
+}
+
 pub lists_keep_rules : (number size : ℕ) → size ≤ 128 → IsSystem (lists number size)
 lists_keep_rules number size few = record {
+  sized = lists_sized number size few;
   few_resources = omega (arith, table_length (made_resource size) (processors size + buses size), few_processors size few, few_buses size few);
   few_sources = omega (arith, table_length (λ k. made_source k (chain_of number size k)) size, few);
   few_tasks = omega (arith, table_length (task_made number size) (3 * size), few);
@@ -375,7 +399,7 @@ chain_there number size k cs e l = ap (λ xs. chain_at xs k) e ∙ table_at (cha
 pub assembled : (number size : ℕ) (cs : List Chain) (rs : List Resource) (ss : List Source) (ts : List Task) (ps : List Path) → cs ≡ table (chain_of number size) size
     → rs ≡ table (made_resource size) (processors size + buses size) → ss ≡ table (λ k. made_source k (chain_at cs k)) (length cs)
     → ts ≡ table (λ i. task_of_chain (i % 3) (length cs) (i / 3) (chain_at cs (i / 3))) (3 * length cs) → ps ≡ table (λ k. made_path k (chain_at cs k)) (length cs)
-    → record { resources = rs; sources = ss; tasks = ts; paths = ps } ≡ made_system number size
+    → record { size = Small; resources = rs; sources = ss; tasks = ts; paths = ps } ≡ made_system number size
 assembled number size cs rs ss ts ps e er es et ep =
     let n = chains_counted number size cs e in
     let sources = es ∙ ap (λ m. table (λ k. made_source k (chain_at cs k)) m) n ∙ same_table (λ k. made_source k (chain_at cs k)) (λ k. made_source k (chain_of number size k)) size
@@ -385,6 +409,6 @@ assembled number size cs rs ss ts ps e er es et ep =
     (λ i l. ap (task_of_chain (i % 3) size (i / 3)) (chain_there number size (i / 3) cs e (third size i l))) in
     let paths = ep ∙ ap (λ m. table (λ k. made_path k (chain_at cs k)) m) n ∙ same_table (λ k. made_path k (chain_at cs k)) (λ k. made_path k (chain_of number size k)) size
     (λ k l. ap (made_path k) (chain_there number size k cs e l)) in
-    ap₂ (λ a b. record { resources = a; sources = b; tasks = ts; paths = ps }) er sources
-    ∙ ap₂ (λ a b. record { resources = (lists number size).resources; sources = (lists number size).sources; tasks = a; paths = b }) tasks paths
+    ap₂ (λ a b. record { size = Small; resources = a; sources = b; tasks = ts; paths = ps }) er sources
+    ∙ ap₂ (λ a b. record { size = Small; resources = (lists number size).resources; sources = (lists number size).sources; tasks = a; paths = b }) tasks paths
     ∙ sym (lists_are number size)

@@ -19,26 +19,26 @@ use Rattle.cpa_trace.specs.Breaches.{has_tasks, is_tdma}
 use Rattle.cpa_trace.specs.Trace.{IsOrdered, IsTrace, Obeys, TraceLists, time_of, times_of}
 use Rattle.rand_pcg.specs.Lcg.{Lcg}
 use Rattle.cpa_gen.specs.Draws.{draw, generator, output}
-use Rattle.cpa_gen.specs.MadeTraces.{before_resource, before_source, before_task, drawn_trace, executions_drawn, has_phase, jobs_made, late_drawn, late_first, made_trace, phase_drawn, times_made, worst_trace}
+use Rattle.cpa_gen.specs.MadeTraces.{before_resource, before_source, before_task, drawn_trace, executions_drawn, has_phase, jobs_made, late_drawn, late_first, made_trace, phase_drawn, phases_of, times_made, worst_trace, most_made}
 use Rattle.cpa_gen.proofs.ListLaws.{both, table, table_at, table_length}
 use Rattle.cpa_gen.proofs.TimeLaws.{IsLate, late_drawn-within, late_first-within}
 use Rattle.cpa_gen.proofs.ApartLaws.{listed_apart, listed_ordered}
 
 module _ (s : SystemLists) (kept : IsSystem s) (lates : ℕ → ℕ → ℕ) (within : (j : ℕ) → IsLate (source_at s j) (lates j)) where
   abbrev all_times : List (List ℕ)
-  all_times = table (λ j. times_made (source_at s j) (lates j)) (length s.sources)
+  all_times = table (λ j. times_made (most_made s) (source_at s j) (lates j)) (length s.sources)
 
-  there : (j : ℕ) → j < length s.sources → slice_index_or all_times j [] ≡ times_made (source_at s j) (lates j)
-  there j l = table_at (λ j. times_made (source_at s j) (lates j)) (length s.sources) j [] l
+  there : (j : ℕ) → j < length s.sources → slice_index_or all_times j [] ≡ times_made (most_made s) (source_at s j) (lates j)
+  there j l = table_at (λ j. times_made (most_made s) (source_at s j) (lates j)) (length s.sources) j [] l
 
   past : (j : ℕ) → length s.sources ≤ j → slice_index_or all_times j [] ≡ []
-  past j l = get_or_past all_times j [] (omega (arith, l, table_length (λ j. times_made (source_at s j) (lates j)) (length s.sources)))
+  past j l = get_or_past all_times j [] (omega (arith, l, table_length (λ j. times_made (most_made s) (source_at s j) (lates j)) (length s.sources)))
 
   all_ordered : (j : ℕ) → IsOrdered (slice_index_or all_times j [])
   all_ordered j = by_place (cases_lt j (length s.sources))
     where
       by_place : (j < length s.sources) ⊎ (length s.sources ≤ j) → IsOrdered (slice_index_or all_times j [])
-      by_place (inl l) = subst IsOrdered (sym (there j l)) (λ n m. listed_ordered (source_at s j) (kept.sources j no_source l) (lates j) (within j) n m)
+      by_place (inl l) = subst IsOrdered (sym (there j l)) (λ n m. listed_ordered (most_made s) (source_at s j) (kept.sources j no_source l) (lates j) (within j) n m)
       by_place (inr l) = subst IsOrdered (sym (past j l)) (λ n m. absurd (omega (arith, m)))
 
   abbrev IsApart : ℕ → List ℕ → Type 0
@@ -48,7 +48,7 @@ module _ (s : SystemLists) (kept : IsSystem s) (lates : ℕ → ℕ → ℕ) (wi
   all_apart j = by_place (cases_lt j (length s.sources))
     where
       by_place : (j < length s.sources) ⊎ (length s.sources ≤ j) → IsApart j (slice_index_or all_times j [])
-      by_place (inl l) = subst (IsApart j) (sym (there j l)) (λ n gap m. listed_apart (source_at s j) (kept.sources j no_source l) (lates j) (within j) n gap m)
+      by_place (inl l) = subst (IsApart j) (sym (there j l)) (λ n gap m. listed_apart (most_made s) (source_at s j) (kept.sources j no_source l) (lates j) (within j) n gap m)
       by_place (inr l) = subst (IsApart j) (sym (past j l)) (λ n gap m. absurd (omega (arith, m)))
 
   pub times_order : (tr : TraceLists) → tr.times ≡ all_times → IsTrace tr
@@ -91,7 +91,7 @@ no_job n i k m = let z : length (slice_index_or (replicate n nothing) i nothing)
 
 abbrev pub worst_lists : SystemLists → TraceLists
 worst_lists s = record {
-  times = table (λ j. times_made (source_at s j) (late_first (source_at s j))) (length s.sources);
+  times = table (λ j. times_made (most_made s) (source_at s j) (late_first (source_at s j))) (length s.sources);
   executions = replicate (length s.tasks) [];
   phases = replicate (length s.resources) 0;
 }
@@ -112,7 +112,7 @@ worst_trace-obeys s kept = subst (Obeys s) (sym (worst_is s)) (record {
 
 abbrev pub drawn_lists : SystemLists → Lcg → TraceLists
 drawn_lists s g = record {
-  times = table (λ j. times_made (source_at s j) (late_drawn g (before_source s j) (source_at s j))) (length s.sources);
+  times = table (λ j. times_made (most_made s) (source_at s j) (late_drawn g (before_source s j) (source_at s j))) (length s.sources);
   executions = table (λ i. executions_drawn g (before_task s i) (task_at s i) (jobs_made s i)) (length s.tasks);
   phases = table (phase_drawn s g) (length s.resources);
 }
@@ -136,8 +136,10 @@ execution_is s g i k d l m =
 pub below : (best worst n : ℕ) → best ≤ worst → best + n % (worst - best + 1) ≤ worst
 below best worst n l = let m : n % (worst - best + 1) < worst - best + 1 = mod-lt n (omega arith) in omega (arith, m, l)
 
-phase_below : (s : SystemLists) (g : Lcg) (r : ℕ) (b : Bool) → 0 < cycle_of s r → (if b then draw g (before_resource s r) (cycle_of s r) else 0) < cycle_of s r
-phase_below s g r true l = mod-lt (output g (before_resource s r)) l
+phase_below : (s : SystemLists) (g : Lcg) (r : ℕ) (b : Bool) → 0 < cycle_of s r → (if b then draw g (before_resource s r) (phases_of s r) else 0) < cycle_of s r
+phase_below s g r true l =
+    let less : draw g (before_resource s r) (phases_of s r) < phases_of s r = mod-lt (output g (before_resource s r)) (omega (arith, l)) in
+    omega (arith, less)
 phase_below s g r false l = l
 
 pub drawn_trace-obeys : (s : SystemLists) (g : Lcg) → IsSystem s → Obeys s (drawn_trace s g)

@@ -1,48 +1,46 @@
 -- Each generated trace can be replayed.
-use Rattle.std.proofs.Common.{◌≡◌, ◌<◌, ◌≤◌, ℕ, ◌+◌, ◌%◌, ◌==◌, if◌then◌else◌, Bool, true, false, List, [], All, length, slice_index_or, refl, sym, ap, subst, arith, inl, inr}
+use Rattle.std.proofs.Common.{◌≡◌, ◌<◌, ◌≤◌, ℕ, ◌+◌, ◌*◌, ◌%◌, ◌==◌, if◌then◌else◌, Bool, true, false, List, [], All, length, slice_index_or, refl, sym, ap, subst, arith, inl, inr}
 use Rattle.std.proofs.lemmas.Bool.{cases_lt}
 use Rattle.std.proofs.lemmas.List.{get_or_past, length-replicate}
-use Rattle.std.proofs.lemmas.List.FromFn.{get_or-range_with_len, length-range_with_len}
 use Rattle.std.proofs.lemmas.List.Sums.{sum_by-le}
-use Rattle.std.proofs.Math.Nat.{mod-lt}
+use Rattle.std.proofs.Math.Nat.{le_trans, mod-lt}
 use Rattle.cpa_units.specs.declared.limits.TheConstants.{MAX_PHASE, MAX_TRACE_JOBS, MAX_TRACE_TIME}
 use Rattle.cpa_units.specs.Numbers.{IsExecution}
 use Rattle.cpa_units.specs.declared.places.SourceId.{SourceId}
-use Rattle.cpa_model.proofs.SystemLaws.{streams_of-few}
-use Rattle.cpa_model.specs.SystemLists.{SystemLists, cycle_of, no_source, no_task, source_at, streams_of, task_at, task_places}
+use Rattle.cpa_model.specs.SystemLists.{SystemLists, no_source, no_task, source_at, streams_of, task_at, task_places}
 use Rattle.cpa_model.specs.Rules.{IsSystem}
-use Rattle.cpa_local.proofs.CycleLaws.{cycle-in_range}
 use Rattle.cpa_trace.specs.Trace.{FitsSystem, TraceLists, executions_of, phase_of, time_of, times_of}
 use Rattle.cpa_trace.specs.Reading.{jobs_of, task_jobs}
 use Rattle.cpa_sim.specs.Outcome.{CanReplay}
 use Rattle.rand_pcg.specs.Lcg.{Lcg}
 use Rattle.cpa_gen.specs.Draws.{draw, generator, output}
-use Rattle.cpa_gen.specs.MadeTraces.{before_resource, before_source, before_task, drawn_trace, events_made, executions_drawn, has_phase, jobs_made, late_drawn, late_first, made_trace, phase_drawn, time_made, times_made, worst_trace}
+use Rattle.cpa_gen.specs.MadeTraces.{before_resource, before_source, before_task, drawn_trace, events_made, executions_drawn, has_phase, jobs_made, late_drawn, late_first, made_trace, phase_drawn, phases_of, time_made, times_made, worst_trace, most_made}
 use Rattle.cpa_gen.proofs.ListLaws.{table, table_at, table_length}
+use Rattle.cpa_gen.proofs.MostLaws.{most_made-jobs, sums-scaled}
 use Rattle.cpa_gen.proofs.TimeLaws.{IsLate, few_made, in_time, late_drawn-within, late_first-within, time-within}
 use Rattle.cpa_gen.proofs.ObeyLaws.{all_executions, below, drawn_is, drawn_lists, execution_is, no_job, no_phases, nothing, phase_cycle, worst_is, worst_lists}
 
 module _ (s : SystemLists) (kept : IsSystem s) (lates : ℕ → ℕ → ℕ) (within : (j : ℕ) → IsLate (source_at s j) (lates j)) where
   abbrev all_times : List (List ℕ)
-  all_times = table (λ j. times_made (source_at s j) (lates j)) (length s.sources)
+  all_times = table (λ j. times_made (most_made s) (source_at s j) (lates j)) (length s.sources)
 
-  there : (j : ℕ) → j < length s.sources → slice_index_or all_times j [] ≡ times_made (source_at s j) (lates j)
-  there j l = table_at (λ j. times_made (source_at s j) (lates j)) (length s.sources) j [] l
+  there : (j : ℕ) → j < length s.sources → slice_index_or all_times j [] ≡ times_made (most_made s) (source_at s j) (lates j)
+  there j l = table_at (λ j. times_made (most_made s) (source_at s j) (lates j)) (length s.sources) j [] l
 
   past : (j : ℕ) → length s.sources ≤ j → slice_index_or all_times j [] ≡ []
-  past j l = get_or_past all_times j [] (omega (arith, l, table_length (λ j. times_made (source_at s j) (lates j)) (length s.sources)))
+  past j l = get_or_past all_times j [] (omega (arith, l, table_length (λ j. times_made (most_made s) (source_at s j) (lates j)) (length s.sources)))
 
   abbrev AreTimes : List ℕ → Type 0
   AreTimes times = (n : ℕ) → n < length times → slice_index_or times n 0 ≤ MAX_TRACE_TIME
 
-  made-times : (j : ℕ) → j < length s.sources → AreTimes (times_made (source_at s j) (lates j))
+  made-times : (j : ℕ) → j < length s.sources → AreTimes (times_made (most_made s) (source_at s j) (lates j))
   made-times j l n m =
       let r = source_at s j in
       let known = kept.sources j no_source l in
-      let long = table_length (time_made r (lates j)) (events_made r) in
-      let less : n < events_made r = omega (arith, m, long) in
-      let here = table_at (time_made r (lates j)) (events_made r) n 0 less in
-      omega (arith, here, time-within r known (lates j) (within j) n, in_time r known n less)
+      let long = table_length (time_made r (lates j)) (events_made (most_made s) r) in
+      let less : n < events_made (most_made s) r = omega (arith, m, long) in
+      let here = table_at (time_made r (lates j)) (events_made (most_made s) r) n 0 less in
+      omega (arith, here, time-within r known (lates j) (within j) n, in_time (most_made s) r known n less)
 
   all-times : (j : ℕ) → AreTimes (slice_index_or all_times j [])
   all-times j = elim (cases_lt j (length s.sources)) [
@@ -50,39 +48,32 @@ module _ (s : SystemLists) (kept : IsSystem s) (lates : ℕ → ℕ → ℕ) (wi
     | inr l ↦ subst AreTimes (sym (past j l)) (λ n m. absurd (omega (arith, m)))
   ]
 
-  all-few : (j : ℕ) → length (slice_index_or all_times j []) ≤ 100
+  all-few : (j : ℕ) → length (slice_index_or all_times j []) ≤ most_made s
   all-few j = elim (cases_lt j (length s.sources)) [
     | inl l ↦
         let long = ap length (there j l) in
-        omega (arith, long, table_length (time_made (source_at s j) (lates j)) (events_made (source_at s j)), few_made (source_at s j))
+        omega (arith, long, table_length (time_made (source_at s j) (lates j)) (events_made (most_made s) (source_at s j)), few_made (most_made s) (source_at s j))
     | inr l ↦ let none = ap length (past j l) in omega (arith, none)
   ]
 
   pub in-time : (tr : TraceLists) → tr.times ≡ all_times → (k n : ℕ) → n < length (times_of tr k) → time_of tr k n ≤ MAX_TRACE_TIME
   in-time tr e k = subst (λ ts. AreTimes (slice_index_or ts k [])) (sym e) (all-times k)
 
-  few-task_jobs : (tr : TraceLists) → tr.times ≡ all_times → (i : ℕ) → i < length s.tasks → task_jobs s tr i ≤ 3200
-  few-task_jobs tr e i l =
-      let each : All (λ (k : SourceId). length (times_of tr k.0) ≤ 100) (streams_of s i) = λ k d m. rw e (all-few (slice_index_or (streams_of s i) k d).0) in
-      let all = sum_by-le (λ (k : SourceId). length (times_of tr k.0)) 100 (streams_of s i) each in
-      omega (arith, all, streams_of-few s kept i l)
-
-  few-everywhere : (tr : TraceLists) → tr.times ≡ all_times → All (λ i. task_jobs s tr i ≤ 3200) (task_places s)
-  few-everywhere tr e k d l =
-      let less : k < length s.tasks = omega (arith, l, length-range_with_len 0 (length s.tasks)) in
-      let here : slice_index_or (task_places s) k d ≡ 0 + k = get_or-range_with_len 0 (length s.tasks) k d less in
-      few-task_jobs tr e (slice_index_or (task_places s) k d) (omega arith)
+  few-task_jobs : (tr : TraceLists) → tr.times ≡ all_times → (i : ℕ) → task_jobs s tr i ≤ most_made s * length (streams_of s i)
+  few-task_jobs tr e i =
+      let each : All (λ (k : SourceId). length (times_of tr k.0) ≤ most_made s) (streams_of s i) = λ k d m. rw e (all-few (slice_index_or (streams_of s i) k d).0) in
+      omega (arith, sum_by-le (λ (k : SourceId). length (times_of tr k.0)) (most_made s) (streams_of s i) each)
 
   pub few-jobs : (tr : TraceLists) → tr.times ≡ all_times → jobs_of s tr ≤ MAX_TRACE_JOBS
   few-jobs tr e =
-      let all = sum_by-le (task_jobs s tr) 3200 (task_places s) (few-everywhere tr e) in
-      omega (arith, all, length-range_with_len 0 (length s.tasks), kept.few_tasks)
+      let all = sums-scaled (most_made s) (task_jobs s tr) (λ i. length (streams_of s i)) (few-task_jobs tr e) (task_places s) in
+      le_trans all (most_made-jobs s)
 
 -- even numbers
 
 worst_trace-fits : (s : SystemLists) → FitsSystem s (worst_lists s)
 worst_trace-fits s = record {
-  sources = table_length (λ j. times_made (source_at s j) (late_first (source_at s j))) (length s.sources);
+  sources = table_length (λ j. times_made (most_made s) (source_at s j) (late_first (source_at s j))) (length s.sources);
   tasks = length-replicate (length s.tasks) nothing;
   resources = length-replicate (length s.resources) 0;
 }
@@ -100,7 +91,7 @@ worst_trace-replays s kept = subst (CanReplay s) (sym (worst_is s)) (record {
 
 drawn_trace-fits : (s : SystemLists) (g : Lcg) → FitsSystem s (drawn_lists s g)
 drawn_trace-fits s g = record {
-  sources = table_length (λ j. times_made (source_at s j) (late_drawn g (before_source s j) (source_at s j))) (length s.sources);
+  sources = table_length (λ j. times_made (most_made s) (source_at s j) (late_drawn g (before_source s j) (source_at s j))) (length s.sources);
   tasks = table_length (λ i. executions_drawn g (before_task s i) (task_at s i) (jobs_made s i)) (length s.tasks);
   resources = table_length (phase_drawn s g) (length s.resources);
 }
@@ -121,10 +112,10 @@ drawn-executions s g kept i k m = elim (cases_lt i (length s.tasks)) [
 drawn-phase : (s : SystemLists) (g : Lcg) → IsSystem s → (r : ℕ) → r < length s.resources → phase_drawn s g r ≤ MAX_PHASE
 drawn-phase s g kept r l = by_draw (has_phase s r) refl
   where
-    by_draw : (b : Bool) → has_phase s r ≡ b → (if b then draw g (before_resource s r) (cycle_of s r) else 0) ≤ MAX_PHASE
+    by_draw : (b : Bool) → has_phase s r ≡ b → (if b then draw g (before_resource s r) (phases_of s r) else 0) ≤ MAX_PHASE
     by_draw true e =
-        let less : draw g (before_resource s r) (cycle_of s r) < cycle_of s r = mod-lt (output g (before_resource s r)) (phase_cycle s kept r e) in
-        omega (arith, less, cycle-in_range s kept r l)
+        let less : draw g (before_resource s r) (phases_of s r) < phases_of s r = mod-lt (output g (before_resource s r)) (omega (arith, phase_cycle s kept r e)) in
+        omega (arith, less)
     by_draw false e = omega arith
 
 drawn-phases : (s : SystemLists) (g : Lcg) → IsSystem s → (r : ℕ) → phase_of (drawn_lists s g) r ≤ MAX_PHASE

@@ -6,7 +6,6 @@ use Rattle.cpa_units.specs.declared.limits.TheConstants.{MAX_TRACE_TIME}
 use Rattle.cpa_model.specs.declared.entries.Source.{Source}
 use Rattle.cpa_model.specs.Rules.{IsSource}
 use Rattle.rand_pcg.specs.Lcg.{Lcg}
-use Rattle.cpa_gen.specs.declared.traces.TheConstants.{MADE_EVENTS}
 use Rattle.cpa_gen.specs.Laws.{EventsAreInTime}
 use Rattle.cpa_gen.specs.Draws.{after_draws, draw, output}
 use Rattle.cpa_gen.specs.MadeTraces.{earliest, events_made, late_drawn, late_first, time_made}
@@ -40,27 +39,27 @@ module _ (r : Source) (rules : IsSource r) (late : ℕ → ℕ) (within : IsLate
   pub time-from : (m : ℕ) → m * r.period ≤ time_made r late m
   time-from m = omega arith
 
-pub in_time : (r : Source) → IsSource r → (m : ℕ) → m < events_made r → m * r.period + r.jitter ≤ MAX_TRACE_TIME
-in_time r kept m l = by_jitter (nat_le r.jitter MAX_TRACE_TIME) refl l
+pub in_time : (most : ℕ) (r : Source) → IsSource r → (m : ℕ) → m < events_made most r → m * r.period + r.jitter ≤ MAX_TRACE_TIME
+in_time most r kept m l = by_jitter (nat_le r.jitter MAX_TRACE_TIME) refl l
   where
-    by_jitter : (b : Bool) → nat_le r.jitter MAX_TRACE_TIME ≡ b → m < (if b then min 100 ((MAX_TRACE_TIME - r.jitter) / r.period + 1) else 0) → m * r.period + r.jitter ≤ MAX_TRACE_TIME
+    by_jitter : (b : Bool) → nat_le r.jitter MAX_TRACE_TIME ≡ b → m < (if b then min most ((MAX_TRACE_TIME - r.jitter) / r.period + 1) else 0) → m * r.period + r.jitter ≤ MAX_TRACE_TIME
     by_jitter true e l =
         let few : m ≤ (MAX_TRACE_TIME - r.jitter) / r.period = omega (arith, l) in
         let jitter : r.jitter ≤ MAX_TRACE_TIME = search (rules, arith) in
         omega (arith, div-mul-le_self (MAX_TRACE_TIME - r.jitter) r.period, mul-le m r.period ((MAX_TRACE_TIME - r.jitter) / r.period) r.period few (omega arith), jitter)
     by_jitter false e l = absurd (omega (arith, l))
 
-pub few_made : (r : Source) → events_made r ≤ MADE_EVENTS
-few_made r = by_jitter (nat_le r.jitter MAX_TRACE_TIME)
+pub few_made : (most : ℕ) (r : Source) → events_made most r ≤ most
+few_made most r = by_jitter (nat_le r.jitter MAX_TRACE_TIME)
   where
-    by_jitter : (b : Bool) → (if b then min 100 ((MAX_TRACE_TIME - r.jitter) / r.period + 1) else 0) ≤ 100
+    by_jitter : (b : Bool) → (if b then min most ((MAX_TRACE_TIME - r.jitter) / r.period + 1) else 0) ≤ most
     by_jitter true = omega arith
     by_jitter false = omega arith
 
-counted : (r : Source) → IsSource r → (m : ℕ) → m < MADE_EVENTS → m * r.period + r.jitter ≤ MAX_TRACE_TIME → m < events_made r
-counted r kept m few l = by_jitter (nat_le r.jitter MAX_TRACE_TIME) refl
+counted : (most : ℕ) (r : Source) → IsSource r → (m : ℕ) → m < most → m * r.period + r.jitter ≤ MAX_TRACE_TIME → m < events_made most r
+counted most r kept m few l = by_jitter (nat_le r.jitter MAX_TRACE_TIME) refl
   where
-    by_jitter : (b : Bool) → nat_le r.jitter MAX_TRACE_TIME ≡ b → m < (if b then min 100 ((MAX_TRACE_TIME - r.jitter) / r.period + 1) else 0)
+    by_jitter : (b : Bool) → nat_le r.jitter MAX_TRACE_TIME ≡ b → m < (if b then min most ((MAX_TRACE_TIME - r.jitter) / r.period + 1) else 0)
     by_jitter true e =
         let less : m ≤ (MAX_TRACE_TIME - r.jitter) / r.period = le-div m (MAX_TRACE_TIME - r.jitter) r.period (omega (arith, kept.some_period)) (omega (arith, l)) in
         omega (arith, less, few)
@@ -69,7 +68,7 @@ counted r kept m few l = by_jitter (nat_le r.jitter MAX_TRACE_TIME) refl
         absurd (omega (arith, l, late))
 
 pub events_in_time : EventsAreInTime
-events_in_time r kept m = (λ l. (omega (arith, l, few_made r), in_time r kept m l), λ h. counted r kept m h.0 h.1)
+events_in_time most r kept m = (λ l. (omega (arith, l, few_made most r), in_time most r kept m l), λ h. counted most r kept m h.0 h.1)
 
 -- the next draw of a generator that has given k outputs
 pub draw_at : (g h : Lcg) (k n : ℕ) → h ≡ after_draws g k → draw h 0 n ≡ draw g (0 + k) n

@@ -3,6 +3,7 @@ use Rattle.std.specs.Prelude.{ℕ, zero, suc, ◌+◌, ◌*◌, ◌-◌, ◌/◌
 use Rattle.std.specs.List.{range_with_len}
 use Rattle.std.specs.Fmt.{decimal}
 use Rattle.cpa_units.specs.declared.limits.TheConstants.{DEFAULT_LIMIT}
+use Rattle.cpa_units.specs.declared.limits.Size.TheVariants.{Small}
 use Rattle.cpa_units.specs.Frames.{least_frame_bits, greatest_frame_bits}
 use Rattle.cpa_model.specs.declared.entries.Resource.{Resource}
 use Rattle.cpa_model.specs.declared.entries.Source.{Source}
@@ -109,6 +110,7 @@ task_made number size i = task_of_chain (i % 3) size (i / 3) (chain_of number si
 
 unfoldable pub made_system : ℕ → ℕ → SystemLists
 made_system number size = record {
+  size = Small;
   resources = map (made_resource size) (range_with_len 0 (processors size + buses size));
   sources = map (λ k. made_source k (chain_of number size k)) (range_with_len 0 size);
   tasks = map (task_made number size) (range_with_len 0 (3 * size));

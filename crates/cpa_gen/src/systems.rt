@@ -12,7 +12,7 @@ use cpa_model::{
     Activator, Activators, Kind, Path, Resource, Source, System, Task, TaskList, Turn,
 };
 use cpa_text::Text;
-use cpa_units::limits::DEFAULT_LIMIT;
+use cpa_units::limits::{DEFAULT_LIMIT, Size};
 use cpa_units::{Name, NameFault, NoMemory, ResId, SourceId, TaskId, frame_bits};
 use std::alloc::Global;
 
@@ -218,5 +218,5 @@ pub fn make_system(alloc: Global, number: u64, size: u32) -> Result<System, NoMe
     let sources = make_sources(alloc, chains)?;
     let tasks = make_tasks(alloc, chains)?;
     let paths = make_paths(alloc, chains)?;
-    System::of_lists(alloc, resources, sources, tasks, paths)
+    System::of_lists(alloc, Size::Small, resources, sources, tasks, paths)
 }

@@ -3,18 +3,18 @@
 ghost use Rattle.std.specs.Prelude.{◌≡◌, if◌then◌else◌, ◌<◌, ◌≤◌, ◌+◌, ◌*◌, [], map, max, length, replicate, IfOk, OnOk};
 ghost use Rattle.std.specs.List.{range_with_len};
 ghost use Rattle.cpa_model.specs.Rules.{IsSource, IsSystem, IsTask};
-ghost use Rattle.cpa_model.specs.SystemLists.{cycle_of, source_at, task_at};
+ghost use Rattle.cpa_model.specs.SystemLists.{source_at, task_at};
 ghost use Rattle.rand_pcg.specs.Lcg.{Lcg};
 ghost use Rattle.cpa_gen.specs.Draws.{after_draws, draw};
 ghost use Rattle.cpa_trace.specs.Breaches.{has_tasks, is_tdma};
 ghost use Rattle.cpa_trace.specs.Trace.{Obeys};
 ghost use Rattle.cpa_sim.specs.Outcome.{CanReplay};
-ghost use Rattle.cpa_gen.specs.MadeTraces.{before_resource, before_source, before_task, drawn_trace, events_made, executions_drawn, has_phase, jobs_made, late_drawn, late_first, made_trace, phase_drawn, times_made, worst_trace};
+ghost use Rattle.cpa_gen.specs.MadeTraces.{before_resource, before_source, before_task, drawn_trace, events_made, executions_drawn, has_phase, jobs_by, jobs_made, late_drawn, late_first, made_trace, most_made, phase_drawn, phases_of, streams_in, times_made, worst_trace};
 
 use crate::draws::{draw, generator};
 use cpa_model::{Kind, Source, System, Task};
 use cpa_trace::Trace;
-use cpa_units::limits::MAX_TRACE_TIME;
+use cpa_units::limits::{MAX_PHASE, MAX_TRACE_JOBS, MAX_TRACE_TIME};
 use cpa_units::{NoMemory, ResId, SourceId, TaskId};
 use rand_pcg::Pcg32;
 use std::alloc::Global;
@@ -23,17 +23,36 @@ use std::cmp::min;
 /// The most events of a source in a generated trace.
 const MADE_EVENTS: u64 = 100;
 
-/// How many events a source has in a generated trace.
-fn events_made(source: &Source) -> u64
-    requires { IsSource source.now }
-    ensures value { result ≡ events_made source.now }
+/// How many streams all tasks of a system have.
+fn streams_in(system: &System) -> u64
+    ensures value { result ≡ streams_in system.now }
+{
+    let mut total = 0;
+    for i in 0..system.tasks() {
+        let count = system.streams(TaskId(i));
+        total += u64::from(count);
+    }
+    total
+}
+
+/// The most events of a source in a trace that is generated for a system.
+fn most_made(system: &System) -> u64
+    ensures value { result ≡ most_made system.now }
     ensures few { result ≤ 100 }
 {
+    let streams = streams_in(system);
+    let share = MAX_TRACE_JOBS / streams.max(1);
+    MADE_EVENTS.min(share)
+}
+
+/// How many events a source has in a generated trace, at the most so many.
+fn events_made(most: u64, source: &Source) -> u64
+    requires { IsSource source.now }
+    ensures value { result ≡ events_made most source.now }
+    ensures few { result ≤ most }
+{
     if source.jitter <= MAX_TRACE_TIME {
-        min(
-            MADE_EVENTS,
-            (MAX_TRACE_TIME - source.jitter) / source.period + 1,
-        )
+        min(most, (MAX_TRACE_TIME - source.jitter) / source.period + 1)
     } else {
         0
     }
@@ -53,11 +72,12 @@ fn late_first(source: &Source, m: u64) -> u64
 }
 
 /// The times of a source whose first event is as late as may be, and no other.
-fn worst_times(alloc: Global, source: &Source) -> Result<Vec<u64>, NoMemory>
-    requires { IsSource source.now }
-    ensures { IfOk result (λ v. v.items ≡ times_made source.now (late_first source.now)) }
+fn worst_times(alloc: Global, most: u64, source: &Source) -> Result<Vec<u64>, NoMemory>
+    requires source { IsSource source.now }
+    requires few { most ≤ 100 }
+    ensures { IfOk result (λ v. v.items ≡ times_made most source.now (late_first source.now)) }
 {
-    let events = events_made(source);
+    let events = events_made(most, source);
     let mut times = Vec::with_capacity(alloc, events as usize)?;
     let mut earliest = 0;
     for m in 0..events {
@@ -69,12 +89,18 @@ fn worst_times(alloc: Global, source: &Source) -> Result<Vec<u64>, NoMemory>
 }
 
 /// The times of a source whose events are drawn.
-fn drawn_times(alloc: Global, rng: &mut Pcg32, source: &Source) -> Result<Vec<u64>, NoMemory>
-    requires { IsSource source.now }
-    ensures times { IfOk result (λ v. v.items ≡ times_made source.now (late_drawn rng.old 0 source.now)) }
-    ensures taken { OnOk result (rng.new ≡ after_draws rng.old (events_made source.now)) }
+fn drawn_times(
+    alloc: Global,
+    rng: &mut Pcg32,
+    most: u64,
+    source: &Source,
+) -> Result<Vec<u64>, NoMemory>
+    requires source { IsSource source.now }
+    requires few { most ≤ 100 }
+    ensures times { IfOk result (λ v. v.items ≡ times_made most source.now (late_drawn rng.old 0 source.now)) }
+    ensures taken { OnOk result (rng.new ≡ after_draws rng.old (events_made most source.now)) }
 {
-    let events = events_made(source);
+    let events = events_made(most, source);
     let mut times = Vec::with_capacity(alloc, events as usize)?;
     let mut earliest = 0;
     for m in 0..events {
@@ -94,7 +120,7 @@ fn drawn_executions(
     jobs: u64,
 ) -> Result<Vec<u64>, NoMemory>
     requires ordered { task.now.best ≤ task.now.worst }
-    requires worst { task.now.worst ≤ 1000000 }
+    requires worst { task.now.worst ≤ 10000000 }
     ensures executions { IfOk result (λ v. v.items ≡ executions_drawn rng.old 0 task.now jobs) }
     ensures taken { OnOk result (rng.new ≡ after_draws rng.old jobs) }
 {
@@ -107,12 +133,13 @@ fn drawn_executions(
 
 /// The times of all sources, each of whose first events is as late as may be.
 fn all_worst_times(alloc: Global, system: &System) -> Result<Vec<Vec<u64>>, NoMemory>
-    ensures times { IfOk result (λ v. map (λ w. w.items) v.items ≡ map (λ j. times_made (source_at system.now j) (late_first (source_at system.now j))) (range_with_len 0 (length system.now.sources))) }
+    ensures times { IfOk result (λ v. map (λ w. w.items) v.items ≡ map (λ j. times_made (most_made system.now) (source_at system.now j) (late_first (source_at system.now j))) (range_with_len 0 (length system.now.sources))) }
     ensures rules { IsSystem system.now }
 {
+    let most = most_made(system);
     let mut times = Vec::with_capacity(alloc, system.sources() as usize)?;
     for j in 0..system.sources() {
-        times.push(worst_times(alloc, system.source(SourceId(j)))?)?;
+        times.push(worst_times(alloc, most, system.source(SourceId(j)))?)?;
     }
     Ok(times)
 }
@@ -145,25 +172,27 @@ fn draw_all_times(
     rng: &mut Pcg32,
     system: &System,
 ) -> Result<Vec<Vec<u64>>, NoMemory>
-    ensures times { IfOk result (λ v. map (λ w. w.items) v.items ≡ map (λ j. times_made (source_at system.now j) (late_drawn rng.old (before_source system.now j) (source_at system.now j))) (range_with_len 0 (length system.now.sources))) }
+    ensures times { IfOk result (λ v. map (λ w. w.items) v.items ≡ map (λ j. times_made (most_made system.now) (source_at system.now j) (late_drawn rng.old (before_source system.now j) (source_at system.now j))) (range_with_len 0 (length system.now.sources))) }
     ensures taken { OnOk result (rng.new ≡ after_draws rng.old (before_source system.now (length system.now.sources))) }
     ensures rules { IsSystem system.now }
 {
+    let most = most_made(system);
     let mut times = Vec::with_capacity(alloc, system.sources() as usize)?;
     for j in 0..system.sources() {
-        times.push(drawn_times(alloc, rng, system.source(SourceId(j)))?)?;
+        times.push(drawn_times(alloc, rng, most, system.source(SourceId(j)))?)?;
     }
     Ok(times)
 }
 
-/// How many jobs a task has in a generated trace.
-fn jobs_made(system: &System, task: TaskId) -> u64
-    requires { task.0 < length system.now.tasks }
-    ensures { result ≡ jobs_made system.now task.0 }
+/// How many jobs a task has in a generated trace, by the most events of a source.
+fn jobs_by(system: &System, most: u64, task: TaskId) -> u64
+    requires few { most ≤ 100 }
+    requires there { task.0 < length system.now.tasks }
+    ensures { result ≡ jobs_by most system.now task.0 }
 {
     let mut jobs = 0;
     for k in 0..system.streams(task) {
-        jobs += events_made(system.source(system.stream(task, k)));
+        jobs += events_made(most, system.source(system.stream(task, k)));
     }
     jobs
 }
@@ -177,10 +206,11 @@ fn draw_all_executions(
     ensures executions { (g : Lcg) → rng.old ≡ after_draws g (before_task system.now 0) → IfOk result (λ v. map (λ w. w.items) v.items ≡ map (λ i. executions_drawn g (before_task system.now i) (task_at system.now i) (jobs_made system.now i)) (range_with_len 0 (length system.now.tasks))) }
     ensures taken { (g : Lcg) → rng.old ≡ after_draws g (before_task system.now 0) → OnOk result (rng.new ≡ after_draws g (before_task system.now (length system.now.tasks))) }
 {
+    let most = most_made(system);
     let mut executions = Vec::with_capacity(alloc, system.tasks() as usize)?;
     for i in 0..system.tasks() {
         let task = TaskId(i);
-        let jobs = jobs_made(system, task);
+        let jobs = jobs_by(system, most, task);
         executions.push(drawn_executions(alloc, rng, system.task(task), jobs)?)?;
     }
     Ok(executions)
@@ -208,15 +238,17 @@ fn has_phase(system: &System, res: ResId) -> bool
     is_tdma(system.resource(res).kind) && has_tasks(system, res)
 }
 
-/// The phase of a resource, drawn where it is TDMA and has a task.
+/// The phase of a resource, drawn where it is TDMA and has a task: below the cycle, and one that a trace
+/// may have.
 fn draw_phase(rng: &mut Pcg32, system: &System, res: ResId) -> u64
     requires there { res.0 < length system.now.resources }
     requires rules { IsSystem system.now }
-    ensures value { result ≡ (if has_phase system.now res.0 then draw rng.old 0 (cycle_of system.now res.0) else 0) }
+    ensures value { result ≡ (if has_phase system.now res.0 then draw rng.old 0 (phases_of system.now res.0) else 0) }
     ensures taken { rng.new ≡ after_draws rng.old (if has_phase system.now res.0 then 1 else 0) }
 {
     if has_phase(system, res) {
-        draw(rng, system.cycle(res))
+        let phases = system.cycle(res).min(MAX_PHASE + 1);
+        draw(rng, phases)
     } else {
         0
     }
@@ -244,9 +276,10 @@ fn drawn_trace(alloc: Global, mut rng: Pcg32, system: &System) -> Result<Trace, 
     Ok(Trace::of_lists(times, executions, phases))
 }
 
-/// Trace `k` that is made for a system from a number. Each source has at most 100 events, by 10,000,000 ticks. Where `k`
-/// is even, its first event is as late as may be, and each execution is the greatest; else all is drawn by PCG32 (O'Neill
-/// 2014), from the stream `k`. The trace obeys the system, and can be replayed. The only error is out of memory.
+/// Trace `k` that is made for a system from a number. Each source has at most 100 events, and fewer where
+/// the system has more than 20,000 streams, by 10,000,000 ticks. Where `k` is even, its first event is as
+/// late as may be, and each execution is the greatest; else all is drawn by PCG32 (O'Neill 2014), from the
+/// stream `k`. The trace obeys the system, and can be replayed. The only error is out of memory.
 pub fn make_trace(alloc: Global, system: &System, number: u64, k: u64) -> Result<Trace, NoMemory>
     ensures value { IfOk result (λ tr. tr ≡ made_trace system.now number k) }
     ensures obeys { IfOk result (λ tr. Obeys system.now tr) }

@@ -23,7 +23,7 @@ fn make(alloc: Global, session: &mut Session, line: u32, edit: &Edit) -> Result<
     ensures status { IfOk result (λ r. r.status ≢ 30) }
     ensures unchanged { OnErr result (session.new ≡ session.old) }
 {
-    let mut trail = Trail::with_room(alloc, 512)?;
+    let mut trail = Trail::of_size(alloc, session.system().size())?;
     match session.edit(&(), alloc, edit, &mut OneByOne, &mut trail) {
         Ok(()) => Ok(Reply {
             status: 0,

@@ -22,7 +22,8 @@ use std::alloc::Global;
 fn start(alloc: Global, system: System) -> Result<Box<Session>, NoMemory>
     ensures { IfOk result (λ session. session.value ≡ system) }
 {
-    let mut trail = Trail::with_room(alloc, 512)?;
+    system.has_rules();
+    let mut trail = Trail::with_room(alloc, system.tasks())?;
     let session = Session::start(&(), alloc, system, &mut OneByOne, &mut trail)?;
     Ok(Box::new(alloc, session)?)
 }

@@ -19,11 +19,11 @@ sum-suc f p n =
     let one : n + 1 ≡ suc n = omega arith in
     subst (λ m. sum_below f p m ≡ sum_below f p n + cond (p n) (f n) 0) one (slots-more f p n)
 
-sum-small : (f : ℕ → ℕ) (p : ℕ → Bool) → ((i : ℕ) → f i ≤ 1000000) → (n : ℕ) → sum_below f p n ≤ 1000000 * n
+sum-small : (f : ℕ → ℕ) (p : ℕ → Bool) → ((i : ℕ) → f i ≤ 10000000) → (n : ℕ) → sum_below f p n ≤ 10000000 * n
 sum-small f p small zero = omega arith
 sum-small f p small (suc n) =
     let step = sum-suc f p n in
-    let more : cond (p n) (f n) 0 ≤ 1000000 = cond-small (p n) (f n) 1000000 (small n) in
+    let more : cond (p n) (f n) 0 ≤ 10000000 = cond-small (p n) (f n) 10000000 (small n) in
     omega (arith, sum-small f p small n)
 
 sum-own : (f : ℕ → ℕ) (p : ℕ → Bool) (i n : ℕ) → i < n → p i ≡ true → f i ≤ sum_below f p n
@@ -40,7 +40,7 @@ sum-own f p i (suc n) less h =
 eqb-same : (r : ℕ) → (r == r) ≡ true
 eqb-same r = grind (arith, nat_tests)
 
-slots-small : (s : SystemLists) → IsSystem s → (i : ℕ) → slot_of (task_at s i).turn ≤ 1000000
+slots-small : (s : SystemLists) → IsSystem s → (i : ℕ) → slot_of (task_at s i).turn ≤ 10000000
 slots-small s rules i =
     elim (cases_lt i (length s.tasks)) [
       | inl less ↦

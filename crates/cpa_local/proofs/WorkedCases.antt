@@ -2,6 +2,7 @@
 use Rattle.std.proofs.Common.{◌≡◌, ℕ, ◌+◌, ◌*◌, List, [], ◌∷◌, ◌++◌, map, replicate, Some, refl}
 use Rattle.cpa_units.specs.declared.bound.Bound.{Bound}
 use Rattle.cpa_units.specs.declared.bound.Bound.TheVariants.{Within}
+use Rattle.cpa_units.specs.declared.limits.Size.TheVariants.{Small}
 use Rattle.cpa_units.specs.Search.{least_from, greatest_to}
 use Rattle.cpa_events.specs.Streams.{stream_delta_minus, stream_eta_plus}
 use Rattle.cpa_events.specs.Events.{Model, delta_minus, eta_plus}
@@ -41,7 +42,7 @@ model period jitter distance = record { period = period; jitter = jitter; distan
 -- two chains that cross on two processors, where the second task of each comes before the first of the other
 abbrev crossing : List Task → SystemLists
 crossing tasks =
-    record { resources = resource Preemptive ∷ resource Preemptive ∷ []; sources = source 100 0 ∷ source 100 0 ∷ []; tasks = tasks; paths = [] }
+    record { size = Small; resources = resource Preemptive ∷ resource Preemptive ∷ []; sources = source 100 0 ∷ source 100 0 ∷ []; tasks = tasks; paths = [] }
 
 crossing_chains : SystemLists
 crossing_chains =
@@ -101,6 +102,7 @@ later-fixed = refl
 two_activators : SystemLists
 two_activators =
     record {
+      size = Small;
       resources = resource Preemptive ∷ resource Preemptive ∷ [];
       sources = source 10 0 ∷ source 20 0 ∷ [];
       tasks = task 0 (from_source 0 ++ from_source 1) 1 3 1 ∷ task 1 (from_task 0) 2 2 1 ∷ [];
@@ -122,6 +124,7 @@ two_activators-fixed = refl
 shared_source : SystemLists
 shared_source =
     record {
+      size = Small;
       resources = resource Preemptive ∷ [];
       sources = source 100 0 ∷ [];
       tasks = task 0 (from_source 0) 1 1 1 ∷ task 0 (from_source 0) 1 1 2 ∷ task 0 (from_task 0 ++ from_task 1) 1 1 3 ∷ [];
@@ -147,6 +150,7 @@ with_region k best worst priority region =
 regions : SystemLists
 regions =
     record {
+      size = Small;
       resources = resource Preemptive ∷ [];
       sources = source 10 0 ∷ source 20 5 ∷ source 40 0 ∷ [];
       tasks = with_region 0 1 3 1 1 ∷ with_region 1 2 4 2 2 ∷ with_region 2 6 9 3 4 ∷ [];
@@ -172,6 +176,7 @@ local_tasks place =
 car_network : SystemLists
 car_network =
     record {
+      size = Small;
       resources = map resource (Preemptive ∷ Preemptive ∷ Preemptive ∷ Preemptive ∷ Preemptive ∷ Preemptive ∷ Can 2 ∷ Can 2 ∷ []);
       sources = replicate 12 (source 10000 0) ++ replicate 7 (source 20000 500) ++ source 100000 500 ∷ [];
       tasks = chain 0 0 6 3 10 20 ++ chain 1 1 7 4 10 20 ++ chain 2 2 6 5 10 20 ++ chain 3 3 7 0 10 20 ++ chain 4 4 6 1 10 20 ++ chain 5 5 7 2 10 20

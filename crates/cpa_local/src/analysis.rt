@@ -37,7 +37,7 @@ pub fn respond(system: &System, task: TaskId, x: &Vector, trail: &mut Trail) -> 
     ensures marked { AreMarked trail.new (λ i. i ≡ task.0) }
 {
     let tasks = system.tasks();
-    prove!(tasks <= 512);
+    prove!(tasks <= 8192);
     trail.mark(task);
     trail.work.prepare(system, system.task(task).res, x);
     respond_prepared(system, task, x, &mut trail.work)

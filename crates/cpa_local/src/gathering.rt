@@ -64,7 +64,7 @@ fn gather(
     system: &System,
     task: TaskId,
     x: &Vector,
-    known: &[bool; 512],
+    known: &[bool; 8192],
     inputs: &[Option<Model>],
     way: ChainWalk,
     none: bool,
@@ -123,7 +123,7 @@ pub(crate) fn find_along(
     system: &System,
     task: TaskId,
     x: &Vector,
-    known: &[bool; 512],
+    known: &[bool; 8192],
     inputs: &[Option<Model>],
     found: &mut Model,
 ) -> bool

@@ -12,7 +12,7 @@ use cpa_model::System;
 use cpa_units::{TaskId, Vector};
 
 /// Marks where the input of no task is known.
-static NONE_KNOWN: [bool; 512] = [false; 512];
+static NONE_KNOWN: [bool; 8192] = [false; 8192];
 
 /// The input of a task at a vector, as an event model in ticks; none where it is unbounded. It is
 /// what the task's activators send, one after the other: jitter grows along each chain by what each

@@ -131,7 +131,7 @@ fn learn(
     ensures known { AreInputs system.now res.0 x.now inputs.new.items }
     ensures long { length inputs.new.items ≡ length inputs.old.items }
 {
-    let mut known = [false; 512];
+    let mut known = [false; 8192];
     for task in system.tasks_on(res) {
         let place = task.0 as usize;
         if find_by_known(system, *task, x, &known, inputs.as_slice(), found) {
@@ -174,7 +174,7 @@ fn find_by_known(
     system: &System,
     task: TaskId,
     x: &Vector,
-    known: &[bool; 512],
+    known: &[bool; 8192],
     inputs: &[Option<Model>],
     found: &mut Model,
 ) -> bool

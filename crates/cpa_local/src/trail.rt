@@ -2,11 +2,13 @@
 
 ghost use Rattle.std.specs.Prelude.{◌≡◌, ◌≤◌, ◌<◌, ◌↔◌, ℕ, length, IfOk, IsTrue};
 ghost use Rattle.cpa_units.specs.declared.limits.TheConstants.{MAX_TASKS};
+ghost use Rattle.cpa_units.specs.Sizes.{most_tasks};
 ghost use Rattle.cpa_local.specs.Trails.{IsMarked, IsKept, NewMarksAre, AreMarked};
 ghost use Rattle.cpa_local.specs.Rising.{TasksOn};
 
 use crate::scratch::Scratch;
 use cpa_model::System;
+use cpa_units::limits::Size;
 use cpa_units::{NoMemory, ResId, TaskId};
 use std::alloc::Global;
 use std::marker::Model;
@@ -14,7 +16,7 @@ use std::marker::Model;
 /// A mark for each task that was analysed, and room for what analyses gather, taken beforehand.
 #[derive(Drop)]
 pub struct Trail {
-    marks: [bool; 512],
+    marks: [bool; 8192],
     pub(crate) work: Scratch,
 }
 
@@ -26,11 +28,11 @@ impl Model for Trail {
 
     ghost view = { λ t. record { marks = t.marks; room = length t.work.inputs } };
 
-    ghost invariant = { λ t. length t.marks ≡ 512 };
+    ghost invariant = { λ t. length t.marks ≡ 8192 };
 }
 
 impl Trail {
-    /// A trail without marks, with room for a system of so many tasks, at most 512.
+    /// A trail without marks, with room for a system of so many tasks, at most 8192.
     pub fn with_room(alloc: Global, tasks: u32) -> Result<Trail, NoMemory>
         requires { tasks ≤ MAX_TASKS }
         ensures room { IfOk result (λ t. t.room ≡ tasks) }
@@ -38,12 +40,22 @@ impl Trail {
     {
         let work = Scratch::with_room(alloc, tasks)?;
         Ok(Trail {
-            marks: [false; 512],
+            marks: [false; 8192],
             work,
         })
     }
 
-    /// Whether a task, whose place is below 512, was analysed.
+    /// A trail without marks, with room for any system of this size.
+    pub fn of_size(alloc: Global, size: Size) -> Result<Trail, NoMemory>
+        ensures room { IfOk result (λ t. t.room ≡ most_tasks size) }
+        ensures none { IfOk result (λ t. (i : ℕ) → IsMarked t i → ⊥) }
+    {
+        let most = size.most_tasks();
+        let tasks = most as u32;
+        Trail::with_room(alloc, tasks)
+    }
+
+    /// Whether a task, whose place is below 8192, was analysed.
     pub fn marked(&self, task: TaskId) -> bool
         requires { task.0 < MAX_TASKS }
         ensures { IsTrue result ↔ IsMarked self.now task.0 }

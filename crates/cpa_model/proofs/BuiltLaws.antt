@@ -11,6 +11,9 @@ use Rattle.std.proofs.lemmas.Bool.{and_parts, and_from, or_parts, true≢false, 
 use Rattle.std.proofs.lemmas.List.{length-map, get_or-map, get_or-take}
 use Rattle.std.proofs.lemmas.List.FromFn.{get_or-range_with_len, length-range_with_len}
 use Rattle.std.proofs.lemmas.Option.{none-some, same_Some}
+use Rattle.std.proofs.Math.Nat.{le_trans}
+use Rattle.cpa_units.specs.declared.limits.Size.TheVariants.{Large}
+use Rattle.cpa_model.proofs.SizeLaws.{resources-most, sources-most, tasks-most, paths-most, larger-resource, larger-task, resource-sized, worst-sized, slot-sized, region-sized}
 use Rattle.cpa_units.specs.Name.{is_name}
 use Rattle.cpa_units.specs.declared.places.ResId.{ResId}
 use Rattle.cpa_units.specs.declared.places.SourceId.{SourceId}
@@ -42,7 +45,7 @@ use Rattle.cpa_model.specs.declared.entries.Activator.{Activator}
 use Rattle.cpa_model.specs.declared.entries.Activator.TheVariants as activator
 use Rattle.cpa_model.specs.Chains.{chain_step, depth_within, activators, streams_step, streams_within}
 use Rattle.cpa_model.specs.SystemLists.{SystemLists, task_at, streams_of, is_task as is_the_task, no_resource, no_task}
-use Rattle.cpa_model.specs.Rules.{IsSystem, IsResource, IsSource, IsTask, IsActivator, IsPath, IsLinked, AllDiffer, HaveOwnPriorities, TurnFits, RegionFits, activity_names}
+use Rattle.cpa_model.specs.Rules.{IsSized, IsSizedResource, IsSizedTask, IsSystem, IsResource, IsSource, IsTask, IsActivator, IsPath, IsLinked, AllDiffer, HaveOwnPriorities, TurnFits, RegionFits, activity_names}
 use Rattle.cpa_model.specs.Built.{built_kind, built_resource, built_source, built_task, built_path, built_turn, built_activator, activator_at, resource_place, activity_place, bit_time, task_named, has_executions, TaskFitsTypes, PathFitsTypes, system_of}
 use Rattle.cpa_model.proofs.SystemLaws.{path-short, activators-few}
 use Rattle.cpa_model.proofs.EntryLaws.{may-range, range, resource-kept, source-kept, place-kept, nothing-none, link-kept, task-kept, turn-kept, region-kept, executions-kept}
@@ -173,7 +176,7 @@ bit-kept : (d : DraftLists) → IsUnrefused d → (name : List ℕ) → is_none 
 bit-kept d u name h =
     let below : resource_place d name < length d.resources = omega (arith, place-kept (resource_names d) name h, length-map d.resources (λ (r : DraftResource). r.name)) in
     may-range 1 1000 1 (draft_resource_at d (resource_place d name)).bit (lit≤ tt, lit≤ tt)
-    (and_parts _ _ (u.resources_fit (resource_place d name) no_draft_resource below)).1
+    (and_parts _ _ (larger-resource d.size (draft_resource_at d (resource_place d name)) (u.resources_fit (resource_place d name) no_draft_resource below))).1
 
 activator-kept : (s : SystemLists) (sources k : ℕ) → sources ≡ length s.sources → k < sources + length s.tasks → IsActivator s (activator_at sources k)
 activator-kept s sources k count less = elim (cases_Bool (nat_lt k sources)) [
@@ -237,7 +240,7 @@ task-kept-at d u given i e less =
     let t = get_or d.tasks i e in
     let know : (is_none (place_of (resource_names d) t.on) ≡ false) × (list_any (λ name. is_nothing (link_of d name)) t.after ≡ false) = or_parts _ _ (u.tasks_know i e less) in
     let below : resource_place d t.on < length d.resources = omega (arith, place-kept (resource_names d) t.on know.0, length-map d.resources (λ (r : DraftResource). r.name)) in
-    let fit-region = and_parts _ _ (u.tasks_fit i e less) in
+    let fit-region = and_parts _ _ (larger-task d.size (get_or d.tasks i e) (u.tasks_fit i e less)) in
     let fit = and_parts _ _ fit-region.0 in
     let fit-priority = and_parts _ _ fit.0 in
     let fit-payload = and_parts _ _ fit-priority.0 in
@@ -401,14 +404,43 @@ path-kept-at d u i e less =
       deadline = deadline-kept p.deadline (u.paths_fit i e less);
     }
 
+-- what the size allows
+task-sized : (d : DraftLists) → IsUnrefused d → All (λ t. IsSizedTask d.size (built_task d t)) d.tasks
+unfolding built_task
+task-sized d u i e less =
+    let t = get_or d.tasks i e in
+    let know : (is_none (place_of (resource_names d) t.on) ≡ false) × (list_any (λ name. is_nothing (link_of d name)) t.after ≡ false) = or_parts _ _ (u.tasks_know i e less) in
+    let region = and_parts _ _ (u.tasks_fit i e less) in
+    let slot = and_parts _ _ region.0 in
+    let priority = and_parts _ _ slot.0 in
+    let payload = and_parts _ _ priority.0 in
+    let run = and_parts _ _ payload.0 in
+    record {
+      worst = worst-sized d.size t.payload t.worst (unwrap_or t.extended false) (bit_time d t.on) payload.1 run.1 (bit-kept d u t.on know.0).1;
+      slot = slot-sized d.size (by_priority (kind_of d t.on)) t slot.1;
+      region = region-sized d.size t.region region.1;
+    }
+
+sized-kept : (d : DraftLists) → IsUnrefused d → IsSized (system_of d)
+unfolding system_of
+sized-kept d u = record {
+  resources = rw (length-map d.resources built_resource) u.few_resources;
+  sources = rw (length-map d.sources built_source) u.few_sources;
+  tasks = rw (length-map d.tasks (built_task d)) u.few_tasks;
+  paths = rw (length-map d.paths (built_path d)) u.few_paths;
+  limits = all-map (IsSizedResource d.size) built_resource d.resources (λ k r less. resource-sized d.size (get_or d.resources k r) (u.resources_fit k r less));
+  times = all-map (IsSizedTask d.size) (built_task d) d.tasks (task-sized d u);
+}
+
 pub system-kept : (d : DraftLists) → IsUnrefused d → All (λ t. has_executions t ≡ true) d.tasks → IsSystem (system_of d)
 unfolding system_of built_task
 system-kept d u given = record {
-  few_resources = rw (length-map d.resources built_resource) u.few_resources;
-  few_sources = rw (length-map d.sources built_source) u.few_sources;
-  few_tasks = rw (length-map d.tasks (built_task d)) u.few_tasks;
-  few_paths = rw (length-map d.paths (built_path d)) u.few_paths;
-  resources = all-map IsResource built_resource d.resources (λ k r less. resource-kept (get_or d.resources k r) (u.resources_fit k r less));
+  sized = sized-kept d u;
+  few_resources = rw (length-map d.resources built_resource) (le_trans u.few_resources (resources-most d.size));
+  few_sources = rw (length-map d.sources built_source) (le_trans u.few_sources (sources-most d.size));
+  few_tasks = rw (length-map d.tasks (built_task d)) (le_trans u.few_tasks (tasks-most d.size));
+  few_paths = rw (length-map d.paths (built_path d)) (le_trans u.few_paths (paths-most d.size));
+  resources = all-map IsResource built_resource d.resources (λ k r less. resource-kept (get_or d.resources k r) (larger-resource d.size (get_or d.resources k r) (u.resources_fit k r less)));
   sources = all-map IsSource built_source d.sources (λ k r less. source-kept (get_or d.sources k r) (u.sources_fit k r less));
   tasks = all-map (IsTask (system_of d)) (built_task d) d.tasks (task-kept-at d u given);
   paths = all-map (IsPath (system_of d)) (built_path d) d.paths (path-kept-at d u);
@@ -430,7 +462,7 @@ record FitParts (t : DraftTask) : Type 0 where
   pub priority : nat_or 0 t.priority ≤ 536870911
   pub payload : nat_or 0 t.payload ≤ 8
 
-fit-parts : (t : DraftTask) → task_fits t ≡ true → FitParts t
+fit-parts : (t : DraftTask) → task_fits Large t ≡ true → FitParts t
 fit-parts t h =
     let fit-region = and_parts _ _ h in
     let fit = and_parts _ _ fit-region.0 in
@@ -446,15 +478,15 @@ unfolding system_of built_task
 tasks-fit-types d u given i e less =
     let t = get_or d.tasks i e in
     let know : (is_none (place_of (resource_names d) t.on) ≡ false) × (list_any (λ name. is_nothing (link_of d name)) t.after ≡ false) = or_parts _ _ (u.tasks_know i e less) in
-    let numbers = fit-parts t (u.tasks_fit i e less) in
+    let numbers = fit-parts t (larger-task d.size (get_or d.tasks i e) (u.tasks_fit i e less)) in
     let within : i < length (system_of d).tasks = rw (length-map d.tasks (built_task d)) less in
     let entry : (task_at (system_of d) i).after ≡ map (built_activator d) t.after = ap (λ (t : Task). t.after) (get_or-map (built_task d) d.tasks i e no_task less) in
     let few = activators-few (system_of d) (system-kept d u given) i within in
     record {
-      place = omega (arith, place-kept (resource_names d) t.on know.0, length-map d.resources (λ (r : DraftResource). r.name), u.few_resources);
+      place = omega (arith, place-kept (resource_names d) t.on know.0, length-map d.resources (λ (r : DraftResource). r.name), u.few_resources, resources-most d.size);
       some = (is_fed d u i e less).some;
       few = omega (arith, ap length entry, length-map t.after (built_activator d), few, streams-kept d u i within);
-      activities = λ k name below. omega (arith, active-below d (get_or t.after k name) (know-after d u i k e name less below), u.few_sources, u.few_tasks);
+      activities = λ k name below. omega (arith, active-below d (get_or t.after k name) (know-after d u i k e name less below), u.few_sources, u.few_tasks, sources-most d.size, tasks-most d.size);
       priority = omega arith;
       payload = numbers.payload;
       bit = (bit-kept d u t.on know.0).1;
@@ -468,6 +500,6 @@ paths-fit-types d u given i e less =
     record {
       places = λ k name below.
           let h = passes-at (λ name. is_task (link_of d name)) p.tasks k name know below in
-          omega (arith, task-below d (get_or p.tasks k name) h, u.few_sources, u.few_tasks);
+          omega (arith, task-below d (get_or p.tasks k name) h, u.few_sources, u.few_tasks, sources-most d.size, tasks-most d.size);
       count = omega (arith, length-map p.tasks (task_named d));
     }

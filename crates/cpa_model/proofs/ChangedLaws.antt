@@ -3,6 +3,7 @@ use Rattle.std.proofs.Common.{◌≡◌, ℕ, ◌<◌, List, [], ◌∷◌, ◌+
 use Rattle.std.proofs.Math.Seq.{get_or-append_seam}
 use Rattle.std.proofs.lemmas.List.{length-set, length-append}
 use Rattle.cpa_draft.proofs.ListLaws.{get_or-any}
+use Rattle.cpa_units.specs.declared.limits.Size.{Size}
 use Rattle.cpa_model.specs.declared.entries.Resource.{Resource}
 use Rattle.cpa_model.specs.declared.entries.Source.{Source}
 use Rattle.cpa_model.specs.declared.entries.Task.{Task}
@@ -44,14 +45,14 @@ swap-written s i j first second entry other at_i at_j is_first is_second is_entr
     ∙ ap (λ (u : Task). with_turn (with_turn s i (slice_index_or s.tasks j no_task).turn) j u.turn) (is_first ∙ get_or-any s.tasks i first no_task at_i)
 
 -- tasks and paths by equations
-pub lists-same : (rs : List Resource) (ss : List Source) (ts us : List Task) (ps qs : List Path) → ts ≡ us → ps ≡ qs
-    → ◌≡◌ {A = SystemLists} (record { resources = rs; sources = ss; tasks = ts; paths = ps }) (record { resources = rs; sources = ss; tasks = us; paths = qs })
-lists-same rs ss ts us ps qs a b = rw (a, b) refl
+pub lists-same : (z : Size) (rs : List Resource) (ss : List Source) (ts us : List Task) (ps qs : List Path) → ts ≡ us → ps ≡ qs
+    → ◌≡◌ {A = SystemLists} (record { size = z; resources = rs; sources = ss; tasks = ts; paths = ps }) (record { size = z; resources = rs; sources = ss; tasks = us; paths = qs })
+lists-same z rs ss ts us ps qs a b = rw (a, b) refl
 
 -- a task that is added is on a resource of the system
-pub pushed-placed : (rs : List Resource) (ss : List Source) (ts : List Task) (ps : List Path) (t : Task) → IsSystem (with_task (record { resources = rs; sources = ss; tasks = ts; paths = ps }) t) → t.res.0 < length rs
+pub pushed-placed : (z : Size) (rs : List Resource) (ss : List Source) (ts : List Task) (ps : List Path) (t : Task) → IsSystem (with_task (record { size = z; resources = rs; sources = ss; tasks = ts; paths = ps }) t) → t.res.0 < length rs
 unfolding with_task
-pushed-placed rs ss ts ps t rules =
+pushed-placed z rs ss ts ps t rules =
     let last : slice_index_or (ts ++ t ∷ []) (length ts) no_task ≡ t = get_or-append_seam ts t [] no_task in
     let within : length ts < length (ts ++ t ∷ []) = rw (length-append ts (t ∷ [])) (omega arith) in
     let placed : (slice_index_or (ts ++ t ∷ []) (length ts) no_task).res.0 < length rs = (rules.tasks (length ts) no_task within).placed in

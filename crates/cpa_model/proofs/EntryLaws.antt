@@ -2,6 +2,7 @@
 use Rattle.std.proofs.Common.{◌≡◌, ℕ, ℤ, pos, negsuc, ◌-◌, ◌*◌, ◌<◌, ◌≤◌, Bool, true, false, not, ◌&&◌, ◌||◌, nat_lt, List, length, Option, Some, None, is_some, is_none, unwrap_or, refl, arith, inl, inr, lit≤}
 use Rattle.std.proofs.Math.Nat.{mul-le-mul_right}
 use Rattle.std.proofs.lemmas.Bool.{and_parts, or_parts, false≢true, true≢false, leb-true, ltb-false, cases_Bool}
+use Rattle.cpa_units.specs.declared.limits.Size.TheVariants.{Large}
 use Rattle.cpa_units.specs.Frames.{least_frame_bits, greatest_frame_bits}
 use Rattle.cpa_draft.specs.Numbers.{nat_of, nat_or, is_within, may_be_within}
 use Rattle.cpa_draft.specs.Names.{place_of, link_at, is_nothing, is_task}
@@ -34,20 +35,20 @@ range least most (negsuc n) h = absurd (false≢true h)
 
 -- resources and sources
 
-kind-kept : (w : KindWord) (gap bit : Option ℤ) → may_be_within 0 1000000 gap ≡ true → may_be_within 1 1000 bit ≡ true → KindFits (built_kind w gap bit)
+kind-kept : (w : KindWord) (gap bit : Option ℤ) → may_be_within 0 10000000 gap ≡ true → may_be_within 1 1000 bit ≡ true → KindFits (built_kind w gap bit)
 kind-kept word.Preemptive gap bit g b = tt
 kind-kept word.RoundRobin gap bit g b = tt
-kind-kept word.Tdma gap bit g b = (may-range 0 1000000 0 gap (lit≤ tt, lit≤ tt) g).1
+kind-kept word.Tdma gap bit g b = (may-range 0 10000000 0 gap (lit≤ tt, lit≤ tt) g).1
 kind-kept word.Can gap bit g b = may-range 1 1000 1 bit (lit≤ tt, lit≤ tt) b
 
-pub resource-kept : (r : DraftResource) → resource_fits r ≡ true → IsResource (built_resource r)
+pub resource-kept : (r : DraftResource) → resource_fits Large r ≡ true → IsResource (built_resource r)
 resource-kept r h =
     let a = and_parts _ _ h in
     let b = and_parts _ _ a.0 in
-    let limit = may-range 1 10000000 1000000 r.limit (lit≤ tt, lit≤ tt) b.0 in
+    let limit = may-range 1 100000000 1000000 r.limit (lit≤ tt, lit≤ tt) b.0 in
     record { some_limit = limit.0; limit = limit.1; kind_fits = kind-kept r.kind r.gap r.bit b.1 a.1 }
 
-pub source-kept : (r : DraftSource) → source_fits r ≡ true → IsSource (built_source r)
+pub source-kept : (r : DraftSource) → source_fits Large r ≡ true → IsSource (built_source r)
 source-kept r h =
     let a = and_parts _ _ h in
     let b = and_parts _ _ a.0 in
@@ -91,16 +92,16 @@ task-kept sources names name h = task-place sources (place_of names name) h
 -- turns
 
 pub turn-kept : (w : KindWord) (gap bit : Option ℤ) (t : DraftTask) → turn_misfits (by_priority (Some w)) t ≡ false
-    → may_be_within 0 536870911 t.priority ≡ true → may_be_within 1 1000000 t.slot ≡ true → TurnFits (built_kind w gap bit) (built_turn (by_priority (Some w)) t)
+    → may_be_within 0 536870911 t.priority ≡ true → may_be_within 1 10000000 t.slot ≡ true → TurnFits (built_kind w gap bit) (built_turn (by_priority (Some w)) t)
 turn-kept word.Preemptive gap bit t h p s = (may-range 0 536870911 0 t.priority (lit≤ tt, lit≤ tt) p).1
 turn-kept word.Can gap bit t h p s = (may-range 0 536870911 0 t.priority (lit≤ tt, lit≤ tt) p).1
-turn-kept word.RoundRobin gap bit t h p s = there-range 1 1000000 t.slot (or_parts _ _ h).1 s
-turn-kept word.Tdma gap bit t h p s = there-range 1 1000000 t.slot (or_parts _ _ h).1 s
+turn-kept word.RoundRobin gap bit t h p s = there-range 1 10000000 t.slot (or_parts _ _ h).1 s
+turn-kept word.Tdma gap bit t h p s = there-range 1 10000000 t.slot (or_parts _ _ h).1 s
 
 -- regions
 
-pub region-kept : (w : KindWord) (gap bit region : Option ℤ) → (is_some region && not (is_preemptive w)) ≡ false → may_be_within 1 1000000 region ≡ true → RegionFits (built_kind w gap bit) (nat_or 1 region)
-region-kept word.Preemptive gap bit region h r = may-range 1 1000000 1 region (lit≤ tt, lit≤ tt) r
+pub region-kept : (w : KindWord) (gap bit region : Option ℤ) → (is_some region && not (is_preemptive w)) ≡ false → may_be_within 1 10000000 region ≡ true → RegionFits (built_kind w gap bit) (nat_or 1 region)
+region-kept word.Preemptive gap bit region h r = may-range 1 10000000 1 region (lit≤ tt, lit≤ tt) r
 region-kept word.RoundRobin gap bit None h r = refl
 region-kept word.RoundRobin gap bit (Some z) h r = absurd (true≢false h)
 region-kept word.Tdma gap bit None h r = refl
@@ -113,7 +114,7 @@ region-kept word.Can gap bit (Some z) h r = absurd (true≢false h)
 pub record AreExecutions (best worst : ℕ) : Type 0 where
   pub some : 1 ≤ best
   pub ordered : best ≤ worst
-  pub small : worst ≤ 1000000
+  pub small : worst ≤ 10000000
 
 least-greatest : (s : ℕ) (extended : Bool) → least_frame_bits s extended ≤ greatest_frame_bits s extended
 least-greatest s true = omega arith
@@ -136,13 +137,13 @@ frames-kept s bit extended h b =
 
 pub executions-kept : (best worst payload : Option ℤ) (extended : Option Bool) (bit : ℕ)
     → ((is_some best && is_some worst && is_none payload && is_none extended) || (is_some payload && is_none best && is_none worst)) ≡ true
-    → may_be_within 1 1000000 best ≡ true → may_be_within 1 1000000 worst ≡ true → may_be_within 0 8 payload ≡ true
+    → may_be_within 1 10000000 best ≡ true → may_be_within 1 10000000 worst ≡ true → may_be_within 0 8 payload ≡ true
     → ((is_some best && is_some worst) && nat_lt (nat_or 0 worst) (nat_or 0 best)) ≡ false → (1 ≤ bit) × (bit ≤ 1000)
     → AreExecutions (least_execution payload (unwrap_or extended false) bit (nat_or 0 best)) (greatest_execution payload (unwrap_or extended false) bit (nat_or 0 worst))
 executions-kept None worst None extended bit h b w p c i = absurd (false≢true h)
 executions-kept (Some x) None None extended bit h b w p c i = absurd (false≢true h)
 executions-kept (Some x) (Some y) None extended bit h b w p c i =
-    let best = range 1 1000000 x b in
-    let worst = range 1 1000000 y w in
+    let best = range 1 10000000 x b in
+    let worst = range 1 10000000 y w in
     record { some = best.0; ordered = ltb-false _ _ c; small = worst.1 }
 executions-kept best worst (Some s) extended bit h b w p c i = frames-kept (nat_of s) bit (unwrap_or extended false) (range 0 8 s p).1 i

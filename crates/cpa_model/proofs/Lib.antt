@@ -9,6 +9,7 @@ pub mod RedraftNames
 pub mod RedraftNumbers
 pub mod RedraftRanks
 pub mod RedraftUnrefused
+pub mod SizeLaws
 pub mod SystemLaws
 pub mod ChangedLaws
 pub mod KeptRules

@@ -13,8 +13,11 @@ use Rattle.cpa_model.specs.declared.entries.Kind.{Kind}
 use Rattle.cpa_model.specs.declared.entries.Kind.TheVariants as kind
 use Rattle.cpa_model.specs.declared.entries.Turn.{Turn}
 use Rattle.cpa_model.specs.declared.entries.Turn.TheVariants as turn
-use Rattle.cpa_model.specs.SystemLists.{SystemLists, resource_at}
-use Rattle.cpa_model.specs.Rules.{IsResource, IsSource, IsTask, IsPath, KindFits, TurnFits, RegionFits}
+use Rattle.std.proofs.Math.Nat.{le_trans}
+use Rattle.cpa_units.specs.declared.limits.Size.{Size}
+use Rattle.cpa_units.specs.Sizes.{most_execution, most_region, most_gap, most_limit}
+use Rattle.cpa_model.specs.SystemLists.{SystemLists, resource_at, gap_of, slot_of}
+use Rattle.cpa_model.specs.Rules.{IsSizedResource, IsSizedTask, IsResource, IsSource, IsTask, IsPath, KindFits, TurnFits, RegionFits}
 use Rattle.cpa_model.proofs.SystemLaws.{region-range}
 use Rattle.cpa_model.specs.Redraft.{word_of, gap_at, bit_at, priority_at, slot_at, region_at, redraft_resource, redraft_source, redraft_task, redraft_path}
 
@@ -23,11 +26,11 @@ number-within : (least most n : ℕ) → least ≤ n → n ≤ most → is_withi
 number-within least most n some few = and_from _ _ (le-leb least n some) (le-leb n most few)
 
 -- the gap of a kind
-gap-within : (k : Kind) → KindFits k → may_be_within 0 1000000 (gap_at k) ≡ true
-gap-within kind.Preemptive fits = refl
-gap-within kind.RoundRobin fits = refl
-gap-within (kind.Tdma gap) fits = number-within 0 1000000 gap (omega arith) fits
-gap-within (kind.Can bit) fits = refl
+gap-within : (z : Size) (k : Kind) → gap_of k ≤ most_gap z → may_be_within 0 (most_gap z) (gap_at k) ≡ true
+gap-within z kind.Preemptive fits = refl
+gap-within z kind.RoundRobin fits = refl
+gap-within z (kind.Tdma gap) fits = number-within 0 (most_gap z) gap (omega arith) fits
+gap-within z (kind.Can bit) fits = refl
 
 -- the bit time of a kind
 bit-within : (k : Kind) → KindFits k → may_be_within 1 1000 (bit_at k) ≡ true
@@ -37,15 +40,15 @@ bit-within (kind.Tdma gap) fits = refl
 bit-within (kind.Can bit) fits = number-within 1 1000 bit fits.0 fits.1
 
 -- the numbers of a resource
-pub resource-fits : (r : Resource) → IsResource r → resource_fits (redraft_resource r) ≡ true
-resource-fits r fits =
+pub resource-fits : (z : Size) (r : Resource) → IsResource r → IsSizedResource z r → resource_fits z (redraft_resource r) ≡ true
+resource-fits z r fits small =
     and_from _ _
-    (and_from _ _ (number-within 1 10000000 r.limit fits.some_limit fits.limit) (gap-within r.kind fits.kind_fits))
+    (and_from _ _ (number-within 1 (most_limit z) r.limit fits.some_limit small.0) (gap-within z r.kind small.1))
     (bit-within r.kind fits.kind_fits)
 
 -- the numbers of a source
-pub source-fits : (r : Source) → IsSource r → source_fits (redraft_source r) ≡ true
-source-fits r fits =
+pub source-fits : (z : Size) (r : Source) → IsSource r → source_fits z (redraft_source r) ≡ true
+source-fits z r fits =
     and_from _ _
     (and_from _ _ (number-within 1 1000000000 r.period fits.some_period fits.period) (number-within 0 1000000000 r.jitter (omega arith) fits.jitter))
     (number-within 0 r.period r.distance (omega arith) fits.distance)
@@ -59,32 +62,32 @@ priority-within (kind.Can bit) (turn.Priority number) fits = number-within 0 536
 priority-within k (turn.Slot ticks) fits = refl
 
 -- the slot that a turn may have
-slot-within : (k : Kind) (u : Turn) → TurnFits k u → may_be_within 1 1000000 (slot_at u) ≡ true
-slot-within k (turn.Priority number) fits = refl
-slot-within kind.Preemptive (turn.Slot ticks) fits = absurd fits
-slot-within kind.RoundRobin (turn.Slot ticks) fits = number-within 1 1000000 ticks fits.0 fits.1
-slot-within (kind.Tdma gap) (turn.Slot ticks) fits = number-within 1 1000000 ticks fits.0 fits.1
-slot-within (kind.Can bit) (turn.Slot ticks) fits = absurd fits
+slot-within : (z : Size) (k : Kind) (u : Turn) → TurnFits k u → slot_of u ≤ most_execution z → may_be_within 1 (most_execution z) (slot_at u) ≡ true
+slot-within z k (turn.Priority number) fits small = refl
+slot-within z kind.Preemptive (turn.Slot ticks) fits small = absurd fits
+slot-within z kind.RoundRobin (turn.Slot ticks) fits small = number-within 1 (most_execution z) ticks fits.0 small
+slot-within z (kind.Tdma gap) (turn.Slot ticks) fits small = number-within 1 (most_execution z) ticks fits.0 small
+slot-within z (kind.Can bit) (turn.Slot ticks) fits small = absurd fits
 
 -- the region that is written
-region-within : (ticks : ℕ) → 1 ≤ ticks → ticks ≤ 1000000 → may_be_within 1 1000000 (region_at ticks) ≡ true
-region-within ticks some most = elim (cases_eq ticks 1) [
+region-within : (z : Size) (ticks : ℕ) → 1 ≤ ticks → ticks ≤ most_region z → may_be_within 1 (most_region z) (region_at ticks) ≡ true
+region-within z ticks some most = elim (cases_eq ticks 1) [
   | inl is ↦ rw (eq-eqb ticks 1 is) refl
-  | inr isn't ↦ rw (ne_eqb ticks 1 isn't) (number-within 1 1000000 ticks some most)
+  | inr isn't ↦ rw (ne_eqb ticks 1 isn't) (number-within 1 (most_region z) ticks some most)
 ]
 
 -- the numbers of a task
-pub task-fits : (s : SystemLists) (t : Task) → IsTask s t → task_fits (redraft_task s t) ≡ true
-task-fits s t fits =
+pub task-fits : (z : Size) (s : SystemLists) (t : Task) → IsTask s t → IsSizedTask z t → task_fits z (redraft_task s t) ≡ true
+task-fits z s t fits small =
     let k = (resource_at s t.res.0).kind in
-    let best : is_within 1 1000000 (pos t.best) ≡ true = number-within 1 1000000 t.best fits.some_best (omega (arith, fits.ordered, fits.worst)) in
-    let worst : is_within 1 1000000 (pos t.worst) ≡ true = number-within 1 1000000 t.worst (omega (arith, fits.some_best, fits.ordered)) fits.worst in
+    let best : is_within 1 (most_execution z) (pos t.best) ≡ true = number-within 1 (most_execution z) t.best fits.some_best (le_trans fits.ordered small.worst) in
+    let worst : is_within 1 (most_execution z) (pos t.worst) ≡ true = number-within 1 (most_execution z) t.worst (omega (arith, fits.some_best, fits.ordered)) small.worst in
     let range = region-range k t.region fits.region_fits in
     and_from _ _
     (and_from _ _
     (and_from _ _ (and_from _ _ (and_from _ _ best worst) refl) (priority-within k t.turn fits.turn_fits))
-    (slot-within k t.turn fits.turn_fits))
-    (region-within t.region range.0 range.1)
+    (slot-within z k t.turn fits.turn_fits small.slot))
+    (region-within z t.region range.0 small.region)
 
 -- a deadline
 deadline-within : (o : Option ℕ) → ForSome o (λ d. (1 ≤ d) × (d ≤ 1000000000)) → may_be_within 1 1000000000 (option_map pos o) ≡ true
@@ -92,8 +95,8 @@ deadline-within None each = refl
 deadline-within (Some d) each = let fits = each d refl in number-within 1 1000000000 d fits.0 fits.1
 
 -- the numbers of a path
-pub path-fits : (s : SystemLists) (p : Path) → IsPath s p → path_fits (redraft_path s p) ≡ true
-path-fits s p path = deadline-within p.deadline path.deadline
+pub path-fits : (z : Size) (s : SystemLists) (p : Path) → IsPath s p → path_fits z (redraft_path s p) ≡ true
+path-fits z s p path = deadline-within p.deadline path.deadline
 
 -- a kind has the number that it wants alone
 kind-suits : (r : Resource) (k : Kind) → r.kind ≡ k → resource_misfits (redraft_resource r) ≡ false

@@ -161,10 +161,10 @@ all-fed s rules =
 pub redraft-unrefused : (s : SystemLists) → IsSystem s → IsUnrefused (redraft s)
 unfolding redraft
 redraft-unrefused s rules = record {
-  resources_fit = all-map (λ r. resource_fits r ≡ true) redraft_resource s.resources (λ k r less. resource-fits (get_or s.resources k r) (rules.resources k r less));
-  sources_fit = all-map (λ r. source_fits r ≡ true) redraft_source s.sources (λ k r less. source-fits (get_or s.sources k r) (rules.sources k r less));
-  tasks_fit = all-map (λ t. task_fits t ≡ true) (redraft_task s) s.tasks (λ k t less. task-fits s (get_or s.tasks k t) (rules.tasks k t less));
-  paths_fit = all-map (λ p. path_fits p ≡ true) (redraft_path s) s.paths (λ k p less. path-fits s (get_or s.paths k p) (rules.paths k p less));
+  resources_fit = all-map (λ r. resource_fits s.size r ≡ true) redraft_resource s.resources (λ k r less. resource-fits s.size (get_or s.resources k r) (rules.resources k r less) (rules.sized.limits k r less));
+  sources_fit = all-map (λ r. source_fits s.size r ≡ true) redraft_source s.sources (λ k r less. source-fits s.size (get_or s.sources k r) (rules.sources k r less));
+  tasks_fit = all-map (λ t. task_fits s.size t ≡ true) (redraft_task s) s.tasks (λ k t less. task-fits s.size s (get_or s.tasks k t) (rules.tasks k t less) (rules.sized.times k t less));
+  paths_fit = all-map (λ p. path_fits s.size p ≡ true) (redraft_path s) s.paths (λ k p less. path-fits s.size s (get_or s.paths k p) (rules.paths k p less));
   resources_named = all-map (λ (r : DraftResource). is_name r.name ≡ true) redraft_resource s.resources rules.resources_named;
   sources_named = all-map (λ (r : DraftSource). is_name r.name ≡ true) redraft_source s.sources rules.sources_named;
   tasks_named = all-map (λ (t : DraftTask). is_name t.name ≡ true) (redraft_task s) s.tasks rules.tasks_named;
@@ -186,9 +186,9 @@ redraft-unrefused s rules = record {
   ordered = all-map (λ t. is_crossed t ≡ false) (redraft_task s) s.tasks (λ k t less. task-ordered s (get_or s.tasks k t) (rules.tasks k t less));
   linked = all-map (λ (p : DraftPath). (nat_le (length p.tasks) 0 || not (is_linked (redraft s) p.tasks)) ≡ false) (redraft_path s) s.paths
       (λ k p less. path-suits s rules (get_or s.paths k p) (rules.paths k p less));
-  few_resources = rw (length-map s.resources redraft_resource) rules.few_resources;
-  few_sources = rw (length-map s.sources redraft_source) rules.few_sources;
-  few_tasks = rw (length-map s.tasks (redraft_task s)) rules.few_tasks;
-  few_paths = rw (length-map s.paths (redraft_path s)) rules.few_paths;
+  few_resources = rw (length-map s.resources redraft_resource) rules.sized.resources;
+  few_sources = rw (length-map s.sources redraft_source) rules.sized.sources;
+  few_tasks = rw (length-map s.tasks (redraft_task s)) rules.sized.tasks;
+  few_paths = rw (length-map s.paths (redraft_path s)) rules.sized.paths;
   fed = all-fed s rules;
 }

@@ -277,7 +277,7 @@ slots-more f p n =
     ∙ sum_by-append f (filter p (range_with_len 0 n)) (filter p (n ∷ []))
     ∙ ap (λ x. sum_by f (filter p (range_with_len 0 n)) + x) (one-more f (p n) n p refl)
 
-pub slot-small : (k : Kind) (t : Turn) → TurnFits k t → slot_of t ≤ 1000000
+pub slot-small : (k : Kind) (t : Turn) → TurnFits k t → slot_of t ≤ 10000000
 slot-small k (turn.Priority number) h = omega arith
 slot-small kind.Preemptive (turn.Slot ticks) h = absurd h
 slot-small kind.RoundRobin (turn.Slot ticks) h = h.1
@@ -285,7 +285,7 @@ slot-small (kind.Tdma gap) (turn.Slot ticks) h = h.1
 slot-small (kind.Can bit) (turn.Slot ticks) h = absurd h
 
 -- a region is in its range under any kind
-pub region-range : (k : Kind) (ticks : ℕ) → RegionFits k ticks → (1 ≤ ticks) × (ticks ≤ 1000000)
+pub region-range : (k : Kind) (ticks : ℕ) → RegionFits k ticks → (1 ≤ ticks) × (ticks ≤ 10000000)
 region-range kind.Preemptive ticks h = h
 region-range kind.RoundRobin ticks h = (omega arith, omega arith)
 region-range (kind.Tdma gap) ticks h = (omega arith, omega arith)
@@ -298,7 +298,7 @@ tick-fits kind.RoundRobin = refl
 tick-fits (kind.Tdma gap) = refl
 tick-fits (kind.Can bit) = refl
 
-pub gap-small : (k : Kind) → KindFits k → gap_of k ≤ 1000000
+pub gap-small : (k : Kind) → KindFits k → gap_of k ≤ 10000000
 gap-small kind.Preemptive h = omega arith
 gap-small kind.RoundRobin h = omega arith
 gap-small (kind.Tdma gap) h = h

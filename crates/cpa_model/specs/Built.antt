@@ -92,7 +92,7 @@ abbrev pub built_path : DraftLists → DraftPath → Path
 built_path d p = record { name = p.name; tasks = map (task_named d) p.tasks; deadline = option_map nat_of p.deadline }
 
 unfoldable pub system_of : DraftLists → SystemLists
-system_of d = record { resources = map built_resource d.resources; sources = map built_source d.sources; tasks = map (built_task d) d.tasks; paths = map (built_path d) d.paths }
+system_of d = record { size = d.size; resources = map built_resource d.resources; sources = map built_source d.sources; tasks = map (built_task d) d.tasks; paths = map (built_path d) d.paths }
 
 -- whether a task has both executions, and neither a payload nor a sort of frame, or a payload in place of both
 abbrev pub has_executions : DraftTask → Bool

@@ -72,6 +72,7 @@ redraft_path s p = record { name = p.name; tasks = map (λ (i : TaskId). (task_a
 
 unfoldable pub redraft : SystemLists → DraftLists
 redraft s = record {
+  size = s.size;
   resources = map redraft_resource s.resources;
   sources = map redraft_source s.sources;
   tasks = map (redraft_task s) s.tasks;

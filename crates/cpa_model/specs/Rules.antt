@@ -4,6 +4,8 @@ use Rattle.std.specs.List.{AllPairs}
 use Rattle.std.specs.Option.{ForSome}
 use Rattle.cpa_units.specs.declared.limits.TheConstants.{MAX_RESOURCES, MAX_SOURCES, MAX_TASKS, MAX_PATHS, MAX_PERIOD, MAX_JITTER, MAX_EXECUTION, MAX_GAP, MAX_BIT, MAX_LIMIT, MAX_PRIORITY, MAX_CHAIN}
 use Rattle.cpa_units.specs.Name.{is_name}
+use Rattle.cpa_units.specs.declared.limits.Size.{Size}
+use Rattle.cpa_units.specs.Sizes.{most_resources, most_sources, most_tasks, most_paths, most_execution, most_region, most_gap, most_limit}
 use Rattle.cpa_units.specs.declared.places.TaskId.{TaskId}
 use Rattle.cpa_model.specs.declared.entries.Resource.{Resource}
 use Rattle.cpa_model.specs.declared.entries.Source.{Source}
@@ -16,7 +18,7 @@ use Rattle.cpa_model.specs.declared.entries.Turn.TheVariants as turn
 use Rattle.cpa_model.specs.declared.entries.Activator.{Activator}
 use Rattle.cpa_model.specs.declared.entries.Activator.TheVariants as activator
 use Rattle.cpa_model.specs.Chains.{depth_within, activators}
-use Rattle.cpa_model.specs.SystemLists.{SystemLists, resource_at, is_activated_by, streams_of}
+use Rattle.cpa_model.specs.SystemLists.{SystemLists, resource_at, is_activated_by, streams_of, slot_of, gap_of}
 use Rattle.cpa_events.specs.declared.TheConstants.{MAX_STREAMS}
 
 -- the extra number of a kind is in its range
@@ -76,6 +78,24 @@ pub record IsPath (s : SystemLists) (p : Path) : Type 0 where
   pub linked : IsLinked s p.tasks
   pub deadline : ForSome p.deadline (λ d. (1 ≤ d) × (d ≤ MAX_PERIOD))
 
+-- the numbers of an entry are no greater than the size of its system allows
+abbrev pub IsSizedResource : Size → Resource → Type 0
+IsSizedResource z r = (r.limit ≤ most_limit z) × (gap_of r.kind ≤ most_gap z)
+
+pub record IsSizedTask (z : Size) (t : Task) : Type 0 where
+  pub worst : t.worst ≤ most_execution z
+  pub slot : slot_of t.turn ≤ most_execution z
+  pub region : t.region ≤ most_region z
+
+-- a system has no more entries than its size allows, and no greater numbers
+pub record IsSized (s : SystemLists) : Type 0 where
+  pub resources : length s.resources ≤ most_resources s.size
+  pub sources : length s.sources ≤ most_sources s.size
+  pub tasks : length s.tasks ≤ most_tasks s.size
+  pub paths : length s.paths ≤ most_paths s.size
+  pub limits : All (IsSizedResource s.size) s.resources
+  pub times : All (IsSizedTask s.size) s.tasks
+
 -- no two names of a list are the same
 abbrev pub AllDiffer : List (List ℕ) → Type 0
 AllDiffer names = AllPairs (λ first second. first ≢ second) names
@@ -90,6 +110,7 @@ HaveOwnPriorities t u = t.res ≡ u.res → (number : ℕ) → t.turn ≡ turn.P
 
 -- the rules
 pub record IsSystem (s : SystemLists) : Type 0 where
+  pub sized : IsSized s
   pub few_resources : length s.resources ≤ MAX_RESOURCES
   pub few_sources : length s.sources ≤ MAX_SOURCES
   pub few_tasks : length s.tasks ≤ MAX_TASKS

@@ -3,6 +3,7 @@ use Rattle.std.specs.Prelude.{ℕ, ◌+◌, ◌==◌, ◌&&◌, nat_lt, not, Boo
 use Rattle.std.specs.List.{range_with_len, list_any}
 use Rattle.std.specs.Str.{bytes_eq}
 use Rattle.cpa_units.specs.declared.limits.TheConstants.{MAX_CHAIN}
+use Rattle.cpa_units.specs.declared.limits.Size.{Size}
 use Rattle.cpa_units.specs.declared.places.ResId.{ResId}
 use Rattle.cpa_units.specs.declared.places.SourceId.{SourceId}
 use Rattle.cpa_units.specs.declared.places.TaskId.{TaskId}
@@ -18,8 +19,9 @@ use Rattle.cpa_model.specs.declared.entries.Turn.TheVariants as turn
 use Rattle.cpa_model.specs.declared.entries.Activator.{Activator}
 use Rattle.cpa_model.specs.declared.entries.Activator.TheVariants as activator
 
--- the four lists, in the order of the system file
+-- the four lists, in the order of the system file, and how large a system of them may be
 pub record SystemLists : Type 0 where
+  pub size : Size
   pub resources : List Resource
   pub sources : List Source
   pub tasks : List Task

@@ -322,6 +322,7 @@ fn build_validated(alloc: Global, draft: &Draft, tables: &Tables) -> Result<Syst
     let paths = build_paths(alloc, draft, tables, draft.path_entries())?;
     let task_lists = build_task_lists(alloc, resources.as_slice(), tasks.as_slice())?;
     Ok(System {
+        size: draft.size(),
         resources,
         sources,
         tasks,

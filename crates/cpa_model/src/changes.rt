@@ -145,6 +145,7 @@ impl System {
         let paths = copy_paths(alloc, self.paths.as_slice())?;
         let task_lists = copy_task_lists(alloc, self.task_lists.as_slice())?;
         Ok(System {
+            size: self.size,
             resources,
             sources,
             tasks,

@@ -34,7 +34,7 @@ pub enum Kind {
 pub struct Resource {
     pub name: Name,
     pub kind: Kind,
-    /// The longest window that is looked at, 1 to 10,000,000.
+    /// The longest window that is looked at, 1 to 100,000,000.
     pub limit: u64,
 }
 
@@ -78,7 +78,7 @@ pub enum Activator {
 pub enum Turn {
     /// The smaller number is the higher priority. 0 to 536,870,911.
     Priority(u32),
-    /// The ticks of a turn, 1 to 1,000,000.
+    /// The ticks of a turn, 1 to 10,000,000.
     Slot(u64),
 }
 
@@ -113,12 +113,12 @@ pub struct Task {
     pub res: ResId,
     /// The least execution, 1 to the greatest.
     pub best: u64,
-    /// The greatest execution, at most 1,000,000.
+    /// The greatest execution, at most 10,000,000.
     pub worst: u64,
     pub turn: Turn,
     /// Any one of them starts a job.
     pub after: Activators,
-    /// For so many ticks a job isn't preempted once it has begun a region, 1 to 1,000,000; 1 where the resource isn't
+    /// For so many ticks a job isn't preempted once it has begun a region, 1 to 10,000,000; 1 where the resource isn't
     /// preemptive.
     pub region: u64,
 }

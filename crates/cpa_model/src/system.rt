@@ -7,7 +7,7 @@ ghost use Rattle.cpa_events.specs.declared.TheConstants.{MAX_STREAMS};
 use crate::chains::{chain_depth, chain_stream, chain_streams};
 use crate::entries::{Path, Resource, Source, Task, first_with_name, gap_of};
 use crate::task_lists::{ResourceTasks, gather};
-use cpa_units::limits::MAX_CHAIN;
+use cpa_units::limits::{MAX_CHAIN, Size};
 use cpa_units::{NoMemory, PathId, ResId, SourceId, TaskId};
 use std::alloc::Global;
 use std::marker::Model;
@@ -15,6 +15,7 @@ use std::marker::Model;
 /// A system, which keeps its rules. Beside its lists it knows the tasks of each resource.
 #[derive(Debug, Drop)]
 pub struct System {
+    pub(crate) size: Size,
     pub(crate) resources: Vec<Resource>,
     pub(crate) sources: Vec<Source>,
     pub(crate) tasks: Vec<Task>,
@@ -30,9 +31,9 @@ impl Model for System {
 
     ghost Value = { SystemLists };
 
-    ghost view = { λ s. record { resources = s.resources.items; sources = s.sources.items; tasks = s.tasks.items; paths = s.paths.items } };
+    ghost view = { λ s. record { size = s.size; resources = s.resources.items; sources = s.sources.items; tasks = s.tasks.items; paths = s.paths.items } };
 
-    ghost invariant = { λ s. IsSystem (record { resources = s.resources.items; sources = s.sources.items; tasks = s.tasks.items; paths = s.paths.items }) × AreTasksByResource (length s.resources.items) s.tasks.items (length s.tasks.items) s.task_lists.items };
+    ghost invariant = { λ s. IsSystem (record { size = s.size; resources = s.resources.items; sources = s.sources.items; tasks = s.tasks.items; paths = s.paths.items }) × AreTasksByResource (length s.resources.items) s.tasks.items (length s.tasks.items) s.task_lists.items };
 }
 
 /// What threads may be handed and may share.
@@ -53,22 +54,31 @@ impl System {
     /// The system of four lists that keep the rules.
     pub fn of_lists(
         alloc: Global,
+        size: Size,
         resources: Vec<Resource>,
         sources: Vec<Source>,
         tasks: Vec<Task>,
         paths: Vec<Path>,
     ) -> Result<System, NoMemory>
-        requires { IsSystem (record { resources = resources.items; sources = sources.items; tasks = tasks.items; paths = paths.items }) }
-        ensures { IfOk result (λ s. s ≡ record { resources = resources.items; sources = sources.items; tasks = tasks.items; paths = paths.items }) }
+        requires { IsSystem (record { size = size; resources = resources.items; sources = sources.items; tasks = tasks.items; paths = paths.items }) }
+        ensures { IfOk result (λ s. s ≡ record { size = size; resources = resources.items; sources = sources.items; tasks = tasks.items; paths = paths.items }) }
     {
         let task_lists = gather(alloc, resources.as_slice(), tasks.as_slice())?;
         Ok(System {
+            size,
             resources,
             sources,
             tasks,
             paths,
             task_lists,
         })
+    }
+
+    /// How large the system may be.
+    pub fn size(&self) -> Size
+        ensures { result ≡ self.now.size }
+    {
+        self.size
     }
 
     /// The number of resources.

@@ -7,7 +7,7 @@
 //! ticks.
 #![tactic(auto)]
 
-ghost use Rattle.std.specs.Prelude.{◌≡◌, ◌*◌, ◌≤◌};
+ghost use Rattle.std.specs.Prelude.{◌≡◌, ◌*◌, ◌^◌, ◌≤◌};
 ghost use Rattle.cpa_units.specs.Numbers.{IsExecution};
 ghost use Rattle.cpa_events.specs.Events.{IsModelInRange};
 ghost use Rattle.cpa_window.specs.Rivals.{IsRival, AreRivals};
@@ -47,7 +47,7 @@ impl<'a> BusyWindow for RoundRobinJobs<'a> {
         let rounds = own.div_ceil(self.slot);
         let mut total = u128::from(own);
         for rival in self.rivals {
-            total += u128::from(share(rival, rounds, window));
+            total += share(rival, rounds, window);
         }
         total
     }
@@ -64,17 +64,18 @@ impl<'a> BusyWindow for RoundRobinJobs<'a> {
 
 /// What a rival may do in so many rounds: its slots, but no more than the work that it can have,
 /// where its input and its bound are known.
-fn share(rival: &Rival, rounds: u64, window: u64) -> u64
+fn share(rival: &Rival, rounds: u64, window: u64) -> u128
     requires rival { IsRival rival.now }
     requires rounds { rounds ≤ MAX_LIMIT * MAX_EXECUTION }
     requires window { window ≤ MAX_LIMIT }
-    ensures { result ≡ share_of rival.now rounds window }
+    ensures value { result ≡ share_of rival.now rounds window }
+    ensures small { result ≤ 2 ^ 74 }
 {
-    let slots = rounds * rival.slot;
+    let slots = u128::from(rounds) * u128::from(rival.slot);
     match (&rival.model, rival.bound) {
         (Some(model), Bound::Within(bound)) => {
             let work = events_work(model, window + bound, rival.worst);
-            slots.min(work)
+            slots.min(u128::from(work))
         }
         _ => slots,
     }
@@ -107,7 +108,7 @@ fn share_until(rival: &Rival, rounds: u64, window: u64) -> u64
 {
     match (&rival.model, rival.bound) {
         (Some(model), Bound::Within(bound)) => {
-            if share(rival, rounds, window) < rounds * rival.slot {
+            if share(rival, rounds, window) < u128::from(rounds) * u128::from(rival.slot) {
                 events_until(model, window + bound).saturating_sub(bound)
             } else {
                 window

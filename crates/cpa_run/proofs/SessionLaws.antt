@@ -11,7 +11,7 @@ use Rattle.cpa_edit.specs.declared.edit.EditRefusal.{EditRefusal}
 use Rattle.cpa_edit.specs.declared.script.Step.{Step}
 use Rattle.cpa_edit.specs.declared.script.Step.TheVariants.{Report, Change}
 use Rattle.cpa_edit.specs.Edited.{edited, edited_by, or_unchanged}
-use Rattle.cpa_edit.proofs.EditLaws.{edits-keep_rules}
+use Rattle.cpa_edit.proofs.EditLaws.{edits-keep_rules, edited-size}
 use Rattle.cpa_call.specs.Answers.{Answer}
 use Rattle.cpa_run.specs.Answers.{IsReport}
 use Rattle.cpa_run.specs.Session.{led_by, edit_text, edits_of, system_after, with_edit, IsLed, IsStepText, IsSession}
@@ -28,6 +28,15 @@ kept-rules s rules (Err number) keep = rules
 pub after-rules : (s : SystemLists) → IsSystem s → (step : Step) → IsNamedChange step → IsSystem (system_after s step)
 after-rules s rules Report named = rules
 after-rules s rules (Change e) named = kept-rules s rules (edited s e) (λ t is. edits-keep_rules s rules e named t is)
+
+kept-size : (s : SystemLists) (r : Result SystemLists EditRefusal) → ((t : SystemLists) → r ≡ Ok t → t.size ≡ s.size) → (or_unchanged s r).size ≡ s.size
+kept-size s (Ok t) keep = keep t refl
+kept-size s (Err number) keep = refl
+
+-- no step changes the size of a system
+pub after-size : (s : SystemLists) (step : Step) → (system_after s step).size ≡ s.size
+after-size s Report = refl
+after-size s (Change e) = kept-size s (edited s e) (λ t is. edited-size s e t is)
 
 -- there is a text
 

@@ -2,7 +2,7 @@
 use Rattle.std.specs.Prelude.{◌≡◌, ◌<◌, ◌≤◌, ◌+◌, ℕ, List, length, Option, Some, None}
 use Rattle.std.specs.List.{range_with_len}
 use Rattle.cpa_units.specs.declared.bound.Bound.{Bound}
-use Rattle.cpa_units.specs.declared.limits.TheConstants.{MAX_EXECUTION}
+use Rattle.cpa_units.specs.Sizes.{most_execution}
 use Rattle.cpa_units.specs.declared.places.TaskId.{TaskId}
 use Rattle.cpa_model.specs.SystemLists.{SystemLists, task_at}
 use Rattle.cpa_local.specs.Solution.{IsLeast, least_of}
@@ -88,7 +88,7 @@ pub record IsGrowth (s : SystemLists) (i : ℕ) (answer : Answer) : Type 0 where
   pub slack : Slack
   pub is_most : IsSlack s i slack
   -- however much longer the task may take, the least solution bounds every run
-  pub hold : (k : ℕ) → (task_at s i).worst + k ≤ MAX_EXECUTION → BoundsHold (longer s i k) (least_of (longer s i k))
+  pub hold : (k : ℕ) → (task_at s i).worst + k ≤ most_execution s.size → BoundsHold (longer s i k) (least_of (longer s i k))
   pub status_is : answer.status ≡ Some (slack_status slack)
   pub text_is : answer.text ≡ slack_text s i slack
 

@@ -32,7 +32,6 @@ use cpa_report::verdict;
 use cpa_sim::{replay, sim_text};
 use cpa_slack::{Slack, find_slack, slack_text};
 use cpa_trace::Trace;
-use cpa_units::limits::MAX_TASKS;
 use cpa_units::{ResId, TaskId};
 use cpa_workers::{Gate, Shared};
 use std::alloc::Global;
@@ -214,7 +213,7 @@ fn slack<H: Sync, R: Round<H>, K: Sink>(
     ensures failed { result ≡ Err stopped.Sink → Rose (K.faults sink.old) (K.faults sink.new) }
 {
     system.has_rules();
-    let mut trail = Trail::with_room(alloc, MAX_TASKS as u32)?;
+    let mut trail = Trail::with_room(alloc, system.tasks())?;
     let slack = find_slack(rt, alloc, system, task, round, &mut trail)?;
     let text = slack_text(alloc, system, task, &slack)?;
     send(sink, slack_status(&slack), text.as_slice())

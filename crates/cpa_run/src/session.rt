@@ -1,7 +1,7 @@
 //! A session: the reports of a system under a script.
 
 ghost use Rattle.std.specs.Prelude.{◌≡◌, ◌≤◌, Err, IfOk, OnOk, OnErr};
-ghost use Rattle.cpa_units.specs.declared.limits.TheConstants.{MAX_TASKS};
+ghost use Rattle.cpa_units.specs.Sizes.{most_tasks};
 ghost use Rattle.cpa_io.specs.Causes.{Rose};
 ghost use Rattle.cpa_call.specs.declared.errors.OutputError.TheVariants as stopped;
 ghost use Rattle.cpa_call.specs.Answers.{IsOfOutput, Sends, SendsPart};
@@ -32,7 +32,7 @@ fn take_step<H: Sync, R: Round<H>, K: Sink>(
     trail: &mut Trail,
     sink: &mut K,
 ) -> Result<(), OutputError>
-    requires { MAX_TASKS ≤ trail.old.room }
+    requires { most_tasks session.old.size ≤ trail.old.room }
     ensures written { OnOk result (IsWritten session.old line step.now (K.sent sink.old) (K.sent sink.new)) }
     ensures system { OnOk result (session.new ≡ system_after session.old step.now) }
     ensures room { trail.old.room ≤ trail.new.room }
@@ -75,7 +75,7 @@ pub fn run_session<H: Sync, R: Round<H>, K: Sink>(
     ensures failed { result ≡ Err stopped.Sink → Rose (K.faults sink.old) (K.faults sink.new) }
 {
     system.has_rules();
-    let mut trail = Trail::with_room(alloc, 512)?;
+    let mut trail = Trail::of_size(alloc, system.size())?;
     let mut session = Session::start(rt, alloc, system, round, &mut trail)?;
     for k in 0..script.len() {
         take_step(

@@ -92,7 +92,7 @@ fn are_equal(first: &Vector, second: &Vector) -> bool {
 
 /// Makes an edit, and says whether it was made and whether the bounds aren't those of a fresh analysis.
 fn edit_beside(alloc: Global, session: &mut Session, edit: &Edit) -> Result<(bool, bool), Fail> {
-    let mut trail = Trail::with_room(alloc, 512)?;
+    let mut trail = Trail::of_size(alloc, session.system().size())?;
     let made = match session.edit(&(), alloc, edit, &mut OneByOne, &mut trail) {
         Ok(()) => true,
         Err(EditFault::Refused(_)) => false,
@@ -105,7 +105,7 @@ fn edit_beside(alloc: Global, session: &mut Session, edit: &Edit) -> Result<(boo
 /// The session of a system that is read.
 fn start(alloc: Global, text: &str) -> Result<Session, Fail> {
     let system = read_system(alloc, text.as_bytes())?;
-    let mut trail = Trail::with_room(alloc, 512)?;
+    let mut trail = Trail::of_size(alloc, system.size())?;
     let session = Session::start(&(), alloc, system, &mut OneByOne, &mut trail)?;
     Ok(session)
 }
@@ -152,8 +152,8 @@ pub fn edit_once<H: Sync, R: Round<H>>(
     round: &mut R,
 ) -> Result<Trail, Fail> {
     let script = read_script(alloc, script.as_bytes())?;
-    let mut trail = Trail::with_room(alloc, 512)?;
     let mut session = start(alloc, system)?;
+    let mut trail = Trail::of_size(alloc, session.system().size())?;
     if script.len() > 0 {
         if let Step::Change(edit) = script.step(0) {
             session.edit(rt, alloc, edit, round, &mut trail)?;

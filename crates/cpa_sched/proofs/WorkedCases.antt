@@ -1,5 +1,6 @@
 -- Regions of three tasks, worked.
 use Rattle.std.proofs.Common.{◌≡◌, ℕ, Bool, true, false, List, [], ◌∷◌, Some, refl, get_or}
+use Rattle.cpa_units.specs.declared.limits.Size.TheVariants.{Large}
 use Rattle.cpa_model.specs.declared.entries.Kind.TheVariants.{Preemptive}
 use Rattle.cpa_model.specs.declared.entries.Turn.TheVariants.{Priority}
 use Rattle.cpa_model.specs.declared.entries.Task.{Task}
@@ -16,6 +17,7 @@ task number best worst region = record { name = []; res = record { 0 = 0 }; afte
 three : SystemLists
 three =
     record {
+      size = Large;
       resources = record { name = []; kind = Preemptive; limit = 1000 } ∷ [];
       sources = [];
       tasks = task 1 1 3 1 ∷ task 2 2 4 2 ∷ task 3 6 9 4 ∷ [];

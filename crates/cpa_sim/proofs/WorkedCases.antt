@@ -1,5 +1,6 @@
 -- A run with regions, worked.
 use Rattle.std.proofs.Common.{◌≡◌, ℕ, [], ◌∷◌, Some, refl}
+use Rattle.cpa_units.specs.declared.limits.Size.TheVariants.{Large}
 use Rattle.cpa_model.specs.declared.entries.Kind.TheVariants.{Preemptive}
 use Rattle.cpa_model.specs.declared.entries.Source.{Source}
 use Rattle.cpa_model.specs.declared.entries.Activator.TheVariants.{Source as FromSource}
@@ -21,6 +22,7 @@ task place best worst region =
 three : SystemLists
 three =
     record {
+      size = Large;
       resources = record { name = []; kind = Preemptive; limit = 1000 } ∷ [];
       sources = source ∷ source ∷ source ∷ [];
       tasks = task 0 1 3 1 ∷ task 1 2 4 2 ∷ task 2 6 9 4 ∷ [];

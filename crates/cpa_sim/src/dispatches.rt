@@ -334,7 +334,7 @@ fn serve(
 
 /// A set with a resource more, if that is to be a member.
 fn with_if(set: ResSet, res: ResId, member: bool) -> ResSet
-    requires { res.0 < 64 }
+    requires { res.0 < 128 }
     ensures { (r : ℕ) → holds result r ≡ ((r == res.0 && member) || holds set r) }
 {
     if member { set.with(res) } else { set }

@@ -11,7 +11,7 @@ use cpa_units::NoMemory;
 use std::alloc::Global;
 
 /// The run of a system under a trace: the jobs and completions up to its end. The trace belongs to the
-/// system, its times are at most 10,000,000, its executions lie from 1 to 1,000,000, the phases of TDMA
+/// system, its times are at most 10,000,000, its executions lie from 1 to 10,000,000, the phases of TDMA
 /// resources with tasks are at most 1,000,000,000, and it has at most 2,000,000 jobs.
 pub fn replay(alloc: Global, system: &System, trace: &Trace) -> Result<Outcome, NoMemory>
     requires { CanReplay system.now trace.now }

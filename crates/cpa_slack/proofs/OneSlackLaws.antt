@@ -4,13 +4,13 @@ use Rattle.std.specs.Bool.{Decides}
 use Rattle.std.proofs.lemmas.Bool.{cases_Bool, cases_lt}
 use Rattle.std.proofs.lemmas.Bool.Decides.{Decides-below_and, not_from_Decides, same_from_decides}
 use Rattle.cpa_units.specs.declared.bound.Bound.{Bound}
-use Rattle.cpa_units.specs.declared.limits.TheConstants.{MAX_EXECUTION}
+use Rattle.cpa_units.specs.Sizes.{most_execution}
 use Rattle.cpa_units.specs.Search.{greatest_to}
 use Rattle.cpa_units.proofs.DeadlineLaws.{meets_deadline, deadline-decides}
 use Rattle.cpa_units.proofs.SearchLaws.{all_pass, greatest_to-le, greatest_to-passes, greatest_to-greatest}
 use Rattle.cpa_model.specs.declared.entries.Path.{Path}
 use Rattle.cpa_model.specs.SystemLists.{SystemLists, task_at, path_at, no_task}
-use Rattle.cpa_model.specs.Rules.{IsSystem, IsTask}
+use Rattle.cpa_model.specs.Rules.{IsSystem, IsSizedTask}
 use Rattle.cpa_local.specs.Solution.{least_of}
 use Rattle.cpa_local.specs.Paths.{path_worst}
 use Rattle.cpa_slack.specs.declared.slack.Slack.{Slack}
@@ -55,7 +55,7 @@ module _ (s : SystemLists) (i : ℕ) (rules : IsSystem s) (less : i < length s.t
             subst (λ (k : ℕ). Holds (longer s i k)) (sym nothing) (subst Holds (sym (longer-none s i less)) holds)
       ]
 
-  most-up_to : (most : ℕ) → (task_at s i).worst + most ≤ MAX_EXECUTION → Holds s → IsMostUpTo s i most (greatest_to does_hold_with most)
+  most-up_to : (most : ℕ) → (task_at s i).worst + most ≤ most_execution s.size → Holds s → IsMostUpTo s i most (greatest_to does_hold_with most)
   most-up_to most in_range holds =
       let few = greatest_to-le does_hold_with most in
       record {
@@ -66,9 +66,9 @@ module _ (s : SystemLists) (i : ℕ) (rules : IsSystem s) (less : i < length s.t
 
   pub slack_exists : (slack : Slack) × IsSlack s i slack
   slack_exists =
-      let it : IsTask s (task_at s i) = rules.tasks i no_task less in
-      let room : ℕ = MAX_EXECUTION - (task_at s i).worst in
-      let full : (task_at s i).worst + room ≡ MAX_EXECUTION = omega (arith, it.worst) in
+      let it : IsSizedTask s.size (task_at s i) = rules.sized.times i no_task less in
+      let room : ℕ = most_execution s.size - (task_at s i).worst in
+      let full : (task_at s i).worst + room ≡ most_execution s.size = omega (arith, it.worst) in
       elim (cases_Bool (does_hold s)) [
         | inl told ↦
             let holds : Holds s = (holds-decides s).0 told in
@@ -91,7 +91,7 @@ most-one s i ticks other limit limit' first second =
     let a = ticks-one s i ticks other limit limit' first second in
     let b = ticks-one s i other ticks limit' limit second first in
     let same : ticks ≡ other = omega (arith, a, b) in
-    let also : limit ≡ limit' = same_from_decides limit limit' first.at_limit (subst (λ (n : ℕ). Decides limit' ((task_at s i).worst + n ≡ MAX_EXECUTION)) (sym same) second.at_limit) in
+    let also : limit ≡ limit' = same_from_decides limit limit' first.at_limit (subst (λ (n : ℕ). Decides limit' ((task_at s i).worst + n ≡ most_execution s.size)) (sym same) second.at_limit) in
     rw (same, also) refl
 
 pub slack_is_one : (s : SystemLists) (i : ℕ) (slack other : Slack) → IsSlack s i slack → IsSlack s i other → slack ≡ other

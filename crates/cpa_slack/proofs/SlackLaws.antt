@@ -5,7 +5,7 @@ use Rattle.std.proofs.lemmas.Option.{same_Some}
 use Rattle.std.proofs.lemmas.Bool.{cases_eq, eq-eqb, eqb-true}
 use Rattle.cpa_units.specs.declared.bound.Bound.{Bound}
 use Rattle.cpa_units.specs.declared.bound.Bound.TheVariants.{Within}
-use Rattle.cpa_units.specs.declared.limits.TheConstants.{MAX_EXECUTION}
+use Rattle.cpa_units.specs.Sizes.{most_execution}
 use Rattle.cpa_units.specs.declared.places.TaskId.{TaskId}
 use Rattle.cpa_units.specs.Bounds.{IsAtMost, fits, IsNowhereAbove, bound_of, sum_bounds}
 use Rattle.cpa_units.proofs.BoundLaws.{IsAtMost_trans, IsAtMost_refl, fits-true, fits-from, bound_plus-mono}
@@ -32,7 +32,7 @@ sum-up x y (t ∷ ts) up = bound_plus-mono (bound_of x t.0) (bound_of y t.0) _ _
 pub lower-holds : (x y : List Bound) (p : Path) → IsNowhereAbove x y → HoldsPath y p → HoldsPath x p
 lower-holds x y p up h = λ d is. IsAtMost_trans (path_worst x p) (path_worst y p) (Within d) (sum-up x y p.tasks up) (h d is)
 
-pub longer-rules : (s : SystemLists) (i k : ℕ) → IsSystem s → i < length s.tasks → (task_at s i).worst + k ≤ MAX_EXECUTION → IsSystem (longer s i k)
+pub longer-rules : (s : SystemLists) (i k : ℕ) → IsSystem s → i < length s.tasks → (task_at s i).worst + k ≤ most_execution s.size → IsSystem (longer s i k)
 longer-rules s i k rules less in_range =
     let it : IsTask s (task_at s i) = rules.tasks i no_task less in
     exec-kept s rules i (task_at s i).best ((task_at s i).worst + k) less it.some_best (omega (arith, it.ordered)) in_range
@@ -65,14 +65,14 @@ pub longer-again : (s : SystemLists) (i k m : ℕ) → i < length s.tasks → wi
 longer-again s i k m less = exec-again s i (task_at s i).best ((task_at s i).worst + k) (task_at s i).best ((task_at s i).worst + m) less
 
 -- more time lets no bound fall
-pub longer-up : (s : SystemLists) (i k more : ℕ) → IsSystem s → i < length s.tasks → k ≤ more → (task_at s i).worst + more ≤ MAX_EXECUTION → IsNowhereAbove (least_of (longer s i k)) (least_of (longer s i more))
+pub longer-up : (s : SystemLists) (i k more : ℕ) → IsSystem s → i < length s.tasks → k ≤ more → (task_at s i).worst + more ≤ most_execution s.size → IsNowhereAbove (least_of (longer s i k)) (least_of (longer s i more))
 longer-up s i k more rules less le in_range =
     let it = longer-task s i k less in
     subst (λ (t : SystemLists). IsNowhereAbove (least_of (longer s i k)) (least_of t)) (longer-again s i k more less)
     (least_up (longer s i k) (with_exec (longer s i k) i (task_at s i).best ((task_at s i).worst + more)) (longer-rules s i k rules less (omega (arith, le, in_range)))
     (raising-exec (longer s i k) i (task_at s i).best ((task_at s i).worst + more) (omega (arith, it.0)) (omega (arith, it.1, le))))
 
-pub less-holds : (s : SystemLists) (i k more : ℕ) → IsSystem s → i < length s.tasks → k ≤ more → (task_at s i).worst + more ≤ MAX_EXECUTION → Holds (longer s i more) → Holds (longer s i k)
+pub less-holds : (s : SystemLists) (i k more : ℕ) → IsSystem s → i < length s.tasks → k ≤ more → (task_at s i).worst + more ≤ most_execution s.size → Holds (longer s i more) → Holds (longer s i k)
 less-holds s i k more rules less le in_range holds = λ n there.
     let same : (longer s i k).paths ≡ (longer s i more).paths = longer-paths s i k ∙ sym (longer-paths s i more) in
     let it : HoldsPath (least_of (longer s i more)) (path_at (longer s i k) n) =
@@ -96,7 +96,7 @@ path-told x p d verdict is told = (
 )
 
 -- where the halving ends
-pub most-found : (s : SystemLists) (i most holding past : ℕ) → IsSystem s → i < length s.tasks → (task_at s i).worst + most ≤ MAX_EXECUTION
+pub most-found : (s : SystemLists) (i most holding past : ℕ) → IsSystem s → i < length s.tasks → (task_at s i).worst + most ≤ most_execution s.size
     → holding < past → past ≤ holding + 1 → past ≤ most + 1 → Holds (longer s i holding) → (past ≤ most → ¬ Holds (longer s i past)) → IsMostUpTo s i most holding
 most-found s i most holding past rules less in_range below next top holds fails =
     record {
@@ -106,7 +106,7 @@ most-found s i most holding past rules less in_range below next top holds fails 
     }
 
 -- up to the greatest execution
-pub most-of_all : (s : SystemLists) (i most ticks : ℕ) (limit : Bool) → (task_at s i).worst + most ≡ MAX_EXECUTION → limit ≡ (ticks == most) → IsMostUpTo s i most ticks → IsMost s i ticks limit
+pub most-of_all : (s : SystemLists) (i most ticks : ℕ) (limit : Bool) → (task_at s i).worst + most ≡ most_execution s.size → limit ≡ (ticks == most) → IsMostUpTo s i most ticks → IsMost s i ticks limit
 most-of_all s i most ticks limit full told it =
     record {
       in_range = omega (arith, full, it.some);
@@ -142,7 +142,7 @@ vector-longer s i k m x vector =
     }
 
 -- the least solution with fewer ticks is a vector nowhere above that with more
-pub starts : (s : SystemLists) (i k more : ℕ) → IsSystem s → i < length s.tasks → k ≤ more → (task_at s i).worst + more ≤ MAX_EXECUTION
+pub starts : (s : SystemLists) (i k more : ℕ) → IsSystem s → i < length s.tasks → k ≤ more → (task_at s i).worst + more ≤ most_execution s.size
     → IsVector (longer s i more) (least_of (longer s i k)) × IsNowhereAbove (least_of (longer s i k)) (least_of (longer s i more))
 starts s i k more rules less le in_range = (
   vector-longer s i k more (least_of (longer s i k)) (least_of-is_least (longer s i k) (longer-rules s i k rules less (omega (arith, le, in_range)))).vector,

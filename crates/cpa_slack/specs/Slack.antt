@@ -3,7 +3,7 @@ use Rattle.std.specs.Prelude.{ℕ, ◌+◌, ◌<◌, ◌≤◌, ◌≡◌, ◌�
 use Rattle.std.specs.Option.{ForSome}
 use Rattle.cpa_units.specs.declared.bound.Bound.{Bound}
 use Rattle.cpa_units.specs.declared.bound.Bound.TheVariants.{Within}
-use Rattle.cpa_units.specs.declared.limits.TheConstants.{MAX_EXECUTION}
+use Rattle.cpa_units.specs.Sizes.{most_execution}
 use Rattle.cpa_units.specs.Bounds.{IsAtMost}
 use Rattle.cpa_model.specs.declared.entries.Path.{Path}
 use Rattle.cpa_model.specs.SystemLists.{SystemLists, task_at, path_at}
@@ -40,12 +40,12 @@ pub record IsMostUpTo (s : SystemLists) (i up_to ticks : ℕ) : Type 0 where
   pub most : (k : ℕ) → ticks < k → k ≤ up_to → ¬ Holds (longer s i k)
 
 -- so many ticks more are the most: up to them all holds, and beyond them, as far as an execution may grow, it doesn't; the
--- limit is reached where the execution is then the greatest that there is
+-- limit is reached where the execution is then the greatest of a system of this size
 pub record IsMost (s : SystemLists) (i ticks : ℕ) (limit : Bool) : Type 0 where
-  pub in_range : (task_at s i).worst + ticks ≤ MAX_EXECUTION
+  pub in_range : (task_at s i).worst + ticks ≤ most_execution s.size
   pub holds : (k : ℕ) → k ≤ ticks → Holds (longer s i k)
-  pub most : (k : ℕ) → ticks < k → (task_at s i).worst + k ≤ MAX_EXECUTION → ¬ Holds (longer s i k)
-  pub at_limit : IsTrue limit ↔ ((task_at s i).worst + ticks ≡ MAX_EXECUTION)
+  pub most : (k : ℕ) → ticks < k → (task_at s i).worst + k ≤ most_execution s.size → ¬ Holds (longer s i k)
+  pub at_limit : IsTrue limit ↔ ((task_at s i).worst + ticks ≡ most_execution s.size)
 
 -- what is answered of a task
 abbrev pub IsSlack : SystemLists → ℕ → Slack → Type 0

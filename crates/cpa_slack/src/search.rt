@@ -1,7 +1,7 @@
 //! The search for the most ticks by which a task may grow.
 
 ghost use Rattle.std.specs.Prelude.{◌≡◌, ◌<◌, ◌≤◌, ◌+◌, ◌↔◌, IsTrue, length, IfOk, OnOk, if◌then◌else◌};
-ghost use Rattle.cpa_units.specs.declared.limits.TheConstants.{MAX_TASKS, MAX_EXECUTION};
+ghost use Rattle.cpa_units.specs.Sizes.{most_execution};
 ghost use Rattle.cpa_units.specs.Bounds.{IsNowhereAbove};
 ghost use Rattle.cpa_model.specs.SystemLists.{task_at, path_at};
 ghost use Rattle.cpa_local.specs.Solution.{IsVector, least_of};
@@ -12,7 +12,6 @@ use crate::slack::Slack;
 use cpa_fix::{Readings, Round, solve};
 use cpa_local::{Trail, floor, path_worst};
 use cpa_model::System;
-use cpa_units::limits::MAX_EXECUTION;
 use cpa_units::{Bound, NoMemory, PathId, TaskId, Vector};
 use std::alloc::Global;
 
@@ -23,7 +22,7 @@ struct Growth<'a> {
     task: TaskId,
     most: u64,
     ghost there: { task.0 < length system.now.tasks },
-    ghost in_range: { (task_at system.now task.0).worst + most ≤ MAX_EXECUTION },
+    ghost in_range: { (task_at system.now task.0).worst + most ≤ most_execution system.now.size },
 }
 
 /// A copy of a system in which a task may have grown, and a vector from which the search for its least
@@ -74,7 +73,7 @@ fn least<H: Sync, R: Round<H>>(
 ) -> Result<Vector, NoMemory>
     requires vector { IsVector system.now start }
     requires below { IsNowhereAbove start (least_of system.now) }
-    requires room { MAX_TASKS ≤ trail.old.room }
+    requires room { length system.now.tasks ≤ trail.old.room }
     ensures least { IfOk result (λ x. x ≡ least_of system.now) }
     ensures vector { IfOk result (IsVector system.now) }
     ensures kept { IsKept trail.old trail.new }
@@ -88,7 +87,7 @@ fn least<H: Sync, R: Round<H>>(
 }
 
 /// By how much the greatest execution of a task may grow, in ticks, while each path with a deadline
-/// takes at most that in the least solution. The trail has room for 512 tasks. The system is analysed
+/// takes at most that in the least solution. The trail has room for all tasks. The system is analysed
 /// whole: every task of it is marked. Where memory is refused, too, new marks are of its tasks alone.
 pub fn find_slack<H: Sync, R: Round<H>>(
     rt: &H,
@@ -99,7 +98,7 @@ pub fn find_slack<H: Sync, R: Round<H>>(
     trail: &mut Trail,
 ) -> Result<Slack, NoMemory>
     requires there { task.0 < length system.now.tasks }
-    requires room { MAX_TASKS ≤ trail.old.room }
+    requires room { length system.now.tasks ≤ trail.old.room }
     ensures slack { IfOk result (IsSlack system.now task.0) }
     ensures kept { IsKept trail.old trail.new }
     ensures fresh { NewMarksAre trail.old trail.new (λ i. i < length system.now.tasks) }
@@ -111,7 +110,7 @@ pub fn find_slack<H: Sync, R: Round<H>>(
     if !all_hold(system, &bounds) {
         return Ok(Slack::Missed);
     }
-    let room = MAX_EXECUTION - system.task(task).worst;
+    let room = system.size().most_execution() - system.task(task).worst;
     let growth = Growth {
         system,
         task,
@@ -135,7 +134,7 @@ fn most_ticks<H: Sync, R: Round<H>>(
 ) -> Result<u64, NoMemory>
     requires holds { Holds growth.now.system.now }
     requires bounds { bounds ≡ least_of growth.now.system.now }
-    requires room { MAX_TASKS ≤ trail.old.room }
+    requires room { length growth.now.system.now.tasks ≤ trail.old.room }
     ensures found { IfOk result (IsMostUpTo growth.now.system.now growth.now.task.0 growth.now.most) }
     ensures kept { IsKept trail.old trail.new }
     ensures fresh { NewMarksAre trail.old trail.new (λ i. i < length growth.now.system.now.tasks) }
@@ -161,7 +160,7 @@ fn halve<H: Sync, R: Round<H>>(
     requires holds { Holds growth.now.system.now }
     requires longer { IsLonger growth.now.system.now growth.now.task.0 trial.old.system }
     requires held { trial.old.held ≡ least_of growth.now.system.now }
-    requires room { MAX_TASKS ≤ trail.old.room }
+    requires room { length growth.now.system.now.tasks ≤ trail.old.room }
     ensures found { IfOk result (IsMostUpTo growth.now.system.now growth.now.task.0 growth.now.most) }
     ensures kept { IsKept trail.old trail.new }
     ensures fresh { NewMarksAre trail.old trail.new (λ i. i < length growth.now.system.now.tasks) }
@@ -192,7 +191,7 @@ fn holds_longer<H: Sync, R: Round<H>>(
 ) -> Result<bool, NoMemory>
     requires vector { IsVector trial.old.system trial.old.held }
     requires below { IsNowhereAbove trial.old.held (least_of trial.old.system) }
-    requires room { MAX_TASKS ≤ trail.old.room }
+    requires room { length trial.old.system.tasks ≤ trail.old.room }
     ensures system { trial.new.system ≡ trial.old.system }
     ensures holds { IfOk result (λ holds. IsTrue holds ↔ Holds trial.old.system) }
     ensures held { IfOk result (λ holds. trial.new.held ≡ (if holds then least_of trial.old.system else trial.old.held)) }

@@ -1,6 +1,7 @@
 -- Worked runs, and a bound that is one too small and doesn't hold.
 use Rattle.std.proofs.Common.{◌≡◌, ℕ, zero, suc, ◌+◌, ◌<◌, ◌≤◌, length, map, get_or, List, [], ◌∷◌, Some, None, refl, sym, ◌∙◌, ap, arith}
 use Rattle.cpa_units.specs.declared.bound.Bound.TheVariants.{Within}
+use Rattle.cpa_units.specs.declared.limits.Size.TheVariants.{Small}
 use Rattle.cpa_units.specs.Search.{least_from, greatest_to}
 use Rattle.cpa_events.specs.declared.stream.Stream.{Stream}
 use Rattle.cpa_events.specs.Streams.{stream_delta_minus, stream_eta_plus}
@@ -44,7 +45,7 @@ abbrev task : ℕ → List Activator → ℕ → ℕ → Turn → Task
 task place after best worst turn = record { name = []; res = record { 0 = place }; after = after; best = best; worst = worst; turn = turn; region = 1 }
 
 abbrev system : List Kind → List ℕ → List Task → SystemLists
-system kinds periods tasks = record { resources = map resource kinds; sources = map source periods; tasks = tasks; paths = [] }
+system kinds periods tasks = record { size = Small; resources = map resource kinds; sources = map source periods; tasks = tasks; paths = [] }
 
 -- the same events from two sources
 abbrev both_at : List ℕ → TraceLists

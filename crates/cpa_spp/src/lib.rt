@@ -65,7 +65,7 @@ impl<'a> BusyWindow for PreemptiveJobs<'a> {
 
 /// The bound of a task that takes `worst` ticks for a job and comes by `own`, where a window is at
 /// most `limit`. The rivals are the tasks of higher priority, and `blocking` is by how many ticks a task of
-/// lower priority may hold it up once it has begun a region, at most 1,000,000.
+/// lower priority may hold it up once it has begun a region, at most 10,000,000.
 pub fn respond(own: &Model, worst: u64, blocking: u64, rivals: &[Rival], limit: u64) -> Bound
     requires own { IsModelInRange own.now }
     requires worst { IsExecution worst }

@@ -6,6 +6,7 @@ use cpa_draft::{
     BuildFault, Draft, DraftPath, DraftResource, DraftSource, DraftTask, KindWord, Part, Raw,
     RawList, validate,
 };
+use cpa_units::limits::Size;
 use std::alloc::{AllocError, Global};
 use std::slice;
 use std::test::Fail;
@@ -65,6 +66,7 @@ fn task(alloc: Global, line: &str) -> Result<DraftTask, AllocError> {
 
 fn add(alloc: Global, draft: &mut Draft, line: &str) -> Result<(), AllocError> {
     match field(line, 0) {
+        "large" => draft.size = Size::Large,
         "resource" => draft.resources.push(DraftResource {
             name: raw(alloc, field(line, 1))?,
             kind: kind(line),
@@ -83,7 +85,13 @@ fn add(alloc: Global, draft: &mut Draft, line: &str) -> Result<(), AllocError> {
             tasks: names(alloc, line, 3)?,
             deadline: number(line, 2),
         })?,
-        _ => draft.tasks.push(task(alloc, line)?)?,
+        _ => {
+            let task = task(alloc, line)?;
+            if task.region.is_some() {
+                draft.size = Size::Large;
+            }
+            draft.tasks.push(task)?;
+        }
     }
     Ok(())
 }
@@ -126,6 +134,7 @@ fn told(
     runs: &[Run],
 ) -> Result<Option<(u8, Part, u64)>, AllocError> {
     let mut draft = Draft {
+        size: Size::Small,
         resources: Vec::new(alloc),
         sources: Vec::new(alloc),
         tasks: Vec::new(alloc),

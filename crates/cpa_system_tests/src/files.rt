@@ -401,12 +401,12 @@ fn refuses_other_bytes(rt: HostRuntime) -> Result<(), Fail> {
     Ok(())
 }
 
-/// Files, the format in which their systems are printed, which is the least that can say them, and how many tasks and paths these
-/// have.
+/// Files, the format in which their systems are printed, which is 4 where they were read from it and else the least that can say
+/// them, and how many tasks and paths these have.
 const READ_BACK: [(&str, &str, u32, u32); 17] = [
     ("format = 1", "format = 1\n", 0, 0),
     ("format = 2", "format = 1\n", 0, 0),
-    ("format = 4", "format = 1\n", 0, 0),
+    ("format = 4", "format = 4\n", 0, 0),
     (TWO_TASKS, "format = 1\n", 2, 0),
     (TWO_TASKS_LATER, "format = 1\n", 2, 0),
     (TWO_ACTIVATORS, "format = 2\n", 2, 1),
@@ -452,7 +452,7 @@ fn prints_and_reads_back(rt: HostRuntime) -> Result<(), Fail> {
 const REGIONS: [(&str, Refused); 6] = [
     ("format = 4", ("format = 2", 1, Part::Task, 2)),
     ("region = 2", ("region = 0", 2, Part::Task, 2)),
-    ("region = 2", ("region = 1000001", 2, Part::Task, 2)),
+    ("region = 2", ("region = 10000001", 2, Part::Task, 2)),
     ("region = 2", ("region = \"2\"", 1, Part::Task, 2)),
     ("region = 1 ", ("region = 4.0 ", 1, Part::Task, 3)),
     ("\"preemptive\"", ("\"can\"", 9, Part::Task, 2)),

@@ -4,6 +4,7 @@ use cpa_file::{FileRefusal, read_system};
 use cpa_model::{
     Activator, BuildFault, Draft, DraftSource, Kind, Part, Raw, Refusal, System, Turn,
 };
+use cpa_units::limits::Size;
 use cpa_units::{PathId, ResId, SourceId, TaskId};
 use std::test::Fail;
 
@@ -233,6 +234,7 @@ fn refuses_the_first_place(rt: HostRuntime) -> Result<(), Fail> {
         })?;
     }
     let draft = Draft {
+        size: Size::Small,
         resources: Vec::new(alloc),
         sources,
         tasks: Vec::new(alloc),

@@ -6,4 +6,5 @@ pub mod Words
 pub mod Numbers
 pub mod Name
 pub mod Sets
+pub mod Sizes
 pub mod FaultTexts

@@ -16,7 +16,7 @@ HaveCommon a b = (place : ℕ) × Members a place × Members b place
 -- the least member from a place on
 pub record IsNextMember (set : List Bool) (from place : ℕ) : Type 0 where
   pub past : from ≤ place
-  pub small : place < 64
+  pub small : place < 128
   pub member : Members set place
   pub first : (r : ℕ) → from ≤ r → r < place → holds set r ≡ false
 

@@ -1,4 +1,4 @@
-//! Sets of resources, as a system has at most 64 of them.
+//! Sets of resources, as a system has at most 128 of them.
 
 ghost use Rattle.std.specs.Prelude.{◌≡◌, ℕ, ◌<◌, ◌≤◌, ◌||◌, ◌==◌, ◌↔◌, IsTrue, MatchOption, nat_lt, false};
 ghost use Rattle.cpa_units.specs.Sets.{holds, HaveCommon, IsNextMember};
@@ -6,10 +6,10 @@ ghost use Rattle.cpa_units.specs.Sets.{holds, HaveCommon, IsNextMember};
 use crate::places::ResId;
 use std::marker::Model;
 
-/// A set of places below 64, a bit for each. Contracts see the list of its truth values.
+/// A set of places below 128, a bit for each. Contracts see the list of its truth values.
 #[derive(Clone, Copy, Debug)]
 pub struct ResSet {
-    bits: u64,
+    bits: u128,
 }
 
 impl Model for ResSet {
@@ -19,13 +19,13 @@ impl Model for ResSet {
 
     ghost Value = { List Bool };
 
-    ghost view = { λ s. truths 64 s.bits };
+    ghost view = { λ s. truths 128 s.bits };
 
-    ghost invariant = { λ s. s.bits < 2 ^ 64 };
+    ghost invariant = { λ s. s.bits < 2 ^ 128 };
 
     ghost inverse = { λ members. record { bits = number_of members } };
 
-    ghost inverse_ok = { λ a h. ap (λ b. record { bits = b }) (number_of-truths 64 a.bits h) };
+    ghost inverse_ok = { λ a h. ap (λ b. record { bits = b }) (number_of-truths 128 a.bits h) };
 }
 
 impl ResSet {
@@ -38,21 +38,21 @@ impl ResSet {
 
     /// The places below `count`.
     pub fn first(count: u32) -> ResSet
-        requires { count ≤ 64 }
+        requires { count ≤ 128 }
         ensures { (r : ℕ) → holds result r ≡ nat_lt r count }
     {
-        if count < 64 {
+        if count < 128 {
             ResSet {
                 bits: (1 << count) - 1,
             }
         } else {
-            ResSet { bits: u64::MAX }
+            ResSet { bits: u128::MAX }
         }
     }
 
-    /// The set with a member more, whose place is below 64.
+    /// The set with a member more, whose place is below 128.
     pub fn with(self, res: ResId) -> ResSet
-        requires { res.0 < 64 }
+        requires { res.0 < 128 }
         ensures { (r : ℕ) → holds result r ≡ (r == res.0 || holds self r) }
     {
         ResSet {
@@ -60,9 +60,9 @@ impl ResSet {
         }
     }
 
-    /// Whether a place, below 64, is a member.
+    /// Whether a place, below 128, is a member.
     pub fn has(self, res: ResId) -> bool
-        requires { res.0 < 64 }
+        requires { res.0 < 128 }
         ensures { result ≡ holds self res.0 }
     {
         self.bits >> res.0 & 1 == 1
@@ -79,11 +79,11 @@ impl ResSet {
 
     /// The least member whose place is at least `from`; none where there is none.
     pub fn next(self, from: u32) -> Option<ResId>
-        requires { from ≤ 64 }
+        requires { from ≤ 128 }
         ensures { MatchOption result ((r : ℕ) → from ≤ r → holds self r ≡ false) (λ res. IsNextMember self from res.0) }
     {
         let bits = self.bits;
-        if from == 64 {
+        if from == 128 {
             return None;
         }
         let rest = bits >> from;

@@ -18,7 +18,7 @@ pub struct Rival {
     pub slot: u64,
     /// The model of its input; none where that is unbounded.
     pub model: Option<Model>,
-    /// Its bound so far; a number is at most ten million ticks.
+    /// Its bound so far; a number is at most a hundred million ticks.
     pub bound: Bound,
 }
 
@@ -29,7 +29,7 @@ pub fn events_work(model: &Model, window: u64, each: u64) -> u64
     requires window { window ≤ 2 * MAX_LIMIT }
     requires each { each ≤ MAX_EXECUTION }
     ensures value { result ≡ eta_plus model.now window * each }
-    ensures small { result ≤ 2 ^ 56 }
+    ensures small { result ≤ 2 ^ 62 }
 {
     model.eta_plus(window) * each
 }
@@ -57,7 +57,7 @@ pub fn work_in(rivals: &[Rival], window: u64) -> u128
     requires rivals { AreRivals rivals.now }
     requires window { window ≤ MAX_LIMIT + MAX_BIT }
     ensures value { result ≡ bounded_work rivals.now window }
-    ensures small { result ≤ 2 ^ 65 }
+    ensures small { result ≤ 2 ^ 75 }
 {
     let mut total = 0;
     for rival in rivals {
@@ -87,7 +87,7 @@ fn rival_work(rival: &Rival, window: u64) -> u64
     requires rival { IsRival rival.now }
     requires window { window ≤ MAX_LIMIT + MAX_BIT }
     ensures value { result ≡ rival_work window rival.now }
-    ensures small { result ≤ 2 ^ 56 }
+    ensures small { result ≤ 2 ^ 62 }
 {
     match &rival.model {
         Some(model) => events_work(model, window, rival.worst),

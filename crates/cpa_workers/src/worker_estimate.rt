@@ -104,7 +104,7 @@ fn paying(looks: &[u64], dirty: ResSet) -> u32
     ensures most { result ≤ 64 }
 {
     let mut all: u64 = 0;
-    for place in 0..looks.len().min(64) {
+    for place in 0..looks.len().min(128) {
         if dirty.has(ResId(place as u32)) {
             all = all.saturating_add(looks[place]);
         }

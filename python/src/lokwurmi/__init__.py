@@ -19,11 +19,12 @@ from importlib import import_module
 from typing import TYPE_CHECKING
 
 if TYPE_CHECKING:
-    from .chains import Chain, ChainReport, ChainsReport, JudgedChain, Step
-    from .diffs import Change, Changes, Shift, changes_of
-    from .engines import Engine, Library, Program, default_engine, use
-    from .entries import Path, Resource, Source, Task
-    from .errors import (
+    from lokwurmi.calls.engines import Engine, default_engine, use
+    from lokwurmi.calls.library import Library
+    from lokwurmi.calls.program import Program
+    from lokwurmi.calls.sessions import Session
+    from lokwurmi.calls.system import System, generated_system, made_system
+    from lokwurmi.errors import (
         CallFailed,
         ChainsRefused,
         EditRefused,
@@ -45,10 +46,13 @@ if TYPE_CHECKING:
         Unreadable,
         WordsRefused,
     )
-    from .limits import Kind
-    from .live import Session
-    from .model import System, generated_system, made_system
-    from .reports import (
+    from lokwurmi.model.conversion import NoticeWarning, NoUnitWarning, Rounding, RoundingWarning
+    from lokwurmi.model.entries import Chain, Path, Resource, Source, Task
+    from lokwurmi.model.limits import Kind
+    from lokwurmi.model.units import Time, ms, ns, s, us
+    from lokwurmi.results.differences import Change, Changes, Shift, changes_of
+    from lokwurmi.results.effect_chains import ChainReport, ChainsReport, JudgedChain, Step
+    from lokwurmi.results.reports import (
         Buffers,
         Hammered,
         Order,
@@ -63,8 +67,7 @@ if TYPE_CHECKING:
         TaskReport,
         Verdict,
     )
-    from .units import NoticeWarning, NoUnitWarning, Rounding, RoundingWarning, Time, ms, ns, s, us
-    from .verdicts import Bound, Verdicts
+    from lokwurmi.results.verdicts import Bound, Verdicts
 
 __all__ = [
     "Bound",
@@ -138,23 +141,27 @@ __all__ = [
 # where these are, the light ones first
 _MODULES = (
     "errors",
-    "limits",
-    "units",
-    "entries",
-    "reports",
-    "chains",
-    "verdicts",
-    "diffs",
-    "engines",
-    "live",
-    "model",
+    "model.limits",
+    "model.units",
+    "model.conversion",
+    "model.entries",
+    "results.reports",
+    "results.effect_chains",
+    "results.verdicts",
+    "results.differences",
+    "calls.library",
+    "calls.program",
+    "calls.engines",
+    "calls.sessions",
+    "calls.system",
 )
+_LOADED = ("errors", "frames", "files", "model", "refusals", "calls", "results")
 
 if not TYPE_CHECKING:
     # each is loaded at its first use, so that whoever needs one module alone doesn't wait for all
 
     def __getattr__(name: str) -> object:
-        if name in _MODULES:
+        if name in _LOADED:
             return import_module(f".{name}", __name__)
         for module in _MODULES if name in __all__ else ():
             found = getattr(import_module(f".{module}", __name__), name, None)
@@ -164,4 +171,4 @@ if not TYPE_CHECKING:
         raise AttributeError(f"module {__name__!r} has no attribute {name!r}")
 
     def __dir__() -> list[str]:
-        return sorted({*globals(), *_MODULES, *__all__})
+        return sorted({*globals(), *_LOADED, *__all__})

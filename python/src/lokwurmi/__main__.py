@@ -8,13 +8,17 @@ import sys
 import warnings
 from pathlib import Path
 
-from .documents import Document
-from .engines import Engine, Library, Program, default_engine
-from .entries import out_of_range
-from .errors import LokwurmiError, NoEngine, SystemRefused, refusal
-from .model import System
-from .told import notices_of, refusal_words
-from .units import NoUnitWarning, RoundingWarning, Time
+from lokwurmi.calls.engines import Engine, default_engine
+from lokwurmi.calls.library import Library
+from lokwurmi.calls.program import Program
+from lokwurmi.calls.system import System
+from lokwurmi.errors import LokwurmiError, NoEngine, SystemRefused
+from lokwurmi.files.documents import Document
+from lokwurmi.model.conversion import NoUnitWarning, RoundingWarning
+from lokwurmi.model.statuses import Status
+from lokwurmi.model.units import Time
+from lokwurmi.refusals.program_lines import error_of
+from lokwurmi.refusals.sentences import notices_of, refusal_words
 
 EXAMPLE = """example:
   python3 -m lokwurmi examples/two_tasks.toml
@@ -23,7 +27,6 @@ status:
   0 all deadlines are met; 1 one is missed; 2 a task has no bound; 10 and above: refused, as docs/FILES.md says;
   70 there is neither a library nor a program
 """
-UNREADABLE, NO_ENGINE, REFUSED_WORDS = 11, 70, 10
 
 
 def tick_word(word: str) -> Time:
@@ -71,15 +74,14 @@ def text_of_file(asked: argparse.Namespace) -> bytes:
 
 
 def refused(status: int, wrote: str, text: bytes) -> LokwurmiError:
-    """Why a file isn't accepted, with the number that is out of its range."""
-    fault = refusal(status, wrote)
+    """Why a file isn't accepted, in words."""
+    fault = error_of(status, wrote)
     if not isinstance(fault, SystemRefused):
         return fault
     several = Document(text.decode("utf-8", "surrogateescape")).values.get(fault.part, [])
     it = several[fault.place - 1] if isinstance(several, list) and 1 <= fault.place <= len(several) else None
     entry = it if isinstance(it, dict) else {}
-    what = out_of_range(fault.part, entry) if fault.reason == 2 else ""
-    what = what or refusal_words(wrote, text.decode("utf-8", "surrogateescape"))
+    what = refusal_words(wrote, text.decode("utf-8", "surrogateescape"))
     return SystemRefused(status, wrote, fault.reason, fault.part, fault.place, entry.get("name"), what)
 
 
@@ -93,17 +95,21 @@ def main(words: list[str] | None = None) -> int:
     except OSError as fault:
         print(f"cannot read {asked.file}")
         print(f"{asked.file}: can't be read: {fault.strerror or fault}", file=sys.stderr)
-        return UNREADABLE
+        return Status.FILE_UNREAD
     except NoEngine as fault:
         print(fault, file=sys.stderr)
-        return NO_ENGINE
+        return Status.NO_PROGRAM
     except LokwurmiError as fault:
         print(fault, file=sys.stderr)
-        return REFUSED_WORDS
-    if status >= REFUSED_WORDS:
+        return Status.WORDS_REFUSED
+    if status >= Status.WORDS_REFUSED:
         told = str(refused(status, wrote, text))
         # the line of the program names the file
-        wrote = f"{wrote.removesuffix('system' + chr(10))}{asked.file}\n" if status in (12, 13) else wrote
+        wrote = (
+            f"{wrote.removesuffix('system' + chr(10))}{asked.file}\n"
+            if status in (Status.FILE_TOO_LONG, Status.NOT_TOML)
+            else wrote
+        )
         print(f"{asked.file}: {told}", file=sys.stderr)
     else:
         for it in notices_of(text.decode("utf-8", "surrogateescape").replace("\r\n", "\n")):

@@ -1,67 +1,10 @@
-"""What is raised, with the reason in words."""
-import re
+"""What is raised. Whatever is refused says why in words, by the tables of `lokwurmi.refusals.reasons`."""
+from lokwurmi.model.limits import MOST_SCRIPT_LINES
+from lokwurmi.model.statuses import Status
+from lokwurmi.refusals.reasons import CHAIN_REASONS, EDIT_RULES, SYSTEM_REASONS, WORD_REASONS
 
-# the reasons for which a file is no system: docs/FILES.md, "Refusals", whose headings these are
-REASONS = {
-    13: "another format",
-    1: "the form",
-    2: "a number out of its range",
-    3: "a name of another form",
-    4: "a name twice",
-    5: "a name of nothing",
-    6: "no source at the beginning",
-    7: "a chain too long",
-    8: "a priority twice",
-    9: "what doesn't fit the kind",
-    10: "best above worst",
-    11: "a path that isn't linked",
-    12: "too many entries",
-    14: "no activator, or too many",
-}
-
-# what may be wrong there, in a sentence
-HELP = {
-    13: "format is 1, 2 for lists of activators, or 4 for regions too",
-    1: "a key isn't known or is lacking, or a value has another type",
-    2: "docs/FILES.md has the range of each key",
-    3: "a name has 1 to 64 of ASCII letters, digits, _, - and .",
-    4: "sources and tasks share one set of names",
-    5: "on names a resource, after a source or a task, and a path tasks",
-    6: "following after must end at a source: tasks that activate each other in a ring can't be analysed",
-    7: "a chain has at most 32 tasks",
-    8: "tasks of one preemptive or can resource have different priorities",
-    9: "gap is for tdma, bit and payload for can, region for preemptive; a task has a priority on preemptive and can,"
-    " else a slot",
-    10: "best is at most worst",
-    11: "a path has a task at least, and each but the first has the one before it in after",
-    12: "there are at most 64 resources, 128 sources, 512 tasks and 128 paths",
-    14: "a list of activators isn't empty, names none twice, and brings at most 32 streams",
-}
-
-# the rules that an edit may break: docs/FILES.md, "Edits that are refused"
-RULES = {
-    1: "a name names nothing, or no such thing as is wanted",
-    2: "the kind of the resource has no such number",
-    3: "a number is out of its range",
-    4: "another task of the resource has the priority",
-    5: "the least execution is above the greatest",
-    6: "the task is among another's activators, or a path names it",
-    7: "a source or a task has the name already",
-    8: "there are 512 tasks",
-    9: "the chain would have more than 32 tasks",
-}
-
-# why a file of chains is refused: docs/FILES.md, "Why a file of chains is refused"
-CHAIN_REASONS = {
-    13: "another format",
-    1: "the form: the keys are name, tasks, reaction, age and held",
-    2: "a deadline is out of its range, which is 1 to 1,000,000,000 ticks",
-    3: "a name of another form",
-    4: "a name twice",
-    5: "a name of no task",
-    11: "there is no task, or more than 32",
-    12: "more than 128 chains",
-}
+RULES = EDIT_RULES
+"""The rules that an edit may break."""
 
 
 class LokwurmiError(Exception):
@@ -107,11 +50,11 @@ class CallFailed(LokwurmiError):
     def __init__(self, status: int, text: str = ""):
         self.status = status
         self.text = text
-        what = {
-            30: "out of memory",
-            11: "a file couldn't be read",
-            20: "the output couldn't be written",
-            70: "the program couldn't be built",
+        what: dict[int, str] = {
+            Status.OUT_OF_MEMORY: "out of memory",
+            Status.FILE_UNREAD: "a file couldn't be read",
+            Status.SINK_FAILED: "the output couldn't be written",
+            Status.NO_PROGRAM: "the program couldn't be built",
         }
         told = f": {text.strip()}" if text.strip() else ""
         super().__init__(f"status {status}: {what.get(status, 'the call was ended')}{told}")
@@ -151,10 +94,9 @@ class SystemRefused(Refused):
     ):
         self.reason, self.part, self.place, self.name = reason, part, place, name
         where = "the file" if part == "file" else f"{part} {name!r}" if name is not None else f"{part} {place}"
-        what = what.removeprefix(f'{part} "{name}": ')
-        if not what:
-            what = HELP[reason] + ("; a distance is at most the period" if (reason, part) == (2, "source") else "")
-        super().__init__(status, text, f"{where}: {REASONS[reason]} (reason {reason}): {what}")
+        why = SYSTEM_REASONS[reason]
+        what = what.removeprefix(f'{part} "{name}": ') or why.says
+        super().__init__(status, text, f"{where}: {why.heading} (reason {reason}): {what}")
 
 
 class ScriptRefused(Refused):
@@ -162,7 +104,7 @@ class ScriptRefused(Refused):
 
     def __init__(self, status: int, text: str, line: int | None):
         self.line = line
-        many = "the script has more than 10,000 lines"
+        many = f"the script has more than {MOST_SCRIPT_LINES:,} lines"
         if text == "script refused no edit\n":
             many = "the text isn't one edit: write one line, as exec b 2 8"
         form = f"line {line} of the script has none of the forms of docs/FILES.md"
@@ -175,20 +117,36 @@ class EditRefused(Refused):
 
     def __init__(self, edit: str, rule: int, why: str = ""):
         self.edit, self.rule, self.why = edit, rule, why
-        words = f"{edit}: {RULES[rule]} (rule {rule}){': ' if why else ''}{why}"
+        words = f"{edit}: {EDIT_RULES[rule]} (rule {rule}){': ' if why else ''}{why}"
         super().__init__(0, f"line 1 refused {rule}\n", words)
 
     def __reduce__(self) -> tuple[type, tuple[str, int, str]]:
         return EditRefused, (self.edit, self.rule, self.why)
 
 
-class TraceRefused(Refused):
-    """The trace is malformed: `row`, from 1, and `why`, which is `malformed`, `name` or `range`; or there are too many
-    rows or jobs."""
+class _RowRefused(Refused):
+    """A row isn't accepted: `row`, from 1, and `why`, which is `malformed`, `name` or `range`; or there are too many,
+    and `row` is None."""
+
+    what = "text"
 
     def __init__(self, status: int, text: str, row: int | None, why: str):
         self.row, self.why = row, why
-        super().__init__(status, text, f"the trace is refused: {why if row is None else f'row {row}: {why}'}")
+        super().__init__(status, text, f"the {self.what} is refused: {why if row is None else f'row {row}: {why}'}")
+
+
+class TraceRefused(_RowRefused):
+    """The trace is malformed: `row`, from 1, and `why`, which is `malformed`, `name` or `range`; or there are too many
+    rows or jobs."""
+
+    what = "trace"
+
+
+class ScheduleRefused(_RowRefused):
+    """The schedule is malformed: `row`, from 1, and `why`, which is `malformed`, `name` or `range`; or there are too
+    many rows."""
+
+    what = "schedule"
 
 
 class TraceDisobeys(Refused):
@@ -202,17 +160,10 @@ class NameRefused(Refused):
     """The resource of an order, the task whose slack is asked for, or one of a chain can't be taken; `reason` is the
     number in the line."""
 
-    WORDS = {
-        ("assign", 1): "no resource has the name",
-        ("assign", 2): "its tasks have slots, and no priorities",
-        ("assign", 3): "a task on it has a task among its activators",
-        ("slack", 1): "no task has the name",
-    }
-
     def __init__(self, status: int, text: str, command: str, reason: int):
         self.reason = reason
         chain = f"no task has the name in place {reason} of the chain"
-        super().__init__(status, text, chain if command == "chain" else self.WORDS[command, reason])
+        super().__init__(status, text, chain if command == "chain" else WORD_REASONS[command, reason])
 
 
 class ChainsRefused(Refused):
@@ -222,52 +173,5 @@ class ChainsRefused(Refused):
     def __init__(self, status: int, text: str, reason: int, place: int, name: str | None = None):
         self.reason, self.place, self.name = reason, place, name
         where = f"chain {name!r}" if name is not None else f"chain {place}" if place else "the file of chains"
-        super().__init__(status, text, f"{where}: {CHAIN_REASONS[reason]} (reason {reason})")
-
-
-class ScheduleRefused(Refused):
-    """The schedule is malformed: `row`, from 1, and `why`, which is `malformed`, `name` or `range`; or there are too
-    many rows."""
-
-    def __init__(self, status: int, text: str, row: int | None, why: str):
-        self.row, self.why = row, why
-        super().__init__(status, text, f"the schedule is refused: {why if row is None else f'row {row}: {why}'}")
-
-
-_SYSTEM = re.compile(r"system refused reason (\d+) (\w+) (\d+)\n")
-_SCRIPT = re.compile(r"script refused (?:line (\d+)|too many lines|no edit)\n")
-_ROW = re.compile(r"(?:trace|schedule) refused (?:row (\d+) (\w+)|(too many))\n")
-_NAME = re.compile(r"(assign|slack|chain) refused (\d+)\n")
-_CHAINS = re.compile(r"chains refused reason (\d+) (?:chain|file) (\d+)\n")
-
-
-def refusal(status: int, text: str) -> LokwurmiError:
-    """The error of a call whose status is 10 or above, or a signal."""
-    if status == 10:
-        return WordsRefused(
-            status, text, "the words aren't accepted: a number is out of its range, or a name is no word"
-        )
-    if status == 12:
-        return FileTooLong(
-            status,
-            text,
-            "a text is too long: a system, a script or a file of chains has at most 1,048,576 bytes, a trace or a"
-            " schedule 16,777,216",
-        )
-    if status == 13:
-        which = "file of chains" if text == "not TOML chains\n" else "system file"
-        return NotToml(status, text, f"the {which} isn't TOML")
-    if status == 14 and (it := _SYSTEM.fullmatch(text)):
-        return SystemRefused(status, text, int(it[1]), it[2], int(it[3]))
-    if status == 15 and (it := _SCRIPT.fullmatch(text)):
-        return ScriptRefused(status, text, int(it[1]) if it[1] else None)
-    if status in (16, 19) and (it := _ROW.fullmatch(text)):
-        kind = TraceRefused if status == 16 else ScheduleRefused
-        return kind(status, text, int(it[1]) if it[1] else None, it[2] or it[3])
-    if status == 17:
-        return TraceDisobeys(status, text)
-    if status == 18 and (it := _NAME.fullmatch(text)):
-        return NameRefused(status, text, it[1], int(it[2]))
-    if status == 18 and (it := _CHAINS.fullmatch(text)):
-        return ChainsRefused(status, text, int(it[1]), int(it[2]))
-    return CallFailed(status, text)
+        why = CHAIN_REASONS[reason]
+        super().__init__(status, text, f"{where}: {why.heading} (reason {reason}): {why.says}")

@@ -5,10 +5,10 @@ import sys
 from typing import NoReturn
 
 from lokwurmi.errors import LokwurmiError
-from lokwurmi_tools.commands import COMMANDS, command_of
-from lokwurmi_tools.faults import Told
-from lokwurmi_tools.packages import Missing, go_on
-from lokwurmi_tools.pipes import Patient
+from lokwurmi_tools.commands.catalogue import COMMANDS, command_of
+from lokwurmi_tools.shared.faults import Told
+from lokwurmi_tools.shared.packages import Missing, go_on
+from lokwurmi_tools.shared.pipes import Patient
 
 
 def commands_text() -> str:

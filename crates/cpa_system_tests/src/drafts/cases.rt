@@ -3,7 +3,7 @@
 //! An entry is a line of fields, with a bar between each two; an empty one stands for a key that is absent. After the name these are:
 //! of a resource its kind, its limit, its gap and its bit time; of a source its period, its jitter and its distance; of a task its
 //! resource, its executions, its payload, its priority and its slot, and then its activators; of a path its deadline, and then its
-//! tasks. A region stands behind the word `task`.
+//! tasks. A region stands behind the word `task`. The line `large`, or a region, makes a draft one of a large system.
 
 use cpa_draft::Part;
 
@@ -98,7 +98,7 @@ pub(crate) const ADDED: [(Option<(u8, Part, u64)>, &[&str]); 25] = [
             "task|c|table|1|1|||1000000|s",
             "task|c|cpu|2|2||3||s",
             "task 1|c|cpu|2|2||3||s",
-            "task 1000000|c|cpu|2|2||3||s",
+            "task 10000000|c|cpu|2|2||3||s",
         ],
     ),
     (
@@ -114,7 +114,7 @@ pub(crate) const ADDED: [(Option<(u8, Part, u64)>, &[&str]); 25] = [
             "task|c|cpu|||-1|3||s",
             "task 0|c|cpu|1|1||3||s",
             "task -1|c|cpu|1|1||3||s",
-            "task 1000001|c|cpu|1|1||3||s",
+            "task 10000001|c|cpu|1|1||3||s",
             "task 0|c|bus|1|1||3||s",
         ],
     ),

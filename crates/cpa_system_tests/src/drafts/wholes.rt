@@ -4,9 +4,33 @@ use crate::drafts::cases::{BASE, Case};
 use cpa_draft::Part;
 
 /// Drafts with more than one fault, and faults of several entries.
-pub(crate) const WHOLES: [Case; 5] = [
+pub(crate) const WHOLES: [Case; 9] = [
     (&BASE, None),
     (&[], None),
+    // The greatest numbers of a large system.
+    (
+        &[
+            "large",
+            "resource|cpu|preemptive|100000000",
+            "resource|table|tdma||10000000",
+            "source|s|1000000000",
+            "task|a|cpu|10000000|10000000||1||s",
+            "task|b|table|1|1|||10000000|a",
+        ],
+        None,
+    ),
+    (
+        &["large", "resource|cpu|preemptive|100000001"],
+        Some((2, Part::Resource, 1)),
+    ),
+    (
+        &["large", "resource|table|tdma||10000001"],
+        Some((2, Part::Resource, 1)),
+    ),
+    (
+        &["large", "task|a|cpu|1|10000001||1||s"],
+        Some((2, Part::Task, 1)),
+    ),
     // A resource comes before a source, whatever the place.
     (
         &[
@@ -150,7 +174,7 @@ pub(crate) const TASKS: [Case; 12] = [
 pub(crate) type Run = (&'static str, u32, u32, u32);
 
 /// Entries with numbers, after the resources and the source of the base.
-pub(crate) const RUNS: [(&[Run], Option<(u8, Part, u64)>); 15] = [
+pub(crate) const RUNS: [(&[Run], Option<(u8, Part, u64)>); 17] = [
     // Chains.
     (&[(FIRST, 0, 1, 0), (LATER, 1, 32, 1)], None),
     (
@@ -232,7 +256,30 @@ pub(crate) const RUNS: [(&[Run], Option<(u8, Part, u64)>); 15] = [
         ],
         Some((12, Part::Resource, 65)),
     ),
+    // The same of a large system.
+    (
+        &[
+            (LARGE, 0, 1, 0),
+            (CPU, 0, 124, 0),
+            (S, 0, 8191, 0),
+            (FIRST, 0, 8192, 0),
+            (W, 0, 2048, 0),
+        ],
+        None,
+    ),
+    (
+        &[
+            (LARGE, 0, 1, 0),
+            (CPU, 0, 124, 0),
+            (S, 0, 8191, 0),
+            (FIRST, 0, 8193, 0),
+            (W, 0, 2049, 0),
+        ],
+        Some((12, Part::Task, 8193)),
+    ),
 ];
+
+const LARGE: &str = "large";
 
 const FIRST: &str = "task|t#|cpu|1|1||#||s";
 

@@ -4,37 +4,35 @@ from __future__ import annotations
 
 import tomllib
 from collections.abc import Callable, Iterator, Sequence
+from dataclasses import replace
 
-from lokwurmi.documents import Document
-from lokwurmi.limits import CHAIN_KEYS, MOST_CHAINS, MOST_IN_CHAIN, MOST_IN_NAME, MOST_TICKS
-from lokwurmi.refusals.keys import is_integer, is_name, is_texts
-from lokwurmi.refusals.names import entry_name
-from lokwurmi.refusals.remark import File, Note, Remark, listed, mean, nearest, printable
+from lokwurmi.files.documents import Document
+from lokwurmi.files.system_keys import by_word, is_integer, is_name, is_texts
+from lokwurmi.files.text_files import File
+from lokwurmi.model.limits import CHAIN_KEYS, MOST_CHAINS, MOST_IN_CHAIN, MOST_IN_NAME, MOST_TICKS, TIMES
+from lokwurmi.refusals.remark import Note, Remark, listed, mean, nearest, printable
+from lokwurmi.refusals.spots import Spot, spots_in
 
 MORE = "Chains with deadlines"
 TOP_KEYS = ("format", "chain")
-DEADLINES = ("reaction", "age", "held")
-# what others call a key of a chain
-OTHER_KEYS = {
-    "path": "tasks",
-    "chain": "tasks",
-    "deadline": "reaction",
-    "latency": "reaction",
-    "reactiontime": "reaction",
-    "max_reaction": "reaction",
-    "dataage": "age",
-    "data_age": "age",
-    "max_age": "age",
-    "label": "name",
-    "id": "name",
+DEADLINES = tuple(TIMES["chain"])
+OTHER_KEYS = by_word(
+    {
+        "tasks": "path chain",
+        "reaction": "deadline latency reactiontime max_reaction",
+        "age": "dataage data_age max_age",
+        "name": "label id",
+    }
+)
+"""What others call a key of a chain."""
+TYPES: dict[str, tuple[str, Callable[[object], bool]]] = {
+    "name": ("a text", lambda it: isinstance(it, str)),
+    "tasks": ("an array of texts", is_texts),
+    **{it: ("a whole number", is_integer) for it in DEADLINES},
 }
+MISSING = {"name": 'write name = "brake"', "tasks": 'write tasks = ["first", "second"], in the order of the data'}
 
-Found = Iterator[tuple[int, Remark]]
-
-
-def chain_name(chains: Document, at: int) -> str:
-    """A chain in words."""
-    return entry_name(chains, "chain", at)
+Found = Iterator[tuple[Spot, Remark]]
 
 
 def fault_in(file: File, tasks: Sequence[str]) -> tuple[str, Remark] | None:
@@ -44,158 +42,107 @@ def fault_in(file: File, tasks: Sequence[str]) -> tuple[str, Remark] | None:
         chains = Document(file.text, ("chain",))
     except (UnicodeError, tomllib.TOMLDecodeError, RecursionError):
         return None
-    found = of_top(chains)
-    if found:
-        return f"reason {found[0]} file 0", found[1]
-    rules: list[tuple[int, Callable[[], Found]]] = [
-        (1, lambda: of_form(chains)),
-        (2, lambda: of_range(chains)),
-        (3, lambda: of_name(chains)),
-        (4, lambda: of_twice(chains)),
-        (5, lambda: of_nothing(chains, tasks)),
-        (11, lambda: of_count(chains)),
-        (12, lambda: of_many(chains)),
-    ]
-    for reason, rule in rules:
-        for at, remark in rule():
-            return f"reason {reason} chain {at + 1}", remark
+    if found := of_top(chains):
+        return f"reason {found[0]} file 0", replace(found[1], more=MORE)
+    rules = {1: of_form, 2: of_range, 3: of_name, 4: of_twice, 5: of_nothing, 11: of_count, 12: of_many}
+    for reason, rule in rules.items():
+        for spot, remark in rule(chains, tasks):
+            return f"reason {reason} {spot.placed}", replace(remark, more=MORE)
     return None
 
 
 def of_top(chains: Document) -> tuple[int, Remark] | None:
-    values = chains.values
+    values, root = chains.values, chains.root
     form = values.get("format")
     if is_integer(form) and form != 1:
-        return 13, Remark(f"the format is {form}, and has to be 1", chains.root.values["format"].span, (), "", MORE)
+        return 13, Remark(f"the format is {form}, and has to be 1", root.values["format"].span)
     for key in values:
         if key not in TOP_KEYS:
             says = f"the key `{printable(key)}` isn't known{mean(key, TOP_KEYS, '`')}"
             helps = "at the top stand format = 1 and chain, each as [[chain]] or in one array"
-            return 1, Remark(says, chains.root.keys[key], (), helps, MORE)
+            return 1, Remark(says, root.keys[key], helps)
     if "format" not in values:
-        return 1, Remark("the key `format` is missing at the top of the file", None, (), "write format = 1", MORE)
+        return 1, Remark("the key `format` is missing at the top of the file", None, "write format = 1")
     if not is_integer(form):
-        return 1, Remark("`format` has to be the number 1", chains.root.values["format"].span, (), "format = 1", MORE)
+        return 1, Remark("`format` has to be the number 1", root.values["format"].span, "format = 1")
     if not isinstance(values.get("chain", []), list):
         helps = 'write [[chain]] with two brackets, or chain = [{ name = "..", tasks = ["..", ".."] }]'
-        return 1, Remark("`chain` has to be an array of tables", chains.root.keys["chain"], (), helps, MORE)
+        return 1, Remark("`chain` has to be an array of tables", root.keys["chain"], helps)
     return None
 
 
-def of_form(chains: Document) -> Found:
-    types = {"name": ("a text", lambda it: isinstance(it, str)), "tasks": ("an array of texts", is_texts)}
-    types |= {it: ("a whole number", is_integer) for it in DEADLINES}
-    for at, entry in enumerate(chains.entries["chain"]):
-        if not isinstance(entry, dict):
-            yield at, Remark(
-                f"chain {at + 1} is no table", chains.place("chain", at).span, (), '{ name = "..", tasks = [..] }', MORE
-            )
+def of_form(chains: Document, _: Sequence[str]) -> Found:
+    for spot in spots_in(chains):
+        if not isinstance(spot.entry, dict):
+            yield spot, Remark(f"{spot.placed} is no table", spot.span, '{ name = "..", tasks = [..] }')
             continue
-        for key, value in entry.items():
+        for key, value in spot.entry.items():
             if key not in CHAIN_KEYS:
                 near = OTHER_KEYS.get(key.lower().replace("-", "_")) or nearest(key, CHAIN_KEYS)
-                says = f"{chain_name(chains, at)}: the key `{printable(key)}` isn't known"
-                says += f"; did you mean `{near}`?" if near else ""
-                yield at, Remark(
-                    says,
-                    chains.key_span("chain", at, key),
-                    (),
-                    "the keys of a chain are name, tasks, reaction, age and held",
-                    MORE,
-                )
-            elif not types[key][1](value):
-                says = f"{chain_name(chains, at)}: `{key}` has to be {types[key][0]}"
+                guess = f"; did you mean `{near}`?" if near else ""
+                helps = f"the keys of a chain are {listed(CHAIN_KEYS)}"
+                yield spot, spot.remark(f"the key `{printable(key)}` isn't known{guess}", spot.key(key), helps)
+            elif not TYPES[key][1](value):
                 helps = "write ticks alone, without quotes, unit or point" if key in DEADLINES else ""
-                yield at, Remark(says, chains.value_span("chain", at, key), (), helps, MORE)
-        for key in ("name", "tasks"):
-            if key not in entry:
-                helps = (
-                    'write name = "brake"'
-                    if key == "name"
-                    else 'write tasks = ["first", "second"], in the order of the data'
-                )
-                yield at, Remark(
-                    f"{chain_name(chains, at)}: the key `{key}` is missing",
-                    chains.place("chain", at).span,
-                    (),
-                    helps,
-                    MORE,
-                )
+                yield spot, spot.remark(f"`{key}` has to be {TYPES[key][0]}", spot.value(key), helps)
+        for key, helps in MISSING.items():
+            if key not in spot.entry:
+                yield spot, spot.remark(f"the key `{key}` is missing", spot.span, helps)
 
 
-def of_range(chains: Document) -> Found:
-    for at, entry in enumerate(chains.entries["chain"]):
+def of_range(chains: Document, _: Sequence[str]) -> Found:
+    for spot in spots_in(chains):
         for key in DEADLINES:
-            if key in entry and not 1 <= entry[key] <= MOST_TICKS:
-                where = "below 1" if entry[key] < 1 else f"above {MOST_TICKS}"
-                says = f"{chain_name(chains, at)}: `{key}` is {entry[key]}, {where}"
-                yield at, Remark(
-                    says, chains.value_span("chain", at, key), (), f"`{key}` is 1 to {MOST_TICKS} ticks", MORE
-                )
+            if key in spot.entry and not 1 <= spot.entry[key] <= MOST_TICKS:
+                where = "below 1" if spot.entry[key] < 1 else f"above {MOST_TICKS}"
+                says = f"`{key}` is {spot.entry[key]}, {where}"
+                yield spot, spot.remark(says, spot.value(key), f"`{key}` is 1 to {MOST_TICKS} ticks")
 
 
-def of_name(chains: Document) -> Found:
-    for at, entry in enumerate(chains.entries["chain"]):
-        if not is_name(entry["name"]):
-            says = f"chain {at + 1} of the file: its name hasn't the form of one"
-            helps = f"a name has 1 to {MOST_IN_NAME} of the letters A to Z and a to z, digits, _, - and ."
-            yield at, Remark(says, chains.value_span("chain", at, "name"), (), helps, MORE)
+def of_name(chains: Document, _: Sequence[str]) -> Found:
+    helps = f"a name has 1 to {MOST_IN_NAME} of the letters A to Z and a to z, digits, _, - and ."
+    for spot in spots_in(chains):
+        if not is_name(spot.entry["name"]):
+            yield spot, Remark(f"{spot.placed} of the file: its name hasn't the form of one", spot.value("name"), helps)
 
 
-def of_twice(chains: Document) -> Found:
-    seen: dict[str, int] = {}
-    for at, entry in enumerate(chains.entries["chain"]):
-        first = seen.setdefault(entry["name"], at)
-        if first < at:
-            note = Note(f"chain {first + 1} has it already", chains.value_span("chain", first, "name"))
-            says = f'chain {at + 1} of the file: the name "{entry["name"]}" is taken'
-            yield at, Remark(
-                says, chains.value_span("chain", at, "name"), (note,), "give one of them another name", MORE
-            )
+def of_twice(chains: Document, _: Sequence[str]) -> Found:
+    seen: dict[str, Spot] = {}
+    for spot in spots_in(chains):
+        if (first := seen.setdefault(spot.entry["name"], spot)) is not spot:
+            notes = [Note(f"{first.placed} has it already", first.value("name"))]
+            says = f'{spot.placed} of the file: the name "{spot.entry["name"]}" is taken'
+            yield spot, Remark(says, spot.value("name"), "give one of them another name", notes)
 
 
 def of_nothing(chains: Document, tasks: Sequence[str]) -> Found:
     known = set(tasks)
-    for at, entry in enumerate(chains.entries["chain"]):
-        for item, name in enumerate(entry["tasks"]):
+    for spot in spots_in(chains):
+        for item, name in enumerate(spot.entry["tasks"]):
             if name not in known:
-                says = f'{chain_name(chains, at)}: no task is called "{printable(name)}"{mean(name, tasks)}'
-                helps = (
-                    f"the tasks of the system are {some_of(tasks)};"
-                    " a chain has tasks alone, and begins behind the source"
+                says = f'no task is called "{printable(name)}"{mean(name, tasks)}'
+                begins = "a chain has tasks alone, and begins behind the source"
+                yield spot, spot.remark(
+                    says, spot.item("tasks", item), f"the tasks of the system are {some_of(tasks)}; {begins}"
                 )
-                yield at, Remark(says, chains.item_span("chain", at, "tasks", item), (), helps, MORE)
 
 
-def of_count(chains: Document) -> Found:
-    for at, entry in enumerate(chains.entries["chain"]):
-        count = len(entry["tasks"])
+def of_count(chains: Document, _: Sequence[str]) -> Found:
+    for spot in spots_in(chains):
+        count = len(spot.entry["tasks"])
         if not 1 <= count <= MOST_IN_CHAIN:
-            says = f"{chain_name(chains, at)} has {count or 'no'} tasks"
-            yield at, Remark(
-                says, chains.value_span("chain", at, "tasks"), (), f"a chain has 1 to {MOST_IN_CHAIN} tasks", MORE
-            )
+            says = f"{spot.called} has {count or 'no'} tasks"
+            yield spot, Remark(says, spot.value("tasks"), f"a chain has 1 to {MOST_IN_CHAIN} tasks")
 
 
-def of_many(chains: Document) -> Found:
+def of_many(chains: Document, _: Sequence[str]) -> Found:
     count = len(chains.entries["chain"])
     if count > MOST_CHAINS:
+        spot = Spot(chains, "chain", MOST_CHAINS)
         says = f"there are {count} chains, and a file has at most {MOST_CHAINS}"
-        yield MOST_CHAINS, Remark(says, chains.place("chain", MOST_CHAINS).span, (), "cut the file into several", MORE)
+        yield spot, Remark(says, spot.span, "cut the file into several")
 
 
 def some_of(names: Sequence[str]) -> str:
+    """The first of some names."""
     return f"{listed([printable(it) for it in names[:8]])}{' and more' if len(names) > 8 else ''}"
-
-
-def of_word(document: Document, word: str) -> Remark:
-    """What to say of a word of `chain` that names no task."""
-    tasks = [it["name"] for it in document.entries["task"]]
-    sources = {it["name"] for it in document.entries["source"]}
-    helps = (
-        "it is a source: a chain has tasks alone, and begins behind the source"
-        if word in sources
-        else f"its tasks are {some_of(tasks)}"
-    )
-    says = f'no task is called "{printable(word)}"{mean(word, tasks)}'
-    return Remark(says, None, (), helps, "Chains that read registers")

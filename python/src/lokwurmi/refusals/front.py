@@ -2,6 +2,7 @@
 commands."""
 from __future__ import annotations
 
+import contextlib
 import os
 import re
 import stat
@@ -10,30 +11,19 @@ import tomllib
 from collections.abc import Sequence
 from typing import TextIO
 
-from lokwurmi.documents import Document, activators
-from lokwurmi.refusals import chains, edits, lines, notices, schedule, script
-from lokwurmi.refusals.judge import Refusal, first_refusal
-from lokwurmi.refusals.remark import File, Look, Remark, decoded, listed, nearest, page, printable
+from lokwurmi.files.documents import Document
+from lokwurmi.files.text_files import File, decoded
+from lokwurmi.model.commands import FILES, title_of
+from lokwurmi.model.limits import MOST_BYTES, limits_of
+from lokwurmi.model.statuses import Status
+from lokwurmi.refusals import chains, edits, notices
+from lokwurmi.refusals import program_lines as lines
+from lokwurmi.refusals import schedule, script, words
+from lokwurmi.refusals.remark import Look, Remark, listed, nearest, page, printable
+from lokwurmi.refusals.rules import Refusal, first_refusal
 from lokwurmi.refusals.toml_faults import fault_in
-from lokwurmi.refusals.trace import Trace
+from lokwurmi.refusals.trace import TraceOfSystem
 
-UNREADABLE, TOO_LONG, NO_TOML, NO_SYSTEM, SCRIPT, TRACE, DISOBEYS, WORD, SCHEDULE = 11, 12, 13, 14, 15, 16, 17, 18, 19
-MOST_BYTES = {
-    "system": 1_048_576,
-    "script": 1_048_576,
-    "file of chains": 1_048_576,
-    "trace": 16_777_216,
-    "schedule": 16_777_216,
-}
-# what the words of a command are, after the system file
-OTHERS = {
-    "session": ("script",),
-    "simulate": ("trace",),
-    "buffers": ("trace",),
-    "schedule": ("trace",),
-    "audit": ("trace", "schedule"),
-    "chains": ("file of chains",),
-}
 MOST_NOTICES = 10
 
 
@@ -82,39 +72,34 @@ class Call:
 
     def file(self, sort: str) -> str | None:
         """The word that names the file of a sort."""
-        sorts = ("system", *OTHERS.get(self.command, ()))
-        return self.words[sorts.index(sort)] if sort in sorts and sorts.index(sort) < len(self.words) else None
+        return dict(zip(FILES[self.command], self.words)).get(sort)
 
     def told(self) -> str | None:
         """What to say; None where a hint by the status is all there is."""
         tellers = {
-            UNREADABLE: self.unreadable,
-            TOO_LONG: self.too_long,
-            NO_TOML: self.no_toml,
-            NO_SYSTEM: self.no_system,
-            SCRIPT: self.script,
-            TRACE: self.trace,
-            DISOBEYS: self.disobeys,
-            WORD: self.word,
-            SCHEDULE: self.schedule,
-            3: self.no_answer,
-            0: self.notices,
-            1: self.notices,
-            2: self.notices,
+            Status.OK: self.notices,
+            Status.MISSED: self.notices,
+            Status.OVERLOAD: self.notices,
+            Status.NONE: self.no_answer,
+            Status.FILE_UNREAD: self.unreadable,
+            Status.FILE_TOO_LONG: self.too_long,
+            Status.NOT_TOML: self.no_toml,
+            Status.SYSTEM_REFUSED: self.no_system,
+            Status.SCRIPT_REFUSED: self.script,
+            Status.TRACE_REFUSED: self.trace,
+            Status.TRACE_DISOBEYS: self.disobeys,
+            Status.NAME_REFUSED: self.word,
+            Status.SCHEDULE_REFUSED: self.schedule,
         }
-        return tellers[self.status]() if self.status in tellers else None
+        return tellers[Status(self.status)]() if self.status in tellers else None
 
     def by_line(self, name: str) -> str | None:
         """What the program's line says by itself."""
         found = lines.told(self.line)
         if found is None:
             return None
-        helps = (
-            ""
-            if is_regular(name)
-            else "this can't be read a second time: write it into a file to see the line and the word"
-        )
-        return self.look.text(File(name, ""), Remark(found[0], None, (), helps, found[1]))
+        again = "this can't be read a second time: write it into a file to see the line and the word"
+        return self.look.text(File(name, ""), Remark(found[0], None, "" if is_regular(name) else again, more=found[1]))
 
     def on(self, name: str, fault: tuple[str, Remark] | None, wanted: str, file: File) -> str | None:
         """The remark on a fault, where the program found the same; else what its line says."""
@@ -131,12 +116,17 @@ class Call:
         sort = next((it for it in MOST_BYTES if self.file(it) == name), None)
         if sort is None:
             return None
+        most = MOST_BYTES[sort]
+        if sort == "system" and is_regular(name):
+            # a file of an older format may have less; one that can't be read has no format
+            document = document_of(name)
+            most = limits_of(document.values.get("format")).file_bytes if document else most
         length = f" {os.path.getsize(name)} bytes," if is_regular(name) else ""
-        says = f"it has{length or ' too many bytes,'} and a {sort} has {MOST_BYTES[sort]} at most"
-        helps = f"cut the {sort} into parts" + (
+        says = f"it has{length or ' too many bytes,'} and a {title_of(sort)} has {most} at most"
+        helps = f"cut the {title_of(sort)} into parts" + (
             "" if sort in ("trace", "schedule") else ", or leave comments and empty lines out"
         )
-        return self.look.text(File(name, ""), Remark(says, None, (), helps, "Statuses"))
+        return self.look.text(File(name, ""), Remark(says, None, helps, more="Statuses"))
 
     def no_toml(self) -> str | None:
         # of `chains` either of its files may be the one
@@ -163,12 +153,12 @@ class Call:
         file = read_script(name)
         return self.on(name, script.fault_in(file), self.line.removeprefix("script refused "), file)
 
-    def traced(self) -> tuple[File, Trace] | None:
+    def traced(self) -> tuple[File, TraceOfSystem] | None:
         name, document = self.file("trace"), document_of(self.words[0])
         if not name or not is_regular(name) or not document:
             return None
         file = read(name)
-        return file, Trace(document, file)
+        return file, TraceOfSystem(document, file)
 
     def trace(self) -> str | None:
         name, found = self.file("trace"), self.traced()
@@ -197,13 +187,12 @@ class Call:
             return None
         if self.command == "chains":
             return self.chains(document)
-        if found := re.fullmatch(r"chain refused (\d+)", self.line):
-            return self.look.text(File(self.words[0], ""), chains.of_word(document, self.words[int(found[1])]))
-        file, remark = File(self.words[0], document.text), remark_on_word(document, self.line, self.words[1])
-        return self.look.text(file, remark) if remark else None
+        remark = words.remark_on(document, self.line, self.words[1:])
+        text = document.text if remark and remark.span else ""
+        return self.look.text(File(self.words[0], text), remark) if remark else None
 
     def chains(self, document: Document) -> str | None:
-        name = self.file("file of chains")
+        name = self.file("chains")
         if not name or not is_regular(name):
             return self.by_line(name) if name else None
         file, tasks = read_system(name), [it["name"] for it in document.entries["task"]]
@@ -212,29 +201,21 @@ class Call:
     # ---- notices
 
     def no_answer(self) -> str | None:
-        hint = {
-            "assign": "no order of priorities meets the deadlines that tasks of this resource have of their own",
-            "slack": "a deadline is missed already, or a path with one has no bound",
-        }[self.command]
-        helps = {
-            "assign": f"look where the time goes, by `lokwurmi analyse`: {self.ways_to_an_order()}",
-            "slack": "look for `missed` and `unknown` in what `lokwurmi analyse` writes",
-        }[self.command]
-        told = self.look.text(
-            File(self.words[0], ""), Remark(hint, None, (), helps, "Priority orders and slack", is_notice=True)
-        )
-        return told + (self.notices() or "")
+        says = "a deadline is missed already, or a path with one has no bound"
+        helps = "look for `missed` and `unknown` in what `lokwurmi analyse` writes"
+        if self.command == "assign":
+            says = "no order of priorities meets the deadlines that tasks of this resource have of their own"
+            helps = f"look where the time goes, by `lokwurmi analyse`: {self.ways_to_an_order()}"
+        remark = Remark(says, None, helps, more=notices.ORDERS, is_notice=True)
+        return self.look.text(File(self.words[0], ""), remark) + (self.notices() or "")
 
     def ways_to_an_order(self) -> str:
         """What may help where `assign` finds no order."""
         document = document_of(self.words[0]) if is_regular(self.words[0]) else None
         tasks = document.entries["task"] if document else []
-        if self.command == "assign" and any(it["on"] == self.words[1] and it.get("region", 1) > 1 for it in tasks):
-            return (
-                "take work off the resource, shorten a region (a task may be held up by the longest below it), or allow"
-                " more time"
-            )
-        return "take work off the resource, or allow more time"
+        has_region = any(it["on"] == self.words[1] and it.get("region", 1) > 1 for it in tasks)
+        shorter = "shorten a region (a task may be held up by the longest below it), " if has_region else ""
+        return f"take work off the resource, {shorter}or allow more time"
 
     def notices(self) -> str | None:
         document = document_of(self.words[0]) if is_regular(self.words[0]) else None
@@ -242,7 +223,7 @@ class Call:
             return None
         remarks = notices.of_system(document)
         if self.command == "assign":
-            remarks += notices.of_assign(document, self.words[1], self.status == 0)
+            remarks += notices.of_assign(document, self.words[1], self.status == Status.OK)
         elif self.command == "slack":
             remarks += notices.without_deadlines(document)
         file = File(self.words[0], document.text)
@@ -253,26 +234,8 @@ class Call:
         """The edits that the program refused, by the lines that it wrote."""
         file, wrote = read_script(self.words[1]), self.line.splitlines()
         count, found = edits.refused_edits(document, file)
-        told = {it.words: it for it in found}
-        texts = []
-        for line in wrote[:MOST_NOTICES]:
-            if line in told:
-                texts.append(self.look.text(file, told[line].remark))
-            else:
-                number, rule = re.findall(r"\d+", line)
-                texts.append(
-                    self.look.text(
-                        file,
-                        Remark(
-                            f"the edit on line {number} was refused by rule {rule}",
-                            file.span_of_line(int(number)),
-                            (),
-                            "",
-                            "",
-                            is_notice=True,
-                        ),
-                    )
-                )
+        told = {it.words: it.remark for it in found}
+        texts = [self.look.text(file, told.get(line) or self.plain(file, line)) for line in wrote[:MOST_NOTICES]]
         more = f", the first {MOST_NOTICES} of which are told here" if len(wrote) > MOST_NOTICES else ""
         texts.append(
             f"{printable(file.name)}: {len(wrote)} of {count} edits"
@@ -281,33 +244,31 @@ class Call:
         )
         return "".join(texts)
 
+    def plain(self, file: File, line: str) -> Remark:
+        """A refused edit of which no more is known than its line."""
+        number, rule = re.findall(r"\d+", line)
+        says = f"the edit on line {number} was refused by rule {rule}"
+        return Remark(says, file.span_of_line(int(number)), is_notice=True)
+
 
 def unreadable(name: str) -> Remark:
     """Why a file can't be read."""
     folder, last = os.path.split(name)
+    says, helps = "there is no such file", "standard input is the file /dev/stdin" if name == "-" else ""
     if os.path.isdir(name):
-        return Remark("it is a folder, and a file is wanted", None, (), in_folder(name), "Statuses")
-    if os.path.lexists(name) and not os.path.exists(name):
-        return Remark("it is a link to what isn't there", None, (), "", "Statuses")
-    if os.path.exists(name):
-        return Remark(
-            "it is there, but may not be read", None, (), f"look at its permissions: ls -l {name}", "Statuses"
-        )
-    if folder and not os.path.isdir(folder):
-        return Remark(
-            f"there is no folder {printable(folder)}",
-            None,
-            (),
-            "look at the path, and at the folder that the call is made in",
-            "Statuses",
-        )
-    try:
-        near = nearest(last, sorted(os.listdir(folder or ".")))
-    except OSError:
-        near = None
-    guess = f"; did you mean {printable(os.path.join(folder, near))}?" if near else ""
-    helps = "standard input is the file /dev/stdin" if name == "-" else ""
-    return Remark(f"there is no such file{guess}", None, (), helps, "Statuses")
+        says, helps = "it is a folder, and a file is wanted", in_folder(name)
+    elif os.path.lexists(name) and not os.path.exists(name):
+        says, helps = "it is a link to what isn't there", ""
+    elif os.path.exists(name):
+        says, helps = "it is there, but may not be read", f"look at its permissions: ls -l {name}"
+    elif folder and not os.path.isdir(folder):
+        says = f"there is no folder {printable(folder)}"
+        helps = "look at the path, and at the folder that the call is made in"
+    else:
+        with contextlib.suppress(OSError):
+            near = nearest(last, sorted(os.listdir(folder or ".")))
+            says += f"; did you mean {printable(os.path.join(folder, near))}?" if near else ""
+    return Remark(says, None, helps, more="Statuses")
 
 
 def in_folder(name: str) -> str:
@@ -315,11 +276,8 @@ def in_folder(name: str) -> str:
         found = sorted(it for it in os.listdir(name) if it.endswith((".toml", ".csv", ".txt")))
     except OSError:
         return ""
-    return (
-        f"in it are {listed([printable(it) for it in found[:6]])}{' and more' if len(found) > 6 else ''}"
-        if found
-        else ""
-    )
+    more = " and more" if len(found) > 6 else ""
+    return f"in it are {listed([printable(it) for it in found[:6]])}{more}" if found else ""
 
 
 def refusal_of(name: str) -> tuple[File, Refusal] | None:
@@ -332,72 +290,9 @@ def refusal_of(name: str) -> tuple[File, Refusal] | None:
     return (file, found) if found else None
 
 
-def remark_on_word(document: Document, line: str, word: str) -> Remark | None:
-    more = "Status 18: the resource or the task is refused"
-    resources, tasks, sources = (
-        [it["name"] for it in document.entries[part]] for part in ("resource", "task", "source")
-    )
-    at = resources.index(word) if word in resources else None
-    if line == "slack refused 1":
-        helps = (
-            "sources have no slack: name a task"
-            if word in sources
-            else (
-                "resources have no slack: name a task on it"
-                if word in resources
-                else f"its tasks are {listed(tasks[:8])}{' and more' if len(tasks) > 8 else ''}"
-            )
-        )
-        guess = f"; did you mean {near}?" if (near := nearest(word, tasks)) else ""
-        return Remark(f'no task is called "{printable(word)}"{guess}', None, (), helps, more)
-    if line == "assign refused 1":
-        guess = f"; did you mean {near}?" if (near := nearest(word, resources)) else ""
-        return Remark(
-            f'no resource is called "{printable(word)}"{guess}',
-            None,
-            (),
-            f"its resources are {listed(resources[:8])}{' and more' if len(resources) > 8 else ''}",
-            more,
-        )
-    if line == "assign refused 2" and at is not None:
-        kind = document.entries["resource"][at]["kind"]
-        return Remark(
-            f'resource "{word}" is {kind}: its tasks have slots, and no priorities',
-            document.value_span("resource", at, "kind"),
-            (),
-            "try other slots by a script: lokwurmi session, with slot TASK N",
-            more,
-        )
-    if line == "assign refused 3" and at is not None:
-        return behind_tasks(document, word, set(tasks), more)
-    return None
-
-
-def behind_tasks(document: Document, resource: str, tasks: set[str], more: str) -> Remark | None:
-    found = [
-        (at, it)
-        for at, it in enumerate(document.entries["task"])
-        if it["on"] == resource and tasks.intersection(activators(it))
-    ]
-    if not found:
-        return None
-    at, task = found[0]
-    before = next(it for it in activators(task) if it in tasks)
-    others = "; so does one more" if len(found) == 2 else f"; so do {len(found) - 1} more" if len(found) > 2 else ""
-    says = (
-        f'task "{task["name"]}" of {resource} comes after the task "{before}", so that its input depends on the'
-        f" order{others}"
-    )
-    helps = (
-        "assign takes resources whose tasks all come after sources; try orders by a script (swap), or give the task in"
-        " a copy of the file a source with the period, jitter and distance of its line in the report"
-    )
-    return Remark(says, document.item_span("task", at, "after", activators(task).index(before)), (), helps, more)
-
-
-def main(words: Sequence[str]) -> int:
+def main(given: Sequence[str]) -> int:
     """STATUS LINE COMMAND WORD..: says on standard error what there is to say; 3 where that is nothing."""
-    status, line, command, *rest = words
+    status, line, command, *rest = given
     try:
         told = Call(int(status), line, command, rest, look_for(sys.stderr)).told()
     except (OSError, RecursionError):

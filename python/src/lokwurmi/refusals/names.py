@@ -3,21 +3,13 @@ from __future__ import annotations
 
 from collections.abc import Iterator, Mapping
 
-from lokwurmi.documents import Document, Entry, activators
-from lokwurmi.refusals.remark import printable
-
-
-def entry_name(document: Document, part: str, at: int) -> str:
-    """An entry in words: by its name where it has one, else by its place."""
-    entry = document.entries[part][at]
-    name = entry.get("name") if isinstance(entry, dict) else None
-    return f'{part} "{printable(name)}"' if isinstance(name, str) and name else f"{part} {at + 1} of the file"
+from lokwurmi.files.documents import Table, activators
 
 
 class Names:
     """What the names of entries name, where each entry has the form of one and the names of each set differ."""
 
-    def __init__(self, entries: Mapping[str, list[Entry]]):
+    def __init__(self, entries: Mapping[str, list[Table]]):
         self.entries = entries
         self.resources = {it["name"]: it for it in self.entries["resource"]}
         self.sources = {it["name"] for it in self.entries["source"]}
@@ -25,13 +17,13 @@ class Names:
         for at, it in enumerate(self.entries["task"]):
             self.tasks.setdefault(it["name"], at)
 
-    def task(self, name: str) -> Entry:
+    def task(self, name: str) -> Table:
         return self.entries["task"][self.tasks[name]]
 
-    def kind(self, task: Entry) -> str:
-        return self.resources[task["on"]]["kind"]
+    def kind(self, task: Table) -> str:
+        return str(self.resources[task["on"]]["kind"])
 
-    def on(self, resource: str) -> Iterator[tuple[int, Entry]]:
+    def on(self, resource: str) -> Iterator[tuple[int, Table]]:
         """The tasks of a resource, each with its place."""
         return ((at, it) for at, it in enumerate(self.entries["task"]) if it["on"] == resource)
 

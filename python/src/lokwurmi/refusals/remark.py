@@ -4,17 +4,17 @@ from __future__ import annotations
 
 import os
 import unicodedata
-from bisect import bisect_right
 from collections.abc import Sequence
 from dataclasses import dataclass
+
+from lokwurmi.files.text_files import File
+from lokwurmi.files.toml_spans import Span
 
 # the folder of the repository, where this package lies in one: above python/src/lokwurmi/refusals
 TOP = os.path.normpath(os.path.join(os.path.dirname(os.path.abspath(__file__)), *[os.pardir] * 4))
 # the most columns of a line that are shown
 WIDTH = 100
 BOLD, RED, YELLOW, BLUE, PLAIN = "\033[1m", "\033[1;31m", "\033[1;33m", "\033[34m", "\033[0m"
-
-Span = tuple[int, int]
 
 
 @dataclass(frozen=True)
@@ -32,8 +32,8 @@ class Remark:
 
     says: str
     span: Span | None = None
-    notes: Sequence[Note] = ()
     helps: str = ""
+    notes: Sequence[Note] = ()
     more: str = ""
     is_notice: bool = False
 
@@ -50,11 +50,6 @@ def columns(text: str) -> int:
     return sum(0 if unicodedata.combining(it) else 2 if unicodedata.east_asian_width(it) in "WF" else 1 for it in text)
 
 
-def decoded(data: bytes) -> str:
-    """The text that bytes are, without the mark that some editors put first; bytes that are none stay recognisable."""
-    return data.decode("utf-8", "surrogateescape").removeprefix("\ufeff")
-
-
 def page(name: str) -> str:
     """The path of a page of this repository, from here where it is below."""
     path = os.path.join(TOP, "docs", name)
@@ -65,29 +60,6 @@ def page(name: str) -> str:
     except OSError:
         return path
     return path if near.startswith("..") else near
-
-
-class File:
-    """A file's name and text, and where its lines begin."""
-
-    def __init__(self, name: str, text: str):
-        self.name = name
-        self.text = text
-        self.starts = [0, *(at + 1 for at, it in enumerate(text) if it == "\n")]
-
-    def place(self, at: int) -> tuple[int, int]:
-        """The line and the column, from 1."""
-        line = bisect_right(self.starts, at)
-        return line, at - self.starts[line - 1] + 1
-
-    def line(self, number: int) -> str:
-        start = self.starts[number - 1]
-        end = self.text.find("\n", start)
-        return self.text[start : len(self.text) if end < 0 else end].rstrip("\r")
-
-    def span_of_line(self, number: int) -> Span:
-        start = self.starts[number - 1]
-        return start, start + len(self.line(number))
 
 
 class Look:

@@ -3,12 +3,15 @@ from __future__ import annotations
 
 import re
 from collections.abc import Iterator
-from dataclasses import dataclass
+from dataclasses import dataclass, replace
 
-from lokwurmi.refusals.keys import is_name, is_name_letter
-from lokwurmi.refusals.remark import File, Remark, Span, listed, nearest
+from lokwurmi.files.system_keys import is_name, is_name_letter
+from lokwurmi.files.text_files import File
+from lokwurmi.files.toml_spans import Span
+from lokwurmi.model.limits import MOST_SCRIPT_LINES
+from lokwurmi.refusals.remark import Remark, listed, nearest
+from lokwurmi.refusals.rows import is_number
 
-MOST_LINES = 10_000
 MORE = "The script"
 # the words after the first: those in small letters are numbers
 FORMS = {
@@ -50,10 +53,6 @@ def form_of(keyword: str) -> str:
     return " ".join([keyword, *(it.upper() for it in FORMS[keyword])])
 
 
-def is_number(word: str) -> bool:
-    return word.isascii() and word.isdigit() and len(word) <= 10
-
-
 def line_count(text: str) -> int:
     return text.count("\n") + (not text.endswith("\n") and text != "")
 
@@ -79,55 +78,38 @@ def is_form(line: Line) -> bool:
 
 def fault_in(file: File) -> tuple[str, Remark] | None:
     """The program's words for the first fault of a script, and what to say."""
-    if line_count(file.text) > MOST_LINES:
-        return "too many lines", Remark(
-            f"the script has {line_count(file.text)} lines, and {MOST_LINES} are the most",
-            None,
-            (),
-            "cut it, or leave comments and empty lines out",
-            MORE,
-        )
+    if (lines := line_count(file.text)) > MOST_SCRIPT_LINES:
+        says = f"the script has {lines} lines, and {MOST_SCRIPT_LINES} are the most"
+        return "too many lines", Remark(says, None, "cut it, or leave comments and empty lines out", more=MORE)
     for line in lines_in(file):
         if not is_form(line):
-            return f"line {line.number}", remark_on(file, line)
+            return f"line {line.number}", replace(remark_on(line), more=MORE)
     return None
 
 
-def remark_on(file: File, line: Line) -> Remark:
+def remark_on(line: Line) -> Remark:
     keyword, *words = line.words
     if keyword not in FORMS:
         return unknown_word(line)
     sorts, form = FORMS[keyword], f"the form is: {form_of(keyword)}"
+    end = line.spans[-1][1]
     comment = next((at for at, it in enumerate(line.words) if at and it.startswith("#")), None)
     if comment is not None:
-        return Remark(
-            "a comment can't stand behind an edit",
-            (line.spans[comment][0], line.spans[-1][1]),
-            (),
-            "give the comment a line of its own",
-            MORE,
-        )
+        helps = "give the comment a line of its own"
+        return Remark("a comment can't stand behind an edit", (line.spans[comment][0], end), helps)
     if len(words) > len(sorts):
-        span = line.spans[len(sorts) + 1][0], line.spans[-1][1]
         if "=" in words:
-            return Remark("a `=` can't stand in an edit", line.spans[words.index("=") + 1], (), form, MORE)
+            return Remark("a `=` can't stand in an edit", line.spans[words.index("=") + 1], form)
         here = "is 1" if len(words) == 1 else f"are {len(words)}"
-        return Remark(f"`{keyword}` takes {count(len(sorts))}, and here {here}", span, (), form, MORE)
+        says = f"`{keyword}` takes {count(len(sorts))}, and here {here}"
+        return Remark(says, (line.spans[len(sorts) + 1][0], end), form)
     for sort, word, span in zip(sorts, words, line.spans[1:]):
         if not (is_name(word) if sort.isupper() else is_number(word)):
-            return Remark(wrong_word(sort, word), span, (), form + in_digits(sort, word), MORE)
-    missing = sorts[len(words) :]
-    end = line.spans[-1][1]
-    return Remark(
-        (
-            f"`{keyword}` takes {count(len(sorts))}:"
-            f" {listed([it.upper() for it in missing])} {'is' if len(missing) == 1 else 'are'} missing"
-        ),
-        (line.spans[0][0], end),
-        (),
-        form,
-        MORE,
-    )
+            return Remark(wrong_word(sort, word), span, form + in_digits(sort, word))
+    missing = [it.upper() for it in sorts[len(words) :]]
+    are = "is" if len(missing) == 1 else "are"
+    says = f"`{keyword}` takes {count(len(sorts))}: {listed(missing)} {are} missing"
+    return Remark(says, (line.spans[0][0], end), form)
 
 
 def count(number: int) -> str:
@@ -137,15 +119,13 @@ def count(number: int) -> str:
 def unknown_word(line: Line) -> Remark:
     word = line.words[0]
     if word.startswith("\ufeff"):
-        return Remark(
-            "a byte order mark stands before the first word", line.spans[0], (), "save the script without it", MORE
-        )
+        return Remark("a byte order mark stands before the first word", line.spans[0], "save the script without it")
     if word.lower() == "region":
         helps = (
             "no edit changes a region: write a file for each, or ask lokwurmi sensitivity FILE --only region how far"
             " one may grow"
         )
-        return Remark(f"`{word}` begins no edit", line.spans[0], (), helps, MORE)
+        return Remark(f"`{word}` begins no edit", line.spans[0], helps)
     near = OTHER_WORDS.get(word.lower()) or nearest(word, list(FORMS))
     guess = f"; did you mean `{near}`?" if near else ""
     helps = (
@@ -153,7 +133,7 @@ def unknown_word(line: Line) -> Remark:
         if near
         else f"a line begins with {listed(list(FORMS), 'or')}; a comment begins with #"
     )
-    return Remark(f"`{word}` begins no edit{guess}", line.spans[0], (), helps, MORE)
+    return Remark(f"`{word}` begins no edit{guess}", line.spans[0], helps)
 
 
 def in_digits(sort: str, word: str) -> str:

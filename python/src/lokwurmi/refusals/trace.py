@@ -1,18 +1,17 @@
 """Traces in words: rows that are refused (status 16), and what the system rules out (status 17)."""
 from __future__ import annotations
 
-from dataclasses import dataclass, field
+from collections.abc import Mapping
+from dataclasses import dataclass, field, replace
 
-from lokwurmi.documents import Document, activators
+from lokwurmi.files.documents import Document, activators
+from lokwurmi.files.text_files import File
 from lokwurmi.frames import execution
-from lokwurmi.refusals.keys import KEYS
+from lokwurmi.model.limits import MOST_JOBS, MOST_ROWS, MOST_TICKS, MOST_TIME, limits_of
 from lokwurmi.refusals.names import Names
-from lokwurmi.refusals.remark import File, Note, Remark, listed, mean, nearest
-from lokwurmi.refusals.rows import MOST_ROWS, Row, is_number, rows_in
+from lokwurmi.refusals.remark import Note, Remark, listed, mean, nearest
+from lokwurmi.refusals.rows import Fault, Row, is_number, no_number, rows_in
 
-MOST_TIME = 10_000_000
-MOST_PHASE = 1_000_000_000
-MOST_JOBS = 2_000_000
 WORDS = {"event": "SOURCE,TIME", "exec": "TASK,TICKS", "phase": "RESOURCE,TICKS"}
 FORM = "a row is event,SOURCE,TIME or exec,TASK,TICKS or phase,RESOURCE,TICKS"
 MORE = "Status 16: the trace is refused"
@@ -20,59 +19,47 @@ DISOBEYS = "Status 17: the trace doesn't obey the system"
 
 
 @dataclass
-class Rows:
+class RowsSoFar:
     """What the rows of a trace so far say: those of events by source, of executions by task, of phases by resource."""
 
     events: dict[str, list[Row]] = field(default_factory=dict)
     executions: dict[str, list[Row]] = field(default_factory=dict)
     phases: dict[str, Row] = field(default_factory=dict)
 
-    def last_time(self, source: str) -> int:
-        rows = self.events.get(source)
-        return int(rows[-1].fields[2]) if rows else 0
-
-
-class Trace:
-    """A trace of a system, read until a row is refused."""
-
-    def __init__(self, document: Document, file: File):
-        self.names = Names(document.entries)
-        self.file = file
-        self.rows = Rows()
-        self.fault = self.read()
-
-    def read(self) -> tuple[str, Remark] | None:
-        """The program's words for the first fault, and what to say."""
-        for row in rows_in(self.file):
-            if row.number > MOST_ROWS:
-                return "too many", Remark(
-                    f"the trace has more than {MOST_ROWS} rows",
-                    row.span(self.file),
-                    (),
-                    "cut the trace into parts",
-                    MORE,
-                )
-            found = self.malformed(row) or self.unnamed(row) or self.out_of_range(row)
-            if found:
-                return f"row {row.number} {found[0]}", found[1]
-            self.enter(row)
-        jobs = self.jobs()
-        if jobs > MOST_JOBS:
-            return "too many", Remark(
-                f"the trace starts {jobs} jobs, and {MOST_JOBS} are the most",
-                None,
-                (),
-                "cut the trace into parts",
-                MORE,
-            )
-        return None
-
     def enter(self, row: Row) -> None:
         word, name, _ = row.fields
         if word == "phase":
-            self.rows.phases[name] = row
+            self.phases[name] = row
         else:
-            (self.rows.events if word == "event" else self.rows.executions).setdefault(name, []).append(row)
+            (self.events if word == "event" else self.executions).setdefault(name, []).append(row)
+
+    def last_event(self, source: str) -> Row | None:
+        rows = self.events.get(source)
+        return rows[-1] if rows else None
+
+
+class TraceOfSystem:
+    """A trace of a system, read until a row is refused."""
+
+    def __init__(self, document: Document, file: File):
+        self.names, self.limits = Names(document.entries), limits_of(document.form)
+        self.file = file
+        self.rows = RowsSoFar()
+        self.fault = self.read()
+
+    def read(self) -> Fault | None:
+        """The program's words for the first fault, and what to say."""
+        for row in rows_in(self.file):
+            if row.number > MOST_ROWS:
+                says = f"the trace has more than {MOST_ROWS} rows"
+                return "too many", Remark(says, row.span, "cut the trace into parts", more=MORE)
+            if found := malformed(row, self.rows.phases) or self.unnamed(row) or self.out_of_range(row):
+                return f"row {row.number} {found[0]}", replace(found[1], more=MORE)
+            self.rows.enter(row)
+        if (jobs := self.jobs()) > MOST_JOBS:
+            says = f"the trace starts {jobs} jobs, and {MOST_JOBS} are the most"
+            return "too many", Remark(says, None, "cut the trace into parts", more=MORE)
+        return None
 
     def jobs(self) -> int:
         """How many jobs the events start: one for each stream of a task."""
@@ -83,132 +70,50 @@ class Trace:
             count[name] = sum(count[it] for it in activators(self.names.task(name)))
         return sum(count[name] for name in order)
 
-    def malformed(self, row: Row) -> tuple[str, Remark] | None:
-        fields = row.fields
-        if len(fields) != 3:
-            return "malformed", self.wrong_count(row)
-        if fields[0] not in WORDS:
-            return "malformed", self.wrong_word(row)
-        if not is_number(fields[2]):
-            return "malformed", Remark(
-                f"row {row.number}: {no_number(fields[2])}",
-                row.field_span(self.file, 2),
-                (),
-                f"the row is {fields[0]},{WORDS[fields[0]]}, with 1 to 10 digits alone in its last field",
-                MORE,
-            )
-        if fields[0] == "phase" and fields[1] in self.rows.phases:
-            first = self.rows.phases[fields[1]]
-            return "malformed", Remark(
-                f"row {row.number}: a second phase of {fields[1]}",
-                row.span(self.file),
-                (Note("the first one", first.span(self.file)),),
-                "a resource has one phase row at most",
-                MORE,
-            )
-        return None
-
-    def wrong_count(self, row: Row) -> Remark:
-        count = len(row.fields)
-        text = ",".join(row.fields)
-        helps = FORM
-        if count == 1 and ";" in text:
-            helps = "write commas in place of the semicolons: " + FORM
-        elif count == 1 and text.startswith("#"):
-            helps = "a trace has no comments: leave the row out"
-        elif count == 1 and text.split()[:1] and text.split()[0] in WORDS:
-            helps = "write commas between the fields: " + FORM
-        return Remark(
-            f"row {row.number} has {count} field{'s' if count > 1 else ''}, and wants 3",
-            row.span(self.file),
-            (),
-            helps,
-            MORE,
-        )
-
-    def wrong_word(self, row: Row) -> Remark:
-        word = row.fields[0]
-        if row.number == 1 and not is_number(row.fields[2]):
-            return Remark(
-                "row 1 looks like a heading, and a trace has none",
-                row.span(self.file),
-                (),
-                "leave it out: " + FORM,
-                MORE,
-            )
-        if word.strip() in WORDS:
-            return Remark(
-                f"row {row.number}: a blank stands beside `{word.strip()}`",
-                row.field_span(self.file, 0),
-                (),
-                "leave blanks out",
-                MORE,
-            )
-        near = nearest(word, list(WORDS))
-        guess = f"; did you mean `{near}`?" if near else ""
-        return Remark(
-            f"row {row.number}: `{word}` is none of event, exec and phase{guess}",
-            row.field_span(self.file, 0),
-            (),
-            FORM,
-            MORE,
-        )
-
-    def unnamed(self, row: Row) -> tuple[str, Remark] | None:
+    def unnamed(self, row: Row) -> Fault | None:
         word, name, _ = row.fields
-        tdma = [it for it, entry in self.names.resources.items() if entry["kind"] == "tdma"]
-        part, known = {
-            "event": ("source", list(self.names.sources)),
-            "exec": ("task", list(self.names.tasks)),
+        resources = self.names.resources
+        tdma = [it for it, entry in resources.items() if entry["kind"] == "tdma"]
+        parts = {
+            "event": ("source", self.names.sources),
+            "exec": ("task", self.names.tasks),
             "phase": ("TDMA resource", tdma),
-        }[word]
+        }
+        part, known = parts[word][0], list(parts[word][1])
         if name in known:
             return None
-        helps = (
-            "the system has"
-            f" {'no ' + part if not known else listed(sorted(known)[:8]) + (' and more' if len(known) > 8 else '')}"
+        some = listed(sorted(known)[:8]) + (" and more" if len(known) > 8 else "")
+        says, helps = (
+            f'no {part} is called "{name}"{mean(name, known)}',
+            f"the system has {some if known else 'no ' + part}",
         )
-        says = f'row {row.number}: no {part} is called "{name}"{mean(name, known)}'
-        if word == "phase" and name in self.names.resources:
-            says = (
-                f'row {row.number}: resource "{name}" is {self.names.resources[name]["kind"]}, and only TDMA has a'
-                " phase"
-            )
+        if word == "phase" and name in resources:
+            says = f'resource "{name}" is {resources[name]["kind"]}, and only TDMA has a phase'
         elif word == "event" and name in self.names.tasks:
-            says, helps = (
-                f'row {row.number}: "{name}" is a task, and events are of sources',
-                f"the execution of its next job is told by exec,{name},TICKS",
-            )
+            says = f'"{name}" is a task, and events are of sources'
+            helps = f"the execution of its next job is told by exec,{name},TICKS"
         elif word == "exec" and name in self.names.sources:
-            says, helps = (
-                f'row {row.number}: "{name}" is a source, and executions are of tasks',
-                f"an event of it is told by event,{name},TIME",
-            )
-        return "name", Remark(says, row.field_span(self.file, 1), (), helps, MORE)
+            says = f'"{name}" is a source, and executions are of tasks'
+            helps = f"an event of it is told by event,{name},TIME"
+        return "name", row.remark(says, helps, 1)
 
-    def out_of_range(self, row: Row) -> tuple[str, Remark] | None:
+    def out_of_range(self, row: Row) -> Fault | None:
         word, name, number = row.fields[0], row.fields[1], int(row.fields[2])
-        span = row.field_span(self.file, 2)
-        notes: tuple[Note, ...] = ()
+        last = self.rows.last_event(name) if word == "event" else None
         if word == "event" and number > MOST_TIME:
             says, helps = f"the time {number} is above {MOST_TIME}", "cut the trace, or take a coarser tick"
-        elif word == "event" and number < self.rows.last_time(name):
-            last = self.rows.events[name][-1]
-            says, helps = (
-                f"the time {number} is before that of the last event of {name}, {last.fields[2]}",
-                "sort the events of each source by time",
-            )
-            notes = (Note(f"the last event of {name}", last.span(self.file)),)
-        elif word == "exec" and not 1 <= number <= KEYS["task"]["worst"].most:
-            says, helps = (
-                f"the execution {number} isn't 1 to {KEYS['task']['worst'].most}",
-                "a job takes a tick at least; leave out what didn't run",
-            )
-        elif word == "phase" and number > MOST_PHASE:
-            says, helps = f"the phase {number} is above {MOST_PHASE}", "take the remainder by the cycle"
+        elif last and number < int(last.fields[2]):
+            says = f"the time {number} is before that of the last event of {name}, {last.fields[2]}"
+            notes = [Note(f"the last event of {name}", last.span)]
+            return "range", row.remark(says, "sort the events of each source by time", 2, notes)
+        elif word == "exec" and not 1 <= number <= self.limits.execution:
+            says = f"the execution {number} isn't 1 to {self.limits.execution}"
+            helps = "a job takes a tick at least; leave out what didn't run"
+        elif word == "phase" and number > MOST_TICKS:
+            says, helps = f"the phase {number} is above {MOST_TICKS}", "take the remainder by the cycle"
         else:
             return None
-        return "range", Remark(f"row {row.number}: {says}", span, notes, helps, MORE)
+        return "range", row.remark(says, helps, 2)
 
     # ---- what the system rules out
 
@@ -216,8 +121,10 @@ class Trace:
         """What the program's words after `trace disobeys` mean, if the rows say the same."""
         part, name = words[0], words[1]
         if part == "source":
-            return self.too_close(name, int(words[3]), int(words[4]))
-        return self.other_execution(name, int(words[3])) if part == "task" else self.wrong_phase(name)
+            found = self.too_close(name, int(words[3]), int(words[4]))
+        else:
+            found = self.other_execution(name, int(words[3])) if part == "task" else self.wrong_phase(name)
+        return found and replace(found, more=DISOBEYS)
 
     def too_close(self, name: str, first: int, second: int) -> Remark | None:
         source = next(it for it in self.names.entries["source"] if it["name"] == name)
@@ -234,20 +141,14 @@ class Trace:
         if (i, n) == (0, 0) or times[i] != first:
             return None
         least, gap = least_time(period, jitter, distance, n - i), second - first
-        kept = f"period {period}, jitter {jitter}, distance {distance}"
         says = (
-            f"row {rows[n].number}: the event at {second} is {gap} ticks after that at {first}, and the file allows"
-            f" {n - i + 1} events of {name} in no less than {least} ticks ({kept})"
+            f"the event at {second} is {gap} ticks after that at {first}, and the file allows {n - i + 1} events of"
+            f" {name} in no less than {least} ticks (period {period}, jitter {jitter}, distance {distance})"
         )
-        ways = []
-        if (n - i) * period - jitter > gap:
-            ways.append(f"jitter {(n - i) * period - gap}")
-        if (n - i) * distance > gap:
-            ways.append(f"distance {gap // (n - i)}")
+        ways = [f"jitter {(n - i) * period - gap}"] if (n - i) * period - jitter > gap else []
+        ways += [f"distance {gap // (n - i)}"] if (n - i) * distance > gap else []
         helps = f"if that may happen, the source is denser than the file says: {listed(ways)} would allow it"
-        return Remark(
-            says, rows[n].span(self.file), (Note("the earlier one", rows[i].span(self.file)),), helps, DISOBEYS
-        )
+        return rows[n].remark(says, helps, None, [Note("the earlier one", rows[i].span)])
 
     def other_execution(self, name: str, job: int) -> Remark | None:
         rows = self.rows.executions.get(name, [])
@@ -256,17 +157,14 @@ class Trace:
         row, task = rows[job - 1], self.names.task(name)
         best, worst = execution(task, self.names.resources[task["on"]])
         ticks = int(row.fields[2])
-        says = (
-            f"row {row.number}: job {job} of {name} takes {ticks} ticks,"
-            f" {'below its best' if ticks < best else 'above its worst'}, {best if ticks < best else worst}"
-        )
+        side = f"below its best, {best}" if ticks < best else f"above its worst, {worst}"
         helps = f"if that is what ran, the file's range of {name}, {best} to {worst}, is too narrow"
         if "payload" in task:
             helps = (
                 f"a frame of {task['payload']} bytes takes {best} to {worst} ticks on this bus: look at `payload`,"
                 " `extended` and `bit`"
             )
-        return Remark(says, row.field_span(self.file, 2), (), helps, DISOBEYS)
+        return row.remark(f"job {job} of {name} takes {ticks} ticks, {side}", helps, 2)
 
     def wrong_phase(self, name: str) -> Remark | None:
         row, resource = self.rows.phases.get(name), self.names.resources[name]
@@ -274,22 +172,50 @@ class Trace:
             return None
         cycle = resource.get("gap", 0) + sum(task["slot"] for _, task in self.names.on(name))
         phase = int(row.fields[2])
-        says = f"row {row.number}: the phase {phase} isn't below the cycle of {name}, {cycle} ticks"
-        return Remark(
-            says, row.field_span(self.file, 2), (), f"take the remainder by the cycle: {phase % cycle}", DISOBEYS
+        says = f"the phase {phase} isn't below the cycle of {name}, {cycle} ticks"
+        return row.remark(says, f"take the remainder by the cycle: {phase % cycle}", 2)
+
+
+def malformed(row: Row, phases: Mapping[str, Row]) -> Fault | None:
+    """What is wrong with the form of a row, where these phases stand before it."""
+    fields = row.fields
+    if len(fields) != 3:
+        return wrong_count(row)
+    if fields[0] not in WORDS:
+        return wrong_word(row)
+    if not is_number(fields[2]):
+        helps = f"the row is {fields[0]},{WORDS[fields[0]]}, with 1 to 10 digits alone in its last field"
+        return "malformed", row.remark(no_number(fields[2]), helps, 2)
+    if fields[0] == "phase" and fields[1] in phases:
+        notes = [Note("the first one", phases[fields[1]].span)]
+        return "malformed", row.remark(
+            f"a second phase of {fields[1]}", "a resource has one phase row at most", None, notes
         )
+    return None
+
+
+def wrong_count(row: Row) -> Fault:
+    text, helps = ",".join(row.fields), FORM
+    if len(row.fields) == 1 and ";" in text:
+        helps = "write commas in place of the semicolons: " + FORM
+    elif len(row.fields) == 1 and text.startswith("#"):
+        helps = "a trace has no comments: leave the row out"
+    elif len(row.fields) == 1 and text.split()[:1] and text.split()[0] in WORDS:
+        helps = "write commas between the fields: " + FORM
+    return row.wrong_count(helps)
+
+
+def wrong_word(row: Row) -> Fault:
+    word = row.fields[0]
+    if row.number == 1 and not is_number(row.fields[2]):
+        return row.heading("trace", FORM)
+    if word.strip() in WORDS:
+        return "malformed", row.remark(f"a blank stands beside `{word.strip()}`", "leave blanks out", 0)
+    near = nearest(word, list(WORDS))
+    guess = f"; did you mean `{near}`?" if near else ""
+    return "malformed", row.remark(f"`{word}` is none of event, exec and phase{guess}", FORM, 0)
 
 
 def least_time(period: int, jitter: int, distance: int, steps: int) -> int:
     """In what time so many events after one may come at least."""
     return max(0, steps * distance, steps * period - jitter)
-
-
-def no_number(word: str) -> str:
-    if not word:
-        return "the number is missing"
-    if word.strip() != word:
-        return f"a blank stands beside the number in `{word}`"
-    if word.startswith(("-", "+")):
-        return f"`{word}` has a sign"
-    return f"`{word}` isn't 1 to 10 digits"

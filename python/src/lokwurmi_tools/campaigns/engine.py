@@ -1,5 +1,11 @@
-"""Has the calls of a campaign made by the workers of a Dask scheduler."""
-import argparse
+"""Has the calls of a campaign made by the workers of a Dask scheduler.
+
+Calls are handed out as threads are there, four for each, so that on a cluster that grows the campaign begins with the
+first worker. The program and the file go along as an extension, which workers get that join later too. A call that
+can't read its file (11), that ends with 20 or 30, or without a summary, is tried again: the worker is the cause. Other
+refusals are the same anywhere, and end the campaign. A worker's death isn't the fault of its calls: only a call that
+dies with four workers has failed once.
+"""
 import contextlib
 import itertools
 import logging
@@ -9,15 +15,17 @@ import queue
 import sys
 import time
 from collections.abc import Callable, Iterator
+from typing import Any
 
 import cloudpickle
 import distributed
 from dask.system import CPU_COUNT
 
 from lokwurmi_tools.campaigns import worker
-from lokwurmi_tools.campaigns.faults import Failed, Refused
-from lokwurmi_tools.campaigns.kept import Kept, read_bytes
-from lokwurmi_tools.progress import span
+from lokwurmi_tools.campaigns.campaign_faults import CallRefused, Failed
+from lokwurmi_tools.campaigns.campaign_options import CampaignOptions
+from lokwurmi_tools.campaigns.kept import KeptAnswers, read_bytes
+from lokwurmi_tools.shared.progress import span
 
 # how many calls are under way or wait at the workers, for each of their threads
 AHEAD = 4
@@ -27,7 +35,7 @@ Unit = tuple[str, int, worker.Call]
 cloudpickle.register_pickle_by_value(worker)
 
 
-class Progress:
+class CampaignProgress:
     """A line that is written over in a terminal, else one at the beginning, one where the first call is made, and one
     each ten seconds."""
 
@@ -69,16 +77,16 @@ def close(client: distributed.Client) -> None:
         client.close(timeout=2)
 
 
-def cluster(words: argparse.Namespace, at_end: contextlib.ExitStack) -> distributed.Client:
+def cluster(options: CampaignOptions, at_end: contextlib.ExitStack) -> distributed.Client:
     """A client of the scheduler that is named, or of a cluster of this machine's processors."""
     logging.disable(logging.CRITICAL)
-    if not words.scheduler:
+    if not options.scheduler:
         # what the workers say of their own end doesn't belong into the terminal: their standard error leads nowhere
         sys.stderr = os.fdopen(os.dup(2), "w", buffering=1)
         os.dup2(os.open(os.devnull, os.O_WRONLY), 2)
         nowhere = {"dashboard_address": "127.0.0.1:0"}
         local = distributed.LocalCluster(
-            n_workers=words.workers or CPU_COUNT,
+            n_workers=options.workers or CPU_COUNT,
             threads_per_worker=1,
             processes=True,
             dashboard_address=None,
@@ -92,46 +100,48 @@ def cluster(words: argparse.Namespace, at_end: contextlib.ExitStack) -> distribu
         at_end.callback(client.close)
         return client
     try:
-        client = distributed.Client(words.scheduler, timeout="30s")
+        client = distributed.Client(options.scheduler, timeout="30s")
     # of tls:// without certificates it is a TypeError
     except (OSError, ValueError, TypeError) as fault:
-        raise Failed(f"no scheduler answers at {words.scheduler}; an address is as tcp://host:8786: {fault}") from None
+        raise Failed(
+            f"no scheduler answers at {options.scheduler}; an address is as tcp://host:8786: {fault}"
+        ) from None
     at_end.callback(close, client)
     try:
         client.wait_for_workers(1, timeout=60)
     except OSError:
         raise Failed(
-            f"no worker came to the scheduler within 60 seconds: start some by dask-worker {words.scheduler}"
+            f"no worker came to the scheduler within 60 seconds: start some by dask-worker {options.scheduler}"
         ) from None
     return client
 
 
-def gone(words: argparse.Namespace) -> Failed:
+def gone(options: CampaignOptions) -> Failed:
     """What is said where the scheduler has ended."""
-    return Failed(f"the scheduler{f' at {words.scheduler}' if words.scheduler else ''} is gone: start it anew")
+    return Failed(f"the scheduler{f' at {options.scheduler}' if options.scheduler else ''} is gone: start it anew")
 
 
 @contextlib.contextmanager
-def telling_gone(words: argparse.Namespace) -> Iterator[None]:
+def telling_gone(options: CampaignOptions) -> Iterator[None]:
     """Says so too where the library meets a connection that the scheduler has closed, whatever it was asked."""
     try:
         yield
     except distributed.comm.core.CommClosedError:
-        raise gone(words) from None
+        raise gone(options) from None
 
 
-class Engine:
+class CallsUnderWay:
     """The calls of a campaign that are under way."""
 
-    def __init__(self, client: distributed.Client, words: argparse.Namespace, units: list[Unit], together: int):
-        self.client, self.words, self.together = client, words, together
+    def __init__(self, client: distributed.Client, options: CampaignOptions, units: list[Unit], together: int):
+        self.client, self.options, self.together = client, options, together
         self.waiting, self.left = iter(units), len(units)
-        self.done: queue.SimpleQueue = queue.SimpleQueue()
+        self.done: queue.SimpleQueue[Any] = queue.SimpleQueue()
         self.running: dict[distributed.Future, list[Unit]] = {}
         self.tries: dict[str, int] = {}
         self.again = 0
         self.threads, self.asked = 0, -math.inf
-        self.sent = worker.Sent(read_bytes(words.program), read_bytes(words.file))
+        self.sent = worker.Sent(read_bytes(options.program), read_bytes(options.file))
         client.register_worker_plugin(self.sent, name=self.sent.name)
 
     def end(self) -> None:
@@ -170,7 +180,8 @@ class Engine:
     def next(self) -> distributed.Future | None:
         """A future that ended, or None where none did in a second."""
         try:
-            return self.done.get(timeout=1)
+            future: distributed.Future = self.done.get(timeout=1)
+            return future
         except queue.Empty:
             return None
 
@@ -186,20 +197,20 @@ class Engine:
             if isinstance(fault, distributed.scheduler.KilledWorker):
                 where, fault = fault.last_worker.address, "the worker died, and those before it under the same call"
         else:
-            raise gone(self.words)
+            raise gone(self.options)
         future.release()
         yield from (it for it in zip(units, answers) if it[1][0] < 10)
         if answers and answers[-1][0] >= 10:
             status, text = answers[-1]
-            raise Refused(status, text, units[len(answers) - 1][2][2])
+            raise CallRefused(status, text, units[len(answers) - 1][2][2])
         # what comes after a call that failed wasn't tried
         for place, unit in enumerate(units[len(answers) :]):
             if place == 0 or future.status == "error":
                 self.tries[unit[0]] = self.tries.get(unit[0], 0) + 1
-                if self.tries[unit[0]] >= self.words.tries:
+                if self.tries[unit[0]] >= self.options.tries:
                     of = f" of the script\n{unit[2][2]}" if unit[2][2] else ""
                     raise Failed(
-                        f"{unit[0]}{of}: {self.words.tries} of {self.words.tries} tries failed,"
+                        f"{unit[0]}{of}: {self.options.tries} of {self.options.tries} tries failed,"
                         f" the last one{f' on {where}' if where else ''}: {fault}"
                     )
                 self.again += 1
@@ -207,10 +218,10 @@ class Engine:
 
 
 def run(
-    words: argparse.Namespace,
+    options: CampaignOptions,
     what: str,
     units: list[Unit],
-    kept: Kept,
+    kept: KeptAnswers,
     look: Callable[[str, worker.Answer], bool] = lambda key, answer: False,
     together: int = 1,
 ) -> None:
@@ -222,12 +233,12 @@ def run(
     if any(look(it[0], kept[it[0]]) for it in units if it[0] in kept):
         return
     whole = sum(it[1] for it in units)
-    progress = Progress(what, whole, whole - sum(it[1] for it in left))
-    with contextlib.ExitStack() as at_end, telling_gone(words):
+    progress = CampaignProgress(what, whole, whole - sum(it[1] for it in left))
+    with contextlib.ExitStack() as at_end, telling_gone(options):
         engine = None
         if left:
             progress.show()
-            engine = Engine(cluster(words, at_end), words, left, together)
+            engine = CallsUnderWay(cluster(options, at_end), options, left, together)
             at_end.callback(engine.end)
             engine.fill()
         while engine and engine.running:

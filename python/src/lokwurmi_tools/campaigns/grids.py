@@ -8,12 +8,9 @@ from collections.abc import Iterable, Sequence
 from typing import Any
 
 from lokwurmi.errors import Unreadable
-from lokwurmi.frames import execution
-from lokwurmi.lines import reports_in
-from lokwurmi_tools.campaigns.faults import Wrong
-
-MOST_PRIORITY = 536_870_911
-
+from lokwurmi.model.view import SystemView
+from lokwurmi.results.reports import reports
+from lokwurmi_tools.campaigns.campaign_faults import Wrong
 
 KEYS = {"task": ("best", "worst", "execution", "priority", "slot"), "source": ("period", "jitter", "distance")}
 # the columns that each table has
@@ -94,7 +91,7 @@ class Entry:
         if not is_so:
             raise ValueError(f"vary {self.place}: {why}")
 
-    def varies(self) -> set:
+    def varies(self) -> set[tuple[tuple[str, str], str]]:
         """What of the system it varies: of an execution both numbers."""
         return (
             {(self.who, it) for it in (("best", "worst") if self.key == "execution" else (self.key,))}
@@ -107,7 +104,7 @@ class Entry:
         return place + 1 if self.key == "script" else "-".join(map(str, value)) if self.key == "execution" else value
 
 
-def read_grid(file: str, system: dict) -> list[Entry]:
+def read_grid(file: str, view: SystemView) -> list[Entry]:
     """The entries of a grid."""
     try:
         with open(file, "rb") as source:
@@ -121,7 +118,7 @@ def read_grid(file: str, system: dict) -> list[Entry]:
         or not grid["vary"]
     ):
         raise Wrong(f"{file}: a grid has entries [[vary]], and nothing else")
-    names = {kind: [it["name"] for it in system.get(kind, [])] for kind in KEYS}
+    names = {"task": list(view.tasks), "source": list(view.sources)}
     try:
         found: list[Entry] = []
         for place, it in enumerate(grid["vary"], 1):
@@ -135,14 +132,11 @@ def read_grid(file: str, system: dict) -> list[Entry]:
         raise Wrong(f"{file}: {fault}") from None
 
 
-def script_of(grid: list[Entry], chosen: Sequence[int], system: dict, spare: list[int]) -> str:
+def script_of(grid: list[Entry], chosen: Sequence[int], view: SystemView, spare: list[int]) -> str:
     """The script of a variant: an edit for each task and each source that it varies, then its scripts.
 
     Priorities go out of the way of each other first, to the spare ones.
     """
-    resources = {it["name"]: it for it in system.get("resource", [])}
-    tasks = {it["name"]: it for it in system.get("task", [])}
-    sources = {it["name"]: it for it in system.get("source", [])}
     executions: dict[str, list[int]] = {}
     turns: list[tuple[str, str, int]] = []
     events: dict[str, dict[str, int]] = {}
@@ -154,13 +148,13 @@ def script_of(grid: list[Entry], chosen: Sequence[int], system: dict, spare: lis
             continue
         kind, name = entry.who
         if kind == "source":
-            it = sources[name]
-            given = {"period": it["period"], "jitter": it.get("jitter", 0), "distance": it.get("distance", 0)}
+            it = view.sources[name]
+            given = {"period": it.period, "jitter": it.jitter, "distance": it.distance}
             events.setdefault(name, given)[entry.key] = value
         elif entry.key in ("priority", "slot"):
             turns.append((entry.key, name, value))
         else:
-            now = executions.setdefault(name, list(execution(tasks[name], resources[tasks[name]["on"]])))
+            now = executions.setdefault(name, list(view.executions(name)))
             if entry.key == "execution":
                 now[:] = value
             else:
@@ -181,15 +175,15 @@ def row_of(status: int, text: str, script: str) -> tuple[str, str, dict[str, int
     """The verdict of a variant, which of its edits was refused first, and its bounds and latencies, or `overload`, by
     the names of their columns."""
     try:
-        tasks, paths, edits = reports_in(text.splitlines())[-1]
+        report = reports(text)[-1]
     except Unreadable as fault:
         raise Wrong(f"session wrote no report: {text[:200]}") from fault
     refused = ""
-    for line, rule in sorted(edits.items())[:1]:
+    for line, rule in sorted(report.refused.items())[:1]:
         refused = f"{' '.join(script.split(chr(10))[line - 1].split())}: {rule}"
-    bounds = {f"task.{name}": it["worst"] for name, it in tasks.items()}
-    bounds |= {f"path.{name}": it["worst"] for name, it in paths.items()}
-    cells = {column: "overload" if it is None else it for column, it in bounds.items()}
+    bounds = {f"task.{name}": it.worst for name, it in report.tasks.items()}
+    bounds |= {f"path.{name}": it.worst for name, it in report.paths.items()}
+    cells: dict[str, int | str] = {column: "overload" if it is None else it for column, it in bounds.items()}
     return ("refused" if refused else VERDICTS[status]), refused, cells
 
 
@@ -209,7 +203,7 @@ def fronted(rows: Iterable[dict[str, Any]], latency: str, cost: str) -> set[int]
     return marked
 
 
-def columns_of(front: str, grid: list[Entry], system: dict) -> list[str]:
+def columns_of(front: str, grid: list[Entry], view: SystemView) -> list[str]:
     """The two columns that --front names."""
     names = front.split(",")
     added = [
@@ -223,8 +217,8 @@ def columns_of(front: str, grid: list[Entry], system: dict) -> list[str]:
     there = [
         "cost",
         *(it.label for it in grid),
-        *(f"path.{it['name']}" for it in system.get("path", [])),
-        *(f"task.{it}" for it in [*(it["name"] for it in system.get("task", [])), *added]),
+        *(f"path.{it}" for it in view.paths),
+        *(f"task.{it}" for it in [*view.tasks, *added]),
     ]
     if len(names) != 2:
         raise Wrong(

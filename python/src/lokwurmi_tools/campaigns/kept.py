@@ -1,4 +1,5 @@
-"""What is done of a campaign, in a folder."""
+"""What is done of a campaign, in a folder. It is found again by what was asked, a seed and how many traces or the text
+of a script; the file and the program are the same by their checksums."""
 import fcntl
 import json
 import os
@@ -7,7 +8,7 @@ import tempfile
 import zlib
 from typing import Any
 
-from lokwurmi_tools.campaigns.faults import Wrong, say
+from lokwurmi_tools.campaigns.campaign_faults import Wrong, say
 
 
 def read_bytes(file: str) -> bytes:
@@ -15,7 +16,7 @@ def read_bytes(file: str) -> bytes:
         return it.read()
 
 
-class Kept:
+class KeptAnswers:
     """The answers that a folder holds, each under the key of its unit: a line of JSON an answer, in the file
     done.jsonl.
 

@@ -1,5 +1,4 @@
 """A campaign over what a grid varies, as a table."""
-import argparse
 import csv
 import hashlib
 import itertools
@@ -8,11 +7,14 @@ import sys
 from collections.abc import Iterator
 from typing import Any
 
-from lokwurmi_tools.accepted import read_system
+from lokwurmi.model.limits import MOST_PRIORITY
+from lokwurmi.model.view import SystemView
+from lokwurmi_tools.campaigns.campaign_faults import Wrong
+from lokwurmi_tools.campaigns.campaign_options import VariantOptions
 from lokwurmi_tools.campaigns.engine import Unit, run
-from lokwurmi_tools.campaigns.faults import Wrong
-from lokwurmi_tools.campaigns.grids import MOST_PRIORITY, Entry, columns_of, fronted, read_grid, row_of, script_of
-from lokwurmi_tools.campaigns.kept import Kept
+from lokwurmi_tools.campaigns.grids import Entry, columns_of, fronted, read_grid, row_of, script_of
+from lokwurmi_tools.campaigns.kept import KeptAnswers
+from lokwurmi_tools.shared.system_file import read_system
 
 # how many variants a campaign may have, and how many sessions a worker is handed at once
 MOST_VARIANTS, TOGETHER = 100_000, 25
@@ -21,14 +23,14 @@ MOST_VARIANTS, TOGETHER = 100_000, 25
 class Variants:
     """The variants of a grid, with the script of each and what is kept of it."""
 
-    def __init__(self, grid: list[Entry], system: dict, kept: Kept):
+    def __init__(self, grid: list[Entry], view: SystemView, kept: KeptAnswers):
         self.grid, self.kept = grid, kept
-        taken = {it.get("priority") for it in system.get("task", [])} | {
+        taken = {it.priority for it in view.tasks.values()} | {
             it for entry in grid if entry.key == "priority" for it in entry.values
         }
         spare = list(itertools.islice((it for it in range(MOST_PRIORITY, 0, -1) if it not in taken), len(grid)))
         self.chosen = list(itertools.product(*(range(len(it.values)) for it in grid)))
-        self.scripts = [script_of(grid, it, system, spare) for it in self.chosen]
+        self.scripts = [script_of(grid, it, view, spare) for it in self.chosen]
         self.keys = ["session " + hashlib.sha256(it.encode()).hexdigest()[:32] for it in self.scripts]
 
     def units(self) -> list[Unit]:
@@ -53,17 +55,17 @@ class Variants:
             }
 
 
-def variants(words: argparse.Namespace, kept: Kept) -> int:
-    system = read_system(words.file)
-    grid = read_grid(words.grid, system)
-    front = columns_of(words.front, grid, system) if words.front else None
+def variants(options: VariantOptions, kept: KeptAnswers) -> int:
+    view = read_system(options.file)
+    grid = read_grid(options.grid, view)
+    front = columns_of(options.front, grid, view) if options.front else None
     count = math.prod(len(it.values) for it in grid)
     if count > MOST_VARIANTS:
         raise Wrong(
-            f"{words.grid}: there are {count} combinations, and there may be {MOST_VARIANTS}: cut it into several"
+            f"{options.grid}: there are {count} combinations, and there may be {MOST_VARIANTS}: cut it into several"
         )
-    all_of = Variants(grid, system, kept)
-    run(words, "variants", all_of.units(), kept, together=TOGETHER)
+    all_of = Variants(grid, view, kept)
+    run(options, "variants", all_of.units(), kept, together=TOGETHER)
     columns = dict.fromkeys(key for row in all_of.rows() for key in row)
     marked = fronted(all_of.rows(), *front) if front else set()
     table = csv.DictWriter(sys.stdout, [*columns, *(["front"] if front else [])], restval="", lineterminator="\n")

@@ -20,7 +20,7 @@ Call = tuple[str, list[str], str | None]
 Answer = tuple[int, str]
 
 
-def take_processor() -> tuple[int | None, contextlib.AbstractContextManager]:
+def take_processor() -> tuple[int | None, contextlib.AbstractContextManager[Any]]:
     """A processor that no call of this machine was given yet, and what holds it until it is closed; None where each is
     given."""
     for it in sorted(os.sched_getaffinity(0)):
@@ -46,7 +46,7 @@ class Sent(distributed.WorkerPlugin):
 
     def setup(self, worker: Any) -> None:
         self.lock, self.room = threading.Lock(), worker.local_directory
-        self.running: set[subprocess.Popen] = set()
+        self.running: set[subprocess.Popen[bytes]] = set()
         self.folder: str | None = None
         # a full disk is told by the call that is tried here, so that it is tried elsewhere
         with contextlib.suppress(OSError):
@@ -73,7 +73,7 @@ class Sent(distributed.WorkerPlugin):
             self.folder = folder
             return folder
 
-    def begin(self, words: list[str], processor: int | None) -> subprocess.Popen:
+    def begin(self, words: list[str], processor: int | None) -> "subprocess.Popen[bytes]":
         """Starts a call, on one processor if that is told: `hammer` has threads for all that it may use."""
         allowed = os.sched_getaffinity(0)
         try:

@@ -1,4 +1,9 @@
-"""Proves and builds a program, and shows how far it is."""
+"""Proves and builds a program, and shows how far it is.
+
+Several crates at a time are proved by one `rt all`, since several runs of `rt` would wait for each other's locks. The
+last library and the program are proved after it, by all processors. Where a check was killed, crates are proved one
+after the other, which takes less memory.
+"""
 from __future__ import annotations
 
 import fcntl
@@ -15,10 +20,11 @@ from pathlib import Path
 from typing import NoReturn, TextIO
 
 from lokwurmi_tools.launcher import helping, shown
-from lokwurmi_tools.launcher.graph import Graph, is_kept
-from lokwurmi_tools.launcher.places import TOP, is_other, kit_of, note_built, program
+from lokwurmi_tools.launcher.crates import Graph, is_kept
+from lokwurmi_tools.launcher.paths import TOP, program
 from lokwurmi_tools.launcher.plan import Plan, at_a_time, clock
 from lokwurmi_tools.launcher.processes import Work
+from lokwurmi_tools.launcher.records import is_other, kit_of, note_built
 from lokwurmi_tools.launcher.running import end_by
 from lokwurmi_tools.launcher.shown import is_live, say
 from lokwurmi_tools.launcher.table import KITS, PROGRAMS

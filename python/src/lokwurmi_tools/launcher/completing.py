@@ -6,7 +6,7 @@ import shlex
 from collections.abc import Mapping
 from pathlib import Path
 
-from lokwurmi_tools.commands import COMMANDS as TOOLS
+from lokwurmi_tools.commands.catalogue import COMMANDS as TOOLS
 from lokwurmi_tools.launcher.table import COMMANDS, OWN_BY_NAME, WORDS
 
 RULES = Path(__file__).with_name("completion.bash")

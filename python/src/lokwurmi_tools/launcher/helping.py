@@ -5,10 +5,11 @@ import os
 import subprocess
 import sys
 
-from lokwurmi_tools.commands import COMMANDS as TOOLS
-from lokwurmi_tools.launcher.places import INSTALLED, TOP, digest, is_installed, program
+from lokwurmi_tools.commands.catalogue import COMMANDS as TOOLS
+from lokwurmi_tools.launcher.paths import INSTALLED, TOP, is_installed, program
+from lokwurmi_tools.launcher.records import digest
 from lokwurmi_tools.launcher.table import BY_NAME, KITS, OWN, OWN_BY_NAME, VERSION, WORDS, WORKERS, Command, Own
-from lokwurmi_tools.launcher.words import commands_listed, said_of
+from lokwurmi_tools.launcher.wrong_words import commands_listed, said_of
 
 HELP = ("--help", "-h", "help")
 

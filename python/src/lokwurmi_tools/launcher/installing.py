@@ -19,7 +19,8 @@ from lokwurmi_tools.launcher.build import FAILED, build_noted
 from lokwurmi_tools.launcher.completing import completion_text
 from lokwurmi_tools.launcher.library import ARCHIVE, SHARED, pkg_config, why_lacking
 from lokwurmi_tools.launcher.manual import man_text
-from lokwurmi_tools.launcher.places import LIBRARY, TOP, digest, is_installed, kit_of, program
+from lokwurmi_tools.launcher.paths import LIBRARY, TOP, is_installed, program
+from lokwurmi_tools.launcher.records import digest, kit_of
 from lokwurmi_tools.launcher.shown import say
 from lokwurmi_tools.launcher.table import PROGRAMS, VERSION
 

@@ -10,8 +10,8 @@ import tempfile
 from pathlib import Path
 
 from lokwurmi_tools.launcher.build import FAILED, build_for
-from lokwurmi_tools.launcher.graph import Graph
-from lokwurmi_tools.launcher.places import LIBRARY, SOURCES, TOP, is_installed
+from lokwurmi_tools.launcher.crates import Graph
+from lokwurmi_tools.launcher.paths import LIBRARY, SOURCES, TOP, is_installed
 from lokwurmi_tools.launcher.shown import say
 
 CRATE = "cpa_c"

@@ -1,7 +1,7 @@
 """The man page of `lokwurmi`, from the tables of commands."""
 from __future__ import annotations
 
-from lokwurmi_tools.commands import COMMANDS as TOOLS
+from lokwurmi_tools.commands.catalogue import COMMANDS as TOOLS
 from lokwurmi_tools.launcher.table import COMMANDS, OWN, VERSION, WORDS, Command, Own
 
 STATUSES = (

@@ -6,8 +6,8 @@ import os
 import time
 from pathlib import Path
 
-from lokwurmi_tools.launcher.graph import Graph
-from lokwurmi_tools.launcher.places import TOP
+from lokwurmi_tools.launcher.crates import Graph
+from lokwurmi_tools.launcher.paths import TOP
 
 TIMES = TOP / "docs" / "times.csv"
 # seconds where they aren't told

@@ -19,33 +19,44 @@ def end_by(number: int) -> NoReturn:
     os._exit(128 + number)
 
 
-def run(words: Sequence[str]) -> int:
-    """The status of a program; where a signal ended it, this process ends by that too."""
-    return ended(subprocess.Popen(words, close_fds=False, restore_signals=True), lambda: None)
-
-
-def run_heard(words: Sequence[str], mark: bytes) -> tuple[int, list[str]]:
-    """The same, with the lines that it writes and that begin with a mark; all of it is handed on as it comes."""
+def run(words: Sequence[str], is_session: bool) -> tuple[int, str]:
+    """The status of a program, and of what it writes what there may be something to say of: its first line, or of a
+    session that ends with 0 to 2 the lines of refused edits. All is handed on as it comes; where it can't be written,
+    the status is 20, as the program's own would be. Where a signal ended it, this process ends by that too."""
     child = subprocess.Popen(words, close_fds=False, restore_signals=True, stdout=subprocess.PIPE)
     assert child.stdout is not None
-    source, found = child.stdout, [b""]
+    source, kept, is_whole = child.stdout, Kept(), True
 
     def hand_on() -> None:
+        nonlocal is_whole
         while part := os.read(source.fileno(), 1 << 16):
+            kept.take(part)
             try:
-                rest = part
-                while rest:
-                    rest = rest[os.write(1, rest) :]
+                while part:
+                    part = part[os.write(1, part) :]
             except OSError:
-                # the program answers an output that can't be written by itself
+                is_whole = False
                 break
-            lines = (found.pop() + part).split(b"\n")
-            found.extend(it for it in lines[:-1] if it.startswith(mark))
-            found.append(lines[-1])
         source.close()
 
     status = ended(child, hand_on)
-    return status, [it.decode("utf-8", "surrogateescape") for it in found[:-1]]
+    status = status if is_whole else 20
+    lines = kept.edits if is_session and status <= 2 else [kept.first] if status > 2 else []
+    return status, b"\n".join(lines).decode("utf-8", "surrogateescape")
+
+
+class Kept:
+    """The first line of what is written part by part, and the lines of refused edits."""
+
+    def __init__(self) -> None:
+        self.first, self.edits = b"", list[bytes]()
+        self.rest, self.has_first = b"", False
+
+    def take(self, part: bytes) -> None:
+        *lines, self.rest = (self.rest + part).split(b"\n")
+        if lines and not self.has_first:
+            self.first, self.has_first = lines[0], True
+        self.edits += [it for it in lines if it.startswith(b"line ")]
 
 
 def ended(child: subprocess.Popen[bytes], meanwhile: Callable[[], None]) -> int:

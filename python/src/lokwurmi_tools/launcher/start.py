@@ -1,4 +1,4 @@
-"""Starts a step of the launcher for the script `lokwurmi`: STEP WORD.., where STEP is a name in `front.STEPS`."""
+"""Starts a step of the launcher for the script `lokwurmi`: STEP WORD.., where STEP is a name in `steps.STEPS`."""
 import os
 import sys
 
@@ -14,7 +14,7 @@ def start() -> int:
         return 70
     packages = os.path.dirname(os.path.dirname(os.path.dirname(os.path.abspath(__file__))))
     sys.path.insert(0, packages)
-    from lokwurmi_tools.launcher.front import main
+    from lokwurmi_tools.launcher.steps import main
 
     return main(sys.argv[1:])
 

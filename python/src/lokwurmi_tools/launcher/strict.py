@@ -10,11 +10,12 @@ from collections.abc import Callable
 from functools import partial
 
 from lokwurmi_tools.launcher import helping
-from lokwurmi_tools.launcher.places import is_installed, program
-from lokwurmi_tools.launcher.running import run_heard
+from lokwurmi_tools.launcher.operands import note_missing, operands_of, shown
+from lokwurmi_tools.launcher.paths import is_installed, program
+from lokwurmi_tools.launcher.running import run
 from lokwurmi_tools.launcher.table import BY_NAME, STRICT
 from lokwurmi_tools.launcher.telling import tell
-from lokwurmi_tools.launcher.words import note_missing, operands_of, refuse, shown
+from lokwurmi_tools.launcher.wrong_words import refuse
 
 LACKING = 5
 
@@ -29,13 +30,14 @@ def session(words: list[str], quiet: bool) -> int:
         from lokwurmi_tools.launcher.build import build
 
         build(command.crate, ["session", *words], partial(note_missing, operands))
-    status, lines = run_heard([str(program(command.crate)), *command.handed(words)], b"line ")
+    status, wrote = run([str(program(command.crate)), *command.handed(words)], True)
     if not quiet:
-        tell(status, "\n".join(lines) if status <= 2 else None, ["session", *words])
-    if status > 2 or not lines:
+        tell(status, wrote, ["session", *words])
+    if status > 2 or not wrote:
         return status
     if not quiet:
-        edits = "an edit was" if len(lines) == 1 else f"{len(lines)} edits were"
+        count = len(wrote.split("\n"))
+        edits = "an edit was" if count == 1 else f"{count} edits were"
         print(f"lokwurmi: {STRICT}: {edits} refused: the status is {LACKING} in place of {status}", file=sys.stderr)
     return LACKING
 

@@ -1,11 +1,13 @@
 """The one table of commands: what help, completion, the man page, and the tables of README.md and docs/FILES.md come
 from.
 
-The tools, which are no part of what is proved, stand in lokwurmi_tools/commands.py.
+The tools, which are no part of what is proved, stand in lokwurmi_tools/commands/catalogue.py.
 """
 from __future__ import annotations
 
 from typing import NamedTuple
+
+from lokwurmi.model.commands import FILES
 
 VERSION = "1.0"
 # the toolchain that has proved the whole repository, and one that has proved all but chains, the library, and what
@@ -23,7 +25,8 @@ class Command(NamedTuple):
     """A proved command: its words, the crate of its program, what it writes, in short and in full, and an example."""
 
     name: str
-    words: tuple[str, ...]
+    # the words behind its files
+    others: tuple[str, ...]
     writes: str
     brief: str
     example: str
@@ -32,6 +35,11 @@ class Command(NamedTuple):
     statuses: str = ""
     note: str = ""
     premise: str = ""
+
+    @property
+    def words(self) -> tuple[str, ...]:
+        """What its words stand for, but for an option: names in `WORDS`."""
+        return (*("FILE" if it == "system" else it.upper() for it in FILES[self.name]), *self.others)
 
     @property
     def usage(self) -> str:
@@ -80,7 +88,7 @@ MISSED = "1: a deadline is missed; 2: a bound is overload"
 COMMANDS = (
     Command(
         "analyse",
-        ("FILE",),
+        (),
         "the bounds of the system in FILE",
         "the bounds of the system in FILE",
         "examples/two_tasks.toml",
@@ -89,7 +97,7 @@ COMMANDS = (
     ),
     Command(
         "session",
-        ("FILE", "SCRIPT"),
+        (),
         "what a script's edits would bring: a report wherever it asks for one",
         "the bounds that a script of edits asks for",
         "examples/crossing_chains.toml examples/crossing_chains.script.txt",
@@ -98,7 +106,7 @@ COMMANDS = (
     ),
     Command(
         "simulate",
-        ("FILE", "TRACE"),
+        (),
         "what is observed when a recorded trace is replayed on the system",
         "what is observed when a trace is replayed",
         "examples/crossing_chains.toml examples/crossing_chains.trace.csv",
@@ -121,14 +129,14 @@ COMMANDS = (
     ),
     Command(
         "hammer",
-        ("FILE", "NUMBER", "TRACES"),
+        ("NUMBER", "TRACES"),
         "the greatest responses under generated traces, beside the bounds",
         "the worst in generated traces, and bounds",
         "examples/long_window.toml 1 1",
     ),
     Command(
         "assign",
-        ("FILE", "RESOURCE"),
+        ("RESOURCE",),
         (
             "priorities on a resource under which the bounds of its tasks are within their deadlines, or that there are"
             " none"
@@ -139,7 +147,7 @@ COMMANDS = (
     ),
     Command(
         "slack",
-        ("FILE", "TASK"),
+        ("TASK",),
         "by how much the greatest execution of a task may grow while all deadlines are met",
         "by how much the worst of TASK may grow",
         "examples/sae_can.toml m16",
@@ -148,7 +156,7 @@ COMMANDS = (
     ),
     Command(
         "buffers",
-        ("FILE", "TRACE"),
+        (),
         "how many jobs of each task and resource can wait at one time, and how many do under a recorded trace",
         "how many jobs can wait, and how many do",
         "examples/long_window.toml examples/long_window.trace.csv",
@@ -157,7 +165,7 @@ COMMANDS = (
     ),
     Command(
         "audit",
-        ("FILE", "TRACE", "SCHEDULE"),
+        (),
         "whether a recorded schedule is that of the run under a trace, or where the two first differ",
         "whether a recorded schedule is the run's",
         "examples/round_robin.toml examples/round_robin.trace.csv examples/round_robin.schedule.csv",
@@ -165,7 +173,7 @@ COMMANDS = (
     ),
     Command(
         "schedule",
-        ("FILE", "TRACE"),
+        (),
         "the schedule of the run under a trace: a row TASK,START,END for each stretch in which a job runs",
         "the schedule of the run under a trace",
         "examples/crossing_chains.toml examples/crossing_chains.trace.csv",
@@ -173,7 +181,7 @@ COMMANDS = (
     ),
     Command(
         "chain",
-        ("FILE", "TASK", MORE_TASKS),
+        ("TASK", MORE_TASKS),
         (
             "bounds of a chain of tasks, each of which reads what the one before wrote last, where no source falls"
             " silent: its reaction time, and the age of its data at the end of a job and until it is overwritten"
@@ -188,7 +196,7 @@ COMMANDS = (
     ),
     Command(
         "chains",
-        ("FILE", "CHAINS"),
+        (),
         "the same of many chains, which stand in a file with deadlines for their reaction time, the age of their data,"
         " and how old it gets until it is overwritten",
         "the same of many, beside their deadlines",

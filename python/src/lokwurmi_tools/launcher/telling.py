@@ -3,17 +3,16 @@ from __future__ import annotations
 
 import io
 import os
-import re
 import signal
-import subprocess
 import sys
 
 from lokwurmi_tools.launcher.helping import names
-from lokwurmi_tools.launcher.places import PAGE, program
+from lokwurmi_tools.launcher.operands import operands_of
+from lokwurmi_tools.launcher.paths import PAGE
 from lokwurmi_tools.launcher.table import BY_NAME, Command
-from lokwurmi_tools.launcher.words import operands_of, said_of
+from lokwurmi_tools.launcher.wrong_words import said_of
 
-# seconds of work after which a hint by the status has to do, and seconds that a second call may take
+# seconds of work after which a hint by the status has to do
 PATIENCE = 10
 # the statuses whose line says which file and where, so that the file is read again
 IN_FILES = range(11, 20)
@@ -101,49 +100,12 @@ def hint(status: int, words: list[str]) -> str:
     return f'lokwurmi: {said}{PAGE}, "{section}"\n'
 
 
-def run_again(command: Command, words: list[str]) -> subprocess.CompletedProcess[bytes]:
-    return subprocess.run(
-        [program(command.crate), *command.handed(words)], capture_output=True, timeout=PATIENCE, check=False
-    )
-
-
-def line_again(status: int, command: Command, words: list[str]) -> str:
-    """The line of a call that was refused, once more: nothing where a file can't be read a second time, or it ends
-    otherwise now. It isn't had by a pipe, which would take from the program the fault of an output that can't be
-    written."""
+def is_readable_again(command: Command, words: list[str]) -> bool:
+    """Whether none of the words of a call names what can be read once alone, as a pipe; a word that is no file is a
+    name."""
     found = operands_of(command, words)
-    for it in found.words if found else []:
-        # a word that is no file is a name
-        if os.path.exists(it) and not (os.path.isfile(it) or os.path.isdir(it)):
-            return ""
-    try:
-        done = run_again(command, words)
-    except (OSError, subprocess.TimeoutExpired):
-        return ""
-    return done.stdout.decode("utf-8", "surrogateescape").rstrip("\n") if done.returncode == status else ""
-
-
-def refused_edits(command: Command, words: list[str]) -> str:
-    """What the program writes of a session's edits alone: once more, without the reports that the script asks for in
-    between."""
-    found = operands_of(command, words)
-    if command.name != "session" or not found or not all(os.path.isfile(it) for it in found.files):
-        return ""
-    file, script = found.files
-    try:
-        with open(script, "rb") as it:
-            text = re.sub(rb"(?m)^[ \t]*report[ \t]*\r?$", b"", it.read())
-        done = subprocess.run(
-            [program(command.crate), "session", file, "/dev/stdin"],
-            input=text,
-            capture_output=True,
-            timeout=PATIENCE,
-            check=False,
-        )
-    except (OSError, subprocess.TimeoutExpired):
-        return ""
-    lines = done.stdout.decode("utf-8", "surrogateescape").split("\n")
-    return "\n".join(it for it in lines if it.startswith("line "))
+    given = [it for it in found.words if os.path.exists(it)] if found else []
+    return all(os.path.isfile(it) or os.path.isdir(it) for it in given)
 
 
 def in_words(status: int, line: str, command: Command, words: list[str]) -> bool:
@@ -173,15 +135,14 @@ def out_of_patience(number: int, frame: object) -> None:
     raise TimeoutError
 
 
-def tell(status: int, line: str | None, words: list[str]) -> None:
-    """What there is to say after a call. The program's line is had by a second call, where it isn't known."""
+def tell(status: int, wrote: str, words: list[str]) -> None:
+    """What there is to say after a call, by what the program wrote: its first line, or of a session that ends with 0 to
+    2 the lines of refused edits."""
     command = BY_NAME[words[0]]
-    if status <= 2 and command.words[0] != "FILE":
-        return
+    if not is_readable_again(command, words[1:]):
+        wrote = ""
     if status <= 2:
-        in_words(status, refused_edits(command, words[1:]) if line is None else line, command, words[1:])
-        return
-    if line is None:
-        line = line_again(status, command, words[1:]) if status in IN_FILES else ""
-    if not in_words(status, line, command, words[1:]):
+        if command.words[0] == "FILE":
+            in_words(status, wrote, command, words[1:])
+    elif not in_words(status, wrote if status in IN_FILES else "", command, words[1:]):
         sys.stderr.write(hint(status, words))

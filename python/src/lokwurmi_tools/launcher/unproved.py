@@ -17,17 +17,17 @@ import time
 from pathlib import Path
 from typing import BinaryIO, NoReturn
 
+from lokwurmi_tools.launcher import operands as of_words
 from lokwurmi_tools.launcher import shown
-from lokwurmi_tools.launcher import words as of_words
 from lokwurmi_tools.launcher.build import ENDINGS, FAILED, need_rt, note_changes
-from lokwurmi_tools.launcher.places import TOP
+from lokwurmi_tools.launcher.operands import Operands
+from lokwurmi_tools.launcher.paths import TOP
 from lokwurmi_tools.launcher.plan import clock
 from lokwurmi_tools.launcher.processes import Work
 from lokwurmi_tools.launcher.running import end_by
 from lokwurmi_tools.launcher.shown import say
 from lokwurmi_tools.launcher.table import Command
 from lokwurmi_tools.launcher.telling import tell
-from lokwurmi_tools.launcher.words import Operands
 
 # seconds that the compiled program may take; `rt try` has 60 by itself
 SECONDS = 600
@@ -157,8 +157,8 @@ class Unproved:
             status = 20
         if not quiet:
             lines = text.decode("utf-8", "surrogateescape").split("\n")
-            edits = "\n".join(it for it in lines if it.startswith("line "))
-            tell(status, lines[0] if status > 2 else edits, [self.command.name, *self.words])
+            edits = [it for it in lines if it.startswith("line ")] if self.command.name == "session" else []
+            tell(status, lines[0] if status > 2 else "\n".join(edits), [self.command.name, *self.words])
         return status
 
     def tell_failure(self, status: int, said: str) -> int:

@@ -14,8 +14,8 @@ plus-sum-requires c =
     let s = c.args.system.now in
     let k = c.loop-task.task-index in
     let few : length c.tasks_on-task-items.result.now ≤ length s.tasks = task_list-few (is_on s c.args.res.0) (length s.tasks) c.tasks_on-task-items.result.now c.tasks_on-task-items.ensures.places in
-    weaker_limit (k * 68719476736 + 68719476736) 18446744073709551615 _ (omega (arith, few, c.loop-task-test.true, c.tasks_on-task-items.ensures.rules.few_tasks))
-    (plus-limit (k * 68719476736) 68719476736 c.loop-task.sum c.buffer.result c.loop-task.invariant.few c.buffer.ensures.few)
+    weaker_limit (k * 274877906944 + 274877906944) 18446744073709551615 _ (omega (arith, few, c.loop-task-test.true, c.tasks_on-task-items.ensures.rules.few_tasks))
+    (plus-limit (k * 274877906944) 274877906944 c.loop-task.sum c.buffer.result c.loop-task.invariant.few c.buffer.ensures.few)
 
 pub loop-task-preserved : goal.loop-task-preserved
 loop-task-preserved c =
@@ -24,7 +24,7 @@ loop-task-preserved c =
       sum = sum-next c.tasks_on-task-items.result.now k no_id c.loop-task-test.true (buffer_of c.args.system.now c.args.x.now) c.loop-task.sum c.buffer.result c.plus-sum.result
           c.loop-task.invariant.sum c.buffer.ensures.value c.plus-sum.ensures;
       few = rw c.plus-sum.ensures
-          (weaker_limit (k * 68719476736 + 68719476736) ((k + 1) * 68719476736) _ (omega arith) (plus-limit (k * 68719476736) 68719476736 c.loop-task.sum c.buffer.result c.loop-task.invariant.few c.buffer.ensures.few));
+          (weaker_limit (k * 274877906944 + 274877906944) ((k + 1) * 274877906944) _ (omega arith) (plus-limit (k * 274877906944) 274877906944 c.loop-task.sum c.buffer.result c.loop-task.invariant.few c.buffer.ensures.few));
     }
 
 pub returns : goal.returns

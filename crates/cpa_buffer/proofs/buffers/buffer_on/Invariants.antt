@@ -7,5 +7,5 @@ use Rattle.cpa_buffer.proofs.buffers.buffer_on.Given as goal
 abbrev pub invariant-loop-task : goal.invariant-loop-task
 invariant-loop-task l = record {
   sum : l.sum ≡ sum_bounds (buffer_of l.system l.x) (take l.task-index (places_of l.task-items));
-  few : RespectsLimit (l.task-index * 68719476736) l.sum;
+  few : RespectsLimit (l.task-index * 274877906944) l.sum;
 }

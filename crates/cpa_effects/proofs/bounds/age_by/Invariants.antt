@@ -7,6 +7,6 @@ abbrev pub invariant-loop-k : goal.invariant-loop-k
 invariant-loop-k l = record {
   old : l.old ≡ arrives_after l.reading l.system l.x l.tasks l.k;
   renewed : l.renewed ≡ renewed_after l.reading l.system l.x l.tasks l.k;
-  few : RespectsLimit ((l.k + 1) * 4000000000) l.renewed;
-  small : RespectsLimit ((l.k + 1) * 4000000000) l.old;
+  few : RespectsLimit ((l.k + 1) * 5300000000) l.renewed;
+  small : RespectsLimit ((l.k + 1) * 5300000000) l.old;
 }

@@ -6,5 +6,5 @@ use Rattle.cpa_effects.proofs.bounds.held_by.Given as goal
 abbrev pub invariant-loop-k : goal.invariant-loop-k
 invariant-loop-k l = record {
   renewed : l.renewed ≡ renewed_after l.reading l.system l.x l.tasks l.k;
-  few : RespectsLimit ((l.k + 1) * 4000000000) l.renewed;
+  few : RespectsLimit ((l.k + 1) * 5300000000) l.renewed;
 }

@@ -7,5 +7,5 @@ use Rattle.cpa_effects.proofs.bounds.latency_by.Given as goal
 abbrev pub invariant-loop-k : goal.invariant-loop-k
 invariant-loop-k l = record {
   sum : l.sum ≡ sum_bounds (forward l.reading l.system l.x l.tasks) (range_with_len 0 l.k);
-  few : RespectsLimit (l.k * 4000000000) l.sum;
+  few : RespectsLimit (l.k * 5300000000) l.sum;
 }

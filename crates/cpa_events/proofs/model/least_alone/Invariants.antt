@@ -7,5 +7,5 @@ abbrev pub invariant-loop-stream : goal.invariant-loop-stream
 invariant-loop-stream l =
     record {
       room : l.n ≤ eta_plus l.streams (l.least + 1);
-      small : l.least ≤ 2 ^ 32 * MAX_PERIOD;
+      small : l.least ≤ 2 ^ 33 * MAX_PERIOD;
     }

@@ -5,9 +5,9 @@ use Rattle.cpa_fix.proofs.solving.differs.Given as goal
 
 abbrev pub invariant-others : goal.invariant-others
 invariant-others l = record {
-  small : l.from ≤ 64;
+  small : l.from ≤ 128;
   agree : (q : ℕ) → q < l.from → Members l.fn.read q → AgreeOn l.system q l.seen l.x;
 }
 
 abbrev pub decreases-others : goal.decreases-others
-decreases-others l = 64 - l.from
+decreases-others l = 128 - l.from

@@ -1,6 +1,6 @@
 use Rattle.std.proofs.Common.{◌≡◌, ap, ap₂, ◌∙◌, sym, map, replicate, rules, List, [], ℕ, length}
 use Rattle.cpa_model.specs.SystemLists.{source_at}
-use Rattle.cpa_gen.specs.MadeTraces.{late_first, times_made}
+use Rattle.cpa_gen.specs.MadeTraces.{late_first, times_made, most_made}
 use Rattle.cpa_gen.proofs.ListLaws.{table}
 use Rattle.cpa_gen.proofs.TimeLaws.{late_first-within}
 use Rattle.cpa_gen.proofs.ObeyLaws.{times_order, worst_is}
@@ -14,7 +14,7 @@ of_lists-requires c =
 pub returns-clause-value : goal.returns-clause-value
 returns-clause-value c =
     let s = c.args.system.now in
-    let f : ℕ → List ℕ = λ j. times_made (source_at s j) (late_first (source_at s j)) in
+    let f : ℕ → List ℕ = λ j. times_made (most_made s) (source_at s j) (late_first (source_at s j)) in
     let executions : map (λ v. v.items) c.in_ok-executions.executions.items ≡ replicate (length s.tasks) [] = c.in_ok-executions.ensures ∙ ap (λ n. replicate n []) c.tasks.ensures.count in
     let phases : c.in_ok-phases.phases.items ≡ replicate (length s.resources) 0 = search rules in
     c.of_lists.ensures ∙ ap₂ (λ a b. record { times = a; executions = b; phases = c.in_ok-phases.phases.items }) c.in_ok-times.ensures.times executions

@@ -6,7 +6,7 @@ use Rattle.cpa_local.proofs.TrailLaws.{known-none}
 use Rattle.cpa_local.proofs.inputs.find_input.Goals as goal
 
 pub find_along-requires-clause-known : goal.find_along-requires-clause-known
-find_along-requires-clause-known c = known-none c.args.system.now c.args.x.now 512 []
+find_along-requires-clause-known c = known-none c.args.system.now c.args.x.now 8192 []
 
 pub returns : goal.returns
 returns c =

@@ -20,7 +20,7 @@ bounds-rivals-count c =
 pub offset_bounds-rivals-count : goal.offset_bounds-rivals-count
 offset_bounds-rivals-count c =
     let few = task_list-few (is_on c.args.system.now c.task.result.now.res.0) (length c.args.system.now.tasks) c.tasks_on-other-items.result.now c.tasks_on-other-items.ensures.places in
-    let small : c.loop-other.count ≤ 512 = omega (arith, c.loop-other.invariant.few, c.loop-other-test.true, c.tasks_on-other-items.ensures.rules.few_tasks) in
+    let small : c.loop-other.count ≤ 8192 = omega (arith, c.loop-other.invariant.few, c.loop-other-test.true, c.tasks_on-other-items.ensures.rules.few_tasks) in
     omega (arith, small)
 
 pub loop-other-preserved : goal.loop-other-preserved

@@ -12,7 +12,7 @@ loop-task-init c =
     record {
       long = refl;
       flags = refl;
-      right = λ i e. absurd (true≢false (sym e ∙ unmarked 512 i));
+      right = λ i e. absurd (true≢false (sym e ∙ unmarked 8192 i));
       done = λ k less. absurd (let none : ⊥ = omega (arith, less) in none);
     }
 

@@ -55,6 +55,7 @@ invariant_of-result c = (
     c.source_entries.ensures,
     c.task_entries.ensures,
     c.path_entries.ensures,
+    c.size.ensures,
   )
       (system-kept c.args.draft.now (unrefused c.args.draft.now c.requires.refusal) c.requires.executions),
   rw (c.as_slice.ensures.value, c.as_slice-2.ensures.value) at c.in_ok-task_lists.ensures.ok,
@@ -72,5 +73,6 @@ returns-clause-ok c =
       c.source_entries.ensures,
       c.task_entries.ensures,
       c.path_entries.ensures,
+      c.size.ensures,
     )
     refl

@@ -3,7 +3,7 @@ use Rattle.std.proofs.lemmas.Result.{IfOk-weaker, on_err_weaker}
 use Rattle.cpa_run.specs.Session.{IsSession}
 use Rattle.cpa_run.specs.Steps.{IsUnderWay}
 use Rattle.cpa_call.proofs.SendLaws.{nothing-sent, on-err-any}
-use Rattle.cpa_run.proofs.SessionLaws.{some-session, step-of, under-way-start, under-way-more, part-step, sends-session, part-session}
+use Rattle.cpa_run.proofs.SessionLaws.{some-session, step-of, after-size, under-way-start, under-way-more, part-step, sends-session, part-session}
 use Rattle.cpa_run.proofs.session.run_session.Goals as goal
 
 pub returns-in_err-trail-clause-part : goal.returns-in_err-trail-clause-part
@@ -18,7 +18,7 @@ pub loop-k-init : goal.loop-k-init
 loop-k-init g c = (
   subst (λ t. IsUnderWay c.args.system c.args.script.now 0 t (g.K.Sink.sent c.args.sink.now) (g.K.Sink.sent c.args.sink.now)) (sym c.in_ok-session.ensures.value)
       (under-way-start c.args.system c.args.script.now (g.K.Sink.sent c.args.sink.now) c.has_rules.ensures),
-  omega (arith, c.in_ok-trail.ensures.room, c.in_ok-session.ensures.kept.room),
+  rw (c.in_ok-session.ensures.value, ← c.size.ensures) (omega (arith, c.in_ok-trail.ensures.room, c.in_ok-session.ensures.kept.room)),
   omega arith,
 )
 
@@ -31,7 +31,7 @@ loop-k-preserved g c =
       subst (λ t. IsUnderWay c.args.system c.args.script.now (c.loop-k.k + 1) t (g.K.Sink.sent c.args.sink.now) (g.K.Sink.sent c.take_step.new.sink)) (sym c.in_ok-take_step.ensures.system)
           (under-way-more c.args.system c.args.script.now c.loop-k.k c.loop-k.session (g.K.Sink.sent c.args.sink.now) (g.K.Sink.sent c.loop-k.sink) (g.K.Sink.sent c.take_step.new.sink) c.line.result c.step.result.now
           c.requires c.loop-k.invariant.0 at c.in_ok-take_step.ensures.written),
-      omega (arith, c.loop-k.invariant.1, c.take_step.ensures.room),
+      rw (c.in_ok-take_step.ensures.system, after-size c.loop-k.session c.step.result.now) (omega (arith, c.loop-k.invariant.1, c.take_step.ensures.room)),
       omega (arith, c.loop-k.invariant.2, c.take_step.ensures.rises),
     )
 

@@ -4,7 +4,7 @@ use Rattle.cpa_model.specs.SystemLists.{SystemLists}
 use Rattle.cpa_local.specs.Solution.{least_of}
 use Rattle.cpa_local.proofs.TrailLaws.{IsKept_refl, IsKept_trans}
 use Rattle.cpa_slack.specs.Slack.{longer, Holds}
-use Rattle.cpa_slack.proofs.SlackLaws.{longer-none, starts, most-found, fresh_longer}
+use Rattle.cpa_slack.proofs.SlackLaws.{longer-none, longer-long, starts, most-found, fresh_longer}
 use Rattle.cpa_slack.proofs.search.halve.Goals as goal
 
 pub loop-past-init : goal.loop-past-init
@@ -40,6 +40,11 @@ holds_longer-requires-clause-below g c κs within =
     let m : ℕ = c.loop-past.holding + (c.loop-past.past - c.loop-past.holding) / 2 in
     rw (c.lengthen.ensures, inv.least_held)
     (starts s i c.loop-past.holding m c.has_rules.ensures c.args.growth.now.there (omega arith) (omega (arith, c.args.growth.now.in_range, inv.below, inv.top))).1
+
+pub holds_longer-requires-clause-room : goal.holds_longer-requires-clause-room
+holds_longer-requires-clause-room g c κs within =
+    let m : ℕ = c.loop-past.holding + (c.loop-past.past - c.loop-past.holding) / 2 in
+    rw (c.lengthen.ensures, longer-long c.args.growth.now.system.now c.args.growth.now.task.0 m) c.loop-past.invariant.room
 
 pub returns-in_err-holds_longer-clause-fresh : goal.returns-in_err-holds_longer-clause-fresh
 returns-in_err-holds_longer-clause-fresh g c =

@@ -1,5 +1,4 @@
 use Rattle.std.proofs.Common.{◌≡◌, ◌+◌, ◌-◌, ◌<◌, ◌≤◌, length}
-use Rattle.cpa_units.specs.declared.limits.TheConstants.{MAX_TASKS}
 use Rattle.cpa_local.specs.Solution.{least_of}
 use Rattle.cpa_local.specs.Trails.{IsKept, NewMarksAre}
 use Rattle.cpa_slack.specs.Slack.{longer, IsLonger, Holds}
@@ -15,7 +14,7 @@ invariant-loop-past g l = record {
   fails : l.past ≤ l.growth.most → ¬ Holds (longer l.growth.system.now l.growth.task.0 l.past);
   kept : IsKept l.fn.trail l.trail;
   fresh : NewMarksAre l.fn.trail l.trail (λ i. i < length l.growth.system.now.tasks);
-  room : MAX_TASKS ≤ l.trail.room;
+  room : length l.growth.system.now.tasks ≤ l.trail.room;
 }
 
 abbrev pub decreases-loop-past : goal.decreases-loop-past

@@ -4,4 +4,4 @@ use Rattle.cpa_local.proofs.TrailLaws.{unmarked}
 use Rattle.cpa_local.proofs.trail.Trail.with_room.Goals as goal
 
 pub returns-clause-none : goal.returns-clause-none
-returns-clause-none c = λ i h. absurd (true≢false (sym h ∙ unmarked 512 i))
+returns-clause-none c = λ i h. absurd (true≢false (sym h ∙ unmarked 8192 i))

@@ -7,13 +7,13 @@ use Rattle.cpa_model.proofs.system.System.push_task.Goals as goal
 
 pub list_task-requires : goal.list_task-requires
 list_task-requires c =
-    let less = pushed-placed c.self.inside.resources.items c.self.inside.sources.items c.self.inside.tasks.items c.self.inside.paths.items c.args.task (rw (← c.self.view_is) at c.requires.rules) in
+    let less = pushed-placed c.self.inside.size c.self.inside.resources.items c.self.inside.sources.items c.self.inside.tasks.items c.self.inside.paths.items c.args.task (rw (← c.self.view_is) at c.requires.rules) in
     omega (arith, less, c.self.invariant.1.long)
 
 pub invariant_of-self-2 : goal.invariant_of-self-2
 unfolding with_task
 invariant_of-self-2 c =
-    let less = pushed-placed c.self.inside.resources.items c.self.inside.sources.items c.self.inside.tasks.items c.self.inside.paths.items c.args.task (rw (← c.self.view_is) at c.requires.rules) in
+    let less = pushed-placed c.self.inside.size c.self.inside.resources.items c.self.inside.sources.items c.self.inside.tasks.items c.self.inside.paths.items c.args.task (rw (← c.self.view_is) at c.requires.rules) in
     let tasks = c.in_ok-push.ensures.items ∙ ap (λ ts. ts ++ c.args.task ∷ []) c.in_ok-reserve.ensures.items in (
       rw tasks (rw (← c.self.view_is) at c.requires.rules),
       task_lists-by _ _ _ _ _ tasks c.in_ok-list_task.ensures.ok (task_lists-push _ c.self.inside.tasks.items c.args.task _ c.self.inside.task_lists.items (omega arith) less c.self.invariant.1),

@@ -20,7 +20,7 @@ invariant_of-self c =
     let task_lists : (with_items c.self.inside.task_lists c.take_out.new.task_lists).items ≡ map (ids_without c.args.task.0) c.self.inside.task_lists.items =
     with_items_is c.self.inside.task_lists c.take_out.new.task_lists (omega arith) ∙ c.take_out.ensures ∙ ap (map (ids_without c.args.task.0)) c.as_mut_slice-3.ensures.value in
     let there = rw (← c.self.view_is) at c.requires.there in (
-      system-same _ _ (lists-same _ _ _ _ _ _ tasks paths) rules,
+      system-same _ _ (lists-same _ _ _ _ _ _ _ tasks paths) rules,
       task_lists-by _ _ _ _ _ tasks task_lists (task_lists-without _ c.self.inside.tasks.items c.args.task.0 c.self.inside.task_lists.items there c.self.invariant.1),
     )
 
@@ -33,4 +33,4 @@ returns c =
     ∙ ap (map (task_without c.args.task.0)) (c.as_mut_slice.ensures.value ∙ c.remove-removed.ensures.items) in
     let paths : (with_items c.self.inside.paths c.close_up_paths.new.paths).items ≡ map (path_without c.args.task.0) c.self.inside.paths.items =
     with_items_is c.self.inside.paths c.close_up_paths.new.paths (omega arith) ∙ c.close_up_paths.ensures ∙ ap (map (path_without c.args.task.0)) c.as_mut_slice-2.ensures.value in
-    rw (← c.self.view_is) (lists-same _ _ _ _ _ _ tasks paths)
+    rw (← c.self.view_is) (lists-same _ _ _ _ _ _ _ tasks paths)

@@ -4,7 +4,7 @@ use Rattle.cpa_units.proofs.SetLaws.{with-holds}
 use Rattle.cpa_units.proofs.res_set.ResSet.with.Goals as goal
 
 pub invariant_of-result : goal.invariant_of-result
-invariant_of-result c = or_lt 64 c.self.inside.bits (1 * 2 ^ c.args.res.0 % 2 ^ 64) c.self.invariant (omega arith)
+invariant_of-result c = or_lt 128 c.self.inside.bits (1 * 2 ^ c.args.res.0 % 2 ^ 128) c.self.invariant (omega arith)
 
 pub returns : goal.returns
 returns c r = rw (← c.self.view_is) (with-holds c.self.inside.bits c.args.res.0 c.requires r)

@@ -1,0 +1,118 @@
+-- What a size allows is within the limits of all systems, and the tests of a draft's numbers say so of its system.
+use Rattle.std.proofs.Common.{◌≡◌, ℕ, ℤ, pos, negsuc, ◌*◌, ◌≤◌, Bool, true, false, ◌&&◌, Option, Some, None, unwrap_or, refl, arith}
+use Rattle.std.proofs.Math.Nat.{le_trans, mul-le-mul_right}
+use Rattle.std.proofs.lemmas.Bool.{and_parts, and_from, false≢true, leb-true, le-leb}
+use Rattle.cpa_units.specs.declared.limits.Size.{Size}
+use Rattle.cpa_units.specs.declared.limits.Size.TheVariants.{Small, Large}
+use Rattle.cpa_units.specs.Sizes.{most_resources, most_sources, most_tasks, most_paths, most_execution, most_region, most_gap, most_limit}
+use Rattle.cpa_units.specs.Frames.{greatest_frame_bits}
+use Rattle.cpa_draft.specs.Numbers.{nat_of, nat_or, is_within, may_be_within}
+use Rattle.cpa_draft.specs.Refusals.{resource_fits, task_fits}
+use Rattle.cpa_draft.specs.declared.draft.DraftResource.{DraftResource}
+use Rattle.cpa_draft.specs.declared.draft.DraftTask.{DraftTask}
+use Rattle.cpa_draft.specs.declared.draft.KindWord.{KindWord}
+use Rattle.cpa_draft.specs.declared.draft.KindWord.TheVariants as word
+use Rattle.cpa_model.specs.SystemLists.{gap_of, slot_of}
+use Rattle.cpa_model.specs.Rules.{IsSizedResource}
+use Rattle.cpa_model.specs.Built.{built_kind, built_resource, built_turn, greatest_execution}
+use Rattle.cpa_model.proofs.EntryLaws.{may-range}
+
+pub resources-most : (z : Size) → most_resources z ≤ 128
+resources-most Small = omega arith
+resources-most Large = omega arith
+
+pub sources-most : (z : Size) → most_sources z ≤ 8192
+sources-most Small = omega arith
+sources-most Large = omega arith
+
+pub tasks-most : (z : Size) → most_tasks z ≤ 8192
+tasks-most Small = omega arith
+tasks-most Large = omega arith
+
+pub paths-most : (z : Size) → most_paths z ≤ 2048
+paths-most Small = omega arith
+paths-most Large = omega arith
+
+pub execution-most : (z : Size) → most_execution z ≤ 10000000
+execution-most Small = omega arith
+execution-most Large = omega arith
+
+execution-frame : (z : Size) → 160000 ≤ most_execution z
+execution-frame Small = omega arith
+execution-frame Large = omega arith
+
+limit-default : (z : Size) → 1000000 ≤ most_limit z
+limit-default Small = omega arith
+limit-default Large = omega arith
+
+-- a region of a tick is allowed to any size
+pub region-tick : (z : Size) → 1 ≤ most_region z
+region-tick Small = omega arith
+region-tick Large = omega arith
+
+-- a number within one range is within a wider one
+wider : (least most more : ℕ) (o : Option ℤ) → most ≤ more → may_be_within least most o ≡ true → may_be_within least more o ≡ true
+wider least most more None le h = refl
+wider least most more (Some (pos n)) le h = let a = and_parts _ _ h in and_from _ _ a.0 (le-leb n more (le_trans (leb-true _ _ a.1) le))
+wider least most more (Some (negsuc n)) le h = absurd (false≢true h)
+
+pub larger-resource : (z : Size) (r : DraftResource) → resource_fits z r ≡ true → resource_fits Large r ≡ true
+larger-resource Large r h = h
+larger-resource Small r h =
+    let a = and_parts _ _ h in
+    let b = and_parts _ _ a.0 in
+    and_from _ _ (and_from _ _ (wider 1 10000000 100000000 r.limit (omega arith) b.0) (wider 0 1000000 10000000 r.gap (omega arith) b.1)) a.1
+
+pub larger-task : (z : Size) (t : DraftTask) → task_fits z t ≡ true → task_fits Large t ≡ true
+larger-task Large t h = h
+larger-task Small t h =
+    let region = and_parts _ _ h in
+    let slot = and_parts _ _ region.0 in
+    let priority = and_parts _ _ slot.0 in
+    let payload = and_parts _ _ priority.0 in
+    let run = and_parts _ _ payload.0 in
+    and_from _ _
+    (and_from _ _
+    (and_from _ _
+    (and_from _ _ (and_from _ _ (wider 1 1000000 10000000 t.best (omega arith) run.0) (wider 1 1000000 10000000 t.worst (omega arith) run.1)) payload.1)
+    priority.1)
+    (wider 1 1000000 10000000 t.slot (omega arith) slot.1))
+    (wider 1 1 10000000 t.region (omega arith) region.1)
+
+upper : (least most : ℕ) (o : Option ℤ) → may_be_within least most o ≡ true → nat_or 0 o ≤ most
+upper least most None h = omega arith
+upper least most (Some (pos n)) h = let a = and_parts _ _ h in leb-true _ _ a.1
+upper least most (Some (negsuc n)) h = absurd (false≢true h)
+
+gap-sized : (z : Size) (w : KindWord) (gap bit : Option ℤ) → may_be_within 0 (most_gap z) gap ≡ true → gap_of (built_kind w gap bit) ≤ most_gap z
+gap-sized z word.Preemptive gap bit h = omega arith
+gap-sized z word.RoundRobin gap bit h = omega arith
+gap-sized z word.Tdma gap bit h = upper 0 (most_gap z) gap h
+gap-sized z word.Can gap bit h = omega arith
+
+pub resource-sized : (z : Size) (r : DraftResource) → resource_fits z r ≡ true → IsSizedResource z (built_resource r)
+resource-sized z r h =
+    let a = and_parts _ _ h in
+    let b = and_parts _ _ a.0 in (
+      (may-range 1 (most_limit z) 1000000 r.limit (omega arith, limit-default z) b.0).1,
+      gap-sized z r.kind r.gap r.bit b.1,
+    )
+
+frame-most : (s : ℕ) (extended : Bool) → s ≤ 8 → greatest_frame_bits s extended ≤ 160
+frame-most s true h = omega arith
+frame-most s false h = omega arith
+
+pub worst-sized : (z : Size) (payload worst : Option ℤ) (extended : Bool) (bit : ℕ) → may_be_within 0 8 payload ≡ true → may_be_within 1 (most_execution z) worst ≡ true → bit ≤ 1000
+    → greatest_execution payload extended bit (nat_or 0 worst) ≤ most_execution z
+worst-sized z None worst extended bit p w b = upper 1 (most_execution z) worst w
+worst-sized z (Some s) worst extended bit p w b =
+    let most : greatest_frame_bits (nat_of s) extended * bit ≤ 160 * bit = mul-le-mul_right bit (frame-most (nat_of s) extended (upper 0 8 (Some s) p)) in
+    let fits : 160 * bit ≤ 160000 = omega arith in
+    le_trans most (le_trans fits (execution-frame z))
+
+pub slot-sized : (z : Size) (b : Bool) (t : DraftTask) → may_be_within 1 (most_execution z) t.slot ≡ true → slot_of (built_turn b t) ≤ most_execution z
+slot-sized z true t h = omega arith
+slot-sized z false t h = upper 1 (most_execution z) t.slot h
+
+pub region-sized : (z : Size) (region : Option ℤ) → may_be_within 1 (most_region z) region ≡ true → nat_or 1 region ≤ most_region z
+region-sized z region h = (may-range 1 (most_region z) 1 region (omega arith, region-tick z) h).1

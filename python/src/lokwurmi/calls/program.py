@@ -1,0 +1,66 @@
+"""The proved program, which answers each call as a process of its own."""
+import os
+import shutil
+import subprocess
+import tempfile
+from collections.abc import Sequence
+from pathlib import Path
+
+from lokwurmi.calls.texts import text_of
+from lokwurmi.errors import NoEngine
+from lokwurmi.model.commands import FILES
+
+TOP = Path(__file__).resolve().parents[4]
+"""The repository, where the package is used from there."""
+BESIDE = {"schedule": "cpa_schedule", "chain": "cpa_chain", "chains": "cpa_chain"}
+"""The programs of the repository that stand beside that of most commands."""
+
+
+class Program:
+    """The program, a process for each call: `file`, or what LOKWURMI_PROGRAM names, or `lokwurmi` in the search path,
+    or the program of the repository where it is built. The texts go by way of files in a folder for temporary files."""
+
+    def __init__(self, file: str | os.PathLike[str] | None = None):
+        built = TOP / "crates/cpa_cli/out/cpa_cli"
+        named = os.fspath(file) if file is not None else os.environ.get("LOKWURMI_PROGRAM")
+        found = named or shutil.which("lokwurmi") or (str(built) if built.is_file() else None)
+        if found is None:
+            raise NoEngine(
+                "there is no library, no program lokwurmi in the search path, and LOKWURMI_PROGRAM names none:"
+                " docs/LIBRARY.md says how they are built"
+            )
+        self.file = Path(os.path.abspath(found))
+
+    def __repr__(self) -> str:
+        return f"Program({str(self.file)!r})"
+
+    def _start(self, command: str) -> list[str]:
+        """The words by which a command begins. In the repository three commands have programs of their own."""
+        other = BESIDE.get(command)
+        if self.file.name != "cpa_cli" or other is None:
+            return [str(self.file), command]
+        places = [self.file.with_name(other), self.file.parent.parent.parent / other / "out" / other]
+        there = next((it for it in places if it.is_file()), None)
+        if there is None:
+            raise NoEngine(
+                f"{command} has a program of its own, and there is none at {places[0]}, nor at {places[1]}:"
+                f" ./lokwurmi {command} builds it, and an installed lokwurmi has all commands"
+            )
+        return [str(there)] if command == "schedule" else [str(there), command]
+
+    def call(self, command: str, files: Sequence[bytes], words: Sequence[str | int] = ()) -> tuple[int, str]:
+        start, names = self._start(command), FILES[command]
+        with tempfile.TemporaryDirectory(prefix="lokwurmi") as folder:
+            for name, text in zip(names, files, strict=True):
+                Path(folder, name).write_bytes(text)
+            try:
+                done = subprocess.run(
+                    [*start, *names, *map(str, words)],
+                    cwd=folder,
+                    stdout=subprocess.PIPE,
+                    check=False,
+                    env=os.environ | {"LOKWURMI_QUIET": "1"},
+                )
+            except (OSError, ValueError) as fault:
+                raise NoEngine(f"{start[0]}: can't be called: {fault}") from fault
+        return done.returncode, text_of(done.stdout)

@@ -1,0 +1,274 @@
+"""A system under edits whose bounds are kept between them: what an edit can't reach isn't analysed again."""
+import threading
+from collections.abc import Mapping
+from types import MappingProxyType, TracebackType
+from typing import TYPE_CHECKING, Any
+
+from lokwurmi.calls.engines import Engine, KeptSession, default_engine
+from lokwurmi.calls.library import Library
+from lokwurmi.errors import CallFailed, EditRefused, ScriptRefused, SessionClosed
+from lokwurmi.files.report_lines import REFUSED
+from lokwurmi.model.conversion import Rounding, warn
+from lokwurmi.model.entries import Resource, Source, Task, Ticks
+from lokwurmi.model.event_models import Bounds
+from lokwurmi.model.limits import WITH_PRIORITIES
+from lokwurmi.model.statuses import Status
+from lokwurmi.refusals.program_lines import error_of
+from lokwurmi.refusals.sentences import edit_words
+from lokwurmi.results import reports
+from lokwurmi.results.reports import Verdict
+
+if TYPE_CHECKING:
+    from lokwurmi.calls.system import System
+
+
+class Session:
+    """A system under edits. Use it as a context manager, which closes it:
+
+        >>> from lokwurmi import System
+        >>> system = System()
+        >>> cpu = system.preemptive("cpu")
+        >>> a = system.task("a", on=cpu, after=system.source("s", period=10), best=1, worst=3, priority=1)
+        >>> b = system.task("b", on=cpu, after=system.source("r", period=20), best=2, worst=7, priority=2)
+        >>> with system.session() as session:
+        ...     session.exec("b", worst=5)
+        ...     session.bounds["b"]
+        8
+
+    An edit that can't be made raises EditRefused, and changes nothing. Times are in ticks; where the system has a tick,
+    they may have units, and are rounded as those of a system. By the library the bounds are kept in this process; where
+    there is none, or an older one, each edit replays all edits before it: the same answers, slower, and at most 10,000
+    edits (`is_kept` says which).
+
+    Several threads may share a session: one call waits for the other.
+    """
+
+    def __init__(self, system: "System", engine: Engine | None = None):
+        chosen = engine or default_engine()
+        self.is_kept = isinstance(chosen, Library) and chosen.has("open")
+        self._kept: KeptSession | None
+        system._check_names()
+        self._kept, told = system._keep(engine)
+        self._roundings: list[Rounding] = list(told)
+        self._system = system.copy()
+        self._lock = threading.Lock()
+        self._found: tuple[Bounds, Bounds] | None = None
+
+    def __enter__(self) -> "Session":
+        return self
+
+    def __exit__(
+        self, kind: type[BaseException] | None, fault: BaseException | None, trace: TracebackType | None
+    ) -> None:
+        self.close()
+
+    def close(self) -> None:
+        """Frees what is kept. The session can't be used any more; to close it again does nothing."""
+        with self._lock:
+            if self._kept is not None:
+                self._kept.close()
+                self._kept = None
+
+    @property
+    def is_closed(self) -> bool:
+        """Whether the session was closed."""
+        return self._kept is None
+
+    def __repr__(self) -> str:
+        return f"Session({'closed' if self.is_closed else repr(self._system)})"
+
+    def _repr_html_(self) -> str:
+        return "<div>A session that is closed</div>" if self.is_closed else self.report()._repr_html_()
+
+    def _open(self) -> KeptSession:
+        if self._kept is None:
+            raise SessionClosed("the session is closed: open another by system.session()")
+        return self._kept
+
+    # ---- edits
+
+    def edit(self, line: str) -> None:
+        """Makes an edit that is a line of a script (docs/FILES.md, "The script"), as "exec b 2 8", in ticks."""
+        with self._lock:
+            self._edit(line)
+
+    def _edit(self, line: str) -> None:
+        status, text = self._open().edit(line)
+        if status == Status.EDIT_REFUSED and (found := REFUSED.fullmatch(text.rstrip("\n"))):
+            raise self._refused(line, int(found[2]))
+        if status == Status.SCRIPT_REFUSED:
+            raise error_of(status, text.rstrip("\n") + "\n")
+        if status:
+            raise CallFailed(status, text)
+        self._found = None
+        edit = next(it for it in line.split("\n") if it.strip(" \t\r") and not it.lstrip(" \t").startswith("#"))
+        _apply(self._system, edit.split())
+
+    def _refused(self, line: str, rule: int, shown: str = "") -> EditRefused:
+        """The refusal of an edit, in words."""
+        why = edit_words(line, rule, self._system._file()[0])
+        return EditRefused(shown or line.strip(), rule, why)
+
+    def _ticks(self, kind: str, name: str, **given: Ticks | None) -> dict[str, Any]:
+        """Times of an entry in ticks, rounded and reported as those of a system."""
+        entry: dict[str, Any] = {"name": name} | {key: it for key, it in given.items() if it is not None}
+        if kind == "task" and "on" not in entry and name in self._system.tasks:
+            task = self._system.tasks[name]
+            entry["on"] = task.on
+            if task.region is not None:
+                # an execution that it covers has a tick more
+                entry["region"] = self._system.ticks(task, "region")
+        told = self._system._convert(kind, entry)
+        if told:
+            self._roundings += told
+            warn(told)
+        return entry
+
+    def _known(self, form: str, it: "str | Task | Source", part: Mapping[str, Any]) -> str:
+        """The name of an entry that is there. What stays of one that isn't is unknown here, so that such an edit isn't
+        sent: the program refuses it too."""
+        self._open()
+        name = _named(it)
+        if name not in part:
+            numbers = {"exec": "1 1", "source": "1 0 0"}[form]
+            raise self._refused(f"{form} {name} {numbers}", 1, f"{form} {name}")
+        return name
+
+    def exec(self, task: str | Task, best: Ticks | None = None, worst: Ticks | None = None) -> None:
+        """Sets the least and the greatest execution of a task, in ticks or with units; one that isn't given stays."""
+        with self._lock:
+            name = self._known("exec", task, self._system.tasks)
+            before = self._system.execution(name)
+            found = self._ticks("task", name, best=best, worst=worst)
+            self._edit(f"exec {name} {found.get('best', before[0])} {found.get('worst', before[1])}")
+
+    def priority(self, task: str | Task, priority: int) -> None:
+        """Sets the priority of a task on a preemptive or can resource."""
+        self.edit(f"priority {_named(task)} {priority}")
+
+    def swap(self, one: str | Task, other: str | Task) -> None:
+        """Exchanges the priorities of two tasks of one preemptive or can resource."""
+        self.edit(f"swap {_named(one)} {_named(other)}")
+
+    def slot(self, task: str | Task, slot: Ticks) -> None:
+        """Sets the slot of a task on a round-robin or tdma resource, in ticks or as a time that is whole ticks."""
+        with self._lock:
+            name = _named(task)
+            self._edit(f"slot {name} {self._ticks('task', name, slot=slot)['slot']}")
+
+    def source(
+        self,
+        source: str | Source,
+        period: Ticks | None = None,
+        jitter: Ticks | None = None,
+        distance: Ticks | None = None,
+    ) -> None:
+        """Sets the period, the jitter and the distance of a source, in ticks or with units; what isn't given stays."""
+        with self._lock:
+            name = self._known("source", source, self._system.sources)
+            there, stays = self._system.sources[name], {"period": 1, "jitter": 0, "distance": 0}
+            stays |= {key: it for key in stays if (it := self._system.ticks(there, key)) is not None}
+            found = stays | self._ticks("source", name, period=period, jitter=jitter, distance=distance)
+            self._edit(f"source {name} {found['period']} {found['jitter']} {found['distance']}")
+
+    def add(
+        self,
+        name: str,
+        *,
+        on: str | Resource,
+        after: "str | Source | Task",
+        best: Ticks,
+        worst: Ticks,
+        priority: int | None = None,
+        slot: Ticks | None = None,
+    ) -> None:
+        """Adds a task as the last one, after one source or task, with a priority or a slot."""
+        with self._lock:
+            found = self._ticks("task", name, on=_named(on), best=best, worst=worst, slot=slot)
+            number = found["slot"] if priority is None else priority
+            self._edit(f"add {name} {_named(on)} {_named(after)} {found['best']} {found['worst']} {number}")
+
+    def remove(self, task: str | Task) -> None:
+        """Removes a task that no other comes after, and no path names."""
+        self.edit(f"remove {_named(task)}")
+
+    # ---- what holds by now
+
+    def _all(self) -> tuple[Bounds, Bounds]:
+        with self._lock:
+            kept = self._open()
+            if self._found is None:
+                tasks, paths = kept.numbers()
+                bounds = dict(zip(self._system.tasks, tasks, strict=True))
+                latencies = dict(zip(self._system.paths, paths, strict=True))
+                self._found = MappingProxyType(bounds), MappingProxyType(latencies)
+            return self._found
+
+    @property
+    def bounds(self) -> Bounds:
+        """The bounds of the tasks by name, in ticks; None where there is none. What was given doesn't change by later
+        edits."""
+        return self._all()[0]
+
+    @property
+    def latencies(self) -> Bounds:
+        """The bounds of the paths by name, in ticks; None where there is none."""
+        return self._all()[1]
+
+    def report(self) -> reports.Report:
+        """The report of the system as it is by now."""
+        with self._lock:
+            status, text = self._open().report()
+            if not Status.is_answer(status):
+                raise CallFailed(status, text)
+            return reports.reports(text, self._system.tick, self._roundings)[-1]
+
+    @property
+    def verdict(self) -> Verdict:
+        """That of the report."""
+        return self.report().verdict
+
+    @property
+    def roundings(self) -> list[Rounding]:
+        """The times that were rounded, those of the system and those of edits."""
+        return list(self._roundings)
+
+    def to_system(self) -> "System":
+        """A system of its own with all edits that were made; they are made anew here, and no proof speaks of that."""
+        with self._lock:
+            return self._system.copy()
+
+
+def _named(it: "str | Task | Source | Resource") -> str:
+    return it if isinstance(it, str) else it.name
+
+
+def _apply(system: "System", words: list[str]) -> None:
+    """Makes an edit that was accepted in a system, whose numbers are those of the program, in ticks."""
+    form, name, *rest = words
+    system._expect_ticks("source" if form == "source" else "task", name)
+    numbers = [int(it) for it in rest if it.isdigit()]
+    if form == "exec":
+        it = system.tasks[name]
+        it.best, it.worst, it.payload, it.extended = numbers[0], numbers[1], None, None
+    elif form == "priority":
+        system.tasks[name].priority = numbers[0]
+    elif form == "swap":
+        one, other = system.tasks[name], system.tasks[rest[0]]
+        one.priority, other.priority = other.priority, one.priority
+    elif form == "slot":
+        system.tasks[name].slot = numbers[0]
+    elif form == "source":
+        source = system.sources[name]
+        source.period, source.jitter, source.distance = numbers
+    elif form == "add":
+        on, after, best, worst, number = rest
+        several: dict[str, Any] = {"best": int(best), "worst": int(worst)}
+        by_priority = system.resources[on].kind in WITH_PRIORITIES
+        several["priority" if by_priority else "slot"] = int(number)
+        system.tasks[name] = Task(name, on, after, **several)
+    elif form == "remove":
+        del system.tasks[name]
+
+
+__all__ = ["EditRefused", "ScriptRefused", "Session"]

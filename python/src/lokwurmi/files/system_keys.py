@@ -1,0 +1,149 @@
+"""What the entries of a system file hold: keys, types and ranges, as docs/FILES.md has them."""
+from __future__ import annotations
+
+from collections.abc import Sequence
+from dataclasses import dataclass
+from functools import cache
+
+from lokwurmi.files.documents import PARTS
+from lokwurmi.frames import MOST_CLASSICAL
+from lokwurmi.model.formats import KEYS_SINCE
+from lokwurmi.model.limits import LIMITS, MOST_BIT, MOST_IN_NAME, MOST_PRIORITY, NEWEST, Kind, times_of
+
+TOP_KEYS = ("format", *PARTS)
+KINDS = tuple(it.value for it in Kind)
+
+
+@dataclass(frozen=True)
+class Key:
+    """What a key holds: `text`, `integer`, `truth`, `texts` or `after`; of an integer the range; whether each entry has
+    it."""
+
+    holds: str
+    least: int = 0
+    most: int = 0
+    is_required: bool = False
+
+
+@cache
+def keys_of(form: int) -> dict[str, dict[str, Key]]:
+    """The keys of each list in a format."""
+    times = {
+        part: {key: Key("integer", least, most, key == "period") for key, (_, least, most) in keys.items()}
+        for part, keys in times_of(LIMITS[form]).items()
+    }
+    name = {"name": Key("text", is_required=True)}
+    task = {"on": Key("text", is_required=True), "after": Key("after", is_required=True)}
+    task |= {key: times["task"][key] for key in ("best", "worst")}
+    task |= {"payload": Key("integer", 0, MOST_CLASSICAL), "extended": Key("truth")}
+    task |= {"priority": Key("integer", 0, MOST_PRIORITY), "slot": times["task"]["slot"]}
+    task |= {key: times["task"][key] for key, since in KEYS_SINCE.items() if form >= since}
+    return {
+        "resource": {
+            **name,
+            "kind": Key("text", is_required=True),
+            **times["resource"],
+            "bit": Key("integer", 1, MOST_BIT),
+        },
+        "source": name | times["source"],
+        "task": name | task,
+        "path": {**name, "tasks": Key("texts", is_required=True), **times["path"]},
+    }
+
+
+KEYS = keys_of(NEWEST)
+"""The keys of each list in the newest format."""
+
+
+def by_word(words: dict[str, str]) -> dict[str, str]:
+    """Each of some words with what it stands for."""
+    return {word: meant for meant, several in words.items() for word in several.split()}
+
+
+OTHER_KEYS = by_word(
+    {
+        "worst": "wcet maximum max",
+        "best": "bcet minimum min",
+        "priority": "prio id identifier canid msgid",
+        "payload": "dlc length bytes size",
+        "extended": "isextended ide",
+        "after": "activator activators activation activatedby trigger source input",
+        "on": "resource cpu processor core ecu bus mappedto",
+        "slot": "quantum timeslice slice budget",
+        "region": (
+            "npr nonpreemptiveregion schedule preemptable preemptible preemptive nonpreemptable "
+            "nonpreemptive cooperative blocking"
+        ),
+        "period": "cycle cycletime interval t p",
+        "jitter": "j",
+        "distance": "d dmin mindistance minimumdistance",
+        "bit": "bittime",
+        "kind": "scheduler scheduling policy type",
+        "tasks": "chain",
+        "deadline": "e2e endtoend",
+        "name": "id_ label",
+        "format": "version",
+        "resource": "cpus processors buses",
+        "source": "events streams",
+        "task": "frames messages",
+        "path": "chains",
+    }
+)
+"""What others call a key, in lower case without marks between words, each with the key that is meant."""
+OTHER_KINDS = by_word(
+    {
+        "preemptive": (
+            "spp fp fps fpps fixedpriority priority osek cooperative fpds limitedpreemptive autosar rm dm cpu"
+        ),
+        "round-robin": "rr roundrobin timeslice",
+        "tdma": "tt timetriggered",
+        "can": "canbus can2.0 spnp fpnp npfp nonpreemptive bus",
+    }
+)
+"""What others call a kind."""
+# of those kinds the ones of tasks that give way at some places alone, and the ones of tasks that never do
+WITH_REGIONS = ("cooperative", "fpds", "limitedpreemptive")
+WITHOUT_PREEMPTION = ("spnp", "fpnp", "npfp", "nonpreemptive")
+# what others call the time at which a source or a task begins, and CAN FD
+OFFSETS = ("offset", "offsets", "phase", "phases", "start", "startoffset", "startdelay", "releaseoffset")
+FLEXIBLE = ("canfd", "fd", "canflexibledatarate", "isocanfd")
+# what others call a lock of a task, or its ceiling
+LOCKS = ("lock", "locks", "ceiling", "threshold")
+
+
+def bare(word: str) -> str:
+    """A word in lower case without marks between its parts."""
+    return word.lower().translate({ord(it): None for it in " _-"})
+
+
+def is_integer(value: object) -> bool:
+    return isinstance(value, int) and not isinstance(value, bool)
+
+
+def is_texts(value: object) -> bool:
+    return isinstance(value, list) and all(isinstance(it, str) for it in value)
+
+
+def holds(key: Key, value: object, has_lists: bool) -> bool:
+    """Whether a value is of the key's type."""
+    if key.holds == "integer":
+        return is_integer(value)
+    if key.holds == "truth":
+        return isinstance(value, bool)
+    if key.holds == "texts":
+        return is_texts(value)
+    if key.holds == "after" and has_lists and is_texts(value):
+        return True
+    return isinstance(value, str)
+
+
+def is_name(word: str) -> bool:
+    return 0 < len(word) <= MOST_IN_NAME and all(is_name_letter(it) for it in word)
+
+
+def is_name_letter(letter: str) -> bool:
+    return letter.isascii() and (letter.isalnum() or letter in "_-.")
+
+
+def ranges(part: str, keys: Sequence[str]) -> str:
+    return ", ".join(f"{it}: {KEYS[part][it].least} to {KEYS[part][it].most}" for it in keys)

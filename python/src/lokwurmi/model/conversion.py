@@ -1,0 +1,307 @@
+"""How times with units become whole ticks.
+
+A system counts in whole ticks, so a time that isn't a whole number of them is rounded to the side that is safe for its
+key, and each rounding is reported, and each tick more. Greatest executions, regions, jitters and gaps are rounded up;
+least executions, periods, distances and deadlines down. A slot has no safe side and must be whole. A region has a tick
+more. The proof of the bounds is about ticks. That they hold for the times that were rounded so is argued in
+docs/NETWORKS.md, "Times with units", and not proved.
+"""
+import math
+import re
+import warnings
+from collections.abc import Iterable, MutableMapping
+from dataclasses import dataclass, field
+from fractions import Fraction
+from typing import Any
+
+from lokwurmi.errors import UnitsRefused
+from lokwurmi.frames import frame_bits
+from lokwurmi.model.limits import DOWN, MOST_BIT, NEITHER, TIMES, UP, TimeRanges, limits_of, times_of
+from lokwurmi.model.units import UNITS, Time, bit_of, common, text_of
+
+_AMOUNT = re.compile(r"(\d+(?:\.\d+)?) ?(ns|us|ms|s|bits?|bytes?)", re.ASCII)
+
+
+class RoundingWarning(UserWarning):
+    """A time with a unit is no whole number of ticks, and was rounded to its safe side; or it has a tick more."""
+
+
+class NoUnitWarning(UserWarning):
+    """Numbers have no unit in a system whose other times have one: they count ticks."""
+
+
+class NoticeWarning(UserWarning):
+    """A system is accepted, and may be another one than was meant: its bounds may be too low for the real system."""
+
+
+@dataclass(frozen=True, slots=True)
+class Rounding:
+    """A time that was rounded, or has a tick more. Its text is the whole sentence."""
+
+    what: str
+    """The entry, as "task brake"."""
+    key: str
+    time: Time
+    """What was given."""
+    side: str
+    """UP or DOWN; NEITHER where it is whole, and has a tick more."""
+    ticks: int
+    """What it became."""
+    is_capped: bool = False
+    """Whether it is a limit or a region, and above the most that there is."""
+    has_more: bool = False
+    """Whether a tick more is in it: it is a region, or an execution that is no longer than its region."""
+
+    def __str__(self) -> str:
+        told = f"{self.what}: {self.key} of {text_of(self.time.nanoseconds)} is"
+        if self.is_capped and self.key == "region":
+            return f"{told} {self.ticks}, the most, which is as long as any execution"
+        if self.is_capped:
+            return f"{told} {self.ticks}, the most; bounds that need more are overload"
+        rounded = "" if self.side == NEITHER else f" rounded {self.side} to"
+        return f"{told}{rounded} {self.ticks}{', with a tick more' if self.has_more else ''}"
+
+
+def warn(told: Iterable[object], kind: type[Warning] = RoundingWarning) -> None:
+    """Tells roundings, or something else, as warnings, at the line outside this package that caused them."""
+    import sys
+
+    depth = 1
+    while depth < 30 and sys._getframe(depth).f_globals.get("__name__", "").startswith("lokwurmi"):
+        depth += 1
+    for it in told:
+        warnings.warn(str(it), kind, stacklevel=depth + 1)
+
+
+WrittenEntry = MutableMapping[str, Any]
+"""An entry of a system file: its keys and what they have."""
+
+
+@dataclass
+class Converter:
+    """Turns the times of entries into ticks, and keeps what was rounded.
+
+    It takes entries as dictionaries, or as tables of tomlkit; `text` is the file that they stand in, for line numbers.
+    """
+
+    tick: Fraction
+    """In nanoseconds."""
+    text: str = ""
+    told: list[Rounding] = field(default_factory=list)
+    bare: list[tuple[str, str, str]] = field(default_factory=list)
+    """The keys with a number that has no unit, and so counts ticks: key, kind and name of the entry."""
+    longer: list[Rounding] = field(default_factory=list)
+    """The times that have a tick more; those of them that are no whole number of ticks are in `told` too."""
+    exact: list[tuple[Fraction, int]] = field(default_factory=list)
+    """The times, each with the most ticks that it may be."""
+    bits: dict[str, Fraction] = field(default_factory=dict)
+    """Of a resource, by its name, the time of a bit in nanoseconds."""
+    given: set[str] = field(default_factory=set)
+    """The resources whose bit has a unit."""
+    times: TimeRanges = field(default_factory=lambda: TIMES)
+    """The keys that are times, by the format of the file, and by the newest where there is none."""
+
+    def line_of(self, key: str, word: object) -> str:
+        """Where a word stands in the file, as far as it can be found."""
+        if not isinstance(word, str) or not self.text:
+            return ""
+        found = re.search(rf"\b{key}\s*=\s*[\"']{re.escape(word)}[\"']", self.text)
+        return f"line {self.text.count(chr(10), 0, found.start()) + 1}: " if found else ""
+
+    def nanoseconds(self, what: str, key: str, word: "str | Time", bit: Fraction | None) -> Fraction:
+        """The time that a value tells."""
+        if isinstance(word, Time):
+            return word.nanoseconds
+        found = _AMOUNT.fullmatch(word)
+        where = f'{self.line_of(key, word)}{what}: {key} = "{word}"'
+        if not found:
+            raise UnitsRefused(f'{where} is no time: write a number and a unit, as "250 us" or "8 bit"')
+        if not found[2].startswith("b"):
+            return Fraction(found[1]) * UNITS[found[2]]
+        if what.startswith(("source", "path", "chain")):
+            raise UnitsRefused(f"{where} is told in bits, and is on no resource: write a time")
+        if bit is None:
+            raise UnitsRefused(
+                f"{where} is told in bits, and its resource has no bit rate: give that `bitrate = 500000`, in bits per"
+                " second"
+            )
+        return Fraction(found[1]) * bit * (8 if found[2].startswith("byte") else 1)
+
+    def ticks(self, what: str, key: str, time: Fraction, side: str, most: int, more: int = 0) -> int:
+        """A time in whole ticks, rounded to a side, which is kept for the report, and so many more."""
+        self.exact.append((time, most - more))
+        number = time / self.tick
+        if number.denominator == 1:
+            return int(number) + more
+        if side == NEITHER:
+            raise UnitsRefused(
+                f"{what}: {key} of {text_of(time)} is {float(number):.12g} ticks, and has no safe side: a longer slot"
+                f" helps its task and delays the others. With a tick of {text_of(common(self.tick, time))} it is whole"
+            )
+        rounded = (math.ceil(number) if side == UP else math.floor(number)) + more
+        self.told.append(Rounding(what, key, Time(time), side, rounded, has_more=more > 0))
+        return rounded
+
+    def more_of(self, item: WrittenEntry, key: str, time: Fraction) -> int:
+        """A tick more for a region, and for an execution that is no longer than its region is without that. A job that
+        has begun between two ticks holds up others for all of it, and in ticks it holds them up for a tick less."""
+        if key != "worst":
+            return int(key == "region")
+        region = item.get("region")
+        return int(isinstance(region, int) and region > math.ceil(time / self.tick))
+
+    def set_time(self, kind: str, item: WrittenEntry, key: str, bit: Fraction | None) -> None:
+        """Replaces a time of an entry that has a unit."""
+        word = item[key]
+        if not isinstance(word, (str, Time)):
+            # nothing is nothing in any unit
+            if isinstance(word, int) and not isinstance(word, bool) and word:
+                self.bare.append((key, kind, item.get("name", "?")))
+            return
+        what, (side, least, most) = f"{kind} {item.get('name', '?')}", self.times[kind][key]
+        time = self.nanoseconds(what, key, word, bit)
+        given = Time(time)
+        if key == "region":
+            # what is as long as any execution does for all that is longer
+            time = min(time, (most - 1) * self.tick)
+        more = self.more_of(item, key, time)
+        number = self.ticks(what, key, time, side, most, more)
+        if more and (time / self.tick).denominator > 1:
+            self.longer.append(self.told[-1])
+        elif more and number > 1:
+            is_capped = time < given.nanoseconds
+            self.longer.append(Rounding(what, key, given, NEITHER, number, is_capped, has_more=True))
+        if key == "limit" and number > most:
+            self.told.append(Rounding(what, key, Time(time), side, most, is_capped=True))
+            number = most
+        if not least <= number <= most:
+            longer = "shorter" if number < least else "longer"
+            raise UnitsRefused(
+                f"{self.line_of(key, word)}{what}: {key} of {text_of(time)} is {number} ticks, and {least} to {most}"
+                f" are possible: take a {longer} tick"
+            )
+        item[key] = number
+
+    def set_bit(self, item: WrittenEntry) -> None:
+        """The time of a bit of a bus: by its bit rate, or with a unit. It's rounded up; where it isn't whole, frames
+        get their lengths in its place."""
+        name, rate, told = str(item.get("name", "?")), item.get("bitrate"), item.get("bit")
+        if rate is not None:
+            if not isinstance(rate, int) or isinstance(rate, bool) or rate < 1:
+                raise UnitsRefused(
+                    f"resource {name}: bitrate = {rate} is no bit rate: write bits per second, as 500000"
+                )
+            if told is not None:
+                raise UnitsRefused(f"resource {name}: it has bit and bitrate: leave one out")
+            bit = bit_of(rate)
+            del item["bitrate"]
+        elif isinstance(told, (str, Time)):
+            bit = self.nanoseconds(f"resource {name}", "bit", told, None)
+        else:
+            if isinstance(told, int):
+                self.bare.append(("bit", "resource", name))
+                self.bits[name] = told * self.tick
+            return
+        self.bits[name] = bit
+        self.given.add(name)
+        if item.get("kind") != "can":
+            return
+        number = math.ceil(bit / self.tick)
+        if not 1 <= number <= MOST_BIT:
+            raise UnitsRefused(
+                f"resource {name}: a bit of {text_of(bit)} is {number} ticks, and 1 to {MOST_BIT} are possible"
+            )
+        item["bit"] = number
+
+    def set_payload(self, item: WrittenEntry) -> None:
+        """Tells the lengths of a frame where the time of a bit isn't whole, since `bit` is rounded up."""
+        name, bit = str(item.get("on", "")), self.bits.get(str(item.get("on", "")))
+        size, extended = item.get("payload"), item.get("extended", False)
+        if name not in self.given or bit is None or not isinstance(size, int) or (bit / self.tick).denominator == 1:
+            return
+        what = f"task {item.get('name', '?')}"
+        least, greatest = (count * bit for count in frame_bits(int(size), bool(extended)))
+        most = self.times["task"]["worst"][2]
+        item["best"] = self.ticks(what, "the least length", least, DOWN, most)
+        item["worst"] = self.ticks(what, "the greatest length", greatest, UP, most)
+        for key in ("payload", "extended"):
+            if key in item:
+                del item[key]
+
+    def set_times(self, kind: str, item: WrittenEntry) -> None:
+        """Replaces the times of an entry."""
+        bit = self.bits.get(str(item.get("on", item.get("name", "")))) if kind in ("resource", "task") else None
+        for key in self.times[kind]:
+            if key in item:
+                self.set_time(kind, item, key, bit)
+
+    def convert(self, document: Any) -> None:
+        """Turns all times of a system file into ticks."""
+        self.times = times_of(limits_of(document.get("format")))
+        for item in entries_of(document, "resource"):
+            self.set_bit(item)
+        for kind in ("resource", "source", "task", "path"):
+            for item in entries_of(document, kind):
+                self.set_times(kind, item)
+        for item in entries_of(document, "task"):
+            self.set_payload(item)
+
+    def whole_tick(self) -> Fraction | None:
+        """The longest tick with which nothing is rounded, where no number is too large by it."""
+        found: Fraction | None = None
+        for it, _ in self.exact:
+            found = (it if found is None else common(found, it)) if it else found
+        return found if found and all(it / found <= most for it, most in self.exact) else None
+
+    @property
+    def reported(self) -> list[Rounding]:
+        """The times that were rounded, and those that have a tick more."""
+        return [*self.told, *(it for it in self.longer if it.side == NEITHER)]
+
+    @property
+    def has_units(self) -> bool:
+        """Whether a time had a unit, or a bus a bit rate."""
+        return bool(self.exact or self.given)
+
+    def rounded_text(self) -> str:
+        """What stands before the times that are rounded."""
+        if len(self.told) == 1:
+            return "1 time is rounded, to its safe side:"
+        return f"{len(self.told)} times are rounded, each to its safe side:"
+
+    def more_text(self) -> str:
+        """What is to be said of the times that have a tick more; nothing where there are none."""
+        several = ", ".join(f"{it.key} of {it.what} is {it.ticks}" for it in self.longer)
+        return f"a tick more, since between ticks all of a region may go by: {several}" if several else ""
+
+    def bare_text(self) -> str:
+        """What is to be said of the numbers that have no unit; nothing where there are none."""
+        several = ", ".join(f"{key} of {kind} {name}" for key, kind, name in self.bare)
+        has = "it has" if len(self.bare) == 1 else "they have"
+        return f"taken as ticks, since {has} no unit: {several}" if several else ""
+
+    def lines(self) -> list[str]:
+        """What is to be said of a file."""
+        found = [f"A tick is {text_of(self.tick)}."]
+        if self.told:
+            found.append(self.rounded_text())
+            found += [f"  {it}" for it in self.told]
+            whole = self.whole_tick()
+            found.append(f"  with --tick {text_of(whole)} none is" if whole else "")
+        if any(it.key == "period" for it in self.told):
+            found.append("  a period that is rounded is too short for `chain`, which takes it as the longest, too")
+        if more := self.more_text():
+            found.append(more)
+        if bare := self.bare_text():
+            found.append(bare)
+        return [it for it in found if it]
+
+
+def entries_of(document: Any, kind: str) -> list[Any]:
+    """The entries of a kind in a system file."""
+    found = document.get(kind, [])
+    if not isinstance(found, list) or not all(isinstance(it, MutableMapping) for it in found):
+        raise UnitsRefused(
+            f"{kind} isn't a list of entries, as `{kind} = [{{ name = .. }}]` or [[{kind}]] (docs/FILES.md)"
+        )
+    return list(found)

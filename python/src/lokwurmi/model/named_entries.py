@@ -1,0 +1,258 @@
+"""The entries of a system, each by its name: adding them, their times in ticks, and what is told of roundings.
+
+Nothing is checked here that the program checks: a system that it refuses raises `SystemRefused` when it is analysed.
+docs/FILES.md has the range and the meaning of each attribute.
+"""
+import copy
+from collections.abc import Iterable
+from typing import Any, Self, TypeVar
+
+from lokwurmi.errors import LokwurmiError
+from lokwurmi.frames import execution
+from lokwurmi.model.conversion import Converter, NoUnitWarning, Rounding, warn
+from lokwurmi.model.entries import Entry, Path, Resource, Source, Task, Ticks, check_no_time, keys_of, kind_name
+from lokwurmi.model.formats import least_format
+from lokwurmi.model.limits import TIMES, Kind
+from lokwurmi.model.units import Time, tick_of
+from lokwurmi.model.view import SystemView
+
+_Entry = TypeVar("_Entry", Resource, Source, Task, Path)
+
+
+def name_of(it: "str | Entry") -> str:
+    return it if isinstance(it, str) else it.name
+
+
+def names_of(several: "Iterable[str | Entry]", what: str) -> list[str]:
+    """The names of several entries; a text is one name, and its letters are none."""
+    if isinstance(several, str):
+        raise TypeError(f"{what} is a list of tasks, and not a text: write [{several!r}]")
+    return [name_of(it) for it in several]
+
+
+class NamedEntries:
+    """Resources, sources, tasks and paths, each a dictionary by name, in the order in which they were added."""
+
+    def __init__(self, tick: "Time | str | None" = None) -> None:
+        self.resources: dict[str, Resource] = {}
+        self.sources: dict[str, Source] = {}
+        self.tasks: dict[str, Task] = {}
+        self.paths: dict[str, Path] = {}
+        self._told: set[str] = set()
+        self._has_units = False
+        self._looked_at = ""
+        self.tick = tick  # type: ignore[assignment]
+
+    @property
+    def tick(self) -> Time | None:
+        """The time of a tick, or None: then all times are plain numbers. It may be set, also by a text such as
+        "1us"."""
+        return self._tick
+
+    @tick.setter
+    def tick(self, tick: "Time | str | None") -> None:
+        self._tick = None if tick is None else tick_of(tick)
+
+    def __eq__(self, other: object) -> bool:
+        if not isinstance(other, NamedEntries):
+            return NotImplemented
+        return self._converted()[0] == other._converted()[0]
+
+    __hash__ = None  # type: ignore[assignment]
+
+    def _parts(self) -> dict[str, dict[str, Any]]:
+        return {"resource": self.resources, "source": self.sources, "task": self.tasks, "path": self.paths}
+
+    def _add(self, it: _Entry) -> _Entry:
+        part = self._parts()[kind_name(it)]
+        if it.name in part:
+            raise ValueError(f"there is a {kind_name(it)} {it.name!r} already")
+        self._tell(it)
+        part[it.name] = it
+        return it
+
+    def _tell(self, it: Entry) -> None:
+        """Says at once what is rounded of an entry, or why it can't be."""
+        if converter := self._converter(kind_name(it), keys_of(it)):
+            self._warn(converter.reported)
+            self._warn_bare(converter)
+
+    def _convert(self, kind: str, entry: dict[str, Any]) -> list[Rounding]:
+        """Turns the times of an entry into ticks, and gives what was rounded; raises NoTick where there is no tick."""
+        converter = self._converter(kind, entry)
+        return converter.reported if converter else []
+
+    def _converter(self, kind: str, entry: dict[str, Any]) -> Converter | None:
+        """What has turned the times of an entry into ticks; None where there is no tick."""
+        if self._tick is None:
+            check_no_time(kind, entry)
+            return None
+        document = {kind: [entry]}
+        if entry.get("on") in self.resources:
+            document["resource"] = [keys_of(self.resources[entry["on"]])]
+        converter = Converter(self._tick.nanoseconds)
+        converter.convert(document)
+        return converter
+
+    def _warn_bare(self, converter: Converter) -> None:
+        """Warns of numbers without a unit where other times have one, once of each."""
+        self._has_units = self._has_units or converter.has_units
+        new = [it for it in converter.bare if " ".join(it) not in self._told]
+        if self._has_units and new:
+            self._told |= {" ".join(it) for it in new}
+            converter.bare = new
+            warn([converter.bare_text()], NoUnitWarning)
+
+    def _warn(self, roundings: Iterable[Rounding]) -> None:
+        """Warns of roundings of which it hasn't warned yet."""
+        if new := [it for it in roundings if str(it) not in self._told]:
+            self._told |= {str(it) for it in new}
+            warn(new)
+
+    def resource(
+        self,
+        name: str,
+        kind: str,
+        *,
+        limit: Ticks | None = None,
+        gap: Ticks | None = None,
+        bit: Ticks | None = None,
+        bitrate: int | None = None,
+    ) -> Resource:
+        """Adds a resource; times are in ticks, or have a unit."""
+        return self._add(Resource(name, str(kind), limit, gap, bit, bitrate))
+
+    def preemptive(self, name: str, *, limit: Ticks | None = None) -> Resource:
+        """Adds a processor on which the smallest priority number is next."""
+        return self.resource(name, Kind.PREEMPTIVE, limit=limit)
+
+    def round_robin(self, name: str, *, limit: Ticks | None = None) -> Resource:
+        """Adds a processor on which one task runs after the other, each for up to its slot."""
+        return self.resource(name, Kind.ROUND_ROBIN, limit=limit)
+
+    def tdma(self, name: str, *, gap: Ticks | None = None, limit: Ticks | None = None) -> Resource:
+        """Adds a resource on which each task has its slot of a cycle; a `gap` of it, in ticks or as a time, belongs to
+        no task."""
+        return self.resource(name, Kind.TDMA, limit=limit, gap=gap)
+
+    def can(
+        self, name: str, *, bit: Ticks | None = None, bitrate: int | None = None, limit: Ticks | None = None
+    ) -> Resource:
+        """Adds a CAN bus, whose bits take `bit` ticks or such a time each, or which has so many bits per second."""
+        return self.resource(name, Kind.CAN, limit=limit, bit=bit, bitrate=bitrate)
+
+    def source(self, name: str, period: Ticks, *, jitter: Ticks | None = None, distance: Ticks | None = None) -> Source:
+        """Adds a source of events; times are in ticks, or have a unit."""
+        return self._add(Source(name, period, jitter, distance))
+
+    def task(
+        self,
+        name: str,
+        *,
+        on: str | Resource,
+        after: "str | Source | Task | Iterable[str | Source | Task]",
+        best: Ticks | None = None,
+        worst: Ticks | None = None,
+        payload: int | None = None,
+        extended: bool | None = None,
+        priority: int | None = None,
+        slot: Ticks | None = None,
+        region: Ticks | None = None,
+    ) -> Task:
+        """Adds a task; `on` and `after` are names, or what was added before. Times are in ticks, or have a unit.
+
+        >>> from lokwurmi import System
+        >>> system = System()
+        >>> cpu, often = system.preemptive("cpu"), system.source("often", period=10)
+        >>> control = system.task("control", on=cpu, after=often, best=2, worst=2, priority=1)
+        >>> seldom = system.source("seldom", period=100)
+        >>> log = system.task("log", on=cpu, after=seldom, best=5, worst=20, priority=2, region=5)
+        >>> system.analyse().tasks["control"].worst
+        6
+        """
+        single = isinstance(after, (str, Source, Task))
+        starts: str | list[str] = name_of(after) if single else [name_of(it) for it in after]  # type: ignore
+        return self._add(Task(name, name_of(on), starts, best, worst, payload, extended, priority, slot, region))
+
+    def path(self, name: str, tasks: Iterable[str | Task], *, deadline: Ticks | None = None) -> Path:
+        """Adds a path over tasks, with a deadline in ticks or as a time, if there is one."""
+        return self._add(Path(name, names_of(tasks, "a path"), deadline))
+
+    def copy(self) -> Self:
+        """An equal system of its own."""
+        return copy.deepcopy(self)
+
+    def ticks(self, it: Entry, key: str) -> int | None:
+        """An attribute of an entry in ticks, rounded as the system file has it; None where it isn't set.
+
+        >>> from lokwurmi import System
+        >>> system = System(tick="10us")
+        >>> system.ticks(system.source("s", "1 ms", jitter="15 us"), "jitter")
+        2
+        """
+        entry = keys_of(it)
+        self._convert(kind_name(it), entry)
+        return entry.get(key)
+
+    def execution(self, task: str | Task) -> tuple[int, int]:
+        """The least and the greatest execution of a task in ticks; those of a frame by its payload."""
+        entry = keys_of(self.tasks[name_of(task)])
+        self._convert("task", entry)
+        bit = self.ticks(self.resources[entry["on"]], "bit") if "payload" in entry else None
+        return execution(entry, {} if bit is None else {"bit": bit})
+
+    def view(self) -> SystemView:
+        """What the entries say together, in whole ticks, for a system that the program accepts: who shares a resource,
+        which streams start a task, how much of a resource is asked for.
+
+        >>> from lokwurmi import System
+        >>> system = System()
+        >>> cpu, often = system.preemptive("cpu"), system.source("often", period=10)
+        >>> control = system.task("control", on=cpu, after=often, best=2, worst=4, priority=1)
+        >>> system.view().utilisation("cpu")
+        Fraction(2, 5)
+        """
+        return SystemView.of({"format": self._format(), **self._converted()[0]})
+
+    def _converted(self) -> tuple[dict[str, list[dict[str, Any]]], Converter | None]:
+        """The keys of all entries, in ticks where there is a tick, and what has turned them into ticks."""
+        document = {key: [keys_of(it) for it in part.values()] for key, part in self._parts().items()}
+        if self._tick is None:
+            for kind, entries in document.items():
+                for entry in entries:
+                    check_no_time(kind, entry)
+            return document, None
+        converter = Converter(self._tick.nanoseconds)
+        converter.convert(document)
+        return document, converter
+
+    @property
+    def roundings(self) -> list[Rounding]:
+        """The times that are no whole number of ticks, each with the side to which it is rounded, and the regions and
+        executions that have a tick more."""
+        converter = self._converted()[1]
+        return converter.reported if converter else []
+
+    def _bare_text(self) -> str:
+        """What is to be said of numbers without a unit; nothing where no other time has one."""
+        converter = self._converted()[1]
+        return converter.bare_text() if converter and converter.has_units else ""
+
+    def _format(self) -> int:
+        """The least format that has all keys that are set."""
+        return least_format({key: map(keys_of, part.values()) for key, part in self._parts().items()})
+
+    def _check_names(self) -> None:
+        """Refuses an entry that was given another name than the one by which it was added: edits and bounds of a
+        session go by names."""
+        for kind, part in self._parts().items():
+            for name, it in part.items():
+                if it.name != name:
+                    raise LokwurmiError(
+                        f"{kind} {name!r} has the name {it.name!r} by now: a session goes by names, so add it anew"
+                        " under that one"
+                    )
+
+    def _expect_ticks(self, kind: str, name: str) -> None:
+        """Numbers of an entry are known to count ticks, and nothing is to be said of them."""
+        self._told |= {f"{key} {kind} {name}" for key in TIMES[kind]}

@@ -1,0 +1,88 @@
+"""Readers of the words behind a command: argparse stands in this room alone."""
+import argparse
+import itertools
+import textwrap
+from collections.abc import Callable
+from dataclasses import fields
+from typing import Any, TypeVar
+
+from lokwurmi.model.units import time_of
+from lokwurmi_tools.commands.catalogue import named
+from lokwurmi_tools.shared.faults import Told
+from lokwurmi_tools.shared.program import LAUNCHER
+
+# how many letters a line of prose has at most, and the status of words that the program doesn't accept
+WIDTH, NO_WORDS = 120, 10
+# the typed options of a room
+Options = TypeVar("Options")
+
+
+class HelpForm(argparse.RawDescriptionHelpFormatter):
+    """A help whose prose is as wide as the terminal, up to WIDTH; lines that are indented, as examples, stay."""
+
+    def _fill_text(self, text: str, width: int, indent: str) -> str:
+        # argparse leaves two columns free
+        room, lines = min(WIDTH, self._width + 2), []
+        for is_prose, several in itertools.groupby(text.splitlines(), lambda it: it[:1].strip() != ""):
+            if is_prose:
+                lines += textwrap.wrap(" ".join(several), room, break_long_words=False, break_on_hyphens=False)
+            else:
+                lines += several
+        return "\n".join(indent + it for it in lines)
+
+
+def reader_of(name: str, description: str | None, examples: str = "") -> argparse.ArgumentParser:
+    """A reader of a command's words, whose help has an example that runs."""
+    epilog = examples or f"example:\n  ./lokwurmi {named(name).example}"
+    return argparse.ArgumentParser(
+        prog=f"lokwurmi {name}", description=description, epilog=epilog, formatter_class=HelpForm
+    )
+
+
+def options_of(kind: type[Options], words: argparse.Namespace, **more: Any) -> Options:
+    """The typed options of a room: each field has the word of its name, or what is told beside the words."""
+    names = [it.name for it in fields(kind)]  # type: ignore[arg-type]
+    return kind(**{name: more[name] if name in more else getattr(words, name) for name in names})
+
+
+def word_of(reader: Callable[[str], Any]) -> Callable[[str], Any]:
+    """A reader of one word for argparse, whose message is that of the ValueError."""
+
+    def read(word: str) -> Any:
+        try:
+            return reader(word)
+        except ValueError as fault:
+            raise argparse.ArgumentTypeError(str(fault)) from fault
+
+    return read
+
+
+def parsed(reader: argparse.ArgumentParser, arguments: list[str] | None) -> argparse.Namespace:
+    """The words of a call whose status says something of bounds; words that aren't accepted end with that of the
+    program, since 2 says something here."""
+    try:
+        return reader.parse_args(arguments)
+    except SystemExit as end:
+        if end.code:
+            raise Told(NO_WORDS) from end
+        raise
+
+
+def add_tick(reader: argparse.ArgumentParser) -> None:
+    """The word that has times shown in place of ticks."""
+    says = "the time of a tick, as 1us: shows times in place of ticks"
+    reader.add_argument("--tick", metavar="TIME", type=word_of(time_of), help=says)
+
+
+def add_program(reader: argparse.ArgumentParser) -> None:
+    """The word that names the program that is called."""
+    where = (
+        "what is called; if absent the script lokwurmi of the repository, which builds the program, or lokwurmi in PATH"
+    )
+    reader.add_argument("--program", metavar="PROGRAM", default=LAUNCHER, help=where)
+
+
+def add_picture(reader: argparse.ArgumentParser, is_required: bool = False) -> None:
+    """The word that names the picture that is written."""
+    says = "a name that ends with .svg, .png or .pdf"
+    reader.add_argument("--to", metavar="PICTURE", required=is_required, help=says)

@@ -1,0 +1,92 @@
+"""Reads the lines of a recorded log beside python-can, for lokwurmi import log: it passes over a line of an .asc file
+that it can't read, and takes much for a line of candump that is none."""
+import gzip
+import os
+import re
+from collections.abc import Iterator
+from typing import Any
+
+from lokwurmi_tools.shared.faults import Fault
+
+# a frame as `candump -l` writes it: a time, a channel, an identifier of 3 or 8 digits, and data
+_CANDUMP = re.compile(
+    r"\(\d+\.(\d+)\) \S+ ([0-9A-F]{3}|[01][0-9A-F]{7}|2[0-9A-F]{7})#"
+    r"(?:R[0-8]?|(?:[0-9A-F]{2}){0,8}|#[0-9A-F](?:[0-9A-F]{2}){0,64})(?: [RT])?",
+    re.I,
+)
+# lines of an .asc file: those of its head, those of frames, and those of other events
+_HEAD = re.compile(
+    r"(?:date\b|base\b|(?:no\s+)?internal\s+events\s+logged|//|begin\s+triggerblock|end\s+triggerblock|previous log)",
+    re.I,
+)
+_FRAME = re.compile(
+    r"\d+\.\d+\s+(?:\d+\s+(?:[0-9A-F]+x?\s+(?:Rx|Tx|TxRq)\s+(?:d\s+\d+(?:\s|$)|r\b)|ErrorFrame)"
+    r"|CANFD\s+\d+\s+(?:Rx|Tx)\s)",
+    re.I,
+)
+_EVENT = re.compile(r"\d+\.\d+\s+(?:\d+\s+(?:Statistic:|OverloadFrame|J1939)|(?!CANFD\b)[A-Za-z]{2,})", re.I)
+_LOOKS = re.compile(r"\s(?:Rx|Tx|TxRq)\s+[dr]\b", re.I)
+
+
+def rows_of(file: str) -> Iterator[tuple[int, str]]:
+    """The lines of a file that may be packed, with their numbers."""
+    packed: Any = gzip.open if file.endswith(".gz") else open
+    with packed(file, "rt", encoding="utf-8", errors="replace", newline="") as it:
+        for place, line in enumerate(it, 1):
+            yield place, line.strip()
+
+
+def fault(file: str, place: int, line: str, form: str) -> Fault:
+    short = line if len(line) <= 80 else f"{line[:77]}.."
+    return Fault(
+        f"{file}: line {place}: `{short}` is no line of such a log: a line of the log is broken, or it isn't {form}"
+    )
+
+
+def check_candump(file: str) -> int:
+    """Refuses a line that isn't as `candump -l` writes it; how many frames there are."""
+    count, digits = 0, None
+    for place, line in rows_of(file):
+        if not line:
+            continue
+        found = _CANDUMP.fullmatch(line)
+        digits = len(found[1]) if found and digits is None else digits
+        if not found or len(found[1]) != digits:
+            raise fault(file, place, line, "of `candump -l`, as (1700000000.123456) can0 1A0#0011")
+        count += 1
+    return count
+
+
+def check_asc(file: str) -> int:
+    """Refuses a line that is neither a frame nor another event; how many frames there are."""
+    count = 0
+    for place, line in rows_of(file):
+        if _FRAME.match(line):
+            count += 1
+        elif line and not _HEAD.match(line) and (not _EVENT.match(line) or _LOOKS.search(line)):
+            raise fault(file, place, line, "of Vector, as 0.010000 1 1A0 Rx d 2 00 11")
+    return count
+
+
+def frames_in(file: str) -> int | None:
+    """How many frames a log of lines has, or None of another format; a line that is none is refused."""
+    plain = file.lower().removesuffix(".gz")
+    try:
+        if plain.endswith(".log"):
+            return check_candump(file)
+        return check_asc(file) if plain.endswith(".asc") else None
+    except (EOFError, gzip.BadGzipFile) as it:
+        raise Fault(f"{file}: it is cut off, or not packed: {it}")
+
+
+def check_read(file: str, reader: object, count: int, wanted: int | None) -> None:
+    """Refuses a log of which python-can has read less than it has."""
+    if wanted is not None and wanted != count:
+        raise Fault(
+            f"{file}: it has {wanted} frames, and python-can reads {count} of them: most often its head lacks a line,"
+            " as `no internal events logged`"
+        )
+    size = getattr(reader, "file_size", 0)
+    rest = getattr(reader, "_tail", b"")
+    if size > os.path.getsize(file) or bytes(rest).strip(b"\0"):
+        raise Fault(f"{file}: it is cut off behind {count} frames: its head tells more than there is")

@@ -1,0 +1,121 @@
+"""Reads what an ARXML file says of frames beside canmatrix, for lokwurmi import network: which are triggered, by which
+identifiers, and how often their data units are sent."""
+import re
+from collections.abc import Iterator
+from fractions import Fraction
+from typing import Any
+
+from lokwurmi.model.limits import MOST_PRIORITY, MOST_SHORT
+from lokwurmi_tools.shared.faults import Fault
+
+TOO_LOW = "Without it the bounds of all other frames may be too low"
+_SECONDS = re.compile(r"\d+(?:\.\d+)?(?:[eE][-+]?\d+)?|\.\d+(?:[eE][-+]?\d+)?")
+
+
+def text_of(element: Any, key: str) -> str | None:
+    """The text of a child, or None where there is no such child."""
+    found = element.find(f"{{*}}{key}")
+    return None if found is None else str(found.text or "").strip()
+
+
+def paths_of(root: Any) -> dict[str, Any]:
+    """The elements with a name, by their paths, as references have them."""
+    found: dict[str, Any] = {}
+    rest = [(root, "")]
+    while rest:
+        element, before = rest.pop()
+        name = text_of(element, "SHORT-NAME")
+        path = f"{before}/{name}" if name else before
+        if name:
+            found.setdefault(path, element)
+        rest += [(child, path) for child in element if isinstance(child.tag, str)]
+    return found
+
+
+class ArxmlFrames:
+    """The frames that the clusters of a file trigger."""
+
+    def __init__(self, file: str, root: Any):
+        self.file, self.root = file, root
+        self.paths = paths_of(root)
+
+    def fault(self, element: Any, says: str) -> Fault:
+        return Fault(f"{self.file}: line {element.sourceline}: {says}")
+
+    def identifier_of(self, element: Any, what: str) -> tuple[int, bool]:
+        """The identifier of a triggered frame, and whether it has 29 bits."""
+        number, mode = text_of(element, "IDENTIFIER"), text_of(element, "CAN-ADDRESSING-MODE")
+        if number is None or not number.isascii() or not number.isdecimal():
+            says = f"{what} has the identifier {number or 'none'}: give it IDENTIFIER, a decimal number. {TOO_LOW}"
+            raise self.fault(element, says)
+        if mode not in (None, "STANDARD", "EXTENDED"):
+            raise self.fault(element, f"{what}: CAN-ADDRESSING-MODE is {mode}: it is STANDARD or EXTENDED")
+        most = MOST_PRIORITY if mode == "EXTENDED" else MOST_SHORT
+        if int(number) > most:
+            helps = "" if mode == "EXTENDED" else ", unless CAN-ADDRESSING-MODE is EXTENDED"
+            raise self.fault(element, f"{what} has the identifier {number}, and {most} is the most{helps}")
+        return int(number), mode == "EXTENDED"
+
+    def referred(self, element: Any, what: str) -> Any:
+        """What a reference names."""
+        path = str(element.text or "").strip()
+        if path not in self.paths:
+            tag = element.tag.rpartition("}")[2]
+            raise self.fault(
+                element, f"{what} is triggered, and isn't read: {tag} names {path}, which isn't there. {TOO_LOW}"
+            )
+        return self.paths[path]
+
+    def periods_of(self, units: list[Any], what: str) -> Iterator[Fraction]:
+        """The periods of some data units, in seconds."""
+        for it in (it for unit in units for it in unit.iter("{*}TIME-PERIOD", "{*}REPEATING-TIME")):
+            word = text_of(it, "VALUE")
+            if word is None or not _SECONDS.fullmatch(word):
+                raise self.fault(it, f"{what}: its period is {word or 'empty'}: VALUE is a number of seconds, as 0.02")
+            yield Fraction(word)
+
+    def units_of(self, frame: Any, what: str) -> list[Any]:
+        """The data units of a frame, with those that are within others."""
+        found, rest = [], [self.referred(it, what) for it in frame.iter("{*}PDU-REF")]
+        while rest:
+            unit = rest.pop()
+            if unit not in found:
+                found.append(unit)
+                inner = [it for it in unit.iter("{*}I-PDU-REF", "{*}STATIC-PART-REF") if it.text]
+                rest += [self.paths[it.text.strip()] for it in inner if it.text.strip() in self.paths]
+        return found
+
+    def triggerings(self, cluster: Any) -> Iterator[tuple[str, int, bool, int, Fraction]]:
+        """The frames of a cluster: name, identifier, whether that has 29 bits, length, and the shortest period in
+        seconds; 0 where none is told."""
+        for it in cluster.iter("{*}CAN-FRAME-TRIGGERING"):
+            path = text_of(it, "FRAME-REF")
+            name = (path or text_of(it, "SHORT-NAME") or "").rsplit("/", 1)[-1]
+            what = f"frame {name} of bus {text_of(cluster, 'SHORT-NAME')}"
+            number, is_long = self.identifier_of(it, what)
+            size, period = 0, Fraction(0)
+            if path is not None:
+                frame = self.referred(it.find("{*}FRAME-REF"), what)
+                word = text_of(frame, "FRAME-LENGTH")
+                if word is None or not word.isdecimal():
+                    raise self.fault(
+                        frame, f"{what} has the length {word or 'none'}: FRAME-LENGTH is a number of bytes"
+                    )
+                size = int(word)
+                period = min(
+                    (at for at in self.periods_of(self.units_of(frame, what), what) if at), default=Fraction(0)
+                )
+            yield name, number, is_long, size, period
+
+    def lost(self) -> list[str]:
+        """The frames of the file that nothing triggers; one that is triggered beside the clusters is refused."""
+        for it in self.root.iter("{*}CAN-FRAME-TRIGGERING"):
+            if not any(
+                isinstance(above.tag, str) and above.tag.endswith("}CAN-CLUSTER") for above in it.iterancestors()
+            ):
+                name = text_of(it, "SHORT-NAME")
+                raise self.fault(it, f"frame triggering {name} is in no CAN-CLUSTER, and isn't read. {TOO_LOW}")
+        refs = [it for it in self.root.iter("{*}FRAME-REF") if it.getparent().tag.endswith("TRIGGERING")]
+        triggered = {str(it.text or "").strip() for it in refs}
+        frames = {path for path, it in self.paths.items() if it.tag.rpartition("}")[2] in ("CAN-FRAME", "FRAME")}
+        return sorted(path.rsplit("/", 1)[-1] for path in frames - triggered)

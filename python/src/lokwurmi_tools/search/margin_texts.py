@@ -1,0 +1,125 @@
+"""How far numbers may move, as a table, as JSON or as a picture: for lokwurmi sensitivity."""
+import json
+import os
+import sys
+import time
+from dataclasses import dataclass
+
+from lokwurmi_tools.bounds.bound_texts import shown
+from lokwurmi_tools.search.margins import LAWS, PARTS, MarginQuestion, rows_of
+from lokwurmi_tools.shared.analysed import analysed
+from lokwurmi_tools.shared.faults import Fault
+from lokwurmi_tools.shared.packages import need
+from lokwurmi_tools.shared.tables import columns
+from lokwurmi_tools.shared.times import TICKS, Scale
+from lokwurmi_tools.shared.types import Values
+
+# what has to be said beside the table
+NOTE = "each is moved alone: two that both move so far may miss a deadline together"
+# what has to be said beside what doesn't hold already, where there are regions
+REGIONS = (
+    "regions can't be shorter than now in this search: leave the key region out, "
+    "and --only region says how long each may be"
+)
+WORDS = {
+    "execution": "greatest execution of",
+    "period": "period of",
+    "jitter": "jitter of",
+    "speed": "executions on",
+    "region": "region of",
+    "deadline": "deadline of",
+}
+# of what the share of a number is where it isn't of the number itself
+WHOLES = {"jitter": "the period of its source", "region": "the greatest execution"}
+
+
+@dataclass(frozen=True, slots=True)
+class MarginOptions:
+    """Which kinds of numbers of a system move, by `jobs` calls at a time: `goals` are deadlines of paths in ticks, and
+    with `deadlines` these alone count; the answer is a table or JSON, and drawn into the picture `to`."""
+
+    file: str
+    program: str
+    only: tuple[str, ...]
+    jobs: int
+    goals: dict[str, int]
+    deadlines: bool = False
+    json: bool = False
+    to: str | None = None
+
+
+def value_of(row: Values, key: str, scale: Scale = TICKS) -> str:
+    return f"× {row[key] / PARTS:.3f}" if row["kind"] == "speed" else scale.text(row[key])
+
+
+def name_of(row: Values) -> str:
+    return f"{WORDS[row['kind']]} {row['name']}"
+
+
+def share_text(row: Values) -> str:
+    if not row["by"]:
+        return "0 %"
+    sign = "-" if row["kind"] in ("period", "deadline") else "+"
+    share = 100 * row["share"]
+    return f"{sign}{share:.1f} %" if share < 1000 else f"{sign}{share:.0f} %"
+
+
+def then_of(row: Values) -> str:
+    """What comes first beyond the last value that holds."""
+    if row["limit"]:
+        return "nothing: " + ("it is never preempted" if row["kind"] == "region" else "as far as the number goes")
+    more = len(row["first"]) - 2
+    return ", ".join(row["first"][:2]) + (f" and {more} more" if more > 0 else "")
+
+
+def lines_of(rows: list[Values]) -> list[str]:
+    """The table."""
+    cells = [("may move", "now", "as far as", "by", "beyond that")]
+    for it in rows:
+        cells.append((name_of(it), value_of(it, "value"), value_of(it, "last"), share_text(it), then_of(it)))
+    return columns(cells, "", right=(1, 2, 3))
+
+
+def shares_of(rows: list[Values]) -> list[str]:
+    """Which numbers have a share that isn't of themselves."""
+    kinds = {it["kind"] for it in rows}
+    return [f"a {kind} in % of {whole}" for kind, whole in WHOLES.items() if kind in kinds]
+
+
+def lines_of_shares(rows: list[Values]) -> list[str]:
+    """The same as a line, if there is one."""
+    several = shares_of(rows)
+    return [f"by: {', '.join(several)}"] if several else []
+
+
+def json_text(options: MarginOptions, question: MarginQuestion, rows: list[Values], seconds: float) -> str:
+    """All that is told, as JSON."""
+    asked = {"file": options.file, "goals": options.goals, "deadlines": options.deadlines}
+    cost = {"calls": question.calls, "reports": question.probes, "seconds": round(seconds, 3)}
+    return json.dumps({**asked, "numbers": rows, "laws": LAWS, **cost}, indent=1)
+
+
+def tell_margins(options: MarginOptions) -> int:
+    """Tells how far each number may move; 3 where something doesn't hold already."""
+    if options.to:
+        need("matplotlib")
+    start, known = time.monotonic(), analysed(options.program, options.file)
+    question, paths = MarginQuestion(known, options.goals, options.deadlines), known.view.paths
+    for name in options.goals:
+        if name not in paths:
+            raise Fault(f"{options.file}: there is no path {name}; it has {', '.join(paths) or 'none'}")
+    if not question.now().holds():
+        regions = f"; {REGIONS}" if question.has_regions() else ""
+        first = ", ".join(question.now().first())
+        print(f"nothing may move, as this doesn't hold now: {first}{regions}", file=sys.stderr)
+        return 3
+    rows = rows_of(question, options.only, options.jobs)
+    if options.json:
+        print(json_text(options, question, rows, time.monotonic() - start))
+    else:
+        print(shown("\n".join([*lines_of(rows), "", NOTE, *lines_of_shares(rows)])))
+    if options.to:
+        from lokwurmi_tools.pictures.margin_bars import draw_margins
+
+        draw_margins(rows, options.to, os.path.basename(options.file))
+    return 0

@@ -1,0 +1,65 @@
+"""What was found of priorities, in lines or as JSON: for lokwurmi optimise."""
+import json
+import sys
+import tempfile
+from fractions import Fraction
+
+from lokwurmi_tools.search.priorities import OrderVerdict, PriorityOptions, PrioritySearch
+from lokwurmi_tools.shared.analysed import analysed
+from lokwurmi_tools.shared.tables import numbered
+
+
+def above(share: Fraction) -> str:
+    """A utilisation above all of the time in percent, rounded up, so that it is seen to be above."""
+    return f"{-(-share * 1000 // 1) / 10:.1f}"
+
+
+def json_text(search: PrioritySearch, verdict: OrderVerdict) -> str:
+    """All that was found, as JSON."""
+    found = {"file": search.known.file, "found": verdict.holds, "orders": search.looked, "by": search.how}
+    loads = {on: float(share) for on, share in search.overloaded().items()}
+    late = {"late": verdict.late, "overload": verdict.over, "overloaded": loads}
+    return json.dumps({**found, **late, "order": search.changed(), "edits": search.script()}, indent=1)
+
+
+def lines_of(search: PrioritySearch, verdict: OrderVerdict) -> list[str]:
+    """The same in lines."""
+    head, by = ("found", "by") if verdict.holds else ("not found", "the best by")
+    lines = [f"{head} after {numbered(search.looked, 'order')}, {by} {search.how}: {verdict.told()}"]
+    lines += [f"{on}: {' '.join(names)}" for on, names in search.changed().items()]
+    if not search.changed():
+        lines.append("the order is that of the file")
+    for on, share in search.overloaded().items():
+        lines.append(f"no order can do: the utilisation of {on} is {above(share)} %, whatever the priorities are")
+    if not verdict.holds and not search.overloaded():
+        lines.append("there may be an order still: the search proves nothing about what it didn't try")
+        if any("region" in it for it in search.view.values["task"]):
+            lines.append("regions stay as they are: lokwurmi explain says whether a late path waits for one")
+    return lines
+
+
+def searched_until(search: PrioritySearch) -> bool:
+    """Searches, and says whether it was interrupted after an order was looked at, the best of which is kept."""
+    try:
+        search.run()
+    except KeyboardInterrupt:
+        if search.best is None:
+            raise
+        return True
+    finally:
+        search.progress.clear()
+    return False
+
+
+def tell_priorities(options: PriorityOptions, file: str, program: str, is_json: bool) -> int:
+    """Looks for priorities, and tells what was found; 3 where no order holds, and 130 after an interrupt."""
+    with tempfile.TemporaryDirectory() as room:
+        # a file that is refused is told here, and a program that isn't there is built
+        search = PrioritySearch(analysed(program, file), options, room)
+        is_cut = searched_until(search)
+        verdict = search.confirmed()
+    print(json_text(search, verdict) if is_json else "\n".join(lines_of(search, verdict)))
+    if is_cut:
+        print("lokwurmi optimise: interrupted: this is the best up to there", file=sys.stderr)
+        return 130
+    return 0 if verdict.holds else 3

@@ -1,0 +1,69 @@
+"""Calls the proved program, for the tools beside it."""
+import os
+import shlex
+import shutil
+import subprocess
+import sys
+from pathlib import Path
+from typing import NoReturn
+
+from lokwurmi_tools.shared.faults import Fault, Told
+
+# the folder of the repository, where this package lies in one
+TOP = Path(__file__).resolve().parents[4]
+# what is called: the script of the repository, which builds the programs, or an installed one
+IS_REPOSITORY = (TOP / "lokwurmi").is_file()
+LAUNCHER = str(TOP / "lokwurmi") if IS_REPOSITORY else shutil.which("lokwurmi") or "lokwurmi"
+# the program itself, which other machines can run
+BINARY = str(TOP / "crates" / "cpa_cli" / "out" / "cpa_cli") if IS_REPOSITORY else LAUNCHER
+
+
+def built(crate: str) -> str | None:
+    """A program of the repository, if it is there."""
+    found = TOP / "crates" / crate / "out" / crate
+    return str(found) if os.access(found, os.X_OK) else None
+
+
+def is_built() -> bool:
+    """Whether what is called by default answers without a build."""
+    return bool(built("cpa_cli") if IS_REPOSITORY else shutil.which(LAUNCHER))
+
+
+def often(program: str, crate: str = "cpa_cli") -> str:
+    """What to call where there are many calls: what the launcher has built by now, once it was called."""
+    return built(crate) or program if program == LAUNCHER else program
+
+
+def call(program: str, *words: str) -> tuple[int, str]:
+    """The status of a call, and what it writes. What it tells a terminal, as how far a build is, goes there; what it
+    would say beside its output is said by whoever calls."""
+    try:
+        done = subprocess.run(
+            [program, *words], stdout=subprocess.PIPE, text=True, check=False, env=os.environ | {"LOKWURMI_QUIET": "1"}
+        )
+    except OSError as fault:
+        raise Fault(
+            f"{program}: can't be called: {fault.strerror}. `./lokwurmi --version` builds nothing,"
+            " any other command of ./lokwurmi builds the program; --program names one"
+        )
+    if done.returncode == 70:
+        raise Fault(f"{program}: the program isn't there, and couldn't be built")
+    return done.returncode, done.stdout
+
+
+def end_refused(status: int, text: str, *words: str) -> NoReturn:
+    """Ends the tool by the status of a refusal or a fault, with what `lokwurmi` says of it."""
+    from lokwurmi_tools.shared.system_file import told_of
+
+    line = text.strip().split("\n", 1)[0]
+    print(f"lokwurmi {shlex.join(words)}: status {status}: {line or 'nothing is written'}", file=sys.stderr)
+    sys.stderr.write(told_of(status, line, *words) or 'docs/FILES.md, "Statuses", tells what to do\n')
+    raise Told(status)
+
+
+def written_by(program: str, *words: str) -> str:
+    """What a call writes, whose status is a verdict; a refusal or a fault ends the tool."""
+    status, text = call(program, *words)
+    if status < 0 or status >= 10:
+        end_refused(status, text, *words)
+    return text

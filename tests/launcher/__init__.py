@@ -1,0 +1,3 @@
+"""Checks of the script `lokwurmi` and of what its launcher says, builds and installs. Tools are checked in
+`tests.tools`.
+"""

@@ -1,0 +1,103 @@
+"""Generated systems and traces, by the generator that docs/FILES.md describes, written down plainly."""
+
+LAST = 2**64 - 1
+
+
+class Generator:
+    """PCG32 (XSH RR 64/32) of a seed and a stream."""
+
+    def __init__(self, seed, stream):
+        self.step = (stream << 1 | 1) & LAST
+        self.state = (seed + self.step) & LAST
+        self.move()
+
+    def move(self):
+        self.state = (self.state * 6364136223846793005 + self.step) & LAST
+
+    def draw(self, below):
+        state = self.state
+        self.move()
+        word, turn = ((state >> 18 ^ state) >> 27) & 0xFFFFFFFF, state >> 59
+        return ((word >> turn | word << (-turn & 31)) & 0xFFFFFFFF) % below
+
+
+def generated_system(number, size):
+    numbers = Generator(number, 54)
+    processors, buses = -(-size // 4), -(-size // 8)
+    resources = [{"name": f"p{k}", "kind": "preemptive", "limit": 1000000} for k in range(processors)]
+    resources += [{"name": f"b{k}", "kind": "can", "limit": 1000000, "bit": 2} for k in range(buses)]
+    sources, tasks, paths = [], [], []
+    for k in range(size):
+        period = (10000, 20000, 50000, 100000)[numbers.draw(4)]
+        jitter, first, payload, last = (
+            numbers.draw(1000),
+            numbers.draw(400) + 100,
+            numbers.draw(9),
+            numbers.draw(400) + 100,
+        )
+        processor = numbers.draw(processors)
+        sources.append({"name": f"s{k}", "period": period, "jitter": jitter, "distance": 0})
+        tasks += [
+            {
+                "name": f"t{k}a",
+                "on": f"p{k % processors}",
+                "after": f"s{k}",
+                "best": first // 2,
+                "worst": first,
+                "priority": 2 * k,
+            },
+            {
+                "name": f"t{k}f",
+                "on": f"b{k % buses}",
+                "after": f"t{k}a",
+                "best": (47 + 8 * payload) * 2,
+                "worst": (55 + 10 * payload) * 2,
+                "priority": k,
+            },
+            {
+                "name": f"t{k}b",
+                "on": f"p{processor}",
+                "after": f"t{k}f",
+                "best": last // 2,
+                "worst": last,
+                "priority": 2 * k + 1,
+            },
+        ]
+        paths.append({"name": f"c{k}", "tasks": [f"t{k}a", f"t{k}f", f"t{k}b"], "deadline": period})
+    return {"format": 1, "resource": resources, "source": sources, "task": tasks, "path": paths}
+
+
+def generated_trace(system, number, place):
+    """The rows of the generated trace at this place."""
+    numbers, is_drawn = Generator(number, place), place % 2 == 1
+    rows, events = [], {}
+    for source in system["source"]:
+        period, jitter, distance = source["period"], source.get("jitter", 0), source.get("distance", 0)
+        times = []
+        for m in range(100):
+            if m * period + jitter > 10000000:
+                break
+            late = numbers.draw(jitter + 1) if is_drawn else jitter if m == 0 else 0
+            times.append(max(m * period + late, times[-1] + distance if times else 0))
+        events[source["name"]] = times
+        rows += [f"event,{source['name']},{time}" for time in times]
+    tasks = {it["name"]: it for it in system["task"]}
+    resources = {it["name"]: it for it in system["resource"]}
+
+    def first_events(task):
+        several = [task["after"]] if isinstance(task["after"], str) else task["after"]
+        return [
+            time for after in several for time in (events[after] if after in events else first_events(tasks[after]))
+        ]
+
+    for task in tasks.values() if is_drawn else ():
+        best, worst = task.get("best"), task.get("worst")
+        if "payload" in task:
+            bit, (least, greatest) = resources[task["on"]].get("bit", 1), (67, 80) if task.get("extended") else (47, 55)
+            best, worst = (least + 8 * task["payload"]) * bit, (greatest + 10 * task["payload"]) * bit
+        rows += [f"exec,{task['name']},{best + numbers.draw(worst - best + 1)}" for _ in first_events(task)]
+    for resource in resources.values() if is_drawn else ():
+        slots = [it["slot"] for it in tasks.values() if it["on"] == resource["name"] and resource["kind"] == "tdma"]
+        if slots:
+            rows.append(f"phase,{resource['name']},{numbers.draw(sum(slots) + resource.get('gap', 0))}")
+    return "".join(row + "\n" for row in rows)

@@ -1,0 +1,193 @@
+"""Damages system files, scripts, traces and schedules at random, for tests/launcher/check_messages.py."""
+from __future__ import annotations
+
+import random
+import re
+import tomllib
+
+KEYS = (
+    "name kind limit gap bit period jitter distance on after best worst payload extended"
+    " priority slot region tasks deadline wcet format nane"
+).split()
+VALUES = [
+    *"0 1 2 -1 3 7 10 1000001 1000000 536870912 2_000 0x10 1.5 10.0 99999999999 1979-05-27 true false [] {}".split(),
+    *'"" "s" "a" "can" "tdma" "preemptive" "round-robin" "spp" ["a"]'.split(),
+    *('"a b"', '["s", "s"]', "'x'", '"ü"'),
+]
+
+
+def with_regions(draw: random.Random, text: str) -> str:
+    """A system file whose tasks on preemptive resources have regions: most small, and some as long as any job."""
+    read = tomllib.loads(text)
+    kinds = {it["name"]: it["kind"] for it in read.get("resource", [])}
+    tasks = iter([it for it in read.get("task", []) if "priority" in it])
+
+    def longer(found: re.Match[str]) -> str:
+        task = next(tasks)
+        if kinds[task["on"]] != "preemptive" or "region" in task:
+            return found[0]
+        is_inline = found[2] != "\n"
+        region = draw.choice([1, 2, 3, draw.randint(1, 50), task["worst"], 1_000_000])
+        return found[1] + (f", region = {region}" if is_inline else f"\nregion = {region}") + found[2]
+
+    text = re.sub(r"^format = [12]$", "format = 4", text, count=1, flags=re.M)
+    return re.sub(r"(\bpriority *= *[\dx_A-Fa-f]+)(\D)", longer, text)
+
+
+def words_of(text: str) -> list[tuple[int, int]]:
+    """Where the words of a text stand: names, numbers, quoted texts and single marks."""
+    return [it.span() for it in re.finditer(r'"[^"\n]*"|[\w.-]+|[^\s\w]', text)]
+
+
+def sort_of(word: str) -> str:
+    return "text" if word[:1] == '"' else "number" if word.isdigit() else "word" if word[:1].isalnum() else "mark"
+
+
+def exchange_words(draw: random.Random, text: str) -> str:
+    """One word takes the place of another, most often of its sort."""
+    spans = words_of(text)
+    if not spans:
+        return text
+    start, end = draw.choice(spans)
+    if draw.random() < 0.9:
+        spans = [it for it in spans if sort_of(text[slice(*it)]) == sort_of(text[start:end])]
+    other, last = draw.choice(spans)
+    return text[:start] + text[other:last] + text[end:]
+
+
+def exchange_texts(draw: random.Random, text: str) -> str:
+    """One of the texts in quotes takes the place of another: names that name others."""
+    spans = [it.span() for it in re.finditer(r'"[^"\n]*"', text)]
+    if not spans:
+        return text
+    (start, end), (other, last) = draw.choice(spans), draw.choice(spans)
+    return text[:start] + text[other:last] + text[end:]
+
+
+def exchange(draw: random.Random, text: str, form: str, several: list[str]) -> str:
+    """One of several stands where the group of a form was found."""
+    found = list(re.finditer(form, text))
+    if not found:
+        return text
+    it = draw.choice(found)
+    return text[: it.start(1)] + draw.choice(several) + text[it.end(1) :]
+
+
+def exchange_value(draw: random.Random, text: str) -> str:
+    return exchange(draw, text, r"= *([^\n,}\]]+)", VALUES)
+
+
+def exchange_key(draw: random.Random, text: str) -> str:
+    return exchange(draw, text, r"(\w+) *=", KEYS)
+
+
+def drop_line(draw: random.Random, text: str) -> str:
+    lines = text.splitlines(True)
+    if lines:
+        del lines[draw.randrange(len(lines))]
+    return "".join(lines)
+
+
+def double_lines(draw: random.Random, text: str) -> str:
+    """Some lines stand a second time, somewhere."""
+    lines = text.splitlines(True)
+    if not lines:
+        return text
+    start = draw.randrange(len(lines))
+    count, at = draw.randint(1, 8), draw.randrange(len(lines) + 1)
+    return "".join([*lines[:at], *lines[start : start + count], *lines[at:]])
+
+
+def change_letter(draw: random.Random, text: str) -> str:
+    if not text:
+        return "x"
+    at = draw.randrange(len(text))
+    return text[:at] + draw.choice(["", draw.choice('"[]{}=,#\n .x0-')]) + text[at + draw.randint(0, 1) :]
+
+
+def add_line(draw: random.Random, text: str) -> str:
+    lines = text.splitlines(True)
+    at = draw.randrange(len(lines) + 1)
+    return "".join([*lines[:at], f"{draw.choice(KEYS)} = {draw.choice(VALUES)}\n", *lines[at:]])
+
+
+WAYS = [
+    exchange_words,
+    exchange_words,
+    exchange_texts,
+    exchange_texts,
+    exchange_texts,
+    exchange_value,
+    exchange_key,
+    drop_line,
+    double_lines,
+    change_letter,
+    add_line,
+]
+
+
+def damaged(draw: random.Random, text: str) -> str:
+    """The text with one to three damages."""
+    for _ in range(draw.choice([1, 1, 1, 2, 3])):
+        text = draw.choice(WAYS)(draw, text)
+    return text
+
+
+ROW_VALUES = [
+    *"0 1 5 -1 10000001 1000001 20000001 1000000001 12345678901 1.5 x event exec phase é".split(),
+    *("", " 1", '"a"', '"', "a,b"),
+]
+
+
+def damaged_rows(draw: random.Random, text: str, names: list[str]) -> str:
+    """Rows of which some fields are exchanged, or that are dropped, doubled or moved."""
+    rows = [line.split(",") for line in text.splitlines()]
+    for _ in range(draw.randint(1, 3)):
+        if not rows:
+            break
+        row, way = draw.randrange(len(rows)), draw.randrange(6)
+        if way < 3 and rows[row]:
+            rows[row][draw.randrange(len(rows[row]))] = draw.choice([*ROW_VALUES, *names, str(draw.randrange(200))])
+        elif way == 3:
+            rows.insert(draw.randrange(len(rows) + 1), list(rows[row]))
+        elif way == 4:
+            del rows[row]
+        else:
+            rows.insert(row, draw.choice([[], ["", ""], ["event", *names[:1]], ["a", "b", "c", "d"]]))
+    return draw.choice(["\n", "\n", "\r\n"]).join(",".join(it) for it in rows) + draw.choice(["", "\n"])
+
+
+def damaged_script(draw: random.Random, names: list[str]) -> str:
+    """A script of edits, most of which are of a form, with names and numbers of a system or near to these."""
+    lines = []
+    for _ in range(draw.randint(1, 12)):
+        one, other, third = (draw.choice([*names, "zz"]) for _ in range(3))
+        few = [str(draw.choice([0, 1, 2, 3, 5, 9, 20, 1_000_000, 1_000_001, draw.randrange(50)])) for _ in range(3)]
+        lines.append(
+            draw.choice(
+                [
+                    f"exec {one} {few[0]} {few[1]}",
+                    f"priority {one} {few[0]}",
+                    f"swap {one} {other}",
+                    f"slot {one} {few[0]}",
+                    f"source {one} {few[0]} {few[1]} {few[2]}",
+                    f"add {draw.choice(['n1', 'n2', one])} {other} {third} {few[0]} {few[1]} {few[2]}",
+                    f"remove {draw.choice([one, 'n1', 'n2'])}",
+                    "report",
+                    "# text",
+                    "",
+                ]
+            )
+        )
+    if draw.random() < 0.3:
+        at = draw.randrange(len(lines))
+        lines[at] = draw.choice(
+            [
+                change_letter(draw, lines[at]),
+                lines[at] + " x",
+                lines[at].upper(),
+                "\t" + lines[at] + " \r",
+                lines[at] + " # c",
+            ]
+        )
+    return "\n".join(lines) + draw.choice(["", "\n", "\r\n"])

@@ -1,0 +1,277 @@
+"""Random systems and traces, and the files that have them."""
+import random
+import tomllib
+
+from tests.rules.runs import least_apart
+
+
+def some_region(pick, worst):
+    """A region for a task: a tick, some ticks, or as long as any of its jobs, or longer."""
+    return pick.choice([1, 2, 3, pick.randint(1, worst), worst, worst + 3, 1_000_000])
+
+
+def random_file(number):
+    """A random system: its size grows with the number. In two of four tasks on preemptive resources have regions."""
+    pick, regions = random.Random(number), random.Random(f"regions of {number}")
+    has_regions = number // 2 % 2 == 1
+    kinds = ["preemptive", "round-robin", "tdma", "can"]
+    resources, tasks = pick.randint(1, 2 + number % 7), pick.randint(1, 3 + number % 25)
+    lines, on_kind, chains, streams = [f"format = {4 if has_regions else 1 + number % 2}"], [], [], []
+    for r in range(resources):
+        kind = pick.choice(kinds)
+        on_kind.append(kind)
+        extra = {"tdma": f", gap = {pick.randint(0, 20)}", "can": f", bit = {pick.randint(1, 4)}"}.get(kind, "")
+        lines.append(
+            f'[[resource]]\nname = "r{r}"\nkind = "{kind}"\n'
+            f'limit = {pick.choice([60, 300, 2000, 20000])}{extra.replace(", ", chr(10))}'
+        )
+    for s in range(3):
+        period = pick.randint(10, 400) * (1 + tasks // 6)
+        lines.append(
+            f'[[source]]\nname = "s{s}"\nperiod = {period}\n'
+            f"jitter = {pick.choice([0, 0, period // 3, 3 * period])}\ndistance = {pick.choice([0, 0, period // 4])}"
+        )
+    for t in range(tasks):
+        r = pick.randrange(resources)
+        after = [
+            pick.randrange(t) if t and pick.random() < 0.6 else -1 - pick.randrange(3)
+            for _ in range(pick.choice((1, 1, 2, 3)) if number % 2 else 1)
+        ]
+        after = list(dict.fromkeys(after))
+        depth = 1 + max(chains[k] if k >= 0 else 0 for k in after)
+        several = sum(streams[k] if k >= 0 else 1 for k in after)
+        if depth > 32 or several > 32:
+            after, depth, several = [-1], 1, 1
+        chains.append(depth)
+        streams.append(several)
+        worst = pick.randint(1, 30)
+        turn = (
+            f"slot = {pick.randint(1, 20)}"
+            if on_kind[r] in ("round-robin", "tdma")
+            else f"priority = {pick.randint(0, 9) * 100 + t}"
+        )
+        names = [f'"s{-1 - k}"' if k < 0 else f'"t{k}"' for k in after]
+        name = names[0] if len(names) == 1 else "[" + ", ".join(names) + "]"
+        lines.append(
+            f'[[task]]\nname = "t{t}"\non = "r{r}"\nafter = {name}\nbest = {pick.randint(1, worst)}\n'
+            f"worst = {worst}\n{turn}"
+        )
+        if has_regions and on_kind[r] == "preemptive" and regions.random() < 0.8:
+            lines[-1] += f"\nregion = {some_region(regions, worst)}"
+    for task in tomllib.loads("\n".join(lines))["task"]:
+        earlier = [
+            it for it in ([task["after"]] if isinstance(task["after"], str) else task["after"]) if it.startswith("t")
+        ]
+        if earlier and pick.random() < 0.4:
+            first, second = pick.choice(earlier)[1:], task["name"][1:]
+            deadline = pick.choice(["", f"\ndeadline = {pick.randint(1, 300)}"])
+            lines.append(f'[[path]]\nname = "p{second}"\ntasks = ["t{first}", "t{second}"]{deadline}')
+    return "\n".join(lines) + "\n"
+
+
+KINDS = ("preemptive", "round-robin", "tdma", "can")
+
+
+def some_resources(draw, most, kinds, gap):
+    """Resources of some kinds; one of TDMA has a gap up to this."""
+    resources = [{"name": f"r{k}", "kind": draw.choice(kinds)} for k in range(draw.randint(1, most))]
+    for it in resources:
+        it["gap"] = draw.randint(0, gap) if it["kind"] == "tdma" else 0
+    return resources
+
+
+def draw_priorities(draw, tasks):
+    """Gives each task a priority of its own."""
+    order = list(range(len(tasks)))
+    draw.shuffle(order)
+    for task, priority in zip(tasks, order):
+        task["priority"] = priority
+
+
+def draw_regions(draw, tasks):
+    """Gives tasks regions in every other system, which count on preemptive resources alone."""
+    has_regions = draw.random() < 0.5
+    for task in tasks:
+        task["region"] = some_region(draw, task["worst"]) if has_regions else 1
+
+
+def some_phases(draw, system):
+    """Where each TDMA resource is in its cycle as a run begins."""
+    phases = {}
+    for it in system["resource"]:
+        slots = [task["slot"] for task in system["task"] if task["on"] == it["name"]]
+        if it["kind"] == "tdma":
+            phases[it["name"]] = draw.randrange(sum(slots) + it["gap"]) if slots else 0
+    return phases
+
+
+def random_system(draw):
+    """A system: its resources, sources, tasks and paths; a task comes after sources and earlier tasks, mostly after
+    one."""
+    resources = some_resources(draw, 4, KINDS, 5)
+    sources = []
+    for k in range(draw.randint(1, 3)):
+        period = draw.randint(4, 40)
+        sources.append(
+            {
+                "name": f"s{k}",
+                "period": period,
+                "jitter": draw.choice((0, 0, draw.randint(0, 60))),
+                "distance": draw.choice((0, draw.randint(0, period))),
+            }
+        )
+    tasks = []
+    for k in range(draw.randint(1, 8)):
+        on, several = draw.choice(resources), sources + tasks[-3:]
+        after = [it["name"] for it in draw.sample(several, min(len(several), draw.choice((1, 1, 1, 2, 3))))]
+        worst = draw.randint(1, 9)
+        tasks.append(
+            {
+                "name": f"t{k}",
+                "on": on["name"],
+                "after": after,
+                "streams": 0,
+                "best": draw.randint(1, worst),
+                "worst": worst,
+                "priority": k,
+                "slot": draw.randint(1, 4),
+            }
+        )
+        streams = {it["name"]: it["streams"] for it in tasks} | {it["name"]: 1 for it in sources}
+        while sum(streams[name] for name in after) > 32:
+            after.pop()
+        if not after:
+            after.append(sources[0]["name"])
+        tasks[-1]["streams"] = sum(streams[name] for name in after)
+    draw_priorities(draw, tasks)
+    draw_regions(draw, tasks)
+    return {
+        "resource": resources,
+        "source": sources,
+        "task": tasks,
+        "path": [path_of(draw, tasks, k) for k in range(draw.randint(0, 2))],
+    }
+
+
+def path_of(draw, tasks, place):
+    """A path that ends at any task, each of which has the one before it among its activators."""
+    names = {it["name"]: it for it in tasks}
+    way = [draw.choice(tasks)["name"]]
+    while draw.random() < 0.8:
+        earlier = [name for name in names[way[0]]["after"] if name in names]
+        if not earlier:
+            break
+        way.insert(0, draw.choice(earlier))
+    return {"name": f"w{place}", "tasks": way}
+
+
+def quoted(names):
+    return "[" + ", ".join(f'"{name}"' for name in names) + "]"
+
+
+def file_of(system):
+    kinds = {it["name"]: it["kind"] for it in system["resource"]}
+    has_region = {it["name"] for it in system["task"] if kinds[it["on"]] == "preemptive" and it["region"] > 1}
+    rows = [f"format = {4 if has_region else 1 if all(len(it['after']) == 1 for it in system['task']) else 2}"]
+    for it in system["resource"]:
+        rows += ["[[resource]]", f"name = \"{it['name']}\"", f"kind = \"{it['kind']}\"", "limit = 2000"] + (
+            [f"gap = {it['gap']}"] if it["kind"] == "tdma" else []
+        )
+    for it in system["source"]:
+        rows += [
+            "[[source]]",
+            f"name = \"{it['name']}\"",
+            *(f"{key} = {it[key]}" for key in ("period", "jitter", "distance")),
+        ]
+    for it in system["task"]:
+        turn = "priority" if kinds[it["on"]] in ("preemptive", "can") else "slot"
+        rows += [
+            "[[task]]",
+            *(f'{key} = "{it[key]}"' for key in ("name", "on")),
+            *(f"{key} = {it[key]}" for key in ("best", "worst", turn, *(["region"] * (it["name"] in has_region)))),
+        ]
+        rows.append(f"after = {quoted(it['after'])}" if len(it["after"]) > 1 else f"after = \"{it['after'][0]}\"")
+    for it in system["path"]:
+        rows += ["[[path]]", f"name = \"{it['name']}\"", f"tasks = {quoted(it['tasks'])}"]
+    return "\n".join(rows) + "\n"
+
+
+def random_trace(draw, system):
+    """A trace that obeys: the times of each source, the executions of each task, the phase of each TDMA resource."""
+    events = {}
+    for it in system["source"]:
+        times = []
+        for _ in range(draw.randint(0, 9)):
+            least = max((times[-count] + least_apart(it, count + 1) for count in range(1, len(times) + 1)), default=0)
+            least = max(least, times[-1] if times else 0)
+            times.append(least + draw.choice((0, 0, draw.randint(0, 30))))
+        events[it["name"]] = times
+    executions = {
+        it["name"]: [draw.randint(it["best"], it["worst"]) for _ in range(draw.randint(0, 9))] for it in system["task"]
+    }
+    return events, executions, some_phases(draw, system)
+
+
+def rows_of(trace):
+    events, executions, phases = trace
+    rows = [f"event,{name},{time}" for name, times in events.items() for time in times]
+    rows += [f"exec,{name},{ticks}" for name, several in executions.items() for ticks in several]
+    rows += [f"phase,{name},{ticks}" for name, ticks in phases.items()]
+    return "".join(row + "\n" for row in rows)
+
+
+def small_system(draw, kinds=KINDS):
+    """A small system: few tasks, with little load, so that most bounds are numbers."""
+    resources = some_resources(draw, 3, kinds, 2)
+    sources = []
+    for k in range(draw.randint(1, 4)):
+        period = draw.randint(4, 24)
+        jitter, distance = draw.choice((0, 0, draw.randint(0, 2 * period))), draw.choice((0, draw.randint(0, period)))
+        sources.append({"name": f"s{k}", "period": period, "jitter": jitter, "distance": distance})
+    tasks = []
+    for k in range(draw.randint(1, 6)):
+        on, several = draw.choice(resources), sources * 2 + tasks[-3:]
+        after = [it["name"] for it in draw.sample(several, min(len(several), draw.choice((1, 1, 1, 1, 2, 3))))]
+        worst = draw.choice((1, 1, 2, 3, 5))
+        tasks.append({"name": f"t{k}", "on": on["name"], "after": list(dict.fromkeys(after)), "streams": 0})
+        tasks[-1] |= {"best": draw.randint(1, worst), "worst": worst, "priority": k, "slot": draw.randint(1, 4)}
+    draw_priorities(draw, tasks)
+    draw_regions(draw, tasks)
+    return {"resource": resources, "source": sources, "task": tasks, "path": []}
+
+
+def near_events(draw, source, span, mood):
+    """The events of a source, of which any two are no farther apart than its period and jitter say."""
+    times = [draw.randint(0, source["period"])]
+    while times[-1] < span:
+        n = len(times)
+        low = max(times[-1], *(times[m] + least_apart(source, n - m + 1) for m in range(n)))
+        high = min(times[m] + (n - m) * source["period"] + source["jitter"] for m in range(n))
+        assert low <= high
+        times.append((low, high, draw.randint(low, high), draw.choice((low, high, draw.randint(low, high))))[mood])
+    return times[: draw.randint(0, 3)] if draw.random() < 0.1 else times
+
+
+def near_trace(draw, system):
+    """A trace that obeys, and whose sources stay near."""
+    span, mood = draw.randint(40, 160), draw.randrange(4)
+    events = {it["name"]: near_events(draw, it, span, mood) for it in system["source"]}
+    executions = {}
+    for it in system["task"]:
+        kind = draw.randrange(3)
+        several = [(it["best"], it["worst"], draw.randint(it["best"], it["worst"]))[kind] for _ in range(60)]
+        executions[it["name"]] = several
+    return events, executions, some_phases(draw, system)
+
+
+def chains_in(draw, tasks):
+    """Some chains of a system: of any tasks, and along activators, some of these with a step aside."""
+    names = list(tasks)
+    chains = {tuple(draw.choice(names) for _ in range(draw.randint(1, 4))) for _ in range(4)}
+    for name in names:
+        way = [name]
+        while len(way) < 4:
+            earlier = [it for it in tasks[way[0]]["after"] if it in tasks]
+            way.insert(0, draw.choice(names if draw.random() < 0.3 or not earlier else earlier))
+            chains.add(tuple(way))
+    return sorted(chains)

@@ -1,0 +1,251 @@
+#!/usr/bin/env python3
+"""Tries `lokwurmi sensitivity` over random systems. Outside the gate; takes a minute or two, and no network.
+
+The systems are those of check_reports.py with longer periods, in every other one with tasks that have up to three
+activators, in every other pair with regions, and with deadlines that are met, with more or less to spare. What is told
+of each number is tried by files of their own, which say the system with that number moved, and by `analyse` of each: at
+the value that is told, and at some in between, all holds, and one step beyond it, and at some further ones, it doesn't,
+where there are such values; what is told to come first beyond it is what the report says. With --deadlines what is told
+of an execution is what `lokwurmi slack` says. Of a bus whose executions take longer the bit is as before. With a goal a
+path is held against that. Then the tool is called as it is from outside.
+
+    python3 -m tests.tools.check_sensitivity [NUMBER of systems, 150 if absent] [NUMBER to begin with, 0 if absent]
+"""
+import json
+import os
+import random
+import re
+import tempfile
+import tomllib
+
+from lokwurmi_tools.search import margins
+from lokwurmi_tools.shared import progress
+from lokwurmi_tools.shared.analysed import analysed
+from lokwurmi_tools.shared.system_text import toml_of
+from tests.rules import bounds
+from tests.support import systems
+from tests.support.calls import TOP, answer, built, faults, hold, python_with, range_of, run, tell, without_progress
+
+PROGRAM = built("cpa_cli")
+# searches that are made here tell nothing
+progress.TERMINAL = progress.ELSEWHERE = float("inf")
+TOOL = "sensitivity"
+
+
+def made(number):
+    """A random system that holds, by deadlines alone or by all that counts, or None."""
+    pick = random.Random(number)
+    system = tomllib.loads(systems.random_file(number))
+    longer = pick.choice((1, 3, 8))
+    for it in system["source"]:
+        it["period"] *= longer
+    tasks = set()
+    for it in system.get("path", []):
+        it.pop("deadline", None)
+        tasks.update(it["tasks"])
+    # a path for some of the other tasks
+    for it in system["task"]:
+        if it["name"] not in tasks and pick.random() < 0.5:
+            system.setdefault("path", []).append({"name": f"alone.{it['name']}", "tasks": [it["name"]]})
+    for path, worst in re.findall(
+        r"^path (\S+) best \d+ worst (\d+) ", answer(PROGRAM, toml_of(system), "analyse")[1], re.M
+    ):
+        if pick.random() < 0.8:
+            next(it for it in system["path"] if it["name"] == path)["deadline"] = int(worst) + pick.randint(
+                0, int(worst)
+            )
+    return system
+
+
+def moved(system, number, steps):
+    """The system with a number moved by so many steps."""
+    other = tomllib.loads(toml_of(system))
+    if number.kind == "execution":
+        next(it for it in other["task"] if it["name"] == number.name)["worst"] += steps
+    elif number.kind == "region":
+        it = next(it for it in other["task"] if it["name"] == number.name)
+        other["format"], it["region"] = 4, it.get("region", 1) + steps
+    elif number.kind == "speed":
+        for it in other["task"]:
+            if it["on"] == number.name:
+                it["worst"] = bounds.ceiling(it["worst"] * (1000 + steps), 1000)
+    else:
+        it = next(it for it in other["source"] if it["name"] == number.name)
+        it["period"] -= steps if number.kind == "period" else 0
+        it["jitter"] = it.get("jitter", 0) + (steps if number.kind == "jitter" else 0)
+        it["distance"] = min(it.get("distance", 0), it["period"])
+    return other
+
+
+def judged(system, goals, deadlines):
+    """What doesn't hold of a system, by its report, read here once more."""
+    status, text = answer(PROGRAM, toml_of(system), "analyse")
+    if status not in (0, 1, 2):
+        return [f"status {status}: {text}"]
+    found = []
+    for name, worst, deadline in re.findall(r"^path (\S+) best \d+ worst (\S+) deadline (\S+)", text, re.M):
+        limit = goals.get(name, None if deadline == "-" else int(deadline))
+        if limit is not None and (worst == "overload" or int(worst) > limit):
+            found.append(f"path {name}")
+    return found + (
+        [] if deadlines else [f"task {name}" for name in re.findall(r"^task (\S+) .* worst overload$", text, re.M)]
+    )
+
+
+def check_regions(what, system, rows, least):
+    """The tasks whose regions move: those that may hold up another, and by more than now."""
+    kinds, wanted = {it["name"]: it["kind"] for it in system["resource"]}, {}
+    for it in system["task"]:
+        mates = [one for one in system["task"] if one["on"] == it["on"] and kinds[it["on"]] == "preemptive"]
+        has_above = any(one["priority"] < it["priority"] for one in mates)
+        if has_above and least <= it.get("region", 1) < it["worst"]:
+            wanted[it["name"]] = it["worst"]
+    found = {it.name: it.value + it.most for it in rows}
+    hold(found == wanted, f"{what}: regions {found}, and not {wanted}", "regions")
+
+
+def check_system(number, system, room, deadlines, goals):
+    """Each number of a system, by files of its own."""
+    file = os.path.join(room, "system.toml")
+    with open(file, "w", encoding="ascii") as it:
+        it.write(toml_of(system))
+    question = margins.MarginQuestion(analysed(PROGRAM, file), goals, deadlines)
+    first = judged(system, goals, deadlines)
+    now = question.now()
+    hold(
+        now.holds() == (not first) and now.first() == first, f"system {number}: {now.first()}, and not {first}", "first"
+    )
+    if first:
+        return False
+    pick = random.Random(number)
+    answers = margins.answers_of(question, margins.KINDS, 1)
+    # those that are asked for by themselves, of a tick too
+    regions = margins.answers_of(question, ("region",), 1)
+    for rows, least in ((answers, 2), (regions, 1)):
+        check_regions(f"system {number}", system, [it for it, _ in rows if it.kind == "region"], least)
+    for it, told in answers + regions:
+        what = f"system {number}, {it.kind} {it.name}, deadlines {deadlines}, goals {goals}: {told}\n{toml_of(system)}"
+        good = {told.steps, *(pick.randint(0, told.steps) for _ in range(2))}
+        hold(
+            all(not judged(moved(system, it, steps), goals, deadlines) for steps in good),
+            f"{what}: with {sorted(good)} not all holds",
+            it.kind,
+        )
+        hold(told.ends == (told.steps < it.most), f"{what}: how it ends", it.kind)
+        if told.ends:
+            hold(
+                judged(moved(system, it, told.steps + 1), goals, deadlines) == told.first != [],
+                f"{what}: beyond it",
+                it.kind,
+            )
+            bad = [pick.randint(told.steps + 1, min(it.most, 3 * told.steps + 1)) for _ in range(2)]
+            hold(
+                all(judged(moved(system, it, steps), goals, deadlines) for steps in bad),
+                f"{what}: with {bad} all holds",
+                it.kind,
+            )
+        if it.kind == "execution" and deadlines and not goals:
+            wanted = (0, f"slack {it.name} {told.steps} next {'missed' if told.ends else 'limit'}\n")
+            hold(
+                answer(PROGRAM, toml_of(system), "slack", it.name) == wanted,
+                f"{what}: {answer(PROGRAM, toml_of(system), 'slack', it.name)}",
+                "slack",
+            )
+    rows = margins.rows_of(question, ["deadline"], 1)
+    for it in rows:
+        goal = goals | {it["name"]: it["last"]}
+        hold(
+            not judged(system, goal, deadlines)
+            and judged(system, goal | {it["name"]: it["last"] - 1}, deadlines) == [f"path {it['name']}"],
+            f"system {number}: {it}",
+            "deadline",
+        )
+    return True
+
+
+def called(python, *words):
+    """A call of the tool with the program that is tried, whose letters are UTF-8."""
+    return run(TOOL, "--program", PROGRAM, *words, python=python, env={"PYTHONIOENCODING": "utf-8"})
+
+
+def check_calls(python, room):
+    """What the tool writes and draws, and what it doesn't take."""
+    sae, picture = os.path.join(TOP, "examples", "sae_can.toml"), os.path.join(room, "picture.svg")
+    done = called(python, sae, "--deadlines", "--to", picture)
+    hold(done.returncode == 0 and not without_progress(done.stderr), f"sae_can.toml: {done.stderr}", "calls")
+    hold(
+        re.search(r"^greatest execution of m16 +600 +800 +\+33\.3 %  path d8$", done.stdout, re.M), done.stdout, "calls"
+    )
+    shares = [float(it.replace("+", "").replace("-", "")) for it in re.findall(r"([+-][\d.]+) %", done.stdout)]
+    hold(shares == sorted(shares) and len(shares) == 17 * 4 + 1, f"the order of the table: {shares}", "calls")
+    with open(picture, encoding="utf-8") as it:
+        texts = re.findall(r"<text[^>]*>([^<]*)</text>", it.read())
+    hold(
+        "executions on can" in texts and any("the 40 tightest of 69" in text for text in texts),
+        f"the chart: {texts}",
+        "calls",
+    )
+    told = json.loads(called(python, sae, "--only", "period", "--only", "speed", "--json", "--jobs", "1").stdout)
+    again = json.loads(called(python, sae, "--only", "period", "--only", "speed", "--json", "--jobs", "3").stdout)
+    hold(
+        told["numbers"] == again["numbers"] and {it["kind"] for it in told["numbers"]} == {"period", "speed"},
+        "the number of jobs is in the answer",
+        "calls",
+    )
+    for words, status, said in (
+        (
+            [os.path.join(TOP, "examples", "crossing_chains.toml")],
+            3,
+            "nothing may move, as this doesn't hold now: path pb",
+        ),
+        (
+            [os.path.join(TOP, "examples", "overload.toml")],
+            3,
+            "nothing may move, as this doesn't hold now: path pa, task a1, task a2, task b1, task b2",
+        ),
+        (
+            [os.path.join(TOP, "examples", "cooperative.toml"), "--goal", "control_in_time=5"],
+            3,
+            "path control_in_time; regions can't be shorter than now in this search: leave the key region out, and",
+        ),
+        ([os.path.join(TOP, "examples", "crossing_chains.toml"), "--goal", "pb=50", "--only", "speed"], 0, ""),
+        ([sae, "--goal", "d99=5"], 1, "there is no path d99; it has d17"),
+        ([sae, "--goal", "d9"], 1, "a goal is PATH=DEADLINE"),
+        ([sae, "--goal", "d9=0"], 1, "a goal is PATH=DEADLINE"),
+        ([sae, "--to", "picture.gif"], 1, "a picture's name ends with"),
+        ([sae, "--jobs", "0"], 1, "at least 1 job"),
+    ):
+        done = called(python, *words)
+        hold(
+            done.returncode == status and said in done.stderr and "Traceback" not in done.stderr,
+            f"{words}: {done.returncode} {done.stderr}",
+            "calls",
+        )
+
+
+def main():
+    numbers = range_of(__doc__, 150)
+    python, held = python_with("matplotlib"), 0
+    with tempfile.TemporaryDirectory() as room:
+        for number in numbers:
+            system = made(number)
+            held += check_system(number, system, room, number % 3 != 0, {})
+            paths = [it["name"] for it in system.get("path", []) if "deadline" in it]
+            if paths and number % 4 == 0:
+                held += check_system(
+                    number,
+                    system,
+                    room,
+                    True,
+                    {paths[0]: 2 * next(it["deadline"] for it in system["path"] if it["name"] == paths[0])},
+                )
+            if len(faults) > 3:
+                break
+        if python:
+            check_calls(python, room)
+    without = "" if python else ", without calls: matplotlib is not here"
+    tell(f"{len(numbers)} systems, {held} times all held; ", without)
+
+
+if __name__ == "__main__":
+    main()
