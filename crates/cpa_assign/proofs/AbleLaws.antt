@@ -4,7 +4,8 @@ use Rattle.std.specs.Prelude.{filter}
 use Rattle.std.specs.List.{list_all, range_with_len}
 use Rattle.std.proofs.lemmas.Bool.{and_parts, cases_Bool, cases_lt, false≢true}
 use Rattle.cpa_model.specs.SystemLists.{SystemLists, task_at, resource_at, is_on}
-use Rattle.cpa_assign.specs.Orders.{has_priorities, are_sources, is_fed_by_sources, IsFedBySources, IsOrderable}
+use Rattle.cpa_model.specs.Kinds.{has_priorities}
+use Rattle.cpa_assign.specs.Orders.{are_sources, is_fed_by_sources, IsFedBySources, IsOrderable}
 
 -- each place that passes one test passes another
 all-passing : (p test : ℕ → Bool) (a n : ℕ) → ((j : ℕ) → a ≤ j → j < a + n → p j ≡ true → test j ≡ true) → list_all test (filter p (range_with_len a n)) ≡ true

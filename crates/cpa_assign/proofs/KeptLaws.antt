@@ -20,7 +20,8 @@ use Rattle.cpa_model.specs.declared.entries.Activator.TheVariants.{Source as Fro
 use Rattle.cpa_model.specs.SystemLists.{SystemLists, task_at, resource_at, task_places, is_on, is_task, priority_of, no_task}
 use Rattle.cpa_model.specs.Rules.{IsSizedTask, IsSystem, IsTask, IsPath, IsActivator, TurnFits, HaveOwnPriorities}
 use Rattle.cpa_local.proofs.PassingPlaces.{map-map}
-use Rattle.cpa_assign.specs.Orders.{is_member, place_in, kth_priority, number_up_to, ordered_task, with_order, HasPriorities, IsOrder}
+use Rattle.cpa_model.specs.Kinds.{HasPriorities}
+use Rattle.cpa_assign.specs.Orders.{is_member, place_in, kth_priority, number_up_to, ordered_task, with_order, IsOrder}
 use Rattle.cpa_assign.proofs.OrderLaws.{place-less, place-own}
 use Rattle.cpa_assign.proofs.PlacingLaws.{order-long, ordered-long, ordered-at}
 use Rattle.cpa_assign.proofs.PriorityLaws.{kth-less}

@@ -20,10 +20,12 @@ use Rattle.cpa_model.specs.Chains.{activators, streams_step, streams_within}
 use Rattle.cpa_model.specs.SystemLists.{SystemLists, task_at, resource_at, resource_of, task_places, is_higher, higher_tasks, no_task, is_on}
 use Rattle.cpa_model.specs.Rules.{IsSystem}
 use Rattle.cpa_model.specs.Streams.{source_model, source_stream}
-use Rattle.cpa_local.specs.Blocking.{blocking_by, blocking_of, greatest_blocking}
+use Rattle.cpa_model.specs.Kinds.{blocking_by}
+use Rattle.cpa_local.specs.Blocking.{blocking_of, greatest_blocking}
 use Rattle.cpa_local.specs.Inputs.{joined, sent_by_all, input_along, input}
 use Rattle.cpa_local.specs.Local.{rival_of, bound_by_kind, response}
-use Rattle.cpa_assign.specs.Orders.{are_sources, is_member, place_in, kth_priority, ordered_task, with_order, HasPriorities, IsOrder, IsOrderable}
+use Rattle.cpa_model.specs.Kinds.{HasPriorities}
+use Rattle.cpa_assign.specs.Orders.{are_sources, is_member, place_in, kth_priority, ordered_task, with_order, IsOrder, IsOrderable}
 use Rattle.cpa_assign.specs.Placing.{sources_model, rival_at, rivals_at, is_below, tasks_below, placed_by_kind, placed_bound}
 use Rattle.cpa_assign.proofs.AbleLaws.{fed-source}
 use Rattle.cpa_assign.proofs.OrderLaws.{is_before, same_place, flip-no, before-place, before-member, place-less, place-own}

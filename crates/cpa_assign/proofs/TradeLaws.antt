@@ -30,7 +30,8 @@ use Rattle.cpa_model.specs.declared.entries.Kind.{Kind}
 use Rattle.cpa_model.specs.declared.entries.Kind.TheVariants.{Preemptive, RoundRobin, Tdma, Can}
 use Rattle.cpa_model.specs.SystemLists.{SystemLists, task_at, resource_at, task_places, streams_of, no_resource, no_task}
 use Rattle.cpa_model.specs.Rules.{IsSystem, IsResource, IsTask, KindFits}
-use Rattle.cpa_local.specs.Blocking.{blocking_by, greatest_blocking}
+use Rattle.cpa_model.specs.Kinds.{blocking_by}
+use Rattle.cpa_local.specs.Blocking.{greatest_blocking}
 use Rattle.cpa_assign.specs.Orders.{is_task_on}
 use Rattle.cpa_events.specs.Streams.{IsStream}
 use Rattle.cpa_model.proofs.SystemLaws.{streams_of-some}

@@ -4,7 +4,8 @@ use Rattle.cpa_units.specs.declared.places.TaskId.{TaskId}
 use Rattle.cpa_units.specs.Bounds.{IsAtMost}
 use Rattle.cpa_model.specs.SystemLists.{SystemLists, resource_at}
 use Rattle.cpa_model.specs.Rules.{IsSystem}
-use Rattle.cpa_assign.specs.Orders.{HasPriorities, IsOrder, IsOrderOf, IsOrderable, with_order}
+use Rattle.cpa_model.specs.Kinds.{HasPriorities}
+use Rattle.cpa_assign.specs.Orders.{IsOrder, IsOrderOf, IsOrderable, with_order}
 use Rattle.cpa_assign.specs.Placing.{placed_bound}
 
 -- where tasks move from above a task to below it, its bound doesn't rise

@@ -14,8 +14,7 @@ use Rattle.cpa_model.specs.declared.entries.Path.{Path}
 use Rattle.cpa_model.specs.declared.entries.Activator.{Activator}
 use Rattle.cpa_model.specs.declared.entries.Activator.TheVariants.{Source as FromSource, Task as FromTask}
 use Rattle.cpa_model.specs.declared.entries.Turn.TheVariants.{Priority}
-use Rattle.cpa_model.specs.declared.entries.Kind.{Kind}
-use Rattle.cpa_model.specs.declared.entries.Kind.TheVariants.{Preemptive, Can}
+use Rattle.cpa_model.specs.Kinds.{HasPriorities}
 use Rattle.cpa_model.specs.SystemLists.{SystemLists, task_at, path_at, resource_at, task_places, tasks_on, priority_of, is_on, places_of}
 use Rattle.cpa_local.specs.Solution.{least_of}
 use Rattle.cpa_local.specs.Paths.{path_worst}
@@ -92,15 +91,6 @@ pub record IsBestOrder (s : SystemLists) (r : ℕ) (o : List ℕ) : Type 0 where
 abbrev pub IsOrderOf : SystemLists → ℕ → Option (List TaskId) → Type 0
 IsOrderOf s r (Some order) = IsBestOrder s r (places_of order)
 IsOrderOf s r None = (o : List ℕ) → IsOrder s r o → ¬ Meets s r o
-
--- whether the tasks on a resource of this kind have priorities
-abbrev pub has_priorities : Kind → Bool
-has_priorities Preemptive = true
-has_priorities (Can bit) = true
-has_priorities _ = false
-
-abbrev pub HasPriorities : Kind → Type 0
-HasPriorities kind = IsTrue (has_priorities kind)
 
 -- whether an activator is some source
 abbrev pub is_some_source : Activator → Bool

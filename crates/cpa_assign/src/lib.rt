@@ -13,7 +13,7 @@ mod order;
 mod placing;
 mod text;
 
-pub use able::{has_priorities, is_fed_by_sources};
+pub use able::is_fed_by_sources;
 pub use laws::orders_have_laws;
 pub use order::{Order, assign};
 pub use text::assign_text;

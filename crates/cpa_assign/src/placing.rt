@@ -14,7 +14,6 @@ ghost use Rattle.cpa_local.specs.Blocking.{greatest_blocking};
 ghost use Rattle.cpa_assign.specs.Placing.{sources_model, rival_at, rivals_at, is_below, tasks_below, placed_bound, without, Fits, IsLowestOf, NoneIsLowest};
 
 use cpa_events::{Model, Stream};
-use cpa_local::blocking_by;
 use cpa_model::{Kind, System};
 use cpa_units::{Bound, PathId, ResId, TaskId};
 use cpa_window::Rival;
@@ -100,7 +99,7 @@ fn blocking(system: &System, res: ResId, kind: Kind, task: TaskId, free: &[bool]
     let mut most: u64 = 0;
     for k in 0..system.tasks() {
         if stands_below(system, res, free, task, TaskId(k)) {
-            most = most.max(blocking_by(kind, system.task(TaskId(k))));
+            most = most.max(kind.blocking_by(system.task(TaskId(k))));
         }
     }
     most

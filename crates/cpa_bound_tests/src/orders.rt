@@ -1,4 +1,4 @@
-use cpa_assign::{Order, assign, assign_text, has_priorities, is_fed_by_sources};
+use cpa_assign::{Order, assign, assign_text, is_fed_by_sources};
 use cpa_file::read_system;
 use cpa_units::ResId;
 use std::alloc::Global;
@@ -91,7 +91,7 @@ fn is_met(alloc: Global, case: &Case) -> Result<bool, Fail> {
         format!(in alloc; "{DAVIS_BUS}{}", case.paths)?.as_bytes(),
     )?;
     let res = ResId(case.res);
-    if res.0 >= system.resources() || !has_priorities(&system, res) {
+    if res.0 >= system.resources() || !system.resource(res).kind.has_priorities() {
         return Ok(case.text == "no priorities\n");
     }
     if !is_fed_by_sources(&system, res) {

@@ -24,6 +24,7 @@ ghost use Rattle.cpa_c.specs.Given.{Gives, GivesNothing};
 mod tests;
 
 use cpa_call::errors::Reply;
+use cpa_call::statuses;
 use cpa_kept::{Handle, Told};
 use cpa_memory::{SCHEDULE, SCRIPT, SYSTEM, TRACE, Texts, call};
 use cpa_units::NoMemory;
@@ -32,10 +33,10 @@ use cpa_words::Command;
 use std::alloc::Global;
 
 /// Memory is out.
-const NO_MEMORY: u8 = 30;
+const NO_MEMORY: u8 = statuses::OUT_OF_MEMORY;
 
 /// A number that is out of its range, a name that is no text, or a handle that isn't open.
-const REFUSED: u8 = 10;
+const REFUSED: u8 = statuses::WORDS_REFUSED;
 
 /// Copies a text to the beginning of a buffer, as far as there is room.
 fn put(text: &[u8], out: &mut [u8])

@@ -4,11 +4,7 @@ use Rattle.std.specs.Prelude.{Result}
 use Rattle.std.proofs.lemmas.List.{append-nil, append_assoc, length-append, take-append-le}
 use Rattle.std.proofs.Math.Seq.{take-append-add}
 use Rattle.cpa_io.specs.Causes.{grown, SentPart}
-use Rattle.cpa_call.specs.declared.errors.InputError.{InputError}
-use Rattle.cpa_call.specs.declared.errors.InputError.TheVariants.{Unread}
 use Rattle.cpa_call.specs.Answers.{Answer, reply, Sends, SendsPart}
-use Rattle.cpa_call.specs.Ends.{IsUnreadLine}
-use Rattle.cpa_call.specs.Lines.{cannot_read}
 
 pub grown-none : (sent : Option (List ℕ)) → sent ≡ grown sent []
 grown-none None = refl
@@ -57,20 +53,3 @@ pub sends-by : {E : Type 0} (P : Answer → Type 0) (status : ℕ) (text : List 
     → OnOk r (now ≡ grown before text) → IfOk r (λ told. told ≡ status) → IfOk r (λ told. Sends P told before now)
 sends-by P status text before now (Ok told) is sent same = subst (λ x. Sends P x before now) (sym same) (sends-reply P status text before now is sent)
 sends-by P status text before now (Err e) is sent same = sent
-
--- ---- the line of a file that couldn't be loaded
-
-pub unread-text : (known : Type 0) (last : List ℕ) (e : InputError) (line : _) → IsUnreadLine known last e → e ≡ Unread line → line.items ≡ cannot_read last
-unread-text known last e line h is = (subst (IsUnreadLine known last) is h).1
-
--- it was sent
-pub unread-sent : {E : Type 0} (r : Result ℕ E) (before now : Option (List ℕ)) (text line : List ℕ) → OnOk r (now ≡ grown before text) → text ≡ line → IfOk r (λ status. status ≡ 11 → now ≡ grown before line)
-unread-sent (Ok status) before now text line sent same = λ eleven. sent ∙ ap (grown before) same
-unread-sent (Err e) before now text line sent same = sent
-
--- or a part of it
-pub unread-part : (known : Type 0) (last : List ℕ) (e : InputError) (line : _) (text : List ℕ) (before now : Option (List ℕ)) → IsUnreadLine known last e → e ≡ Unread line → text ≡ line.items
-    → SentPart before now text → known × SentPart before now (cannot_read last)
-unread-part known last e line text before now h is same part =
-    let call = subst (IsUnreadLine known last) is h in
-    (call.0, subst (SentPart before now) (same ∙ call.1) part)

@@ -4,10 +4,10 @@ use Rattle.cpa_io.specs.Causes.{Rose}
 use Rattle.cpa_io.specs.declared.sink.SinkFault.{SinkFault}
 use Rattle.cpa_io.specs.declared.sink.SinkFault.TheVariants as fault
 use Rattle.cpa_call.specs.Answers.{IsOfOutput}
-use Rattle.cpa_call.specs.Lines.{cannot_read}
+use Rattle.cpa_call.specs.Lines.{cannot_read, words_refused}
 use Rattle.cpa_call.specs.Plans.{Plan, Refuse}
 use Rattle.cpa_call.specs.declared.errors.InputError.{InputError}
-use Rattle.cpa_call.specs.declared.errors.InputError.TheVariants.{Refused, Unread}
+use Rattle.cpa_call.specs.declared.errors.InputError.TheVariants.{Refused, Unread, Memory}
 use Rattle.cpa_call.specs.declared.errors.OutputError.{OutputError}
 use Rattle.cpa_call.specs.declared.errors.OutputError.TheVariants as stopped
 
@@ -39,3 +39,9 @@ IsStopOf fault.Memory s = s ≡ stopped.Memory
 abbrev pub IsNoUnread : InputError → Type 0
 IsNoUnread (Unread line) = ⊥
 IsNoUnread _ = Unit {0}
+
+-- the words aren't accepted
+abbrev pub IsWordsEnd : InputError → Type 0
+IsWordsEnd (Refused reply) = (reply.status ≡ 10) × (reply.text.items ≡ words_refused)
+IsWordsEnd (Unread line) = ⊥
+IsWordsEnd Memory = Unit {0}

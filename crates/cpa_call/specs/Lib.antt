@@ -4,3 +4,4 @@ pub mod Lines
 pub mod Plans
 pub mod FaultTexts
 pub mod Calls
+pub mod TwoFiles

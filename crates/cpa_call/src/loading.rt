@@ -9,6 +9,7 @@ ghost use Rattle.cpa_call.specs.Plans.{Do, Refuse, content_in, system_by, system
 ghost use Rattle.cpa_call.specs.Answers.{IsOfOutput};
 ghost use Rattle.cpa_call.specs.Ends.{IsEndOf, HasStatus, IsUnreadFile, IsNoUnread};
 
+use crate::calls::refused_by;
 use crate::errors::{InputError, Reply};
 use crate::lines::{breach_line, file_line, refusal_line, trace_line};
 use crate::statuses;
@@ -47,10 +48,10 @@ pub fn load_file<F: Files>(
     match files.load(alloc, file, most) {
         Ok(bytes) => Ok(bytes),
         Err(LoadFault::Failed) => Err(InputError::Unread(file_line(alloc, b"cannot read ", file)?)),
-        Err(LoadFault::TooLong) => Err(InputError::Refused(Reply {
-            status: statuses::FILE_TOO_LONG,
-            text: file_line(alloc, b"too long ", file)?,
-        })),
+        Err(LoadFault::TooLong) => Err(refused_by(
+            statuses::FILE_TOO_LONG,
+            file_line(alloc, b"too long ", file)?,
+        )),
         Err(LoadFault::Memory) => Err(InputError::Memory),
     }
 }
@@ -127,17 +128,16 @@ fn read_trace_file(alloc: Global, system: &System, bytes: &[u8]) -> Result<Trace
     let trace = match read_trace(alloc, system, bytes) {
         Ok(trace) => trace,
         Err(TraceFault::Memory) => return Err(InputError::Memory),
-        Err(fault) => return Err(InputError::Refused(Reply {
-            status: statuses::TRACE_REFUSED,
-            text: trace_line(alloc, fault)?,
-        })),
+        Err(fault) => {
+            return Err(refused_by(statuses::TRACE_REFUSED, trace_line(alloc, fault)?));
+        }
     };
     match obeys(system, &trace) {
         None => Ok(trace),
-        Some(breach) => Err(InputError::Refused(Reply {
-            status: statuses::TRACE_BREACHES,
-            text: breach_line(alloc, system, breach)?,
-        })),
+        Some(breach) => Err(refused_by(
+            statuses::TRACE_BREACHES,
+            breach_line(alloc, system, breach)?,
+        )),
     }
 }
 

@@ -1,5 +1,11 @@
 //! The statuses of calls. 0 to 4 are verdicts of what was asked for, and each command says which; 10 and 12 to 19 are refusals.
 
+/// No order meets, or a deadline is missed already.
+pub const NONE_MEETS: u8 = 3;
+
+/// A schedule isn't that of the run.
+pub const OTHER_SCHEDULE: u8 = 4;
+
 /// Words that aren't accepted.
 pub const WORDS_REFUSED: u8 = 10;
 

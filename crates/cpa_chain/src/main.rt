@@ -1,6 +1,7 @@
 //! Writes the bounds on reaction time and data age of a chain of tasks, or of the chains in a file. The words begin with the command.
 #![tactic(auto)]
 
+use cpa_call::statuses;
 use cpa_io::{RealFiles, RealSink};
 use std::alloc::Global;
 use std::process::ExitCode;
@@ -21,7 +22,7 @@ fn main(rt: HostRuntime) -> ExitCode {
     let words = match read_words(&rt, alloc) {
         Ok(words) => words,
         Err(error) if matches!(error.kind(), io::ErrorKind::OutOfMemory) => {
-            return ExitCode::from(30);
+            return ExitCode::from(statuses::OUT_OF_MEMORY);
         }
         // Words that are no text are as little accepted as none.
         Err(_) => Vec::new(alloc),

@@ -8,10 +8,11 @@ use Rattle.cpa_effects.specs.declared.steps.Reading.TheVariants.{Anywhere}
 use Rattle.cpa_effects.specs.Laws.{IsChain, LeastSolutionsBoundChains}
 use Rattle.cpa_call.specs.Answers.{Answer}
 use Rattle.cpa_call.specs.Plans.{Held, Do, and_then, content_in, system_in}
+use Rattle.cpa_call.specs.TwoFiles.{Asked, accepted}
 use Rattle.cpa_call.proofs.PlanLaws.{then-done, done-same, planned-system}
 use Rattle.cpa_chains.specs.Chain.{Chain}
 use Rattle.cpa_chains.specs.Reading.{Reading, NotToml, Refused, Accepted, reading_of, IsChainIn}
-use Rattle.cpa_chains.specs.Calls.{Asked, Chains, accepted, chains_by, chains_in, listed, plan_for, plan_by, plan_of, answer_to}
+use Rattle.cpa_chains.specs.Calls.{Chains, chains_by, chains_in, listed, plan_for, plan_by, plan_of, answer_to}
 use Rattle.cpa_chains.specs.Laws.{PrintedChainsHold}
 use Rattle.cpa_chains.specs.declared.command.TheConstants.{MAX_CHAINS_FILE}
 use Rattle.cpa_chains.proofs.ReadingLaws.{accepted-in}
@@ -38,7 +39,7 @@ planned-for held file chains it e =
 
 planned-by : (held : Held) (o : Option Asked) (it : Chains) → plan_by held o ≡ Do it → IsPlanned it
 planned-by held None it e = cc
-planned-by held (Some asked) it e = planned-for held asked.file asked.chains it e
+planned-by held (Some asked) it e = planned-for held asked.file asked.second it e
 
 planned : (words : List (List ℕ)) (held : Held) (it : Chains) → plan_of words held ≡ Do it → IsPlanned it
 unfolding plan_of

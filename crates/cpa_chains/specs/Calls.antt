@@ -1,43 +1,18 @@
 -- What the command `chains` answers.
-use Rattle.std.specs.Prelude.{◌≡◌, ℕ, Bool, false, ◌==◌, not, ◌&&◌, ◌++◌, if◌then◌else◌, List, [], ◌∷◌, Option, Some, None, codes}
+use Rattle.std.specs.Prelude.{◌≡◌, ℕ, ◌==◌, ◌++◌, if◌then◌else◌, List, [], Option, Some, None, codes}
 use Rattle.std.specs.Fmt.{decimal}
-use Rattle.cpa_io.specs.Causes.{Rose}
 use Rattle.cpa_model.specs.SystemLists.{SystemLists}
 use Rattle.cpa_local.specs.Solution.{least_of}
-use Rattle.cpa_call.specs.declared.errors.InputError.{InputError}
 use Rattle.cpa_call.specs.Answers.{Answer, reply}
-use Rattle.cpa_call.specs.Ends.{IsUnreadLine}
 use Rattle.cpa_call.specs.Lines.{words_refused, not_toml}
-use Rattle.cpa_call.specs.Plans.{Held, Plan, Do, Refuse, Missing, and_then, content_in, system_in, IsSecond}
+use Rattle.cpa_call.specs.Plans.{Held, Plan, Do, Refuse, Missing, and_then, content_in, system_in}
+use Rattle.cpa_call.specs.TwoFiles.{Asked, accepted}
 use Rattle.cpa_chains.specs.Chain.{Chain}
 use Rattle.cpa_chains.specs.ChainsText.{chains_text, chains_status}
 use Rattle.cpa_chains.specs.Reading.{Reading, NotToml, Refused, Accepted, reading_of}
 use Rattle.cpa_chains.specs.declared.command.Listed.{Listed}
 use Rattle.cpa_chains.specs.declared.command.TheConstants.{MAX_CHAINS_FILE}
 use Rattle.cpa_chains.specs.declared.refusal.ChainsRefusal.{ChainsRefusal}
-use Rattle.cpa_chains.specs.declared.words.Named.{Named}
-
--- the two files that accepted words name
-pub record Asked : Type 0 where
-  pub file : List ℕ
-  pub chains : List ℕ
-
--- as the program has them
-abbrev pub asked : Named → Asked
-asked n = record { file = n.file.now; chains = n.chains.now }
-
--- a word that isn't empty and doesn't begin with a hyphen
-abbrev pub is_file : List ℕ → Bool
-is_file [] = false
-is_file (c ∷ cs) = not (c == 45)
-
-abbrev pub asked_by : List ℕ → List ℕ → Option Asked
-asked_by file chains = if is_file file && is_file chains then Some (record { file = file; chains = chains }) else None
-
--- the words are two files, and nothing else
-abbrev pub accepted : List (List ℕ) → Option Asked
-accepted (file ∷ chains ∷ []) = asked_by file chains
-accepted _ = None
 
 -- the line of chains that are refused
 abbrev pub part_word : ℕ → List ℕ
@@ -73,7 +48,7 @@ plan_for held file chains = and_then (system_in held file) (λ s. and_then (chai
 
 abbrev pub plan_by : Held → Option Asked → Plan Chains
 plan_by held None = Refuse 10 words_refused
-plan_by held (Some it) = plan_for held it.file it.chains
+plan_by held (Some it) = plan_for held it.file it.second
 
 unfoldable pub plan_of : List (List ℕ) → Held → Plan Chains
 plan_of words held = plan_by held (accepted words)
@@ -88,14 +63,3 @@ answer_to Missing = record { status = None; text = [] }
 -- the output: the one answer to these words, over files that hold these bytes
 abbrev pub IsOutput : List (List ℕ) → Held → Answer → Type 0
 IsOutput words held answer = answer ≡ answer_to (plan_of words held)
-
--- a file that the words name is the one whose load failed last, and the count of faults rose
-pub record IsUnread (words : List (List ℕ)) (told : Bool) (held : Held) (before now : ℕ) (last : List ℕ) : Type 0 where
-  pub asked : Asked
-  pub accepted : accepted words ≡ Some asked
-  pub named : IsSecond told held asked.file asked.chains last
-  pub rose : Rose before now
-
--- why a call ends before its work: where a file couldn't be loaded, its line says its name
-abbrev pub IsUnreadCall : List (List ℕ) → Bool → Held → ℕ → ℕ → List ℕ → InputError → Type 0
-IsUnreadCall words told held before now last = IsUnreadLine (IsUnread words told held before now last) last

@@ -6,6 +6,7 @@ use Rattle.cpa_call.specs.Lines.{words_refused}
 use Rattle.cpa_call.specs.Plans.{Held}
 use Rattle.cpa_effects.specs.Calls as effects
 use Rattle.cpa_chains.specs.Calls as chains
+use Rattle.cpa_call.specs.TwoFiles as two_files
 use Rattle.cpa_chains.specs.declared.commands.Command.{Command}
 use Rattle.cpa_chains.specs.declared.commands.Command.TheVariants.{Chain, Chains, Unknown}
 
@@ -29,7 +30,7 @@ IsOutput (command ∷ words) held = IsOutputOf (command_of command) words held
 -- a file that the words after a command name is the one whose load failed last
 abbrev pub IsUnreadOf : Command → List (List ℕ) → Bool → Held → ℕ → ℕ → List ℕ → Type 0
 IsUnreadOf Chain words told held before now last = effects.IsUnread (effects.call_of words).words before now last
-IsUnreadOf Chains words told held before now last = chains.IsUnread words told held before now last
+IsUnreadOf Chains words told held before now last = two_files.IsUnread words told held before now last
 IsUnreadOf Unknown words told held before now last = ⊥
 
 abbrev pub IsUnread : List (List ℕ) → Bool → Held → ℕ → ℕ → List ℕ → Type 0

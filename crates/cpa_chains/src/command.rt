@@ -1,27 +1,25 @@
 //! The command `chains`: a system file and a file of chains in, the bounds of the chains and their verdicts out.
 
-ghost use Rattle.std.specs.Prelude.{◌≡◌, ◌≢◌, ◌⊎◌, ◌≤◌, true, map, All, Err, IfOk, IfErr, OnOk, OnErr, string_bytes};
-ghost use Rattle.cpa_io.specs.Causes.{grown, Rose, SentPart};
+ghost use Rattle.std.specs.Prelude.{◌≡◌, ◌≤◌, true, map, All, IfOk, IfErr, string_bytes};
 ghost use Rattle.cpa_local.specs.Solution.{least_of};
-ghost use Rattle.cpa_call.specs.declared.errors.OutputError.TheVariants as stopped;
-ghost use Rattle.cpa_call.specs.Answers.{IsOfOutput, Sends, SendsPart};
+ghost use Rattle.cpa_call.specs.Answers.{IsOfOutput, SendsPart};
 ghost use Rattle.cpa_call.specs.Calls.{MeetsCall, loaded, sent};
 ghost use Rattle.cpa_call.specs.Ends.{IsEndOf, HasStatus, IsUnreadFile, IsNoUnread};
-ghost use Rattle.cpa_call.specs.Lines.{cannot_read};
 ghost use Rattle.cpa_call.specs.Plans.{Do, Refuse, IsSecond};
+ghost use Rattle.cpa_call.specs.TwoFiles.{IsUnread, IsUnreadCall};
 ghost use Rattle.cpa_chains.specs.Reading.{Reading, reading_of, IsFault, IsChainIn};
 ghost use Rattle.cpa_chains.specs.ChainsText.{chains_text, chains_status};
-ghost use Rattle.cpa_chains.specs.Calls.{part_word, chains_refused, chains_of, chains_by, chains_in, plan_for, plan_of, IsOutput, IsUnread, IsUnreadCall};
+ghost use Rattle.cpa_chains.specs.Calls.{part_word, chains_refused, chains_of, chains_by, chains_in, plan_for, plan_of, IsOutput};
 
 use crate::chains::{Chain, read_chains};
 use crate::refusal::{ChainsFault, ChainsRefusal};
 use crate::text::chain_verdicts;
-use crate::words::accept;
-use cpa_call::errors::{InputError, OutputError, Reply};
-use cpa_call::lines::{file_line, words_line};
+use cpa_call::calls::{refuse_words, send_end, send_reply, status_of};
+use cpa_call::errors::{InputError, Reply};
+use cpa_call::lines::file_line;
 use cpa_call::loading::{load_file, load_system};
-use cpa_call::sending::send;
 use cpa_call::statuses;
+use cpa_call::two_files::accept_two;
 use cpa_fix::{OneByOne, least_bounds};
 use cpa_io::{Files, Sink};
 use cpa_model::System;
@@ -150,12 +148,9 @@ fn plan<F: Files>(alloc: Global, words: &[String], files: &mut F) -> Result<List
     ensures status { IfErr result HasStatus }
     ensures unread { IfErr result (IsUnreadCall (map string_bytes words.now) (F.told files.old) (F.held files.old) (F.faults files.old) (F.faults files.new) (F.last_failed files.new)) }
 {
-    match accept(words) {
-        Some(named) => load_listed(alloc, files, named.file, named.chains),
-        None => Err(InputError::Refused(Reply {
-            status: statuses::WORDS_REFUSED,
-            text: words_line(alloc)?,
-        })),
+    match accept_two(words) {
+        Some(named) => load_listed(alloc, files, named.file, named.second),
+        None => Err(refuse_words(alloc)),
     }
 }
 
@@ -168,48 +163,6 @@ fn judge_listed(alloc: Global, system: &System, chains: &[Chain]) -> Result<Repl
 {
     let bounds = least_bounds(&(), alloc, system, &mut OneByOne)?;
     chain_verdicts(alloc, system, &bounds, chains)
-}
-
-/// Sends the bounds of chains, with their status.
-fn write<K: Sink>(
-    alloc: Global,
-    system: &System,
-    chains: &[Chain],
-    sink: &mut K,
-) -> Result<u8, OutputError>
-    requires { All (IsChainIn system.now) chains.now }
-    ensures status { IfOk result (λ status. status ≡ chains_status system.now (least_of system.now) chains.now) }
-    ensures small { IfOk result (λ status. status ≤ 2) }
-    ensures sends { OnOk result (K.sent sink.new ≡ grown (K.sent sink.old) (chains_text system.now (least_of system.now) chains.now)) }
-    ensures part { OnErr result (SentPart (K.sent sink.old) (K.sent sink.new) (chains_text system.now (least_of system.now) chains.now)) }
-    ensures rises { K.faults sink.old ≤ K.faults sink.new }
-    ensures failed { result ≡ Err stopped.Sink → Rose (K.faults sink.old) (K.faults sink.new) }
-{
-    let reply = judge_listed(alloc, system, chains)?;
-    send(sink, reply.status, reply.text.as_slice())
-}
-
-/// Does what the words ask for, or sends the line of a refusal.
-fn answer<F: Files, K: Sink>(
-    alloc: Global,
-    words: &[String],
-    files: &mut F,
-    sink: &mut K,
-) -> Result<u8, OutputError>
-    ensures answered { F.told files.old ≡ true → IfOk result (λ status. status ≢ 11 → Sends (IsOutput (map string_bytes words.now) (F.held files.old)) status (K.sent sink.old) (K.sent sink.new)) }
-    ensures status { IfOk result (λ status. (status ≢ 20) × (status ≢ 30)) }
-    ensures unread { IfOk result (λ status. status ≡ 11 → IsUnread (map string_bytes words.now) (F.told files.old) (F.held files.old) (F.faults files.old) (F.faults files.new) (F.last_failed files.new)) }
-    ensures unread_line { IfOk result (λ status. status ≡ 11 → K.sent sink.new ≡ grown (K.sent sink.old) (cannot_read (F.last_failed files.new))) }
-    ensures part { F.told files.old ≡ true → OnErr result (SendsPart (IsOutput (map string_bytes words.now) (F.held files.old)) (K.sent sink.old) (K.sent sink.new) ⊎ (IsUnread (map string_bytes words.now) (F.told files.old) (F.held files.old) (F.faults files.old) (F.faults files.new) (F.last_failed files.new) × SentPart (K.sent sink.old) (K.sent sink.new) (cannot_read (F.last_failed files.new)))) }
-    ensures rises { K.faults sink.old ≤ K.faults sink.new }
-    ensures failed { result ≡ Err stopped.Sink → Rose (K.faults sink.old) (K.faults sink.new) }
-{
-    match plan(alloc, words, files) {
-        Ok(listed) => write(alloc, &listed.system, listed.chains.as_slice(), sink),
-        Err(InputError::Refused(reply)) => send(sink, reply.status, reply.text.as_slice()),
-        Err(InputError::Unread(line)) => send(sink, statuses::FILE_UNREAD, line.as_slice()),
-        Err(InputError::Memory) => Err(OutputError::Memory),
-    }
 }
 
 /// Writes the bounds on reaction time and data age of the chains in a file, at the least solution, with the verdicts on their
@@ -233,9 +186,11 @@ pub fn write_chains<F: Files, K: Sink>(
         (sent (K.sent sink.old) (K.sent sink.new) (K.faults sink.old) (K.faults sink.new))
         result }
 {
-    match answer(alloc, words, files, sink) {
-        Ok(status) => status,
-        Err(OutputError::Sink) => statuses::SINK_FAILED,
-        Err(OutputError::Memory) => statuses::OUT_OF_MEMORY,
+    match plan(alloc, words, files) {
+        Ok(listed) => status_of(send_reply(
+            sink,
+            judge_listed(alloc, &listed.system, listed.chains.as_slice()),
+        )),
+        Err(end) => status_of(send_end(sink, end)),
     }
 }

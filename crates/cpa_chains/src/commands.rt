@@ -1,17 +1,12 @@
 //! The program's one call: words that begin with a command, `chain` or `chains`.
 
-ghost use Rattle.std.specs.Prelude.{◌≡◌, ◌≢◌, ◌⊎◌, ◌≤◌, map, Err, IfOk, OnErr, string_bytes};
-ghost use Rattle.cpa_io.specs.Causes.{Rose};
-ghost use Rattle.cpa_call.specs.declared.errors.OutputError.TheVariants as stopped;
-ghost use Rattle.cpa_call.specs.Answers.{IsOfOutput, Sends, SendsPart};
+ghost use Rattle.std.specs.Prelude.{◌≡◌, map, string_bytes};
+ghost use Rattle.cpa_call.specs.Answers.{SendsPart};
 ghost use Rattle.cpa_call.specs.Calls.{MeetsCall, loaded, sent};
-ghost use Rattle.cpa_chains.specs.Commands.{command_of, IsWordsRefused, IsOutputOf, IsOutput, IsUnreadOf, IsUnread};
+ghost use Rattle.cpa_chains.specs.Commands.{command_of, IsOutputOf, IsOutput, IsUnreadOf, IsUnread};
 
 use crate::command::write_chains;
-use cpa_call::errors::OutputError;
-use cpa_call::lines::words_line;
-use cpa_call::sending::send;
-use cpa_call::statuses;
+use cpa_call::calls::{refuse_words, send_end, status_of};
 use cpa_effects::write_chain;
 use cpa_io::{Files, Sink};
 use std::alloc::Global;
@@ -37,33 +32,6 @@ fn command_of(word: &str) -> Command
     }
 }
 
-/// Sends the line of words that aren't accepted.
-fn send_refusal<K: Sink>(alloc: Global, sink: &mut K) -> Result<u8, OutputError>
-    ensures sends { IfOk result (λ status. Sends IsWordsRefused status (K.sent sink.old) (K.sent sink.new)) }
-    ensures status { IfOk result (λ status. status ≡ 10) }
-    ensures part { OnErr result (SendsPart IsWordsRefused (K.sent sink.old) (K.sent sink.new)) }
-    ensures rises { K.faults sink.old ≤ K.faults sink.new }
-    ensures failed { result ≡ Err stopped.Sink → Rose (K.faults sink.old) (K.faults sink.new) }
-{
-    let line = words_line(alloc)?;
-    send(sink, statuses::WORDS_REFUSED, line.as_slice())
-}
-
-/// Refuses words, and answers the status.
-fn refuse_words<K: Sink>(alloc: Global, sink: &mut K) -> u8
-    ensures answered { IsOfOutput result → Sends IsWordsRefused result (K.sent sink.old) (K.sent sink.new) }
-    ensures complete { ¬ (Rose (K.faults sink.old) (K.faults sink.new)) → result ≢ 30 → Sends IsWordsRefused result (K.sent sink.old) (K.sent sink.new) }
-    ensures read { result ≢ 11 }
-    ensures unsent { result ≡ 20 → Rose (K.faults sink.old) (K.faults sink.new) }
-    ensures part { (result ≡ 20) ⊎ (result ≡ 30) → SendsPart IsWordsRefused (K.sent sink.old) (K.sent sink.new) }
-{
-    match send_refusal(alloc, sink) {
-        Ok(status) => status,
-        Err(OutputError::Sink) => statuses::SINK_FAILED,
-        Err(OutputError::Memory) => statuses::OUT_OF_MEMORY,
-    }
-}
-
 /// Does what a command asks for with the words after it.
 fn run_command<F: Files, K: Sink>(
     alloc: Global,
@@ -83,7 +51,7 @@ fn run_command<F: Files, K: Sink>(
     match command {
         Command::Chain => write_chain(alloc, words, files, sink),
         Command::Chains => write_chains(alloc, words, files, sink),
-        Command::Unknown => refuse_words(alloc, sink),
+        Command::Unknown => status_of(send_end(sink, refuse_words(alloc))),
     }
 }
 
@@ -105,7 +73,7 @@ pub fn run_chains<F: Files, K: Sink>(
         result }
 {
     match words {
-        [] => refuse_words(alloc, sink),
+        [] => status_of(send_end(sink, refuse_words(alloc))),
         [command, others @ ..] => run_command(
             alloc,
             command_of(command.as_str()),

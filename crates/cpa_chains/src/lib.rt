@@ -11,7 +11,6 @@ mod read;
 mod refusal;
 mod refusals;
 mod text;
-mod words;
 
 pub use command::{MAX_CHAINS_FILE, write_chains};
 pub use commands::run_chains;

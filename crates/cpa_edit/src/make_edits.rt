@@ -1,6 +1,6 @@
 //! Making the edits, one by one. None of them breaks a rule.
 
-ghost use Rattle.std.specs.Prelude.{◌≡◌, ◌<◌, ◌^◌, is_none, false, true, None, IfOk, OnOk, OnErr, unwrap_or};
+ghost use Rattle.std.specs.Prelude.{◌≡◌, ◌<◌, ◌^◌, true, None, OnOk, OnErr, unwrap_or};
 ghost use Rattle.cpa_model.specs.Rules.{IsSystem};
 ghost use Rattle.cpa_model.specs.declared.entries.Activator.TheVariants as activator;
 ghost use Rattle.cpa_edit.specs.declared.edit.Edit.TheVariants.{Exec, Priority, Swap, Slot, Source, Add, Remove};
@@ -8,7 +8,7 @@ ghost use Rattle.cpa_edit.specs.Named.{activator_named, turn_of};
 ghost use Rattle.cpa_edit.specs.Edited.{change, refusal};
 
 use crate::edit::Numbers;
-use crate::lookups::{find_activator, has_priorities, resource_named, source_named, task_named};
+use crate::lookups::{find_activator, is_by_priority, resource_named, source_named, task_named};
 use cpa_model::{Activator, Activators, System, Task, Turn};
 use cpa_units::{Name, NoMemory, SourceId};
 use std::alloc::Global;
@@ -92,7 +92,7 @@ pub(crate) fn make_addition(
     ensures unchanged { OnErr result (system.new ≡ system.old) }
 {
     let place = resource_named(system, res);
-    let turn = turn_of(has_priorities(system, place), numbers.number);
+    let turn = turn_of(is_by_priority(system, place), numbers.number);
     let task = Task {
         name: name.copy(alloc)?,
         res: place,

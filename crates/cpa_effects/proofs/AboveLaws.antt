@@ -23,7 +23,8 @@ use Rattle.cpa_sched.specs.Steps.{kind_of, region_of}
 use Rattle.cpa_sched.proofs.OptionLaws.{some-injective}
 use Rattle.cpa_sim.proofs.RunLaws.{run-belongs}
 use Rattle.cpa_sim.specs.Run.{runs_in, ended_count, run}
-use Rattle.cpa_sim.proofs.JobCount.{events_before, jobs-counted}
+use Rattle.cpa_sim.proofs.EventCounts.{events_before}
+use Rattle.cpa_sim.proofs.JobCount.{jobs-counted}
 use Rattle.cpa_sound.specs.RunCourse.{course_of}
 use Rattle.cpa_sound.specs.BoundsHold.{HasJob, arrival_of, SourcesStayNear, HoldIn}
 use Rattle.cpa_sound.proofs.Serving.{IsPending}

@@ -1,4 +1,4 @@
--- What names stand for, and what plans answer.
+-- What names stand for, and what is planned.
 use Rattle.std.proofs.Common.{◌≡◌, ℕ, ◌+◌, ◌<◌, ◌++◌, List, [], ◌∷◌, Bool, true, length, map, drop, get_or, Option, Some, None, refl, sym, ap, ◌∙◌, subst, arith}
 use Rattle.std.specs.Prelude.{All, ◌||◌, ◌&&◌, not, option_map}
 use Rattle.std.specs.List.{list_any}
@@ -8,18 +8,9 @@ use Rattle.cpa_units.specs.declared.places.TaskId.{TaskId}
 use Rattle.cpa_model.specs.SystemLists.{SystemLists, task_named, no_task}
 use Rattle.std.proofs.lemmas.Option.{none-some}
 use Rattle.std.proofs.lemmas.List.Quantifiers.{position-Some}
-use Rattle.cpa_io.specs.Causes.{SentPart}
-use Rattle.cpa_call.specs.declared.errors.Reply.{Reply}
-use Rattle.cpa_call.specs.declared.errors.InputError.{InputError}
-use Rattle.cpa_call.specs.declared.errors.InputError.TheVariants.{Refused}
-use Rattle.cpa_call.specs.Answers.{reply, SendsPart}
-use Rattle.cpa_call.specs.Ends.{IsEndOf}
 use Rattle.cpa_call.specs.Lines.{words_refused}
-use Rattle.cpa_call.proofs.SendLaws.{sent-nothing, part-reply}
-use Rattle.cpa_local.specs.Solution.{least_of}
-use Rattle.cpa_effects.specs.ChainText.{chain_text, chain_status}
-use Rattle.cpa_call.specs.Plans.{Held, Do, Refuse}
-use Rattle.cpa_effects.specs.Calls.{is_no_word, is_count, is_chain, Asked, Call, Chain, refused_at, chain_on, chain_from, accepted, plan_for, plan_of, answer_to, IsOutputOf}
+use Rattle.cpa_call.specs.Plans.{Held, Refuse}
+use Rattle.cpa_effects.specs.Calls.{is_no_word, is_count, is_chain, Asked, refused_at, chain_on, chain_from, accepted, plan_for, plan_of}
 
 -- who is named is there
 task_at_place : (o : Option ℕ) (i : TaskId) → option_map (λ k. record { 0 = k }) o ≡ Some i → o ≡ Some i.0
@@ -57,7 +48,7 @@ one-more_there s found more i before here is =
     only : (k : ℕ) (d : TaskId) → k < 1 → (get_or (i ∷ []) k d).0 < length s.tasks
     only k d less = let e : k ≡ 0 = omega arith in rw e here
 
--- ---- plans and their answers
+-- ---- plans
 
 pub plan-some : (words : List (List ℕ)) (held : Held) (it : Asked) → Some it ≡ accepted words → plan_of words held ≡ plan_for held it
 unfolding plan_of
@@ -66,24 +57,3 @@ plan-some words held it e = rw (← e) refl
 pub plan-none : (words : List (List ℕ)) (held : Held) → None ≡ accepted words → plan_of words held ≡ Refuse 10 words_refused
 unfolding plan_of
 plan-none words held e = rw (← e) refl
-
--- the bounds are the output
-pub done-answer : (it : Call) (held : Held) (c : Chain) (status : ℕ) (text : List ℕ) → plan_of it.words held ≡ Do c → status ≡ chain_status it.reading c.system (least_of c.system) c.tasks
-    → text ≡ chain_text it.reading c.system (least_of c.system) c.tasks → IsOutputOf it held (reply status text)
-done-answer it held c status text plan told is = (λ i. reply (told i) (is i)) ∙ ap (answer_to it.reading) (sym plan)
-
--- the line of a refusal is the output
-pub refused-answer : (it : Call) (held : Held) (e : InputError) (r : Reply) (text : List ℕ) → IsEndOf (plan_of it.words held) e → e ≡ Refused r → text ≡ r.text.items → IsOutputOf it held (reply r.status text)
-refused-answer it held e r text end is same =
-    let plan : plan_of it.words held ≡ Refuse r.status r.text.items = subst (IsEndOf (plan_of it.words held)) is end in
-    ap (reply r.status) same ∙ ap (answer_to it.reading) (sym plan)
-
--- nothing was sent
-pub nothing-yet : (it : Call) (held : Held) (sent : Option (List ℕ)) → SendsPart (IsOutputOf it held) sent sent
-nothing-yet it held sent = record { answer = answer_to it.reading (plan_of it.words held); is_output = refl; part = sent-nothing sent _ }
-
--- a part of the line of a refusal
-pub refused-part : (it : Call) (held : Held) (e : InputError) (r : Reply) (text : List ℕ) (before now : Option (List ℕ)) → IsEndOf (plan_of it.words held) e → e ≡ Refused r → text ≡ r.text.items
-    → SentPart before now text → SendsPart (IsOutputOf it held) before now
-refused-part it held e r text before now end is same part =
-    part-reply (IsOutputOf it held) r.status text before now (refused-answer it held e r text end is same) part

@@ -1,14 +1,11 @@
 //! The program's one call: a file and the names of tasks in, the bounds of the chain out.
 
-ghost use Rattle.std.specs.Prelude.{◌≡◌, ◌≢◌, ◌⊎◌, ◌<◌, ◌≤◌, ◌∷◌, [], ◌++◌, true, length, map, All, Err, IfOk, IfErr, OnOk, OnErr, string_bytes};
+ghost use Rattle.std.specs.Prelude.{◌≡◌, ◌<◌, ◌≤◌, ◌∷◌, [], ◌++◌, true, length, map, All, IfOk, IfErr, OnOk, string_bytes};
 ghost use Rattle.cpa_units.specs.declared.limits.TheConstants.{MAX_CHAIN};
-ghost use Rattle.cpa_io.specs.Causes.{grown, Rose, SentPart};
 ghost use Rattle.cpa_local.specs.Solution.{least_of};
-ghost use Rattle.cpa_call.specs.declared.errors.OutputError.TheVariants as stopped;
-ghost use Rattle.cpa_call.specs.Answers.{Sends, SendsPart};
+ghost use Rattle.cpa_call.specs.Answers.{SendsPart};
 ghost use Rattle.cpa_call.specs.Calls.{MeetsCall, loaded, sent};
 ghost use Rattle.cpa_call.specs.Ends.{IsEndOf, HasStatus, IsUnreadFile, IsNoUnread};
-ghost use Rattle.cpa_call.specs.Lines.{cannot_read};
 ghost use Rattle.cpa_call.specs.Plans.{Do};
 ghost use Rattle.cpa_effects.specs.Calls.{chain_refused, refused_at, chain_of, chain_by, plan_for, plan_of, call_of, IsOutput, IsOutputOf, IsUnread, IsUnreadCall};
 ghost use Rattle.cpa_effects.specs.ChainText.{chain_text, chain_status};
@@ -16,10 +13,9 @@ ghost use Rattle.cpa_effects.specs.ChainText.{chain_text, chain_status};
 use crate::steps::Reading;
 use crate::text::{chain_text, status};
 use crate::words::{accept, read_request};
-use cpa_call::errors::{InputError, OutputError, Reply};
-use cpa_call::lines::words_line;
+use cpa_call::calls::{refuse_words, refused_by, send_end, send_reply, status_of};
+use cpa_call::errors::{InputError, Reply};
 use cpa_call::loading::load_system;
-use cpa_call::sending::send;
 use cpa_call::statuses;
 use cpa_fix::{OneByOne, least_bounds};
 use cpa_io::{Files, Sink};
@@ -52,10 +48,7 @@ fn refuse(alloc: Global, place: u64) -> InputError
     ensures unread { IsNoUnread result }
 {
     match chain_line(alloc, place) {
-        Ok(text) => InputError::Refused(Reply {
-            status: statuses::NAME_REFUSED,
-            text,
-        }),
+        Ok(text) => refused_by(statuses::NAME_REFUSED, text),
         Err(NoMemory) => InputError::Memory,
     }
 }
@@ -117,68 +110,30 @@ fn plan<F: Files>(alloc: Global, words: &[String], files: &mut F) -> Result<Chai
 {
     match accept(words) {
         Some(named) => load_chain(alloc, files, named.file, named.tasks),
-        None => Err(InputError::Refused(Reply {
-            status: statuses::WORDS_REFUSED,
-            text: words_line(alloc)?,
-        })),
+        None => Err(refuse_words(alloc)),
     }
 }
 
-/// Sends the bounds of a chain, with their status.
-fn write<K: Sink>(
+/// The bounds of a chain at the least solution, with their status.
+fn judge_chain(
     alloc: Global,
     reading: Reading,
     system: &System,
     tasks: &[TaskId],
-    sink: &mut K,
-) -> Result<u8, OutputError>
+) -> Result<Reply, NoMemory>
     requires some { 0 < length tasks.now }
     requires few { length tasks.now ≤ MAX_CHAIN }
     requires there { All (λ (i : TaskId). i.0 < length system.now.tasks) tasks.now }
-    ensures status { IfOk result (λ status. status ≡ chain_status reading system.now (least_of system.now) tasks.now) }
-    ensures small { IfOk result (λ status. status ≤ 2) }
-    ensures sends { OnOk result (K.sent sink.new ≡ grown (K.sent sink.old) (chain_text reading system.now (least_of system.now) tasks.now)) }
-    ensures part { OnErr result (SentPart (K.sent sink.old) (K.sent sink.new) (chain_text reading system.now (least_of system.now) tasks.now)) }
-    ensures rises { K.faults sink.old ≤ K.faults sink.new }
-    ensures failed { result ≡ Err stopped.Sink → Rose (K.faults sink.old) (K.faults sink.new) }
+    ensures text { IfOk result (λ r. r.text.items ≡ chain_text reading system.now (least_of system.now) tasks.now) }
+    ensures status { IfOk result (λ r. r.status ≡ chain_status reading system.now (least_of system.now) tasks.now) }
+    ensures small { IfOk result (λ r. r.status ≤ 2) }
 {
     let bounds = least_bounds(&(), alloc, system, &mut OneByOne)?;
     let text = chain_text(alloc, reading, system, &bounds, tasks)?;
-    send(
-        sink,
-        status(reading, system, &bounds, tasks),
-        text.as_slice(),
-    )
-}
-
-/// Does what a call asks for, or sends the line of a refusal.
-fn answer<F: Files, K: Sink>(
-    alloc: Global,
-    reading: Reading,
-    words: &[String],
-    files: &mut F,
-    sink: &mut K,
-) -> Result<u8, OutputError>
-    ensures answered { F.told files.old ≡ true → IfOk result (λ status. status ≢ 11 → Sends (IsOutputOf (record { reading = reading; words = map string_bytes words.now }) (F.held files.old)) status (K.sent sink.old) (K.sent sink.new)) }
-    ensures status { IfOk result (λ status. (status ≢ 20) × (status ≢ 30)) }
-    ensures unread { IfOk result (λ status. status ≡ 11 → IsUnread (map string_bytes words.now) (F.faults files.old) (F.faults files.new) (F.last_failed files.new)) }
-    ensures unread_line { IfOk result (λ status. status ≡ 11 → K.sent sink.new ≡ grown (K.sent sink.old) (cannot_read (F.last_failed files.new))) }
-    ensures part { F.told files.old ≡ true → OnErr result (SendsPart (IsOutputOf (record { reading = reading; words = map string_bytes words.now }) (F.held files.old)) (K.sent sink.old) (K.sent sink.new) ⊎ (IsUnread (map string_bytes words.now) (F.faults files.old) (F.faults files.new) (F.last_failed files.new) × SentPart (K.sent sink.old) (K.sent sink.new) (cannot_read (F.last_failed files.new)))) }
-    ensures rises { K.faults sink.old ≤ K.faults sink.new }
-    ensures failed { result ≡ Err stopped.Sink → Rose (K.faults sink.old) (K.faults sink.new) }
-{
-    match plan(alloc, words, files) {
-        Ok(chained) => write(
-            alloc,
-            reading,
-            &chained.system,
-            chained.tasks.as_slice(),
-            sink,
-        ),
-        Err(InputError::Refused(reply)) => send(sink, reply.status, reply.text.as_slice()),
-        Err(InputError::Unread(line)) => send(sink, statuses::FILE_UNREAD, line.as_slice()),
-        Err(InputError::Memory) => Err(OutputError::Memory),
-    }
+    Ok(Reply {
+        status: status(reading, system, &bounds, tasks),
+        text,
+    })
 }
 
 /// Writes the bounds on reaction time and data age of a chain of tasks, at the least solution, where jobs read so, and
@@ -203,10 +158,12 @@ pub fn write_chain_by<F: Files, K: Sink>(
         (sent (K.sent sink.old) (K.sent sink.new) (K.faults sink.old) (K.faults sink.new))
         result }
 {
-    match answer(alloc, reading, words, files, sink) {
-        Ok(status) => status,
-        Err(OutputError::Sink) => statuses::SINK_FAILED,
-        Err(OutputError::Memory) => statuses::OUT_OF_MEMORY,
+    match plan(alloc, words, files) {
+        Ok(chained) => status_of(send_reply(
+            sink,
+            judge_chain(alloc, reading, &chained.system, chained.tasks.as_slice()),
+        )),
+        Err(end) => status_of(send_end(sink, end)),
     }
 }
 

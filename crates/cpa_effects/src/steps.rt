@@ -1,7 +1,7 @@
 //! How what a task wrote comes to the next.
 
 ghost use Rattle.std.specs.Prelude.{◌≡◌, ◌<◌, length};
-ghost use Rattle.cpa_model.specs.SystemLists.{priority_of, is_higher};
+ghost use Rattle.cpa_model.specs.SystemLists.{is_higher};
 ghost use Rattle.cpa_effects.specs.Bounds.{step_between, is_preemptive, gives_way, is_above, sole_source, is_one_source, have_one_source, passage_between};
 
 use cpa_model::{Activator, Kind, System};
@@ -65,17 +65,6 @@ fn is_preemptive(kind: Kind) -> bool
     }
 }
 
-/// Whether the second task is on the resource of the first, and of higher priority.
-fn is_higher(system: &System, task: TaskId, other: TaskId) -> bool
-    requires task { task.0 < length system.now.tasks }
-    requires other { other.0 < length system.now.tasks }
-    ensures { result ≡ is_higher system.now task.0 other.0 }
-{
-    let first = system.task(task);
-    let second = system.task(other);
-    first.res.0 == second.res.0 && second.turn.priority() < first.turn.priority()
-}
-
 /// Whether a job of a task may be preempted at each tick: on a preemptive resource, where its regions are of a tick.
 fn gives_way(system: &System, task: TaskId) -> bool
     requires { task.0 < length system.now.tasks }
@@ -92,7 +81,7 @@ fn is_above(system: &System, before: TaskId, next: TaskId) -> bool
     ensures { result ≡ is_above system.now before.0 next.0 }
 {
     gives_way(system, next)
-        && is_higher(system, next, before)
+        && system.is_higher(next, before)
         && !system.task(next).after.has_task(before)
 }
 

@@ -1,7 +1,7 @@
 -- The bounds on a resource depend on what it reads alone; so clean resources everywhere make a least solution.
 use Rattle.std.proofs.Common.{◌≡◌, ℕ, zero, suc, ◌<◌, length, Bool, true, List, [], ◌∷◌, map, Option, Some, None, refl, sym, ap, ◌∙◌, inl, inr, subst}
 use Rattle.std.specs.List.{filter}
-use Rattle.std.proofs.lemmas.Bool.{cases_lt, cases_Bool, and_parts, eqb-true}
+use Rattle.std.proofs.lemmas.Bool.{cases_lt, cases_Bool, and_parts, eqb-true, false≢true}
 use Rattle.cpa_units.specs.declared.bound.Bound.{Bound}
 use Rattle.cpa_units.specs.declared.limits.TheConstants.{MAX_CHAIN}
 use Rattle.cpa_units.specs.Bounds.{IsNowhereAbove, bound_of}
@@ -16,6 +16,7 @@ use Rattle.cpa_model.specs.declared.entries.Kind.{Kind}
 use Rattle.cpa_model.specs.declared.entries.Kind.TheVariants.{Preemptive, RoundRobin, Tdma, Can}
 use Rattle.cpa_model.specs.SystemLists.{SystemLists, task_at, resource_at, resource_of, task_places, slot_of, is_higher, is_other, shares_resource, higher_tasks, no_task}
 use Rattle.cpa_model.specs.Rules.{IsSystem, IsTask}
+use Rattle.cpa_model.specs.Kinds.{has_feedback}
 use Rattle.cpa_local.specs.Blocking.{blocking_of}
 use Rattle.cpa_local.specs.Inputs.{input_along, input}
 use Rattle.cpa_local.specs.Local.{rival_of, bound_by_kind, bound_at_input, response}
@@ -115,7 +116,7 @@ pub response-outside : (s : SystemLists) (x y : List Bound) (r : ℕ) → HasNoF
 response-outside s x y r apart agree =
     response_by_turns s x y r
     (λ i on j leads. agree j (λ back. apart.chains (i, LeadsTo-in_range s j i leads, on, (j, leads, back))))
-    (λ i own on e. absurd (apart.turns (subst (λ (q : ℕ). (slice_resource q) ≡ RoundRobin) on e)))
+    (λ i own on e. absurd (false≢true (sym apart.turns ∙ ap has_feedback (subst (λ (q : ℕ). (slice_resource q) ≡ RoundRobin) on e))))
   where
     slice_resource : ℕ → Kind
     slice_resource q = (resource_at s q).kind

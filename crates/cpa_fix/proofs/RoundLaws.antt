@@ -4,7 +4,7 @@ use Rattle.std.proofs.lemmas.Bool.{cases_eq, cases_lt, cases_Bool, false≢true,
 use Rattle.cpa_units.specs.declared.bound.Bound.{Bound}
 use Rattle.cpa_units.specs.Bounds.{IsNowhereAbove, bound_of}
 use Rattle.cpa_model.specs.SystemLists.{SystemLists, task_at, resource_at}
-use Rattle.cpa_model.specs.declared.entries.Kind.TheVariants.{RoundRobin}
+use Rattle.cpa_model.specs.Kinds.{has_feedback}
 use Rattle.std.specs.Bool.{OnFalse}
 use Rattle.std.specs.Prelude.{IsTrue, ◌↔◌}
 use Rattle.cpa_depend.specs.Cone.{LeadsBack}
@@ -111,7 +111,7 @@ sound-brought_up s r seen x vector apart agree sound =
     }
 
 -- a resource that isn't round robin, and leads back nowhere
-pub no-feedback : (s : SystemLists) (r : ℕ) (back : Bool) → ((resource_at s r).kind ≡ RoundRobin → ⊥) → IsTrue back ↔ LeadsBack s r → OnFalse back (HasNoFeedback s r)
+pub no-feedback : (s : SystemLists) (r : ℕ) (back : Bool) → has_feedback (resource_at s r).kind ≡ false → IsTrue back ↔ LeadsBack s r → OnFalse back (HasNoFeedback s r)
 no-feedback s r true turns back = tt
 no-feedback s r false turns back =
     record {

@@ -3,7 +3,7 @@ use Rattle.std.specs.Prelude.{ℕ, ◌≡◌, ◌<◌, ◌≤◌, Bool, true, fa
 use Rattle.cpa_units.specs.declared.bound.Bound.{Bound}
 use Rattle.cpa_units.specs.Bounds.{IsNowhereAbove, bound_of}
 use Rattle.cpa_model.specs.SystemLists.{SystemLists, task_at, resource_at}
-use Rattle.cpa_model.specs.declared.entries.Kind.TheVariants.{RoundRobin}
+use Rattle.cpa_model.specs.Kinds.{has_feedback}
 use Rattle.cpa_local.specs.Solution.{IsVector, least_of}
 use Rattle.cpa_local.specs.Trails.{Marks}
 use Rattle.cpa_depend.specs.Cone.{LeadsBack}
@@ -29,8 +29,7 @@ pub record IsRound (s : SystemLists) (dirty : ℕ → Bool) (old new : List Boun
   -- the readings of other resources are as before
   pub same : (r : ℕ) → dirty r ≡ false → reading_of after r ≡ reading_of before r
 
--- the bounds on r don't bear on its own analysis: it isn't round robin, where a rival's bound counts, and none of its tasks
--- leads to another
+-- the bounds on r don't bear on its own analysis: neither by its kind, nor since one of its tasks leads to another
 pub record HasNoFeedback (s : SystemLists) (r : ℕ) : Type 0 where
-  pub turns : (resource_at s r).kind ≡ RoundRobin → ⊥
+  pub turns : has_feedback (resource_at s r).kind ≡ false
   pub chains : LeadsBack s r → ⊥

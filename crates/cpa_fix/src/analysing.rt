@@ -13,7 +13,7 @@ ghost use Rattle.cpa_fix.specs.Rounds.{HasNoFeedback};
 use crate::readings::Reading;
 use cpa_depend::has_cyclic_chain;
 use cpa_local::{Trail, raise};
-use cpa_model::{Kind, System};
+use cpa_model::System;
 use cpa_units::{NoMemory, ResId, Vector};
 use std::alloc::Global;
 
@@ -76,8 +76,8 @@ fn has_feedback(system: &System, res: ResId, back: bool) -> bool
     requires back { IsTrue back ↔ LeadsBack system.now res.0 }
     ensures { OnFalse result (HasNoFeedback system.now res.0) }
 {
-    match system.resource(res).kind {
-        Kind::RoundRobin => true,
-        _ => back,
+    if system.resource(res).kind.has_feedback() {
+        return true;
     }
+    back
 }

@@ -1,11 +1,12 @@
 -- What is worked out once for the analyses of one resource's tasks. No contract of a public call speaks of it.
 use Rattle.std.specs.Prelude.{ℕ, ◌≡◌, ◌<◌, ◌≤◌, List, length, Option}
+use Rattle.std.specs.Bool.{OnTrue}
 use Rattle.cpa_units.specs.declared.bound.Bound.{Bound}
 use Rattle.cpa_events.specs.Events.{Model}
 use Rattle.cpa_model.specs.declared.entries.Kind.{Kind}
 use Rattle.cpa_model.specs.declared.entries.Kind.TheVariants.{Preemptive, RoundRobin, Tdma, Can}
 use Rattle.cpa_model.specs.SystemLists.{SystemLists, task_at, resource_at, cycle_of}
-use Rattle.cpa_local.specs.Blocking.{blocking_by}
+use Rattle.cpa_model.specs.Kinds.{wants_inputs, blocking_by}
 use Rattle.cpa_local.specs.Inputs.{AreInputs}
 
 -- the inputs, by the tasks' places, the cycle, and the longest blocking that were worked out last
@@ -30,10 +31,7 @@ HasLongest s r longest (Can bit) = Unit {0}
 
 -- the input of each task on r at x, where by its kind one task's bound depends on the inputs of others
 abbrev pub HasInputs : SystemLists → ℕ → List Bound → List (Option Model) → Kind → Type 0
-HasInputs s r x inputs (Tdma gap) = Unit {0}
-HasInputs s r x inputs Preemptive = AreInputs s r x inputs
-HasInputs s r x inputs RoundRobin = AreInputs s r x inputs
-HasInputs s r x inputs (Can bit) = AreInputs s r x inputs
+HasInputs s r x inputs kind = OnTrue (wants_inputs kind) (AreInputs s r x inputs)
 
 -- it is what the analyses of r's tasks at x share
 pub record IsPrepared (s : SystemLists) (r : ℕ) (x : List Bound) (work : Worked) : Type 0 where

@@ -23,7 +23,6 @@ pub use inputs::input;
 pub use laws::{
     inputs_follow_streams, least_solutions_have_laws, responses_are_monotone, trails_cross_threads,
 };
-pub use neighbours::blocking_by;
 pub use paths::{
     DeadlineVerdict, count_missed, count_overloads, deadline_verdict, is_missed, is_overload,
     path_best, path_worst,

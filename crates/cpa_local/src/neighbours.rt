@@ -1,11 +1,12 @@
 //! The other tasks of a task's resource, as its analysis sees them. All times are in ticks.
 
-ghost use Rattle.std.specs.Prelude.{◌≡◌, ◌<◌, ◌≤◌, ◌==◌, ◌&&◌, nat_lt, map, length, take, true, None, IfSome, slice_index_or};
-ghost use Rattle.cpa_units.specs.declared.limits.TheConstants.{MAX_CYCLE, MAX_EXECUTION};
+ghost use Rattle.std.specs.Prelude.{◌≡◌, ◌<◌, ◌≤◌, ◌==◌, map, length, take, None, IfSome, slice_index_or};
+ghost use Rattle.cpa_units.specs.declared.limits.TheConstants.{MAX_EXECUTION};
 ghost use Rattle.cpa_events.specs.Events.{IsModelInRange};
 ghost use Rattle.cpa_window.specs.Rivals.{IsRival, AreRivals};
-ghost use Rattle.cpa_model.specs.SystemLists.{task_at, tasks_on, is_higher, is_other, higher_tasks, other_tasks, cycle_of};
-ghost use Rattle.cpa_local.specs.Blocking.{blocking_by, blocking_of};
+ghost use Rattle.cpa_model.specs.SystemLists.{task_at, tasks_on, higher_tasks, other_tasks};
+ghost use Rattle.cpa_model.specs.Kinds.{blocking_by};
+ghost use Rattle.cpa_local.specs.Blocking.{blocking_of};
 ghost use Rattle.cpa_local.specs.Inputs.{AreInputs, input};
 ghost use Rattle.cpa_local.specs.Local.{rival_of};
 ghost use Rattle.cpa_local.specs.Solution.{IsVector};
@@ -14,29 +15,9 @@ ghost use Rattle.cpa_model.specs.declared.entries.Kind.TheVariants.{Preemptive};
 
 use crate::prepared_inputs::keep;
 use cpa_events::Model;
-use cpa_model::{Kind, System, Task};
+use cpa_model::{Kind, System};
 use cpa_units::{ResId, TaskId, Vector};
 use cpa_window::Rival;
-
-/// Whether the second task is on the resource of the first, and of higher priority.
-fn is_higher(system: &System, task: TaskId, other: TaskId) -> bool
-    requires task { task.0 < length system.now.tasks }
-    requires other { other.0 < length system.now.tasks }
-    ensures { result ≡ is_higher system.now task.0 other.0 }
-{
-    let first = system.task(task);
-    let second = system.task(other);
-    first.res.0 == second.res.0 && second.turn.priority() < first.turn.priority()
-}
-
-/// Whether the second task is another on the resource of the first.
-fn is_other(system: &System, task: TaskId, other: TaskId) -> bool
-    requires task { task.0 < length system.now.tasks }
-    requires other { other.0 < length system.now.tasks }
-    ensures { result ≡ is_other system.now task.0 other.0 }
-{
-    system.task(task).res.0 == system.task(other).res.0 && other.0 != task.0
-}
 
 /// Puts an input in the place of another.
 fn put_input(place: &mut Option<Model>, input: &Option<Model>)
@@ -88,7 +69,7 @@ pub(crate) fn gather_higher(
 {
     let mut count = 0;
     for other in system.tasks_on(system.task(task).res) {
-        if is_higher(system, task, *other) {
+        if system.is_higher(task, *other) {
             put_rival(system, *other, x, inputs, &mut rivals[count]);
             count += 1;
         }
@@ -116,27 +97,12 @@ pub(crate) fn gather_others(
 {
     let mut count = 0;
     for other in system.tasks_on(system.task(task).res) {
-        if is_other(system, task, *other) {
+        if system.is_other(task, *other) {
             put_rival(system, *other, x, inputs, &mut rivals[count]);
             count += 1;
         }
     }
     count
-}
-
-/// By how many ticks a job of a task that has begun keeps a more urgent one waiting, on a resource of this kind: by the rest of
-/// a region after its first tick under preemptive priority (Davis and Bertogna, "Optimal Fixed Priority Scheduling with
-/// Deferred Pre-emption", 2012), and by a whole frame on CAN (Davis et al., 2007).
-pub fn blocking_by(kind: Kind, entry: &Task) -> u64
-    requires { entry.now.worst ≤ MAX_EXECUTION }
-    ensures value { result ≡ blocking_by kind entry.now }
-    ensures in_range { result ≤ MAX_EXECUTION }
-{
-    match kind {
-        Kind::Preemptive => entry.region.min(entry.worst).saturating_sub(1),
-        Kind::Can { bit: _ } => entry.worst,
-        Kind::RoundRobin | Kind::Tdma { gap: _ } => 0,
-    }
 }
 
 /// By how many ticks one of lower priority on the resource of a task, whose kind it is, keeps it waiting at most; 0 if there
@@ -148,8 +114,8 @@ pub(crate) fn blocking(system: &System, task: TaskId, kind: Kind) -> u64
 {
     let mut most: u64 = 0;
     for other in system.tasks_on(system.task(task).res) {
-        if is_higher(system, *other, task) {
-            most = most.max(blocking_by(kind, system.task(*other)));
+        if system.is_higher(*other, task) {
+            most = most.max(kind.blocking_by(system.task(*other)));
         }
     }
     most
@@ -176,7 +142,7 @@ pub(crate) fn longest_blocking(system: &System, res: ResId) -> u64
 {
     let mut longest: u64 = 0;
     for task in system.tasks_on(res) {
-        longest = longest.max(blocking_by(Kind::Preemptive, system.task(*task)));
+        longest = longest.max(Kind::Preemptive.blocking_by(system.task(*task)));
     }
     longest
 }

@@ -1,6 +1,6 @@
 //! The inputs of a resource's tasks, worked out once for all their analyses.
 
-ghost use Rattle.std.specs.Prelude.{◌≡◌, ◌<◌, ◌≤◌, ◌-◌, List, length, Some, None, slice_index_or, IfSome};
+ghost use Rattle.std.specs.Prelude.{◌≡◌, ◌<◌, ◌≤◌, ◌-◌, length, Some, None, slice_index_or, IfSome};
 ghost use Rattle.std.specs.Option.{ForSome, option_copied};
 ghost use Rattle.cpa_units.specs.declared.limits.TheConstants.{MAX_LIMIT};
 ghost use Rattle.cpa_units.specs.Bounds.{bound_of};
@@ -53,9 +53,8 @@ impl Scratch {
         ensures prepared { IsPrepared system.now res.0 x.now self.new }
         ensures room { length self.new.inputs ≡ length self.old.inputs }
     {
-        match system.resource(res).kind {
-            Kind::Tdma { gap: _ } => {}
-            _ => learn(system, res, x, &mut self.inputs, &mut self.found),
+        if system.resource(res).kind.wants_inputs() {
+            learn(system, res, x, &mut self.inputs, &mut self.found);
         }
     }
 }
@@ -76,15 +75,12 @@ pub(crate) fn own_input<'a>(
     ensures value { option_copied result ≡ input system.now x.now task.0 }
     ensures in_range { IfSome (option_copied result) IsModelInRange }
 {
-    match system.resource(system.task(task).res).kind {
-        Kind::Tdma { gap: _ } => {
-            if find_input(system, task, x, found) {
-                Some(found)
-            } else {
-                None
-            }
-        }
-        _ => kept_input(system, task, x, inputs),
+    if system.resource(system.task(task).res).kind.wants_inputs() {
+        kept_input(system, task, x, inputs)
+    } else if find_input(system, task, x, found) {
+        Some(found)
+    } else {
+        None
     }
 }
 

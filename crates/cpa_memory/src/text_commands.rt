@@ -9,6 +9,7 @@ ghost use Rattle.cpa_chains.specs.Calls as chained;
 ghost use Rattle.cpa_memory.specs.Held.{held_in};
 ghost use Rattle.cpa_memory.specs.Words.{schedule_words, reading_of, chain_call, chains_words};
 
+use crate::calling::ended;
 use crate::texts::{CHAINS, SYSTEM, TRACE, Texts};
 use crate::written_output::Written;
 use cpa_call::errors::Reply;
@@ -72,20 +73,6 @@ fn words_of_chain(alloc: Global, tasks: &str) -> Result<Vec<String>, NoMemory>
     push_word(alloc, &mut words, SYSTEM)?;
     push_words(alloc, &mut words, names.as_slice())?;
     Ok(words)
-}
-
-/// What a call answers that ended with a status and sent a text.
-fn ended(status: u8, written: Written) -> Result<Reply, NoMemory>
-    ensures reply { IfOk result (λ r. (r.status ≡ status) × (r.text ≡ written.bytes)) }
-    ensures status { IfOk result (λ r. r.status ≢ 30) }
-{
-    if status == 30 {
-        return Err(NoMemory);
-    }
-    Ok(Reply {
-        status,
-        text: written.bytes,
-    })
 }
 
 /// The schedule of the run of a system under a trace, as `schedule` answers it. The only error is that memory is out.

@@ -1,5 +1,6 @@
 pub mod Built
 pub mod Chains
+pub mod Kinds
 pub mod Rules
 pub mod SystemLists
 pub mod Redraft

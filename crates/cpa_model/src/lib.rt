@@ -8,6 +8,7 @@ pub mod build;
 mod chains;
 mod changes;
 pub mod entries;
+mod kinds;
 pub mod system;
 mod task_lists;
 

@@ -40,7 +40,7 @@ impl Model for System {
 fn crosses_threads<T: Send + Sync>(_value: &T) {}
 
 impl System {
-    ghost use Rattle.cpa_model.specs.SystemLists.{resource_at, source_at, task_at, path_at, places_of, tasks_on, resource_named, source_named, task_named, root_of, stream_at, streams_of, depth_of, cycle_of};
+    ghost use Rattle.cpa_model.specs.SystemLists.{resource_at, source_at, task_at, path_at, is_higher, is_other, places_of, tasks_on, resource_named, source_named, task_named, root_of, stream_at, streams_of, depth_of, cycle_of};
     ghost use Rattle.cpa_model.specs.Rules.{IsSystem, IsResource, IsSource, IsTask, IsPath};
 
     /// A system keeps its rules, and it can be handed to other threads and shared by them. The call does nothing.
@@ -143,6 +143,26 @@ impl System {
         ensures rules { IsPath self.now result.now }
     {
         &self.paths[path.0 as usize]
+    }
+
+    /// Whether the second task is on the resource of the first, and of higher priority.
+    pub fn is_higher(&self, task: TaskId, other: TaskId) -> bool
+        requires task { task.0 < length self.now.tasks }
+        requires other { other.0 < length self.now.tasks }
+        ensures { result ≡ is_higher self.now task.0 other.0 }
+    {
+        let first = self.task(task);
+        let second = self.task(other);
+        first.res.0 == second.res.0 && second.turn.priority() < first.turn.priority()
+    }
+
+    /// Whether the second task is another on the resource of the first.
+    pub fn is_other(&self, task: TaskId, other: TaskId) -> bool
+        requires task { task.0 < length self.now.tasks }
+        requires other { other.0 < length self.now.tasks }
+        ensures { result ≡ is_other self.now task.0 other.0 }
+    {
+        self.task(task).res.0 == self.task(other).res.0 && other.0 != task.0
     }
 
     /// The tasks of a resource, in their order.

@@ -1,12 +1,12 @@
 -- There is an output of each call, and one only.
-use Rattle.std.proofs.Common.{◌≡◌, ℕ, List, [], Option, Some, None, refl, sym, ◌∙◌, inl}
+use Rattle.std.proofs.Common.{◌≡◌, ℕ, List, [], Option, Some, None, refl, sym, ◌∙◌, inl, inr}
 use Rattle.std.specs.Prelude.{IfSome}
 use Rattle.cpa_sim.specs.Outcome.{outcome_of}
 use Rattle.cpa_sim.specs.SimText.{sim_text}
 use Rattle.cpa_words.specs.Words.{Asked, Analyse, Session, Simulate, Generate, Load, Hammer, Assign, Slack, Buffers, Audit, IsWithin, accepted}
 use Rattle.cpa_words.proofs.WithinLaws.{accepted_within}
 use Rattle.cpa_gen.specs.MadeSystems.{made_system}
-use Rattle.cpa_call.specs.Answers.{Answer, reply}
+use Rattle.cpa_call.specs.Answers.{Answer, reply, SendsPart}
 use Rattle.cpa_call.specs.Lines.{words_refused}
 use Rattle.cpa_call.specs.Plans.{Held, Plan, Do, Refuse, Missing, and_then, system_in, traced_in}
 use Rattle.cpa_call.proofs.PlanLaws.{planned-system, planned-traced}
@@ -69,6 +69,11 @@ nothing-of plan sent some = nothing-sent (IsAnswerTo plan) some sent
 
 pub nothing-yet : (words : List (List ℕ)) (held : Held) (sent : Option (List ℕ)) → SendsSome (plan_of words held) sent sent
 nothing-yet words held sent = nothing-of (plan_of words held) sent (some-output words held)
+
+-- where a part was
+pub some-part : (plan : Plan Request) (before now : Option (List ℕ)) → SendsPart (IsAnswerTo plan) before now → SendsSome plan before now
+some-part (Do (work.Generate number size)) before now part = inr part
+some-part plan before now part = part
 
 -- ---- and only one
 

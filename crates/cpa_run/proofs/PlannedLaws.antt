@@ -7,7 +7,8 @@ use Rattle.cpa_model.specs.SystemLists.{SystemLists, resource_at, resource_named
 use Rattle.cpa_edit.specs.declared.script.Step.{Step}
 use Rattle.cpa_edit.specs.Script.{Read, script_of, AreNamed}
 use Rattle.cpa_edit.proofs.NameLaws.{scripts-are_named}
-use Rattle.cpa_assign.specs.Orders.{has_priorities, is_fed_by_sources, IsOrderable}
+use Rattle.cpa_model.specs.Kinds.{has_priorities}
+use Rattle.cpa_assign.specs.Orders.{is_fed_by_sources, IsOrderable}
 use Rattle.cpa_assign.proofs.AbleLaws.{orderable-from}
 use Rattle.cpa_call.specs.Plans.{Held, Plan, Do, Refuse, content_in}
 use Rattle.cpa_call.proofs.PlanLaws.{done-same, then-done}

@@ -7,7 +7,8 @@ use Rattle.cpa_model.specs.SystemLists.{SystemLists, resource_at, resource_named
 use Rattle.cpa_edit.specs.declared.script.Step.{Step}
 use Rattle.cpa_edit.specs.Script.{Read, script_of}
 use Rattle.cpa_words.specs.Words.{Asked, accepted, Analyse, Session, Simulate, Generate, Load, Hammer, Assign, Slack, Buffers, Audit}
-use Rattle.cpa_assign.specs.Orders.{has_priorities, is_fed_by_sources}
+use Rattle.cpa_model.specs.Kinds.{has_priorities}
+use Rattle.cpa_assign.specs.Orders.{is_fed_by_sources}
 use Rattle.cpa_audit.specs.declared.fault.ScheduleFault.{ScheduleFault}
 use Rattle.cpa_audit.specs.declared.schedule.Segment.{Segment}
 use Rattle.cpa_audit.specs.ScheduleReading.{schedule_of}

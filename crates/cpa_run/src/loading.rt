@@ -6,7 +6,6 @@ ghost use Rattle.cpa_audit.specs.ScheduleReading.{schedule_of};
 ghost use Rattle.cpa_assign.specs.Orders.{IsOrderable};
 ghost use Rattle.cpa_words.specs.Words.{Analyse, Session, Simulate, Hammer, Assign, Slack, Buffers, Audit, AreWorkers, AreTraces, IsWithin};
 ghost use Rattle.cpa_words.specs.Commands.{asked};
-ghost use Rattle.cpa_call.specs.declared.errors.InputError.TheVariants.{Refused};
 ghost use Rattle.cpa_call.specs.Ends.{IsEndOf, HasStatus, IsUnreadFile, IsNoUnread};
 ghost use Rattle.cpa_call.specs.Plans.{Do, IsSecond};
 ghost use Rattle.cpa_run.specs.Plan.{script_by, script_in, schedule_by, schedule_in, orderable_in, task_in, plan_for, plan_of};
@@ -15,10 +14,10 @@ ghost use Rattle.cpa_run.specs.Output.{IsNamed, IsThird, IsUnreadCall};
 
 use crate::lines::{assign_line, schedule_line, script_line, slack_line};
 use crate::request::Request;
-use cpa_assign::{has_priorities, is_fed_by_sources};
+use cpa_assign::is_fed_by_sources;
 use cpa_audit::{Schedule, ScheduleFault, read_schedule};
-use cpa_call::errors::{InputError, Reply};
-use cpa_call::lines::words_line;
+use cpa_call::calls::{refuse_words, refused_by};
+use cpa_call::errors::InputError;
 use cpa_call::loading::{load_file, load_system, load_traced};
 use cpa_call::statuses;
 use cpa_edit::{Script, ScriptFault, read_script};
@@ -40,10 +39,7 @@ fn read_script_file(alloc: Global, bytes: &[u8]) -> Result<Script, InputError>
     match read_script(alloc, bytes) {
         Ok(script) => Ok(script),
         Err(ScriptFault::Memory) => Err(InputError::Memory),
-        Err(fault) => Err(InputError::Refused(Reply {
-            status: statuses::SCRIPT_REFUSED,
-            text: script_line(alloc, fault)?,
-        })),
+        Err(fault) => Err(refused_by(statuses::SCRIPT_REFUSED, script_line(alloc, fault)?)),
     }
 }
 
@@ -70,10 +66,7 @@ fn read_schedule_file(alloc: Global, system: &System, bytes: &[u8]) -> Result<Sc
     match read_schedule(alloc, system, bytes) {
         Ok(schedule) => Ok(schedule),
         Err(ScheduleFault::Memory) => Err(InputError::Memory),
-        Err(fault) => Err(InputError::Refused(Reply {
-            status: statuses::SCHEDULE_REFUSED,
-            text: schedule_line(alloc, fault)?,
-        })),
+        Err(fault) => Err(refused_by(statuses::SCHEDULE_REFUSED, schedule_line(alloc, fault)?)),
     }
 }
 
@@ -188,25 +181,15 @@ fn find_resource(alloc: Global, system: &System, name: &str) -> Result<ResId, In
     ensures unread { IfErr result IsNoUnread }
 {
     let Some(res) = system.find_resource(name.as_bytes()) else {
-        return Err(refused_by(assign_line(alloc, 1)?));
+        return Err(refused_by(statuses::NAME_REFUSED, assign_line(alloc, 1)?));
     };
-    if !has_priorities(system, res) {
-        return Err(refused_by(assign_line(alloc, 2)?));
+    if !system.resource(res).kind.has_priorities() {
+        return Err(refused_by(statuses::NAME_REFUSED, assign_line(alloc, 2)?));
     }
     if !is_fed_by_sources(system, res) {
-        return Err(refused_by(assign_line(alloc, 3)?));
+        return Err(refused_by(statuses::NAME_REFUSED, assign_line(alloc, 3)?));
     }
     Ok(res)
-}
-
-/// The end of a call whose resource or task is refused.
-fn refused_by(line: Vec<u8>) -> InputError
-    ensures { result ≡ Refused (record { status = 18; text = line }) }
-{
-    InputError::Refused(Reply {
-        status: statuses::NAME_REFUSED,
-        text: line,
-    })
 }
 
 /// The task of a name.
@@ -219,7 +202,7 @@ fn find_task(alloc: Global, system: &System, name: &str) -> Result<TaskId, Input
 {
     match system.find_task(name.as_bytes()) {
         Some(task) => Ok(task),
-        None => Err(refused_by(slack_line(alloc)?)),
+        None => Err(refused_by(statuses::NAME_REFUSED, slack_line(alloc)?)),
     }
 }
 
@@ -376,9 +359,6 @@ pub fn plan<F: Files>(alloc: Global, words: &[String], files: &mut F) -> Result<
 {
     match accept(alloc, words)? {
         Some(command) => plan_command(alloc, files, command),
-        None => Err(InputError::Refused(Reply {
-            status: statuses::WORDS_REFUSED,
-            text: words_line(alloc)?,
-        })),
+        None => Err(refuse_words(alloc)),
     }
 }

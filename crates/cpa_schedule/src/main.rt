@@ -1,6 +1,7 @@
 //! Writes the schedule of the run of a system under a trace: which task gets the ticks of its resource, from when to when.
 #![tactic(auto)]
 
+use cpa_call::statuses;
 use cpa_io::{RealFiles, RealSink};
 use std::alloc::Global;
 use std::process::ExitCode;
@@ -21,7 +22,7 @@ fn main(rt: HostRuntime) -> ExitCode {
     let words = match read_words(&rt, alloc) {
         Ok(words) => words,
         Err(error) if matches!(error.kind(), io::ErrorKind::OutOfMemory) => {
-            return ExitCode::from(30);
+            return ExitCode::from(statuses::OUT_OF_MEMORY);
         }
         // Words that are no text are as little accepted as none.
         Err(_) => Vec::new(alloc),

@@ -5,7 +5,6 @@
 
 mod command;
 mod tracking;
-mod words;
 mod writing;
 
 pub use command::{schedules_have_laws, write_schedule};

@@ -150,7 +150,7 @@ impl<'a> Writing<'a> {
     }
 }
 
-/// Sends the schedule of the run of a trace, in pieces of some 64 KB. The condition on the trace is that of
+/// Sends the schedule of the run of a trace, in pieces of some 64 KB, with status 0. The condition on the trace is that of
 /// `Replay::start`. Memory is wanted for a piece and a row, and for a replay of each resource beside that of all,
 /// however many jobs and segments there are: a segment's end is found by the replay of its resource, which goes
 /// ahead to it.
@@ -159,8 +159,9 @@ pub(crate) fn send_schedule<K: Sink>(
     system: &System,
     trace: &Trace,
     sink: &mut K,
-) -> Result<(), OutputError>
+) -> Result<u8, OutputError>
     requires { CanReplay system.now trace.now }
+    ensures told { IfOk result (λ told. told ≡ 0) }
     ensures sent { OnOk result (K.sent sink.new ≡ grown (K.sent sink.old) (schedule_text system.now (segments system.now trace.now))) }
     ensures part { OnErr result (SentPart (K.sent sink.old) (K.sent sink.new) (schedule_text system.now (segments system.now trace.now))) }
     ensures rises { K.faults sink.old ≤ K.faults sink.new }
@@ -174,5 +175,5 @@ pub(crate) fn send_schedule<K: Sink>(
         writing.write_moment(alloc, system, &replay, time, sink)?;
     }
     put_all(sink, writing.unsent.as_slice())?;
-    Ok(())
+    Ok(0)
 }

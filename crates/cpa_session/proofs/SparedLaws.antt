@@ -16,7 +16,8 @@ use Rattle.cpa_model.specs.declared.entries.Activator.TheVariants.{Source as Fro
 use Rattle.cpa_model.specs.SystemLists.{SystemLists, task_at, resource_at, resource_of, task_places, slot_of, gap_of, is_higher, is_other, higher_tasks, other_tasks, cycle_of, is_task, no_resource}
 use Rattle.cpa_model.specs.Rules.{IsSystem}
 use Rattle.cpa_model.proofs.SystemLaws.{activated-there}
-use Rattle.cpa_local.specs.Blocking.{blocking_by, blocking_of}
+use Rattle.cpa_model.specs.Kinds.{blocking_by}
+use Rattle.cpa_local.specs.Blocking.{blocking_of}
 use Rattle.cpa_local.specs.Inputs.{sent_by, joined, sent_by_all, input_along, input}
 use Rattle.cpa_local.specs.Local.{rival_of, bound_by_kind, bound_at_input, response}
 use Rattle.cpa_depend.specs.Cone.{Activates, LeadsTo, directly, through, Reads, earlier, IsClosedUnder}

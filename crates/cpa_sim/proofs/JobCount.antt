@@ -1,8 +1,8 @@
 -- A run has at most as many jobs as the events of its trace start.
-use Rattle.std.proofs.Common.{◌≡◌, ℕ, zero, suc, ◌+◌, ◌-◌, ◌<◌, ◌≤◌, length, List, [], ◌∷◌, map, cond, not, eqb, ltb, Bool, true, false, ◌||◌, All, Option, refl, sym, ◌∙◌, ap, subst, inl, inr, arith, get_or, length-append}
+use Rattle.std.proofs.Common.{◌≡◌, ℕ, zero, suc, ◌+◌, ◌-◌, ◌<◌, ◌≤◌, length, List, [], ◌∷◌, map, cond, not, eqb, Bool, true, false, ◌||◌, All, Option, refl, sym, ◌∙◌, ap, subst, inl, inr, arith, get_or, length-append}
 use Rattle.std.specs.Prelude.{sum, sum_by, count_by, filter}
 use Rattle.std.specs.List.{AllByRecursion, list_any, flat_map, range_with_len}
-use Rattle.std.proofs.lemmas.Bool.{cases_lt, cases_Bool, cases_order, lt-ltb, le-ltb, eq-eqb, eqb-true, ne_eqb, cond-true, cond-false}
+use Rattle.std.proofs.lemmas.Bool.{cases_lt, cases_Bool, eqb-true, ne_eqb, cond-true, cond-false}
 use Rattle.std.proofs.lemmas.List.{length-map}
 use Rattle.std.proofs.lemmas.List.Elements.{All-head, All-tail}
 use Rattle.std.proofs.lemmas.List.FromFn.{get_or-map-range_with_len, length-map-range_with_len, length-range_with_len}
@@ -25,6 +25,7 @@ use Rattle.cpa_sim.specs.declared.jobs.Cause.{Cause}
 use Rattle.cpa_sim.specs.Run.{Progress, is_open, ended_count, after_tick, serve, new_jobs, causes_by, events_at, by_task, by_source, by_tasks, by_sources, arriving, is_chosen, choice_at, served, ends_in, ended_in, run}
 use Rattle.cpa_sim.specs.Outcome.{CanReplay, IsOutcome, jobs_seen, job_of, end_of, outcome_of}
 use Rattle.cpa_sched.proofs.StepLaws.{all_range}
+use Rattle.cpa_sim.proofs.EventCounts.{events_before, before-none, before-suc, before-le}
 use Rattle.cpa_sim.proofs.QueueLaws.{serve-here, serve-there, ended-open, ended-closed, ended-append, ended-new, ended-le, length-new}
 use Rattle.cpa_sim.proofs.RunLaws.{jobs-zero, jobs-suc, served-is, ends-is, ended-is as numbers-are}
 
@@ -48,53 +49,6 @@ ended-serve now (job ∷ js) =
           (omega (arith, ended-open job js e, sum_by-cons (λ (job : Progress). cond (not (is_open job)) 1 0) (after_tick now job) js))
       | inr e ↦ rw (serve-there now job js e) (omega (arith, ended-closed job js e, ended-closed job (serve now js) e, ended-serve now js))
     ]
-
--- ---- the events before a time
-
-pub events_before : List ℕ → ℕ → ℕ
-events_before times t = count_by (λ e. ltb e t) times
-
-before-cons : (x : ℕ) (xs : List ℕ) (t : ℕ) → events_before (x ∷ xs) t ≡ cond (ltb x t) 1 0 + events_before xs t
-unfolding events_before
-before-cons x xs t = sum_by-cons (λ e. cond (ltb e t) 1 0) x xs
-
-before-lt : (x : ℕ) (xs : List ℕ) (t : ℕ) → x < t → events_before (x ∷ xs) t ≡ 1 + events_before xs t
-before-lt x xs t h = before-cons x xs t ∙ rw (lt-ltb x t h) refl
-
-before-ge : (x : ℕ) (xs : List ℕ) (t : ℕ) → t ≤ x → events_before (x ∷ xs) t ≡ 0 + events_before xs t
-before-ge x xs t h = before-cons x xs t ∙ rw (le-ltb x t h) refl
-
-now-cons : (x : ℕ) (xs : List ℕ) (t : ℕ) → count_by (λ e. eqb e t) (x ∷ xs) ≡ cond (eqb x t) 1 0 + count_by (λ e. eqb e t) xs
-now-cons x xs t = sum_by-cons (λ e. cond (eqb e t) 1 0) x xs
-
-before-none : (xs : List ℕ) → events_before xs 0 ≡ 0
-unfolding events_before
-before-none [] = refl
-before-none (x ∷ xs) = omega (arith, before-ge x xs 0 (omega arith), before-none xs)
-
-before-suc : (xs : List ℕ) (t : ℕ) → events_before xs (t + 1) ≡ events_before xs t + count_by (λ e. eqb e t) xs
-unfolding events_before
-before-suc [] t = refl
-before-suc (x ∷ xs) t =
-    elim (cases_order x t) [
-      | inl same ↦ omega (arith, before-lt x xs (t + 1) (omega arith), before-ge x xs t (omega arith), at_once same, before-suc xs t)
-      | inr o ↦ elim o [
-        | inl less ↦ omega (arith, before-lt x xs (t + 1) (omega arith), before-lt x xs t less, apart (omega arith), before-suc xs t)
-        | inr more ↦ omega (arith, before-ge x xs (t + 1) (omega arith), before-ge x xs t (omega arith), apart (omega arith), before-suc xs t)
-      ]
-    ]
-  where
-    at_once : x ≡ t → count_by (λ e. eqb e t) (x ∷ xs) ≡ 1 + count_by (λ e. eqb e t) xs
-    at_once e = now-cons x xs t ∙ rw (eq-eqb x t e) refl
-
-    apart : (x ≡ t → ⊥) → count_by (λ e. eqb e t) (x ∷ xs) ≡ 0 + count_by (λ e. eqb e t) xs
-    apart ne = now-cons x xs t ∙ rw (ne_eqb x t ne) refl
-
-before-le : (xs : List ℕ) (t : ℕ) → events_before xs t ≤ length xs
-unfolding events_before
-before-le [] t = omega arith
-before-le (x ∷ xs) t =
-    elim (cases_lt x t) [ inl h ↦ omega (arith, before-lt x xs t h, before-le xs t) | inr h ↦ omega (arith, before-ge x xs t h, before-le xs t) ]
 
 -- ---- sums over places
 

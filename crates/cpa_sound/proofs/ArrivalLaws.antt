@@ -1,12 +1,11 @@
 -- What jobs need, how many end in a tick, and how many events of a source come before a time.
-use Rattle.std.proofs.Common.{◌≡◌, ℕ, zero, suc, ◌+◌, ◌-◌, ◌<◌, ◌≤◌, length, List, [], ◌∷◌, cond, eqb, ltb, refl, ◌∙◌, inl, inr, arith, get_or}
-use Rattle.std.specs.List.{count_by}
-use Rattle.std.proofs.lemmas.Bool.{cases_lt, cases_order, lt-ltb, le-ltb, eq-eqb, ne_eqb}
-use Rattle.std.proofs.lemmas.List.Sums.{sum_by-cons}
+use Rattle.std.proofs.Common.{◌≡◌, ℕ, zero, suc, ◌+◌, ◌-◌, ◌<◌, ◌≤◌, length, List, [], ◌∷◌, refl, inl, inr, arith, get_or}
+use Rattle.std.proofs.lemmas.Bool.{cases_lt}
 use Rattle.std.proofs.lemmas.List.{get_or_past}
 use Rattle.cpa_model.specs.SystemLists.{SystemLists, task_at}
 use Rattle.cpa_trace.specs.Trace.{TraceLists, times_of, executions_of, need, Obeys}
 use Rattle.cpa_sim.specs.Run.{ended_count, served, ends_in, run}
+use Rattle.cpa_sim.proofs.EventCounts.{events_before, before-lt, before-ge, before-le}
 use Rattle.cpa_sim.proofs.JobCount.{ended-served}
 
 -- ---- what a job needs
@@ -33,51 +32,6 @@ module _ (s : SystemLists) (tr : TraceLists) where
 
 -- ---- counting the events before a time
 
-pub events_before : List ℕ → ℕ → ℕ
-events_before times t = count_by (λ e. ltb e t) times
-
-before-cons : (x : ℕ) (xs : List ℕ) (t : ℕ) → events_before (x ∷ xs) t ≡ cond (ltb x t) 1 0 + events_before xs t
-unfolding events_before
-before-cons x xs t = sum_by-cons (λ e. cond (ltb e t) 1 0) x xs
-
-before-lt : (x : ℕ) (xs : List ℕ) (t : ℕ) → x < t → events_before (x ∷ xs) t ≡ 1 + events_before xs t
-before-lt x xs t h = before-cons x xs t ∙ rw (lt-ltb x t h) refl
-
-before-ge : (x : ℕ) (xs : List ℕ) (t : ℕ) → t ≤ x → events_before (x ∷ xs) t ≡ 0 + events_before xs t
-before-ge x xs t h = before-cons x xs t ∙ rw (le-ltb x t h) refl
-
-now-cons : (x : ℕ) (xs : List ℕ) (t : ℕ) → count_by (λ e. eqb e t) (x ∷ xs) ≡ cond (eqb x t) 1 0 + count_by (λ e. eqb e t) xs
-now-cons x xs t = sum_by-cons (λ e. cond (eqb e t) 1 0) x xs
-
-pub before-none : (xs : List ℕ) → events_before xs 0 ≡ 0
-unfolding events_before
-before-none [] = refl
-before-none (x ∷ xs) = omega (arith, before-ge x xs 0 (omega arith), before-none xs)
-
-pub before-suc : (xs : List ℕ) (t : ℕ) → events_before xs (t + 1) ≡ events_before xs t + count_by (λ e. eqb e t) xs
-unfolding events_before
-before-suc [] t = refl
-before-suc (x ∷ xs) t =
-    elim (cases_order x t) [
-      | inl same ↦ omega (arith, before-lt x xs (t + 1) (omega arith), before-ge x xs t (omega arith), at_once same, before-suc xs t)
-      | inr o ↦ elim o [
-        | inl less ↦ omega (arith, before-lt x xs (t + 1) (omega arith), before-lt x xs t less, apart (omega arith), before-suc xs t)
-        | inr more ↦ omega (arith, before-ge x xs (t + 1) (omega arith), before-ge x xs t (omega arith), apart (omega arith), before-suc xs t)
-      ]
-    ]
-  where
-    at_once : x ≡ t → count_by (λ e. eqb e t) (x ∷ xs) ≡ 1 + count_by (λ e. eqb e t) xs
-    at_once e = now-cons x xs t ∙ rw (eq-eqb x t e) refl
-
-    apart : (x ≡ t → ⊥) → count_by (λ e. eqb e t) (x ∷ xs) ≡ 0 + count_by (λ e. eqb e t) xs
-    apart ne = now-cons x xs t ∙ rw (ne_eqb x t ne) refl
-
-pub before-le : (xs : List ℕ) (t : ℕ) → events_before xs t ≤ length xs
-unfolding events_before
-before-le [] t = omega arith
-before-le (x ∷ xs) t =
-    elim (cases_lt x t) [ inl h ↦ omega (arith, before-lt x xs t h, before-le xs t) | inr h ↦ omega (arith, before-ge x xs t h, before-le xs t) ]
-
 -- no event is before an earlier one
 pub IsInTimeOrder : List ℕ → Type 0
 IsInTimeOrder times = (k l : ℕ) → k ≤ l → l < length times → get_or times k 0 ≤ get_or times l 0
@@ -99,16 +53,14 @@ unfolding IsInTimeOrder
 in_order-head x xs l h last = h zero (suc l) (omega arith) (omega arith)
 
 none_before : (x : ℕ) (xs : List ℕ) (t : ℕ) → ((l : ℕ) → l < length xs → x ≤ get_or xs l 0) → t ≤ x → events_before xs t ≡ 0
-unfolding events_before
-none_before x [] t h le = refl
+none_before x [] t h le = omega (arith, before-le [] t)
 none_before x (y ∷ xs) t h le =
     let first : x ≤ y = h zero (omega arith) in
     omega (arith, before-ge y xs t (omega arith), none_before x xs t (λ l in_list. h (suc l) (omega arith)) le)
 
 -- event k is before a time where more than k events are
 pub is_before : (xs : List ℕ) (k t : ℕ) → IsInTimeOrder xs → k < events_before xs t → get_or xs k 0 < t
-unfolding events_before
-is_before [] k t order h = absurd (omega arith)
+is_before [] k t order h = absurd (omega (arith, before-le [] t))
 is_before (x ∷ xs) zero t order h =
     elim (cases_lt x t) [
       | inl less ↦ less
@@ -122,7 +74,6 @@ is_before (x ∷ xs) (suc k) t order h =
 
 -- and no sooner where no more than k are
 pub is_from : (xs : List ℕ) (k t : ℕ) → IsInTimeOrder xs → k < length xs → events_before xs t ≤ k → t ≤ get_or xs k 0
-unfolding events_before
 is_from [] k t order last h = absurd (omega arith)
 is_from (x ∷ xs) zero t order last h =
     elim (cases_lt x t) [ inl less ↦ absurd (omega (arith, before-lt x xs t less)) | inr more ↦ more ]

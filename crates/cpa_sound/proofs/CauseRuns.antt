@@ -28,7 +28,8 @@ use Rattle.cpa_sound.proofs.PartLaws.{jobs_in-zero, jobs_in-here, jobs_in-mono}
 use Rattle.cpa_sound.proofs.KeepsCauses.{Starts, started_by, KeepsCauses}
 use Rattle.cpa_sound.proofs.CauseStreams.{is-same, activator-there}
 use Rattle.cpa_sound.proofs.CauseNumbers.{is_by, numbers_by, numbers-append, part_of, number-at, jobs-taken, arriving-task, arriving-source, AllStart, start-append, start-at, start-arriving}
-use Rattle.cpa_sound.proofs.ArrivalLaws.{ends_in-is, events_before, before-none, before-suc, before-le, in_order-from, is_before, is_from}
+use Rattle.cpa_sim.proofs.EventCounts.{events_before, before-none, before-suc, before-le}
+use Rattle.cpa_sound.proofs.ArrivalLaws.{ends_in-is, in_order-from, is_before, is_from}
 use Rattle.cpa_sound.proofs.CourseLaws.{arrives-order}
 use Rattle.cpa_sound.proofs.RunLaws.{served-runs, served-idle, arrived-zero, arrived-one}
 use Rattle.cpa_sound.proofs.FieldLaws.{tick-cause}

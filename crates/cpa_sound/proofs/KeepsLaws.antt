@@ -4,7 +4,8 @@ use Rattle.std.specs.List.{sum_by, AllByRecursion}
 use Rattle.cpa_model.specs.declared.entries.Kind.{Kind}
 use Rattle.cpa_model.specs.declared.entries.Kind.TheVariants.{Preemptive, RoundRobin, Tdma, Can}
 use Rattle.cpa_model.specs.SystemLists.{SystemLists, task_at, resource_of, slot_of, shares_resource, is_higher, higher_tasks, cycle_of}
-use Rattle.cpa_local.specs.Blocking.{blocking_by, lower_tasks}
+use Rattle.cpa_model.specs.Kinds.{blocking_by}
+use Rattle.cpa_local.specs.Blocking.{lower_tasks}
 use Rattle.cpa_sound.specs.Course.{Course}
 use Rattle.cpa_sound.proofs.Serving.{IsPending, IsStarted, IsInOrder, AnyOf}
 use Rattle.cpa_sound.proofs.Turns.{Turns, TakesTurn, AreTurns}

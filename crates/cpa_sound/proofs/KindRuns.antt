@@ -9,9 +9,11 @@ use Rattle.cpa_sound.proofs.Serving.{work, IsPending, IsStarted, IsInOrder, AnyO
 use Rattle.cpa_sound.proofs.Turns.{Turns, GoesOn, PassesOn, TakesTurn}
 use Rattle.cpa_trace.specs.Trace.{TraceLists, need, Obeys}
 use Rattle.cpa_model.specs.Rules.{IsSystem}
-use Rattle.cpa_sound.proofs.RuleLaws.{HasPriorities, best-some, best-le, slot-some, own_priority}
+use Rattle.cpa_model.specs.Kinds.{HasPriorities}
+use Rattle.cpa_sound.proofs.RuleLaws.{best-some, best-le, slot-some, own_priority}
 use Rattle.cpa_sched.specs.Steps.{ring_after, most_urgent, region_of}
-use Rattle.cpa_local.specs.Blocking.{blocking_by, lower_tasks}
+use Rattle.cpa_model.specs.Kinds.{blocking_by}
+use Rattle.cpa_local.specs.Blocking.{lower_tasks}
 use Rattle.cpa_sim.specs.Run.{no_job, is_open, waits, ended_count, runs_in, ends_in, run}
 use Rattle.cpa_sched.specs.Steps.{kind_of}
 use Rattle.cpa_sound.specs.RunCourse.{received_before, course_of}
@@ -222,14 +224,14 @@ module _ (s : SystemLists) (tr : TraceLists) (rules : IsSystem s) (obeys : Obeys
               let none = all_at (λ j. had_at j t ≡ 0) (lower_tasks s i) k nobody among in
               let is = had_by-is k (state_at s tr t (task_at s i).res.0).holder (state_at s tr t (task_at s i).res.0).left holds in
               absurd (omega (arith, none, is, (is_within t k holds).less))
-          | inr higher ↦ level_up i k t h (rw kind tt) (on_level i k on higher) chosen
+          | inr higher ↦ level_up i k t h (rw kind refl) (on_level i k on higher) chosen
         ]
     regions-serve_at t nobody any None holds None urgent =
         let one = waiting_in_level i t h any in
         absurd (some_urgent s (filter (waiting_at s tr t) (tasks_on s (task_at s i).res.0)) one.0 (in_waiting s (task_at s i).res.0 (waiting_at s tr t) one.0 one.2) urgent)
     regions-serve_at t nobody any None holds (Some c) urgent =
         let one = waiting_in_level i t h any in
-        level_up i c t h (rw kind tt) (urgent_in_level i t one.0 c one.1 one.2 urgent) (region-starts s tr (task_at s i).res.0 kind t holds ∙ urgent)
+        level_up i c t h (rw kind refl) (urgent_in_level i t one.0 c one.1 one.2 urgent) (region-starts s tr (task_at s i).res.0 kind t holds ∙ urgent)
 
     pub preemptive-runs : RunsByRegions s (course_of s tr) i
     preemptive-runs =
@@ -323,14 +325,14 @@ module _ (s : SystemLists) (tr : TraceLists) (rules : IsSystem s) (obeys : Obeys
               let among = any_task s (λ j. is_higher s j i) (λ j. j ≡ k) k on.task (and_from (shares_resource s k i) (ltb (priority_of (task_at s i).turn) (priority_of (task_at s k).turn)) on.here (lt-ltb _ _ lower)) refl in
               let not_started = all_at (λ j. ¬ IsStarted (course_of s tr j) t) (lower_tasks s i) k nobody among in
               absurd (not_started (held-started t k holds))
-          | inr higher ↦ level_up i k t h (rw kind tt) (on_level i k on higher) chosen
+          | inr higher ↦ level_up i k t h (rw kind refl) (on_level i k on higher) chosen
         ]
     frames-serve_at t nobody any None holds None urgent =
         let one = waiting_in_level i t h any in
         absurd (some_urgent s (filter (waiting_at s tr t) (tasks_on s (task_at s i).res.0)) one.0 (in_waiting s (task_at s i).res.0 (waiting_at s tr t) one.0 one.2) urgent)
     frames-serve_at t nobody any None holds (Some c) urgent =
         let one = waiting_in_level i t h any in
-        level_up i c t h (rw kind tt) (urgent_in_level i t one.0 c one.1 one.2 urgent) (can-starts s tr (task_at s i).res.0 bit kind t holds ∙ urgent)
+        level_up i c t h (rw kind refl) (urgent_in_level i t one.0 c one.1 one.2 urgent) (can-starts s tr (task_at s i).res.0 bit kind t holds ∙ urgent)
 
     pub can-runs : RunsByFrames s (course_of s tr) i
     can-runs =

@@ -1,11 +1,9 @@
-use Rattle.std.proofs.Common.{◌≡◌, ◌∙◌, ◌≤◌, ℕ, Bool, true, false, refl, sym, ap, arith}
-use Rattle.cpa_units.specs.declared.limits.TheConstants.{MAX_EXECUTION}
+use Rattle.std.proofs.Common.{◌≡◌, ◌∙◌, ℕ, Bool, true, false, refl, sym, ap, arith}
 use Rattle.cpa_units.specs.Sets.{holds}
-use Rattle.cpa_model.specs.declared.entries.Task.{Task}
 use Rattle.cpa_model.specs.SystemLists.{task_at}
 use Rattle.std.specs.Prelude.{filter}
 use Rattle.cpa_units.proofs.PlaceLaws.{places}
-use Rattle.cpa_local.specs.Blocking.{blocking_by}
+use Rattle.cpa_model.specs.Kinds.{blocking_by}
 use Rattle.cpa_local.proofs.BlockingLaws.{greatest-push}
 use Rattle.cpa_assign.proofs.CountLaws.{passing-more, failing-more}
 use Rattle.cpa_assign.specs.Placing.{is_below, without}

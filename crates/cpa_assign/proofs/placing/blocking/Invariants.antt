@@ -4,7 +4,7 @@ use Rattle.std.specs.List.{range_with_len}
 use Rattle.cpa_units.specs.declared.limits.TheConstants.{MAX_EXECUTION}
 use Rattle.cpa_units.specs.Sets.{holds}
 use Rattle.cpa_model.specs.SystemLists.{task_at}
-use Rattle.cpa_local.specs.Blocking.{blocking_by}
+use Rattle.cpa_model.specs.Kinds.{blocking_by}
 use Rattle.cpa_local.proofs.BlockingLaws.{greatest_in}
 use Rattle.cpa_assign.specs.Placing.{is_below, without}
 use Rattle.cpa_assign.proofs.placing.blocking.Given as goal

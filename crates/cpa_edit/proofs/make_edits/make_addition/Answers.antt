@@ -9,13 +9,13 @@ resource_named-place-requires c = named-add c.args.system.now c.args.name.now c.
 pub turn_of-turn-requires : goal.turn_of-turn-requires
 turn_of-turn-requires c = λ by.
     small-add c.args.system.now c.args.name.now c.args.res.now c.args.after.now c.args.numbers.best c.args.numbers.worst c.args.numbers.number c.requires.allowed
-    (rw (← c.resource_named-place.ensures.value) (sym c.has_priorities.ensures ∙ by))
+    (rw (← c.resource_named-place.ensures.value) (sym c.is_by_priority.ensures ∙ by))
 
 pub push_task-requires : goal.push_task-requires
 unfolding change
 push_task-requires c = record {
   rules = rw (added-same c.args.system.now c.args.name.now c.args.res.now c.args.after.now c.args.numbers.best c.args.numbers.worst c.args.numbers.number c.in_ok-copy.field-0 c.resource_named-place.result
-      c.has_priorities.result c.turn_of-turn.result c.one.result c.in_ok-copy.ensures c.resource_named-place.ensures.value c.has_priorities.ensures c.turn_of-turn.ensures
+      c.is_by_priority.result c.turn_of-turn.result c.one.result c.in_ok-copy.ensures c.resource_named-place.ensures.value c.is_by_priority.ensures c.turn_of-turn.ensures
       (c.one.ensures ∙ ap (λ a. a ∷ []) c.activator_named.ensures))
       c.requires.rules;
 }
@@ -25,5 +25,5 @@ unfolding change
 returns-clause-made c =
     c.in_ok-push_task.ensures.ok
     ∙ added-same c.args.system.now c.args.name.now c.args.res.now c.args.after.now c.args.numbers.best c.args.numbers.worst c.args.numbers.number c.in_ok-copy.field-0 c.resource_named-place.result
-    c.has_priorities.result c.turn_of-turn.result c.one.result c.in_ok-copy.ensures c.resource_named-place.ensures.value c.has_priorities.ensures c.turn_of-turn.ensures
+    c.is_by_priority.result c.turn_of-turn.result c.one.result c.in_ok-copy.ensures c.resource_named-place.ensures.value c.is_by_priority.ensures c.turn_of-turn.ensures
     (c.one.ensures ∙ ap (λ a. a ∷ []) c.activator_named.ensures)

@@ -1,9 +1,9 @@
 use Rattle.std.proofs.Common.{◌≡◌, ◌∙◌, Some, None, map, string_bytes, ap, sym, subst, IfErr}
 use Rattle.std.specs.Prelude.{option_map}
 use Rattle.std.proofs.lemmas.Result.{IfOk-weaker}
-use Rattle.cpa_call.specs.Plans.{Refuse}
 use Rattle.cpa_call.specs.Ends.{IsEndOf}
-use Rattle.cpa_effects.specs.Calls.{accepted, asked}
+use Rattle.cpa_call.proofs.CallLaws.{words-ended}
+use Rattle.cpa_effects.specs.Calls.{accepted, asked, plan_of}
 use Rattle.cpa_effects.proofs.CallLaws.{plan-some, plan-none}
 use Rattle.cpa_effects.proofs.command.plan.Goals as goal
 
@@ -20,7 +20,7 @@ returns-in-Some-clause-ended g c = λ told.
     subst (λ p. IfErr c.load_chain.result (IsEndOf p)) (sym (plan-some (map string_bytes c.args.words.now) (g.F.Files.held c.args.files.now) (asked c.in-Some.named) is))
     (c.load_chain.ensures.ended told)
 
-pub returns-in_ok-words_line-in-None-clause-ended : goal.returns-in_ok-words_line-in-None-clause-ended
-returns-in_ok-words_line-in-None-clause-ended g c = λ told.
+pub returns-in-None-clause-ended : goal.returns-in-None-clause-ended
+returns-in-None-clause-ended g c = λ told.
     let is : None ≡ accepted (map string_bytes c.args.words.now) = ap (option_map asked) (sym c.in-None.is) ∙ c.accept.ensures in
-    plan-none (map string_bytes c.args.words.now) (g.F.Files.held c.args.files.now) is ∙ ap (Refuse 10) (sym c.in_ok-words_line-in-None.ensures)
+    words-ended (plan_of (map string_bytes c.args.words.now) (g.F.Files.held c.args.files.now)) c.refuse_words.result (plan-none (map string_bytes c.args.words.now) (g.F.Files.held c.args.files.now) is) c.refuse_words.ensures.ended

@@ -1,12 +1,19 @@
-use Rattle.std.proofs.Common.{Err, ap}
-use Rattle.cpa_call.proofs.CallLaws.{meets-sent, meets-fault, meets-wanting}
+use Rattle.std.proofs.Common.{map, string_bytes, refl}
+use Rattle.cpa_call.specs.Plans.{Do}
+use Rattle.cpa_call.proofs.CallLaws.{verdict-answer, meets-one-work, meets-one-end}
+use Rattle.cpa_effects.specs.Calls.{chain_of, plan_of, answer_to}
 use Rattle.cpa_effects.proofs.command.write_chain_by.Goals as goal
 
 pub returns-in-Ok : goal.returns-in-Ok
-returns-in-Ok g c = meets-sent _ _ _ _ _ _ c.in-Ok.ensures.answered c.in-Ok.ensures.status c.in-Ok.ensures.unread (λ u. u.rose) c.in-Ok.ensures.unread_line
+returns-in-Ok g c =
+    let plan = plan_of (map string_bytes c.args.words.now) (g.F.Files.held c.args.files.now) in
+    let value = c.as_slice.ensures.value in
+    let judged = c.judge_chain.ensures in
+    meets-one-work (answer_to c.args.reading) _ _ _ plan (Do (chain_of c.in-Ok.chained)) _ _ c.status_of.ensures c.in-Ok.ensures.planned
+    (verdict-answer _ _ _ _ _ (rw value at judged.text) (rw value at judged.status) judged.small c.send_reply.ensures)
 
-pub returns-in-Err-Sink : goal.returns-in-Err-Sink
-returns-in-Err-Sink g c = meets-fault _ _ _ _ _ (c.in-Err-Sink.ensures.failed (ap Err c.in-Err-Sink.field-0-is)) c.in-Err-Sink.ensures.part
-
-pub returns-in-Err-Memory : goal.returns-in-Err-Memory
-returns-in-Err-Memory g c = meets-wanting _ _ _ _ _ c.in-Err-Memory.ensures.part
+pub returns-in-Err : goal.returns-in-Err
+returns-in-Err g c =
+    let plan = plan_of (map string_bytes c.args.words.now) (g.F.Files.held c.args.files.now) in
+    let end = c.in-Err.ensures in
+    meets-one-end (answer_to c.args.reading) _ _ _ plan _ _ _ c.status_of-in-Err.ensures (λ status line. refl) (λ u. u.rose) end.ended end.status end.unread c.send_end.ensures

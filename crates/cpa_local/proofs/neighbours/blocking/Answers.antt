@@ -3,7 +3,7 @@ use Rattle.std.specs.Prelude.{filter}
 use Rattle.cpa_model.specs.declared.entries.Task.{Task}
 use Rattle.cpa_model.specs.SystemLists.{task_at, tasks_on, places_of, is_higher}
 use Rattle.cpa_model.proofs.SystemLaws.{no_id}
-use Rattle.cpa_local.specs.Blocking.{blocking_by}
+use Rattle.cpa_model.specs.Kinds.{blocking_by}
 use Rattle.cpa_local.proofs.BlockingLaws.{greatest_in, greatest-push}
 use Rattle.cpa_local.proofs.RivalLaws.{lower-on, passing-more, failing-more, found-all}
 use Rattle.cpa_local.proofs.neighbours.blocking.Goals as goal

@@ -2,7 +2,7 @@ use Rattle.std.proofs.Common.{◌≡◌, ◌≤◌, take}
 use Rattle.std.specs.Prelude.{filter}
 use Rattle.cpa_units.specs.declared.limits.TheConstants.{MAX_EXECUTION}
 use Rattle.cpa_model.specs.SystemLists.{task_at, is_higher, places_of}
-use Rattle.cpa_local.specs.Blocking.{blocking_by}
+use Rattle.cpa_model.specs.Kinds.{blocking_by}
 use Rattle.cpa_local.proofs.BlockingLaws.{greatest_in}
 use Rattle.cpa_local.proofs.neighbours.blocking.Given as goal
 

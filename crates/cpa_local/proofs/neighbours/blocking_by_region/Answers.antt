@@ -1,8 +1,8 @@
-use Rattle.std.proofs.Common.{◌∙◌, length, sym, arith}
+use Rattle.std.proofs.Common.{length, sym, arith}
 use Rattle.std.proofs.lemmas.Bool.{eqb-true}
 use Rattle.cpa_model.specs.declared.entries.Kind.TheVariants.{Preemptive}
 use Rattle.cpa_model.specs.SystemLists.{task_at, is_higher}
-use Rattle.cpa_local.specs.Blocking.{blocking_by}
+use Rattle.cpa_model.specs.Kinds.{blocking_by}
 use Rattle.cpa_local.proofs.BlockingLaws.{greatest-none}
 use Rattle.cpa_local.proofs.RivalLaws.{lower-on}
 use Rattle.cpa_local.proofs.neighbours.blocking_by_region.Goals as goal

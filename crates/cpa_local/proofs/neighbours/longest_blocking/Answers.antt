@@ -4,7 +4,7 @@ use Rattle.cpa_model.specs.declared.entries.Kind.TheVariants.{Preemptive}
 use Rattle.cpa_model.specs.SystemLists.{task_at}
 use Rattle.cpa_model.proofs.SystemLaws.{no_id}
 use Rattle.cpa_model.proofs.ResourceTaskLaws.{on-found}
-use Rattle.cpa_local.specs.Blocking.{blocking_by}
+use Rattle.cpa_model.specs.Kinds.{blocking_by}
 use Rattle.cpa_local.proofs.neighbours.longest_blocking.Goals as goal
 
 pub loop-task-preserved : goal.loop-task-preserved

@@ -2,7 +2,7 @@ use Rattle.std.proofs.Common.{◌<◌, ◌≤◌, ℕ, get_or}
 use Rattle.cpa_model.specs.declared.entries.Kind.TheVariants.{Preemptive}
 use Rattle.cpa_model.specs.SystemLists.{task_at}
 use Rattle.cpa_model.proofs.SystemLaws.{no_id}
-use Rattle.cpa_local.specs.Blocking.{blocking_by}
+use Rattle.cpa_model.specs.Kinds.{blocking_by}
 use Rattle.cpa_local.proofs.neighbours.longest_blocking.Given as goal
 
 abbrev pub invariant-loop-task : goal.invariant-loop-task

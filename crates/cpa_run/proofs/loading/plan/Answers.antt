@@ -3,8 +3,9 @@ use Rattle.std.specs.Prelude.{option_map}
 use Rattle.std.proofs.lemmas.Result.{IfOk-weaker}
 use Rattle.cpa_words.specs.Commands.{asked}
 use Rattle.cpa_words.specs.Words.{accepted}
-use Rattle.cpa_call.specs.Plans.{Refuse}
 use Rattle.cpa_call.specs.Ends.{IsEndOf}
+use Rattle.cpa_call.proofs.CallLaws.{words-ended}
+use Rattle.cpa_run.specs.Plan.{plan_of}
 use Rattle.cpa_run.proofs.PlanLaws.{plan-some, plan-none}
 use Rattle.cpa_run.proofs.loading.plan.Goals as goal
 
@@ -21,7 +22,7 @@ returns-in-Some-clause-ended g c = λ told.
     subst (λ p. IfErr c.plan_command.result (IsEndOf p)) (sym (plan-some (map string_bytes c.args.words.now) (g.F.Files.held c.args.files.now) (asked c.in-Some.command) is))
     (c.plan_command.ensures.ended told)
 
-pub returns-in_ok-words_line-in-None-clause-ended : goal.returns-in_ok-words_line-in-None-clause-ended
-returns-in_ok-words_line-in-None-clause-ended g c = λ told.
+pub returns-in-None-clause-ended : goal.returns-in-None-clause-ended
+returns-in-None-clause-ended g c = λ told.
     let is : None ≡ accepted (map string_bytes c.args.words.now) = ap (option_map asked) (sym c.in-None.is) ∙ c.in_ok-command.ensures.value in
-    plan-none (map string_bytes c.args.words.now) (g.F.Files.held c.args.files.now) is ∙ ap (Refuse 10) (sym c.in_ok-words_line-in-None.ensures)
+    words-ended (plan_of (map string_bytes c.args.words.now) (g.F.Files.held c.args.files.now)) c.refuse_words.result (plan-none (map string_bytes c.args.words.now) (g.F.Files.held c.args.files.now) is) c.refuse_words.ensures.ended

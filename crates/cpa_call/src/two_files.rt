@@ -1,13 +1,13 @@
-//! The words of a call: a system file, and a trace.
+//! The words of a call that are two files: a system file, and another that is read after it.
 
 ghost use Rattle.std.specs.Prelude.{◌≡◌, ◌∷◌, [], map, option_map, string_bytes};
-ghost use Rattle.cpa_segments.specs.Calls.{accepted, asked, is_file};
+ghost use Rattle.cpa_call.specs.TwoFiles.{accepted, asked, is_file};
 
 /// The two files that accepted words name.
 #[derive(Clone, Copy)]
-pub(crate) struct Named<'a> {
-    pub(crate) file: &'a str,
-    pub(crate) trace: &'a str,
+pub struct TwoFiles<'a> {
+    pub file: &'a str,
+    pub second: &'a str,
 }
 
 /// Whether a word isn't empty and doesn't begin with a hyphen.
@@ -21,24 +21,24 @@ fn is_file(word: &str) -> bool
 }
 
 /// The two files of such words.
-fn name_two<'a>(file: &'a str, trace: &'a str) -> Option<Named<'a>>
-    ensures { option_map asked result ≡ accepted (file.now ∷ trace.now ∷ []) }
+fn name_two<'a>(file: &'a str, second: &'a str) -> Option<TwoFiles<'a>>
+    ensures { option_map asked result ≡ accepted (file.now ∷ second.now ∷ []) }
 {
-    if is_file(file) && is_file(trace) {
-        Some(Named { file, trace })
+    if is_file(file) && is_file(second) {
+        Some(TwoFiles { file, second })
     } else {
         None
     }
 }
 
 /// The files that the words name; None exactly where they aren't accepted.
-pub(crate) fn accept<'a>(words: &'a [String]) -> Option<Named<'a>>
+pub fn accept_two<'a>(words: &'a [String]) -> Option<TwoFiles<'a>>
     ensures { option_map asked result ≡ accepted (map string_bytes words.now) }
 {
     match words {
         [] => None,
         [_] => None,
-        [file, trace] => name_two(file.as_str(), trace.as_str()),
+        [file, second] => name_two(file.as_str(), second.as_str()),
         [_, _, _, ..] => None,
     }
 }
