@@ -145,6 +145,7 @@ module _ (s : SystemLists) (r : ℕ) (o : List ℕ) (rules : IsSystem s) (kind :
           tasks = omega (arith, long, rules.sized.tasks);
           paths = rules.sized.paths;
           limits = rules.sized.limits;
+          arrivals = rules.sized.arrivals;
           times = λ j d less. let less_s : j < length s.tasks = omega (arith, less, long) in rw (ordered-at s r o j d less_s) (small_kept j less_s);
         };
         few_resources = rules.few_resources;

@@ -3,6 +3,7 @@ use Rattle.std.specs.Prelude.{ℕ, ◌+◌, ◌-◌, ◌&&◌, ◌||◌, ◌==�
 use Rattle.std.specs.List.{list_all, list_any, filter_map, range_with_len}
 use Rattle.cpa_units.specs.Name.{is_name}
 use Rattle.cpa_units.specs.declared.limits.Size.{Size}
+use Rattle.cpa_units.specs.declared.limits.Size.TheVariants.{Small, Large}
 use Rattle.cpa_units.specs.declared.limits.TheConstants.{MAX_CHAIN, MAX_PERIOD, MAX_JITTER, MAX_BIT, MAX_PRIORITY, MAX_PAYLOAD}
 use Rattle.cpa_units.specs.Sizes.{most_resources, most_sources, most_tasks, most_paths, most_execution, most_region, most_gap, most_limit}
 use Rattle.cpa_events.specs.declared.TheConstants.{MAX_STREAMS}
@@ -44,8 +45,15 @@ first_with reason part marks xs = first_marked reason part (λ k x. marks x) xs
 abbrev pub resource_fits : Size → DraftResource → Bool
 resource_fits z r = may_be_within 1 (most_limit z) r.limit && may_be_within 0 (most_gap z) r.gap && may_be_within 1 MAX_BIT r.bit
 
+-- no source of a small system is sporadic
+abbrev pub sporadic_fits : Size → Bool → Bool
+sporadic_fits Small sporadic = not sporadic
+sporadic_fits Large sporadic = true
+
 abbrev pub source_fits : Size → DraftSource → Bool
-source_fits z r = is_within 1 MAX_PERIOD r.period && may_be_within 0 MAX_JITTER r.jitter && may_be_within 0 (nat_of r.period) r.distance
+source_fits z r =
+    is_within 1 MAX_PERIOD r.period && may_be_within 0 MAX_JITTER r.jitter && may_be_within 0 (nat_of r.period) r.distance
+    && sporadic_fits z r.sporadic
 
 abbrev pub task_fits : Size → DraftTask → Bool
 task_fits z t =

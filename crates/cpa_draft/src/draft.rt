@@ -121,6 +121,8 @@ pub struct DraftSource {
     pub period: i64,
     pub jitter: Option<i64>,
     pub distance: Option<i64>,
+    /// Whether it may fall silent; a file says so by `sporadic = true`.
+    pub sporadic: bool,
 }
 
 /// A task as it was read. Each of the names in `after` is an activator's.

@@ -3,7 +3,7 @@
 ghost use Rattle.std.specs.Prelude.{◌≡◌, ◌<◌, ◌-◌, ◌^◌, nat_le, not, IfSome};
 ghost use Rattle.cpa_units.specs.Name.{is_name};
 ghost use Rattle.cpa_draft.specs.First.{first_place};
-ghost use Rattle.cpa_draft.specs.Refusals.{resource_fits, source_fits, task_fits, path_fits};
+ghost use Rattle.cpa_draft.specs.Refusals.{resource_fits, sporadic_fits, source_fits, task_fits, path_fits};
 
 use crate::draft::{DraftPath, DraftResource, DraftSource, DraftTask, Raw};
 use crate::numbers::{is_within, may_be_within, natural};
@@ -69,10 +69,21 @@ impl Named for DraftSource {
 impl Entry for DraftSource {
     ghost fits = { source_fits };
 
-    fn fits(&self, _size: Size) -> bool {
+    fn fits(&self, size: Size) -> bool {
         is_within(1, MAX_PERIOD, self.period)
             && may_be_within(0, MAX_JITTER, self.jitter)
             && may_be_within(0, natural(self.period), self.distance)
+            && sporadic_fits(size, self.sporadic)
+    }
+}
+
+/// No source of a small system is sporadic.
+fn sporadic_fits(size: Size, sporadic: bool) -> bool
+    ensures { result ≡ sporadic_fits size sporadic }
+{
+    match size {
+        Size::Small => !sporadic,
+        Size::Large => true,
     }
 }
 

@@ -14,7 +14,7 @@ use Rattle.cpa_events.specs.Streams.{stream_delta_plus}
 use Rattle.cpa_events.specs.Events.{Model}
 use Rattle.cpa_model.specs.declared.entries.Activator.TheVariants.{Task}
 use Rattle.cpa_model.specs.Rules.{IsSystem}
-use Rattle.cpa_model.specs.SystemLists.{SystemLists, task_at, is_activated_by}
+use Rattle.cpa_model.specs.SystemLists.{SystemLists, task_at, is_activated_by, may_fall_silent}
 use Rattle.cpa_local.specs.Inputs.{input}
 use Rattle.cpa_trace.specs.Trace.{TraceLists, need, Obeys}
 use Rattle.cpa_sched.proofs.OptionLaws.{some-injective}
@@ -257,9 +257,9 @@ module _ (s : SystemLists) (tr : TraceLists) (rules : IsSystem s) (obeys : Obeys
         ]
 
     -- where a stream goes on, the next job comes no later than its next event
-    pub next-arrives : SourcesStayNear s tr → (i k q : ℕ) (m : Model) (st : Stream) → i < length s.tasks → input s x i ≡ Some m → slice_get m q ≡ Some st → GoesOn s tr t i k q
+    pub next-arrives : SourcesStayNear s tr → (i k q : ℕ) (m : Model) (st : Stream) → i < length s.tasks → may_fall_silent s i ≡ false → input s x i ≡ Some m → slice_get m q ≡ Some st → GoesOn s tr t i k q
         → arrival_of s tr t i (k + 1) ≤ arrival_of s tr t i k + stream_delta_plus st 2
-    next-arrives near i k q m st h bounded is goes =
+    next-arrives near i k q m st h steady bounded is goes =
         let own : ℕ → Bool = of_stream (stream_of s tr t i) q in
         let len : ℕ = length ((run s tr t).jobs i) in
         let here = jobs_in-here own goes.before (eq-eqb (stream_of s tr t i goes.before) q goes.before_own) in
@@ -283,7 +283,7 @@ module _ (s : SystemLists) (tr : TraceLists) (rules : IsSystem s) (obeys : Obeys
           | inl less ↦ absurd (omega (arith, some, second.number, jobs_in-here own two second.own, jobs_in-mono own (two + 1) (k + 1) (omega (arith, less))))
           | inr more ↦ more
         ] in
-        let close = hold.streams_near near i q n 1 t m st h bounded is has in
+        let close = hold.streams_near near i q n 1 t m st h steady bounded is has in
         let before = arrivals-order i one k h (omega (arith, high, second.there)) low in
         let after = arrivals-order i (k + 1) two h second.there high in
         let e : 1 + 1 ≡ 2 = omega arith in

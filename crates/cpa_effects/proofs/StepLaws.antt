@@ -15,7 +15,7 @@ use Rattle.cpa_model.specs.declared.entries.Activator.{Activator}
 use Rattle.cpa_model.specs.declared.entries.Activator.TheVariants.{Task}
 use Rattle.cpa_model.proofs.SystemLaws.{streams_of-some}
 use Rattle.cpa_model.specs.Rules.{IsSystem}
-use Rattle.cpa_model.specs.SystemLists.{SystemLists, task_at, source_at, streams_of, is_activated_by}
+use Rattle.cpa_model.specs.SystemLists.{SystemLists, task_at, source_at, streams_of, is_activated_by, may_fall_silent}
 use Rattle.cpa_local.specs.Inputs.{input}
 use Rattle.cpa_local.proofs.ResponseLaws.{input-is_input}
 use Rattle.cpa_local.proofs.StreamLaws.{input-follows}
@@ -92,6 +92,7 @@ module _ (s : SystemLists) (tr : TraceLists) (rules : IsSystem s) (obeys : Obeys
     -- a wait that is a number is that of some stream of a task
     pub record Waits (i w : ℕ) : Type 0 where
       pub model : Model
+      pub steady : may_fall_silent s i ≡ false
       pub bounded : input s x i ≡ Some model
       pub next : HasNext model (next_event model)
       pub wait : w ≡ next_event model - 1
@@ -99,29 +100,37 @@ module _ (s : SystemLists) (tr : TraceLists) (rules : IsSystem s) (obeys : Obeys
 
     pub waits : (i w : ℕ) → i < length s.tasks → wait_of s x i ≡ Within w → Waits i w
     unfolding wait_of
-    waits i w h is = by_input (input s x i) refl
+    waits i w h is = by_silence (may_fall_silent s i) refl
       where
-        by_input : (m : Option Model) → input s x i ≡ m → Waits i w
-        by_input None e = absurd (overload-no_number w (sym (ap wait_in e) ∙ is))
-        by_input (Some m) e =
+        where_steady : may_fall_silent s i ≡ false → wait_in (input s x i) ≡ Within w
+        where_steady steady = sym (ap (λ silent. cond silent Overload (wait_in (input s x i))) steady) ∙ is
+
+        by_input : may_fall_silent s i ≡ false → (m : Option Model) → input s x i ≡ m → Waits i w
+        by_input steady None e = absurd (overload-no_number w (sym (ap wait_in e) ∙ where_steady steady))
+        by_input steady (Some m) e =
             let regular : IsModel m = subst IsInput e (input-is_input s x rules i h) in
             let next = next-has m regular.some in
             let long : length m ≡ length (streams_of s i) =
             sym (length-map m (λ (st : Stream). st.period)) ∙ (ap length (input-follows s x rules i m h e) ∙ length-map (streams_of s i) (λ (k : SourceId). (source_at s k.0).period)) in
             record {
               model = m;
+              steady = steady;
               bounded = e;
               next = next;
-              wait = sym (within-injective (next_event m - 1) w (sym (ap wait_in e) ∙ is));
+              wait = sym (within-injective (next_event m - 1) w (sym (ap wait_in e) ∙ where_steady steady));
               inside = omega (arith, next.within, long);
             }
+
+        by_silence : (silent : Bool) → may_fall_silent s i ≡ silent → Waits i w
+        by_silence true e = absurd (overload-no_number w (sym (ap (λ silent. cond silent Overload (wait_in (input s x i))) e) ∙ is))
+        by_silence false e = by_input e (input s x i) refl
 
     -- the next job of a task comes no later than its wait and a tick, where its streams go on
     pub next-soon : (i k w : ℕ) → i < length s.tasks → wait_of s x i ≡ Within w → IsAmidst s tr t i k → HasJob s tr t i (k + 1) × (arrival_of s tr t i (k + 1) ≤ arrival_of s tr t i k + w + 1)
     next-soon i k w h is amidst =
         let v = waits i w h is in
         let goes = amidst v.next.place v.inside in
-        let close = next-arrives s tr rules obeys t x hold near i k v.next.place v.model v.next.stream h v.bounded v.next.is goes in
+        let close = next-arrives s tr rules obeys t x hold near i k v.next.place v.model v.next.stream h v.steady v.bounded v.next.is goes in
         (omega (arith, goes.is_after, goes.there), omega (arith, close, v.next.next_is, v.wait))
 
     -- what overwrites what a job wrote isn't done by a time at which that is read

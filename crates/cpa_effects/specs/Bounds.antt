@@ -14,7 +14,7 @@ use Rattle.cpa_model.specs.declared.entries.Activator.{Activator}
 use Rattle.cpa_model.specs.declared.entries.Activator.TheVariants.{Source, Task}
 use Rattle.cpa_model.specs.declared.entries.Kind.{Kind}
 use Rattle.cpa_model.specs.declared.entries.Kind.TheVariants.{Preemptive, RoundRobin, Tdma, Can}
-use Rattle.cpa_model.specs.SystemLists.{SystemLists, task_at, resource_of, is_higher, is_activated_by}
+use Rattle.cpa_model.specs.SystemLists.{SystemLists, task_at, resource_of, is_higher, is_activated_by, may_fall_silent}
 use Rattle.cpa_local.specs.Inputs.{input}
 use Rattle.cpa_effects.specs.declared.steps.Step.{Step}
 use Rattle.cpa_effects.specs.declared.steps.Step.TheVariants.{Register, Merge, Activation}
@@ -82,9 +82,9 @@ abbrev pub wait_in : Option Model → Bound
 wait_in (Some m) = Within (next_event m - 1)
 wait_in None = Overload
 
--- and before the next job of a task
+-- and before the next job of a task; where a source that may fall silent starts some, nothing bounds it
 unfoldable pub wait_of : SystemLists → List Bound → ℕ → Bound
-wait_of s x i = wait_in (input s x i)
+wait_of s x i = if may_fall_silent s i then Overload else wait_in (input s x i)
 
 -- the wait for a job that reads: none where the end of the job before starts one
 abbrev pub reading_wait : Step → Bound → Bound

@@ -6,6 +6,7 @@ ghost use Rattle.cpa_units.specs.Bounds.{RespectsLimit, bound_of, bound_plus};
 ghost use Rattle.cpa_units.specs.declared.limits.TheConstants.{MAX_CHAIN};
 ghost use Rattle.cpa_events.specs.Events.{IsModelInRange};
 ghost use Rattle.cpa_local.specs.Solution.{IsVector};
+ghost use Rattle.cpa_model.specs.SystemLists.{may_fall_silent};
 ghost use Rattle.cpa_effects.specs.Bounds.{next_event, wait_of, reading_wait, read_from, forward, backward_cost, passage_in, task_in, latency_by, reaction_by, age_by, held_by, latency_of, reaction_of, age_of, held_of};
 
 use crate::steps::{Passage, Reading, Step, passage_between};
@@ -27,8 +28,21 @@ fn next_event(model: &Model) -> u64
     least
 }
 
+/// Whether some stream of a task is that of a sporadic source.
+fn may_fall_silent(system: &System, task: TaskId) -> bool
+    requires { task.0 < length system.now.tasks }
+    ensures { result ≡ may_fall_silent system.now task.0 }
+{
+    for k in 0..system.streams(task) {
+        if system.source(system.stream(task, k)).sporadic {
+            return true;
+        }
+    }
+    false
+}
+
 /// How long a moment that an event of a task has just missed can come before the next: a tick less than the greatest
-/// time between two. `Overload` where its input is unbounded.
+/// time between two. `Overload` where its input is unbounded, or some stream of it is that of a sporadic source.
 #[tactic(auto, unfolding(crate::specs::Bounds::wait_of))]
 pub fn wait(system: &System, task: TaskId, x: &Vector) -> Bound
     requires there { task.0 < length system.now.tasks }
@@ -36,6 +50,9 @@ pub fn wait(system: &System, task: TaskId, x: &Vector) -> Bound
     ensures value { result ≡ wait_of system.now x.now task.0 }
     ensures few { RespectsLimit 5200000000 result }
 {
+    if may_fall_silent(system, task) {
+        return Bound::Overload;
+    }
     match input(system, task, x) {
         None => Bound::Overload,
         Some(model) => Bound::Within(next_event(&model).saturating_sub(1)),

@@ -1,6 +1,6 @@
 -- What is printed is read as the draft that says the same.
 use Rattle.std.proofs.Common.{get_or, ◌≡◌, ℕ, suc, ◌+◌, ◌≤◌, Bool, true, false, List, [], ◌∷◌, map, length, inl, inr, Option, Some, None, Ok, String, Global, Ordering, Less, Equal, Greater, string_bytes, refl, sym, subst, ◌∙◌, arith}
-use Rattle.std.specs.Prelude.{◌==◌}
+use Rattle.std.specs.Prelude.{◌==◌, not}
 use Rattle.std.specs.List.{list_all}
 use Rattle.std.proofs.lemmas.Bool.{cases_Bool, and_parts, false≢true, eqb-true, eq-eqb}
 use Rattle.std.proofs.lemmas.List.Sums.{list_all-from_AllPass}
@@ -25,6 +25,7 @@ use Rattle.cpa_model.specs.declared.entries.Turn.{Turn}
 use Rattle.cpa_model.specs.declared.entries.Turn.TheVariants.{Priority, Slot}
 use Rattle.cpa_model.specs.SystemLists.{SystemLists, resource_at, task_at, activator_name}
 use Rattle.cpa_model.specs.Rules.{IsSystem}
+use Rattle.cpa_draft.specs.Refusals.{sporadic_fits}
 use Rattle.cpa_model.proofs.SystemLaws.{region-range}
 use Rattle.cpa_file.specs.declared.format.Format.{Format}
 use Rattle.cpa_file.specs.declared.format.Format.TheVariants.{One, Two, Four}
@@ -40,6 +41,10 @@ use Rattle.cpa_file.specs.Printed.{put, resource_data, source_data, activator_da
 -- a region of no more than a tick
 abbrev has_no_region : Task → Bool
 has_no_region t = t.region == 1
+
+-- a source that isn't sporadic
+abbrev is_never_silent : Source → Bool
+is_never_silent r = not r.sporadic
 
 put_by : (o : Ordering) (a b c : List (String Global × Value)) → members_view (match_ordering o a b c) ≡ match_ordering o (members_view a) (members_view b) (members_view c)
 put_by Less a b c = refl
@@ -67,9 +72,27 @@ resource_by n (Can bit) l = refl
 resource-printed : (r : Resource) → resource_entry (resource_data r) ≡ Some (redraft_resource r)
 resource-printed r = resource_by r.name r.kind r.limit
 
-source-printed : (r : Source) → source_entry (source_data r) ≡ Some (redraft_source r)
+-- a source that isn't sporadic is read in each format
+never_silent_by : (format : Format) (r : Source) → r.sporadic ≡ false → source_entry format (source_data r) ≡ Some (redraft_source r)
 unfolding source_entry source_data required optional has_only
-source-printed r = refl
+never_silent_by format r h = rw h refl
+
+sporadic_by : (r : Source) → r.sporadic ≡ true → source_entry Four (source_data r) ≡ Some (redraft_source r)
+unfolding source_entry source_data required optional has_only
+sporadic_by r h = rw h refl
+
+-- and any source in format 4
+source-printed : (r : Source) → source_entry Four (source_data r) ≡ Some (redraft_source r)
+source-printed r = elim (cases_Bool r.sporadic) [
+  | inl h ↦ sporadic_by r h
+  | inr h ↦ never_silent_by Four r h
+]
+
+never_silent-printed : (format : Format) (k : ℕ) (rs : List Source) → list_all is_never_silent rs ≡ true → read_all (source_entry format) k (items_of (map source_data rs)) ≡ Ok (map redraft_source rs)
+never_silent-printed format k [] h = refl
+never_silent-printed format k (r ∷ rs) h =
+    let here = and_parts (is_never_silent r) (list_all is_never_silent rs) h in
+    rw (never_silent_by format r (not-true _ here.0), never_silent-printed format (k + 1) rs here.1) refl
 
 -- activators are read as their names: one where it stands alone, and each list where lists may be
 activators-printed : (s : SystemLists) (after : List Activator) → read_all as_str 1 (items_of (map (activator_data s) after)) ≡ Ok (map (activator_name s) after)
@@ -129,16 +152,16 @@ path-printed : (s : SystemLists) (p : Path) → path_entry (path_data s p) ≡ S
 path-printed s p = path_by s p p.deadline
 
 -- the document of a system is read as its draft: that of a small one has no region
-draft_by : (z : Size) (s : SystemLists) → (z ≡ Small → list_all has_no_region s.tasks ≡ true) → let u : SystemLists = record s { size = z } in draft_of (system_data u) ≡ Ok (redraft u)
+draft_by : (z : Size) (s : SystemLists) → (z ≡ Small → list_all has_no_region s.tasks ≡ true) → (z ≡ Small → list_all is_never_silent s.sources ≡ true) → let u : SystemLists = record s { size = z } in draft_of (system_data u) ≡ Ok (redraft u)
 unfolding draft_of lists_of has_form entries_at items_at system_data has_only redraft
-draft_by Small s plain =
+draft_by Small s plain steady =
     let u : SystemLists = record s { size = Small } in
     elim (cases_Bool (list_all has_one s.tasks)) [
       | inl one ↦
           rw (
             one,
             read_all-printed resource_entry resource_data redraft_resource resource-printed 1 s.resources,
-            read_all-printed source_entry source_data redraft_source source-printed 1 s.sources,
+            never_silent-printed One 1 s.sources (steady refl),
             one_each-printed u 1 s.tasks (plain refl) one,
             read_all-printed path_entry (path_data u) (redraft_path u) (path-printed u) 1 s.paths,
           )
@@ -147,17 +170,17 @@ draft_by Small s plain =
           rw (
             several,
             read_all-printed resource_entry resource_data redraft_resource resource-printed 1 s.resources,
-            read_all-printed source_entry source_data redraft_source source-printed 1 s.sources,
+            never_silent-printed Two 1 s.sources (steady refl),
             two-printed u 1 s.tasks (plain refl),
             read_all-printed path_entry (path_data u) (redraft_path u) (path-printed u) 1 s.paths,
           )
           refl
     ]
-draft_by Large s plain =
+draft_by Large s plain steady =
     let u : SystemLists = record s { size = Large } in
     rw (
       read_all-printed resource_entry resource_data redraft_resource resource-printed 1 s.resources,
-      read_all-printed source_entry source_data redraft_source source-printed 1 s.sources,
+      read_all-printed (source_entry Four) source_data redraft_source source-printed 1 s.sources,
       read_all-printed (task_entry Four) (task_data u) (redraft_task u) (task-printed u) 1 s.tasks,
       read_all-printed path_entry (path_data u) (redraft_path u) (path-printed u) 1 s.paths,
     )
@@ -174,8 +197,13 @@ no-regions s rules small =
     let u = get_or s.tasks k t in
     no-region u (region-range (resource_at s u.res.0).kind u.region (rules.tasks k t less).region_fits).0 most)
 
+never-sporadic : (s : SystemLists) → IsSystem s → s.size ≡ Small → list_all is_never_silent s.sources ≡ true
+never-sporadic s rules small =
+    list_all-from_AllPass is_never_silent s.sources
+    (λ k r less. subst (λ z. sporadic_fits z (get_or s.sources k r).sporadic ≡ true) small (rules.sized.arrivals k r less))
+
 pub draft_of-printed : (s : SystemLists) → IsSystem s → draft_of (system_data s) ≡ Ok (redraft s)
-draft_of-printed s rules = draft_by s.size s (no-regions s rules)
+draft_of-printed s rules = draft_by s.size s (no-regions s rules) (never-sporadic s rules)
 
 -- no printed document is deep
 
@@ -194,9 +222,13 @@ resource-depth_by n (Can bit) l = omega arith
 resource-depth : (r : Resource) → depth (resource_data r) ≤ 2
 resource-depth r = resource-depth_by r.name r.kind r.limit
 
-source-depth : (r : Source) → depth (source_data r) ≤ 2
+source-depth_by : (r : Source) (sporadic : Bool) → r.sporadic ≡ sporadic → depth (source_data r) ≤ 2
 unfolding source_data
-source-depth r = omega arith
+source-depth_by r true is = rw is (omega arith)
+source-depth_by r false is = rw is (omega arith)
+
+source-depth : (r : Source) → depth (source_data r) ≤ 2
+source-depth r = source-depth_by r r.sporadic refl
 
 after-depth : (s : SystemLists) (after : List Activator) → depth (after_data s after) ≤ 1
 after-depth s [] = omega arith
@@ -252,9 +284,13 @@ resource-undated_by n (Can bit) l = refl
 resource-undated : (r : Resource) → has_valid_dates (resource_data r) ≡ true
 resource-undated r = resource-undated_by r.name r.kind r.limit
 
-source-undated : (r : Source) → has_valid_dates (source_data r) ≡ true
+source-undated_by : (r : Source) (sporadic : Bool) → r.sporadic ≡ sporadic → has_valid_dates (source_data r) ≡ true
 unfolding source_data
-source-undated r = refl
+source-undated_by r true is = rw is refl
+source-undated_by r false is = rw is refl
+
+source-undated : (r : Source) → has_valid_dates (source_data r) ≡ true
+source-undated r = source-undated_by r r.sporadic refl
 
 after-undated : (s : SystemLists) (after : List Activator) → has_valid_dates (after_data s after) ≡ true
 after-undated s [] = refl

@@ -1,5 +1,5 @@
 -- The entries of a system file, as they are read.
-use Rattle.std.specs.Prelude.{ℕ, Bool, true, false, List, [], ◌∷◌, Option, Some, None, Result, Ok, Err, codes, if◌then◌else◌}
+use Rattle.std.specs.Prelude.{ℕ, Bool, true, false, List, [], ◌∷◌, Option, Some, None, unwrap_or, Result, Ok, Err, codes, if◌then◌else◌}
 use Rattle.std.specs.Str.{bytes_eq}
 use Rattle.toml.specs.Data.{Data, Items, as_str, as_integer, as_bool, as_array}
 use Rattle.cpa_draft.specs.declared.draft.KindWord.{KindWord}
@@ -10,7 +10,7 @@ use Rattle.cpa_draft.specs.declared.draft.DraftTask.{DraftTask}
 use Rattle.cpa_draft.specs.declared.draft.DraftPath.{DraftPath}
 use Rattle.cpa_model.specs.Built.{has_executions}
 use Rattle.cpa_file.specs.declared.format.Format.{Format}
-use Rattle.cpa_file.specs.Formats.{has_lists, has_regions}
+use Rattle.cpa_file.specs.Formats.{has_lists, has_regions, has_sporadic}
 use Rattle.cpa_file.specs.Lists.{read_all}
 use Rattle.cpa_file.specs.Fields.{◌>>=◌, optional, required, has_only}
 
@@ -97,15 +97,25 @@ with_executions t = if has_executions t then Some t else None
 unfoldable pub task_entry : Format → Data → Option DraftTask
 task_entry format d = task_fields format d >>= with_executions
 
+-- the key of a source that only some formats know
+abbrev pub sporadic_key : Bool → List (List ℕ)
+sporadic_key true = codes "sporadic" ∷ []
+sporadic_key false = []
+
+-- the keys that a source may have
+abbrev pub source_keys : Format → List (List ℕ)
+source_keys format = codes "name" ∷ codes "period" ∷ codes "jitter" ∷ codes "distance" ∷ sporadic_key (has_sporadic format)
+
 -- the entry, if it has the form of a source
-unfoldable pub source_entry : Data → Option DraftSource
-source_entry d = do
+unfoldable pub source_entry : Format → Data → Option DraftSource
+source_entry format d = do
   name ← required as_str (codes "name") d
   period ← required as_integer (codes "period") d
   jitter ← optional as_integer (codes "jitter") d
   distance ← optional as_integer (codes "distance") d
-  if has_only (codes "name" ∷ codes "period" ∷ codes "jitter" ∷ codes "distance" ∷ []) d
-      then Some (record { name = name; period = period; jitter = jitter; distance = distance })
+  sporadic ← optional as_bool (codes "sporadic") d
+  if has_only (source_keys format) d
+      then Some (record { name = name; period = period; jitter = jitter; distance = distance; sporadic = unwrap_or sporadic false })
       else None
 
 -- the entry, if it has the form of a path

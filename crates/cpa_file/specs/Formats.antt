@@ -23,6 +23,12 @@ has_regions One = false
 has_regions Two = false
 has_regions Four = true
 
+-- in format 4 a source may be sporadic
+abbrev pub has_sporadic : Format → Bool
+has_sporadic One = false
+has_sporadic Two = false
+has_sporadic Four = true
+
 -- in format 4 a system may be large
 abbrev pub size_of : Format → Size
 size_of One = Small

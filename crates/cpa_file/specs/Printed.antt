@@ -1,9 +1,9 @@
 -- A system as a document.
-use Rattle.std.specs.Prelude.{◌≡◌, ◌==◌, ℕ, Bool, false, if◌then◌else◌, pos, List, [], ◌∷◌, map, length, Option, Some, None, codes}
+use Rattle.std.specs.Prelude.{◌≡◌, ◌==◌, ℕ, Bool, true, false, if◌then◌else◌, pos, List, [], ◌∷◌, map, length, Option, Some, None, codes}
 use Rattle.std.specs.List.{list_all}
 use Rattle.std.specs.Ordering.{nat_cmp, match_ordering}
 use Rattle.std.specs.Cmp.Lexicographic.{slice_cmp}
-use Rattle.toml.specs.Data.{Data, Members, no_members, member, string, integer, array, table}
+use Rattle.toml.specs.Data.{Data, Members, no_members, member, string, integer, boolean, array, table}
 use Rattle.toml.specs.View.{items_of}
 use Rattle.toml.specs.Text.{IsDocumentText}
 use Rattle.cpa_units.specs.declared.limits.Size.{Size}
@@ -42,9 +42,13 @@ with_kind_number _ ms = ms
 unfoldable pub resource_data : Resource → Data
 resource_data r = table (with_kind_number r.kind (put (codes "limit") (integer (pos r.limit)) (put (codes "kind") (string (kind_text r.kind)) (put (codes "name") (string r.name) no_members))))
 
+abbrev pub with_sporadic : Bool → Members → Members
+with_sporadic true ms = put (codes "sporadic") (boolean true) ms
+with_sporadic false ms = ms
+
 unfoldable pub source_data : Source → Data
 source_data r =
-    table (put (codes "distance") (integer (pos r.distance)) (put (codes "jitter") (integer (pos r.jitter)) (put (codes "period") (integer (pos r.period)) (put (codes "name") (string r.name) no_members))))
+    table (with_sporadic r.sporadic (put (codes "distance") (integer (pos r.distance)) (put (codes "jitter") (integer (pos r.jitter)) (put (codes "period") (integer (pos r.period)) (put (codes "name") (string r.name) no_members)))))
 
 abbrev pub with_turn : Turn → Members → Members
 with_turn (Priority number) ms = put (codes "priority") (integer (pos number)) ms

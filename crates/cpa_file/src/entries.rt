@@ -10,7 +10,7 @@ ghost use Rattle.cpa_model.specs.Built.{has_executions};
 
 use crate::fault::ReadFault;
 use crate::fields::{
-    only_has, optional_integer, optional_integer_unless, optional_truth_unless, required_integer,
+    only_has, optional_integer, optional_integer_unless, optional_truth, optional_truth_unless, required_integer,
     required_text,
 };
 use crate::format::Format;
@@ -177,23 +177,36 @@ impl Entry for DraftTask {
     }
 }
 
+/// Whether an entry has no key but those that a source may have.
+fn has_source_keys(format: Format, value: &Value) -> bool
+    ensures { result ≡ has_only (source_keys format) (view value.now) }
+{
+    if format.has_sporadic() {
+        only_has(value, &["name", "period", "jitter", "distance", "sporadic"])
+    } else {
+        only_has(value, &["name", "period", "jitter", "distance"])
+    }
+}
+
 impl Entry for DraftSource {
     ghost use Rattle.cpa_file.specs.Entries.{source_entry};
 
-    ghost entry = { λ format. source_entry };
+    ghost entry = { source_entry };
 
     #[tactic(auto, unfolding(crate::specs::Entries::source_entry))]
-    fn read(alloc: Global, _format: Format, value: &Value) -> Result<DraftSource, ReadFault> {
+    fn read(alloc: Global, format: Format, value: &Value) -> Result<DraftSource, ReadFault> {
         let name = required_text(alloc, value, "name")?;
         let period = required_integer(value, "period")?;
         let jitter = optional_integer(value, "jitter")?;
         let distance = optional_integer(value, "distance")?;
-        if only_has(value, &["name", "period", "jitter", "distance"]) {
+        let sporadic = optional_truth(value, "sporadic")?;
+        if has_source_keys(format, value) {
             Ok(DraftSource {
                 name,
                 period,
                 jitter,
                 distance,
+                sporadic: sporadic.unwrap_or(false),
             })
         } else {
             Err(ReadFault::Malformed)

@@ -1,7 +1,7 @@
 //! The formats of system files.
 
 ghost use Rattle.std.specs.Prelude.{◌≡◌};
-ghost use Rattle.cpa_file.specs.Formats.{format_with, has_lists, has_regions, size_of};
+ghost use Rattle.cpa_file.specs.Formats.{format_with, has_lists, has_regions, has_sporadic, size_of};
 
 use cpa_units::limits::Size;
 
@@ -12,7 +12,7 @@ pub enum Format {
     One,
     /// Tasks with several activators.
     Two,
-    /// Tasks with regions, and large systems.
+    /// Tasks with regions, sporadic sources, and large systems.
     Four,
 }
 
@@ -55,6 +55,13 @@ impl Format {
             Format::Two => false,
             Format::Four => true,
         }
+    }
+
+    /// Whether a source may be sporadic.
+    pub(crate) fn has_sporadic(self) -> bool
+        ensures { result ≡ has_sporadic self }
+    {
+        matches!(self, Format::Four)
     }
 
     /// How large a system may be.

@@ -8,7 +8,7 @@ ghost use Rattle.toml.specs.View.{view, table_view};
 ghost use Rattle.cpa_model.specs.Rules.{IsSystem, IsResource, IsSource, IsActivator, IsTask, IsPath, KindFits};
 ghost use Rattle.cpa_model.specs.SystemLists.{resource_at, source_at, task_at, path_at, task_places, slot_of, activator_name};
 ghost use Rattle.cpa_file.specs.Reading.{reading_of, Accepted};
-ghost use Rattle.cpa_file.specs.Printed.{put, kind_text, with_kind_number, resource_data, source_data, with_turn, with_region, activator_data, after_data, task_names_data, task_data, has_one, format_of, with_deadline, name_data, path_data, system_data, IsPrinted};
+ghost use Rattle.cpa_file.specs.Printed.{put, kind_text, with_kind_number, resource_data, with_sporadic, source_data, with_turn, with_region, activator_data, after_data, task_names_data, task_data, has_one, format_of, with_deadline, name_data, path_data, system_data, IsPrinted};
 
 use cpa_model::{
     Activator, Activators, Kind, Path, Resource, Source, System, Task, TaskList, Turn,
@@ -95,6 +95,17 @@ fn resource_value(alloc: Global, resource: &Resource) -> Result<Value, NoMemory>
     Ok(Value::Table(entry))
 }
 
+/// Puts `sporadic = true` where a source is sporadic, and nothing else.
+fn put_sporadic(alloc: Global, entry: &mut Table, sporadic: bool) -> Result<(), NoMemory>
+    ensures { OnOk result (table_view entry.new ≡ with_sporadic sporadic (table_view entry.old)) }
+{
+    if sporadic {
+        put(alloc, entry, "sporadic", Value::Boolean(true))
+    } else {
+        Ok(())
+    }
+}
+
 #[tactic(auto, unfolding(crate::specs::Printed::source_data))]
 fn source_value(alloc: Global, source: &Source) -> Result<Value, NoMemory>
     requires { IsSource source.now }
@@ -105,6 +116,7 @@ fn source_value(alloc: Global, source: &Source) -> Result<Value, NoMemory>
     put_number(alloc, &mut entry, "period", source.period)?;
     put_number(alloc, &mut entry, "jitter", source.jitter)?;
     put_number(alloc, &mut entry, "distance", source.distance)?;
+    put_sporadic(alloc, &mut entry, source.sporadic)?;
     Ok(Value::Table(entry))
 }
 

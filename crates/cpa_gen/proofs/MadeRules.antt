@@ -21,7 +21,7 @@ use Rattle.cpa_model.specs.declared.entries.Turn.TheVariants as turn
 use Rattle.cpa_model.specs.Chains.{activators, chain_steps, depth_within, streams_step, streams_within}
 use Rattle.cpa_model.specs.SystemLists.{SystemLists, is_task, no_resource, no_task, priority_of, resource_at, task_at}
 use Rattle.cpa_model.proofs.SystemLaws.{tick-fits}
-use Rattle.cpa_model.specs.Rules.{AllDiffer, HaveOwnPriorities, IsActivator, IsLinked, IsPath, IsResource, IsSized, IsSizedResource, IsSizedTask, IsSource, IsSystem, IsTask, TurnFits, activity_names}
+use Rattle.cpa_model.specs.Rules.{AllDiffer, HaveOwnPriorities, IsActivator, IsLinked, IsPath, IsResource, IsSized, IsSizedResource, IsSizedSource, IsSizedTask, IsSource, IsSystem, IsTask, TurnFits, activity_names}
 use Rattle.cpa_gen.specs.declared.chains.Chain.{Chain}
 use Rattle.cpa_gen.specs.Chains.{IsChain, chain_at, no_chain}
 use Rattle.cpa_gen.specs.MadeSystems.{buses, chain_of, made_path, made_resource, made_source, made_system, numbered, processors, task_made, task_of_chain}
@@ -343,6 +343,7 @@ lists_sized number size few = record {
   tasks = omega (arith, table_length (task_made number size) (3 * size), few);
   paths = omega (arith, table_length (λ k. made_path k (chain_of number size k)) size, few);
   limits = all_table (IsSizedResource Small) (made_resource size) (processors size + buses size) (λ r l. resource_small (nat_lt r (processors size)) size r);
+  arrivals = all_table (IsSizedSource Small) (λ k. made_source k (chain_of number size k)) size (λ k l. refl);
   times = all_table (IsSizedTask Small) (task_made number size) (3 * size) (λ i l. task_small number size (i % 3) (i / 3) (thirds i) (third size i l));
 }
 

@@ -56,7 +56,7 @@ made_resource size r =
     else record { name = numbered (codes "b") (r - processors size) []; kind = kind.Can 2; limit = DEFAULT_LIMIT }
 
 abbrev pub made_source : ℕ → Chain → Source
-made_source k c = record { name = source_name k; period = c.period; jitter = c.jitter; distance = 0 }
+made_source k c = record { name = source_name k; period = c.period; jitter = c.jitter; distance = 0; sporadic = false }
 
 -- the three tasks of chain k, which stand at the places 3k, 3k + 1 and 3k + 2
 abbrev pub first_task : ℕ → ℕ → Chain → Task

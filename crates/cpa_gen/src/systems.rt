@@ -86,6 +86,7 @@ fn make_source(alloc: Global, k: u64, chain: Chain) -> Result<Source, NoMemory>
         period: chain.period,
         jitter: chain.jitter,
         distance: 0,
+        sporadic: false,
     })
 }
 

@@ -24,7 +24,7 @@ abbrev resource : Kind → Resource
 resource kind = record { name = []; kind = kind; limit = 1000000 }
 
 abbrev source : ℕ → ℕ → Source
-source period jitter = record { name = []; period = period; jitter = jitter; distance = 0 }
+source period jitter = record { name = []; period = period; jitter = jitter; distance = 0; sporadic = false }
 
 abbrev from_source : ℕ → List Activator
 from_source k = FromSource (record { 0 = k }) ∷ []

@@ -13,7 +13,7 @@ use Rattle.std.proofs.lemmas.List.FromFn.{get_or-range_with_len, length-range_wi
 use Rattle.std.proofs.lemmas.Option.{none-some, same_Some}
 use Rattle.std.proofs.Math.Nat.{le_trans}
 use Rattle.cpa_units.specs.declared.limits.Size.TheVariants.{Large}
-use Rattle.cpa_model.proofs.SizeLaws.{resources-most, sources-most, tasks-most, paths-most, larger-resource, larger-task, resource-sized, worst-sized, slot-sized, region-sized}
+use Rattle.cpa_model.proofs.SizeLaws.{resources-most, sources-most, tasks-most, paths-most, larger-resource, larger-task, resource-sized, source-sized, worst-sized, slot-sized, region-sized}
 use Rattle.cpa_units.specs.Name.{is_name}
 use Rattle.cpa_units.specs.declared.places.ResId.{ResId}
 use Rattle.cpa_units.specs.declared.places.SourceId.{SourceId}
@@ -45,7 +45,7 @@ use Rattle.cpa_model.specs.declared.entries.Activator.{Activator}
 use Rattle.cpa_model.specs.declared.entries.Activator.TheVariants as activator
 use Rattle.cpa_model.specs.Chains.{chain_step, depth_within, activators, streams_step, streams_within}
 use Rattle.cpa_model.specs.SystemLists.{SystemLists, task_at, streams_of, is_task as is_the_task, no_resource, no_task}
-use Rattle.cpa_model.specs.Rules.{IsSized, IsSizedResource, IsSizedTask, IsSystem, IsResource, IsSource, IsTask, IsActivator, IsPath, IsLinked, AllDiffer, HaveOwnPriorities, TurnFits, RegionFits, activity_names}
+use Rattle.cpa_model.specs.Rules.{IsSized, IsSizedResource, IsSizedSource, IsSizedTask, IsSystem, IsResource, IsSource, IsTask, IsActivator, IsPath, IsLinked, AllDiffer, HaveOwnPriorities, TurnFits, RegionFits, activity_names}
 use Rattle.cpa_model.specs.Built.{built_kind, built_resource, built_source, built_task, built_path, built_turn, built_activator, activator_at, resource_place, activity_place, bit_time, task_named, has_executions, TaskFitsTypes, PathFitsTypes, system_of}
 use Rattle.cpa_model.proofs.SystemLaws.{path-short, activators-few}
 use Rattle.cpa_model.proofs.EntryLaws.{may-range, range, resource-kept, source-kept, place-kept, nothing-none, link-kept, task-kept, turn-kept, region-kept, executions-kept}
@@ -429,6 +429,7 @@ sized-kept d u = record {
   tasks = rw (length-map d.tasks (built_task d)) u.few_tasks;
   paths = rw (length-map d.paths (built_path d)) u.few_paths;
   limits = all-map (IsSizedResource d.size) built_resource d.resources (λ k r less. resource-sized d.size (get_or d.resources k r) (u.resources_fit k r less));
+  arrivals = all-map (IsSizedSource d.size) built_source d.sources (λ k r less. source-sized d.size (get_or d.sources k r) (u.sources_fit k r less));
   times = all-map (IsSizedTask d.size) (built_task d) d.tasks (task-sized d u);
 }
 
@@ -441,7 +442,7 @@ system-kept d u given = record {
   few_tasks = rw (length-map d.tasks (built_task d)) (le_trans u.few_tasks (tasks-most d.size));
   few_paths = rw (length-map d.paths (built_path d)) (le_trans u.few_paths (paths-most d.size));
   resources = all-map IsResource built_resource d.resources (λ k r less. resource-kept (get_or d.resources k r) (larger-resource d.size (get_or d.resources k r) (u.resources_fit k r less)));
-  sources = all-map IsSource built_source d.sources (λ k r less. source-kept (get_or d.sources k r) (u.sources_fit k r less));
+  sources = all-map IsSource built_source d.sources (λ k r less. source-kept d.size (get_or d.sources k r) (u.sources_fit k r less));
   tasks = all-map (IsTask (system_of d)) (built_task d) d.tasks (task-kept-at d u given);
   paths = all-map (IsPath (system_of d)) (built_path d) d.paths (path-kept-at d u);
   chains = chains-kept d u;

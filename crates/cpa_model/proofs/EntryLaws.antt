@@ -2,6 +2,7 @@
 use Rattle.std.proofs.Common.{◌≡◌, ℕ, ℤ, pos, negsuc, ◌-◌, ◌*◌, ◌<◌, ◌≤◌, Bool, true, false, not, ◌&&◌, ◌||◌, nat_lt, List, length, Option, Some, None, is_some, is_none, unwrap_or, refl, arith, inl, inr, lit≤}
 use Rattle.std.proofs.Math.Nat.{mul-le-mul_right}
 use Rattle.std.proofs.lemmas.Bool.{and_parts, or_parts, false≢true, true≢false, leb-true, ltb-false, cases_Bool}
+use Rattle.cpa_units.specs.declared.limits.Size.{Size}
 use Rattle.cpa_units.specs.declared.limits.Size.TheVariants.{Large}
 use Rattle.cpa_units.specs.Frames.{least_frame_bits, greatest_frame_bits}
 use Rattle.cpa_draft.specs.Numbers.{nat_of, nat_or, is_within, may_be_within}
@@ -48,9 +49,10 @@ resource-kept r h =
     let limit = may-range 1 100000000 1000000 r.limit (lit≤ tt, lit≤ tt) b.0 in
     record { some_limit = limit.0; limit = limit.1; kind_fits = kind-kept r.kind r.gap r.bit b.1 a.1 }
 
-pub source-kept : (r : DraftSource) → source_fits Large r ≡ true → IsSource (built_source r)
-source-kept r h =
-    let a = and_parts _ _ h in
+pub source-kept : (z : Size) (r : DraftSource) → source_fits z r ≡ true → IsSource (built_source r)
+source-kept z r h =
+    let s = and_parts _ _ h in
+    let a = and_parts _ _ s.0 in
     let b = and_parts _ _ a.0 in
     let period = range 1 1000000000 r.period b.0 in
     let jitter = may-range 0 1000000000 0 r.jitter (lit≤ tt, lit≤ tt) b.1 in

@@ -17,7 +17,7 @@ use Rattle.std.proofs.Math.Nat.{le_trans}
 use Rattle.cpa_units.specs.declared.limits.Size.{Size}
 use Rattle.cpa_units.specs.Sizes.{most_execution, most_region, most_gap, most_limit}
 use Rattle.cpa_model.specs.SystemLists.{SystemLists, resource_at, gap_of, slot_of}
-use Rattle.cpa_model.specs.Rules.{IsSizedResource, IsSizedTask, IsResource, IsSource, IsTask, IsPath, KindFits, TurnFits, RegionFits}
+use Rattle.cpa_model.specs.Rules.{IsSizedResource, IsSizedSource, IsSizedTask, IsResource, IsSource, IsTask, IsPath, KindFits, TurnFits, RegionFits}
 use Rattle.cpa_model.proofs.SystemLaws.{region-range}
 use Rattle.cpa_model.specs.Redraft.{word_of, gap_at, bit_at, priority_at, slot_at, region_at, redraft_resource, redraft_source, redraft_task, redraft_path}
 
@@ -47,11 +47,13 @@ resource-fits z r fits small =
     (bit-within r.kind fits.kind_fits)
 
 -- the numbers of a source
-pub source-fits : (z : Size) (r : Source) → IsSource r → source_fits z (redraft_source r) ≡ true
-source-fits z r fits =
+pub source-fits : (z : Size) (r : Source) → IsSource r → IsSizedSource z r → source_fits z (redraft_source r) ≡ true
+source-fits z r fits sized =
     and_from _ _
+    (and_from _ _
     (and_from _ _ (number-within 1 1000000000 r.period fits.some_period fits.period) (number-within 0 1000000000 r.jitter (omega arith) fits.jitter))
-    (number-within 0 r.period r.distance (omega arith) fits.distance)
+    (number-within 0 r.period r.distance (omega arith) fits.distance))
+    sized
 
 -- the priority that a turn may have
 priority-within : (k : Kind) (u : Turn) → TurnFits k u → may_be_within 0 536870911 (priority_at u) ≡ true

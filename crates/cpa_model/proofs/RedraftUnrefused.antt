@@ -162,7 +162,7 @@ pub redraft-unrefused : (s : SystemLists) → IsSystem s → IsUnrefused (redraf
 unfolding redraft
 redraft-unrefused s rules = record {
   resources_fit = all-map (λ r. resource_fits s.size r ≡ true) redraft_resource s.resources (λ k r less. resource-fits s.size (get_or s.resources k r) (rules.resources k r less) (rules.sized.limits k r less));
-  sources_fit = all-map (λ r. source_fits s.size r ≡ true) redraft_source s.sources (λ k r less. source-fits s.size (get_or s.sources k r) (rules.sources k r less));
+  sources_fit = all-map (λ r. source_fits s.size r ≡ true) redraft_source s.sources (λ k r less. source-fits s.size (get_or s.sources k r) (rules.sources k r less) (rules.sized.arrivals k r less));
   tasks_fit = all-map (λ t. task_fits s.size t ≡ true) (redraft_task s) s.tasks (λ k t less. task-fits s.size s (get_or s.tasks k t) (rules.tasks k t less) (rules.sized.times k t less));
   paths_fit = all-map (λ p. path_fits s.size p ≡ true) (redraft_path s) s.paths (λ k p less. path-fits s.size s (get_or s.paths k p) (rules.paths k p less));
   resources_named = all-map (λ (r : DraftResource). is_name r.name ≡ true) redraft_resource s.resources rules.resources_named;

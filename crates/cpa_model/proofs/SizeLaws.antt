@@ -7,14 +7,15 @@ use Rattle.cpa_units.specs.declared.limits.Size.TheVariants.{Small, Large}
 use Rattle.cpa_units.specs.Sizes.{most_resources, most_sources, most_tasks, most_paths, most_execution, most_region, most_gap, most_limit}
 use Rattle.cpa_units.specs.Frames.{greatest_frame_bits}
 use Rattle.cpa_draft.specs.Numbers.{nat_of, nat_or, is_within, may_be_within}
-use Rattle.cpa_draft.specs.Refusals.{resource_fits, task_fits}
+use Rattle.cpa_draft.specs.Refusals.{resource_fits, source_fits, task_fits}
 use Rattle.cpa_draft.specs.declared.draft.DraftResource.{DraftResource}
+use Rattle.cpa_draft.specs.declared.draft.DraftSource.{DraftSource}
 use Rattle.cpa_draft.specs.declared.draft.DraftTask.{DraftTask}
 use Rattle.cpa_draft.specs.declared.draft.KindWord.{KindWord}
 use Rattle.cpa_draft.specs.declared.draft.KindWord.TheVariants as word
 use Rattle.cpa_model.specs.SystemLists.{gap_of, slot_of}
-use Rattle.cpa_model.specs.Rules.{IsSizedResource}
-use Rattle.cpa_model.specs.Built.{built_kind, built_resource, built_turn, greatest_execution}
+use Rattle.cpa_model.specs.Rules.{IsSizedResource, IsSizedSource}
+use Rattle.cpa_model.specs.Built.{built_kind, built_resource, built_source, built_turn, greatest_execution}
 use Rattle.cpa_model.proofs.EntryLaws.{may-range}
 
 pub resources-most : (z : Size) → most_resources z ≤ 128
@@ -97,6 +98,9 @@ resource-sized z r h =
       (may-range 1 (most_limit z) 1000000 r.limit (omega arith, limit-default z) b.0).1,
       gap-sized z r.kind r.gap r.bit b.1,
     )
+
+pub source-sized : (z : Size) (r : DraftSource) → source_fits z r ≡ true → IsSizedSource z (built_source r)
+source-sized z r h = (and_parts _ _ h).1
 
 frame-most : (s : ℕ) (extended : Bool) → s ≤ 8 → greatest_frame_bits s extended ≤ 160
 frame-most s true h = omega arith

@@ -37,7 +37,7 @@ abbrev pub built_resource : DraftResource → Resource
 built_resource r = record { name = r.name; kind = built_kind r.kind r.gap r.bit; limit = nat_or DEFAULT_LIMIT r.limit }
 
 abbrev pub built_source : DraftSource → Source
-built_source r = record { name = r.name; period = nat_of r.period; jitter = nat_or 0 r.jitter; distance = nat_or 0 r.distance }
+built_source r = record { name = r.name; period = nat_of r.period; jitter = nat_or 0 r.jitter; distance = nat_or 0 r.distance; sporadic = r.sporadic }
 
 -- the place of the resource with a name
 abbrev pub resource_place : DraftLists → List ℕ → ℕ

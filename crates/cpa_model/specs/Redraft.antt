@@ -39,7 +39,7 @@ abbrev pub redraft_resource : Resource → DraftResource
 redraft_resource r = record { name = r.name; kind = word_of r.kind; limit = Some (pos r.limit); gap = gap_at r.kind; bit = bit_at r.kind }
 
 abbrev pub redraft_source : Source → DraftSource
-redraft_source r = record { name = r.name; period = pos r.period; jitter = Some (pos r.jitter); distance = Some (pos r.distance) }
+redraft_source r = record { name = r.name; period = pos r.period; jitter = Some (pos r.jitter); distance = Some (pos r.distance); sporadic = r.sporadic }
 
 abbrev pub priority_at : Turn → Option ℤ
 priority_at (Priority number) = Some (pos number)

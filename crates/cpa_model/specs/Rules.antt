@@ -7,6 +7,7 @@ use Rattle.cpa_units.specs.Name.{is_name}
 use Rattle.cpa_units.specs.declared.limits.Size.{Size}
 use Rattle.cpa_units.specs.Sizes.{most_resources, most_sources, most_tasks, most_paths, most_execution, most_region, most_gap, most_limit}
 use Rattle.cpa_units.specs.declared.places.TaskId.{TaskId}
+use Rattle.cpa_draft.specs.Refusals.{sporadic_fits}
 use Rattle.cpa_model.specs.declared.entries.Resource.{Resource}
 use Rattle.cpa_model.specs.declared.entries.Source.{Source}
 use Rattle.cpa_model.specs.declared.entries.Task.{Task}
@@ -82,6 +83,9 @@ pub record IsPath (s : SystemLists) (p : Path) : Type 0 where
 abbrev pub IsSizedResource : Size → Resource → Type 0
 IsSizedResource z r = (r.limit ≤ most_limit z) × (gap_of r.kind ≤ most_gap z)
 
+abbrev pub IsSizedSource : Size → Source → Type 0
+IsSizedSource z r = sporadic_fits z r.sporadic ≡ true
+
 pub record IsSizedTask (z : Size) (t : Task) : Type 0 where
   pub worst : t.worst ≤ most_execution z
   pub slot : slot_of t.turn ≤ most_execution z
@@ -94,6 +98,7 @@ pub record IsSized (s : SystemLists) : Type 0 where
   pub tasks : length s.tasks ≤ most_tasks s.size
   pub paths : length s.paths ≤ most_paths s.size
   pub limits : All (IsSizedResource s.size) s.resources
+  pub arrivals : All (IsSizedSource s.size) s.sources
   pub times : All (IsSizedTask s.size) s.tasks
 
 -- no two names of a list are the same

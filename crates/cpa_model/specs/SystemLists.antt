@@ -32,7 +32,7 @@ abbrev pub no_resource : Resource
 no_resource = record { name = []; kind = kind.Preemptive; limit = 0 }
 
 abbrev pub no_source : Source
-no_source = record { name = []; period = 1; jitter = 0; distance = 0 }
+no_source = record { name = []; period = 1; jitter = 0; distance = 0; sporadic = false }
 
 abbrev pub no_task : Task
 no_task = record { name = []; res = record { 0 = 0 }; after = []; best = 0; worst = 0; turn = turn.Priority 0; region = 1 }
@@ -154,6 +154,14 @@ stream_at s i k = slice_index_or (streams_of s i) k (record { 0 = 0 })
 -- the source of a task's first stream
 abbrev pub root_of : SystemLists → ℕ → SourceId
 root_of s i = stream_at s i 0
+
+-- whether a source may fall silent
+abbrev pub is_sporadic : SystemLists → SourceId → Bool
+is_sporadic s k = (source_at s k.0).sporadic
+
+-- whether some stream of a task is that of a sporadic source
+abbrev pub may_fall_silent : SystemLists → ℕ → Bool
+may_fall_silent s i = list_any (is_sporadic s) (streams_of s i)
 
 -- the resource, the source and the task with a name
 abbrev pub resource_named : SystemLists → List ℕ → Option ResId

@@ -79,6 +79,7 @@ fn build_source(alloc: Global, draft: &DraftSource) -> Result<Source, BuildFault
         period: natural(draft.period),
         jitter: natural_or(0, draft.jitter),
         distance: natural_or(0, draft.distance),
+        sporadic: draft.sporadic,
     })
 }
 

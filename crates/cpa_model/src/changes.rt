@@ -28,6 +28,7 @@ fn copy_source(alloc: Global, source: &Source) -> Result<Source, NoMemory>
         period: source.period,
         jitter: source.jitter,
         distance: source.distance,
+        sporadic: source.sporadic,
     })
 }
 

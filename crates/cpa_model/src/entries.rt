@@ -48,6 +48,8 @@ pub struct Source {
     pub jitter: u64,
     /// The least time between two events, 0 to the period.
     pub distance: u64,
+    /// Whether it may fall silent. The bounds of tasks and paths are the same; those of effect chains don't hold then.
+    pub sporadic: bool,
 }
 
 impl Source {

@@ -255,8 +255,3 @@ unrefused-by s e r is other number = (
   λ same. absurd (other number same),
   λ made. absurd (let both : Ok (change s e) ≡ Err number = sym (rw is refl) ∙ made in let f : ⊥ = cc in f),
 )
-
--- an edit that breaks no rule is refused with none
-pub never-refused : (s : SystemLists) (e : Edit) (number : EditRefusal) → refusal s e ≡ None → edited s e ≡ Err number → ⊥
-unfolding edited
-never-refused s e number is made = let both : Ok (change s e) ≡ Err number = sym (rw is refl) ∙ made in let f : ⊥ = cc in f

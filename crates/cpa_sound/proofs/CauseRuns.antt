@@ -1,5 +1,5 @@
 -- What started the jobs of a run: those of one activator come in the order of its events or completions, each of them once.
-use Rattle.std.proofs.Common.{◌≡◌, ℕ, zero, suc, ◌+◌, ◌-◌, ◌<◌, ◌≤◌, ◌++◌, length, List, [], ◌∷◌, map, take, Bool, true, eqb, refl, sym, ◌∙◌, ap, inl, inr, arith, get_or, length-append}
+use Rattle.std.proofs.Common.{◌≡◌, ℕ, zero, suc, ◌+◌, ◌-◌, ◌<◌, ◌≤◌, ◌++◌, length, List, [], ◌∷◌, map, take, Bool, true, false, eqb, refl, sym, ◌∙◌, ap, inl, inr, arith, get_or, length-append}
 use Rattle.std.specs.Prelude.{filter}
 use Rattle.std.specs.List.{range_with_len}
 use Rattle.std.proofs.lemmas.Bool.{cases_Bool, eq-eqb, ne_eqb}
@@ -11,7 +11,7 @@ use Rattle.cpa_model.specs.declared.entries.Activator.{Activator}
 use Rattle.cpa_model.specs.declared.entries.Activator.TheVariants.{Source, Task}
 use Rattle.cpa_model.specs.Rules.{IsSystem}
 use Rattle.cpa_model.specs.Streams.{source_stream}
-use Rattle.cpa_model.specs.SystemLists.{SystemLists, task_at}
+use Rattle.cpa_model.specs.SystemLists.{SystemLists, source_at, task_at}
 use Rattle.cpa_trace.specs.Trace.{TraceLists, times_of, time_of, need, Obeys}
 use Rattle.cpa_sim.specs.declared.jobs.Cause.{Cause}
 use Rattle.cpa_sim.specs.Run.{no_cause, no_job, Progress, is_open, ended_count, serve, new_jobs, events_at, arriving, runs_in, served, ended_in, ends_in, run}
@@ -273,13 +273,13 @@ module _ (s : SystemLists) (tr : TraceLists) where
             let far = rw two.1 at (obeys.apart k (jobs_in from l) two.0 inside) in
             rw two.2 (omega (arith, far, first.is_after, second.is_by))
 
-        pub source-near : SourcesStayNear s tr → PartKeepsNear (course_of s tr i) from (source_stream s k) (last + 1)
-        source-near near l m a b are soon =
+        pub source-near : (source_at s k).sporadic ≡ false → SourcesStayNear s tr → PartKeepsNear (course_of s tr i) from (source_stream s k) (last + 1)
+        source-near steady near l m a b are soon =
             let two = pair l m a b soon are in
             let first = event l a (omega (arith, arrives-order (course_of s tr i) (task_at s i).best (task_at s i).worst o l m a b are.comes are.follows are.order)) are.first are.comes in
             let second = event m b soon are.last are.follows in
             let inside : jobs_in from l + two.0 < length times = omega (arith, two.1, second.there) in
-            let close = rw two.1 at (near k (jobs_in from l) two.0 inside) in
+            let close = rw two.1 at (near k (jobs_in from l) two.0 steady inside) in
             rw two.2 (omega (arith, close, first.is_by, second.is_after))
 
       -- the laws of causes hold in every run

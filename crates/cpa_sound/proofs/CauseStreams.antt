@@ -35,7 +35,7 @@ is-same a b e = subst (λ c. is_same a c ≡ true) e (self a)
     self (Source k) = eq-eqb k.0 k.0 refl
     self (Task j) = eq-eqb j.0 j.0 refl
 
-or_tail : (b c : Bool) → b ≡ false → (b || c) ≡ true → c ≡ true
+pub or_tail : (b c : Bool) → b ≡ false → (b || c) ≡ true → c ≡ true
 or_tail true c e h = absurd (false≢true (sym e))
 or_tail false c e h = h
 

@@ -1,5 +1,5 @@
 -- What it is for bounds to hold in the courses of a run up to a time.
-use Rattle.std.specs.Prelude.{◌≡◌, ℕ, ◌+◌, ◌<◌, ◌≤◌, List, [], ◌∷◌, length, Option, Some, None}
+use Rattle.std.specs.Prelude.{◌≡◌, ℕ, ◌+◌, ◌<◌, ◌≤◌, false, List, [], ◌∷◌, length, Option, Some, None}
 use Rattle.cpa_units.specs.declared.bound.Bound.{Bound}
 use Rattle.cpa_units.specs.declared.bound.Bound.TheVariants.{Within}
 use Rattle.cpa_units.specs.declared.limits.TheConstants.{MAX_CHAIN}
@@ -7,7 +7,7 @@ use Rattle.cpa_units.specs.Bounds.{bound_of, sum_bounds}
 use Rattle.cpa_events.specs.Events.{Model}
 use Rattle.cpa_model.specs.declared.entries.Activator.TheVariants.{Source, Task}
 use Rattle.cpa_model.specs.Streams.{source_stream}
-use Rattle.cpa_model.specs.SystemLists.{SystemLists, task_at}
+use Rattle.cpa_model.specs.SystemLists.{SystemLists, source_at, task_at, may_fall_silent}
 use Rattle.cpa_local.specs.Inputs.{input}
 use Rattle.cpa_sound.specs.Course.{Course, Arrives, KeepsApart}
 use Rattle.cpa_sound.specs.JobStreams.{Causes, stream_within}
@@ -24,10 +24,10 @@ abbrev pub InputKeepsNear : Course → (ℕ → ℕ) → Option Model → ℕ �
 InputKeepsNear c stream (Some m) t = EachStream (λ q st. PartKeepsNear c (of_stream stream q) st t) 0 m
 InputKeepsNear c stream None t = Unit {0}
 
--- what sources start comes no farther from each other than they say
+-- what sources that aren't sporadic start comes no farther from each other than they say
 abbrev pub SourcesAreNear : SystemLists → (ℕ → Course) → Causes → ℕ → Type 0
 SourcesAreNear s course causes last =
-    (i k : ℕ) → i < length s.tasks → Starts s i (Source (record { 0 = k })) → PartKeepsNear (course i) (started_by causes i (Source (record { 0 = k }))) (source_stream s k) (last + 1)
+    (i k : ℕ) → i < length s.tasks → Starts s i (Source (record { 0 = k })) → (source_at s k).sporadic ≡ false → PartKeepsNear (course i) (started_by causes i (Source (record { 0 = k }))) (source_stream s k) (last + 1)
 
 -- each task of a list is among the activators of the next
 abbrev pub IsChain : SystemLists → ℕ → List ℕ → Type 0
@@ -52,5 +52,5 @@ pub record CoursesHold (s : SystemLists) (x : List Bound) (course : ℕ → Cour
   pub apart : (i : ℕ) → i < length s.tasks → KeepsApart (course i) (input s x i) (last + 1)
   -- and those of each stream of it
   pub streams : (i : ℕ) → i < length s.tasks → InputKeepsApart (course i) (stream_within s causes MAX_CHAIN i) (input s x i) (last + 1)
-  -- which keep near where the sources do
-  pub near : SourcesAreNear s course causes last → (i : ℕ) → i < length s.tasks → InputKeepsNear (course i) (stream_within s causes MAX_CHAIN i) (input s x i) (last + 1)
+  -- which keep near where the sources do, and none of them is sporadic
+  pub near : SourcesAreNear s course causes last → (i : ℕ) → i < length s.tasks → may_fall_silent s i ≡ false → InputKeepsNear (course i) (stream_within s causes MAX_CHAIN i) (input s x i) (last + 1)

@@ -18,6 +18,7 @@ pub mod PartLaws
 pub mod StreamLaws
 pub mod KeepsCauses
 pub mod CauseStreams
+pub mod SteadyLaws
 pub mod SentLaws
 pub mod LocalBounds
 pub mod CausalLaws

@@ -164,7 +164,7 @@ module _ (s : SystemLists) (tr : TraceLists) (rules : IsSystem s) (obeys : Obeys
     hold t = courses_hold s x (course_of s tr) (causes_at s tr t) t steps (keeps-causes s tr obeys rules t steps.order) rules closed
 
     sources-near : (t : ℕ) → SourcesStayNear s tr → SourcesAreNear s (course_of s tr) (causes_at s tr t) t
-    sources-near t near i k h starts = source-near s tr obeys rules t i k h starts (steps.order i h) near
+    sources-near t near i k h starts steady = source-near s tr obeys rules t i k h starts (steps.order i h) steady near
 
     -- ---- passages
 
@@ -206,9 +206,9 @@ module _ (s : SystemLists) (tr : TraceLists) (rules : IsSystem s) (obeys : Obeys
               let streams = rw e at ((hold t).streams i h) in
               let far = rw z at (streams q st is) in
               rw (count-is t i q n gap has) at (far _ _ _ _ (arrivals-are t i q n gap has) (arrival-by t i q n gap has));
-          streams_near = λ near i q n gap t m st h e is has.
+          streams_near = λ near i q n gap t m st h steady e is has.
               let z : 0 + q ≡ q = omega arith in
-              let streams = rw e at ((hold t).near (sources-near t near) i h) in
+              let streams = rw e at ((hold t).near (sources-near t near) i h steady) in
               let close = rw z at (streams q st is) in
               rw (count-is t i q n gap has) at (close _ _ _ _ (arrivals-are t i q n gap has) (arrival-by t i q n gap has));
         }

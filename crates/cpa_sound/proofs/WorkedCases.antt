@@ -33,7 +33,7 @@ abbrev resource : Kind → Resource
 resource kind = record { name = []; kind = kind; limit = 1000000 }
 
 abbrev source : ℕ → Source
-source period = record { name = []; period = period; jitter = 0; distance = 0 }
+source period = record { name = []; period = period; jitter = 0; distance = 0; sporadic = false }
 
 abbrev from_source : ℕ → Activator
 from_source k = FromSource (record { 0 = k })

@@ -3,7 +3,7 @@
 --
 -- A run is seen at a time t, by the jobs that have arrived up to it and the ends that they have had. No clause limits t, so that each speaks
 -- of the run over all times.
-use Rattle.std.specs.Prelude.{◌≡◌, ℕ, ◌+◌, ◌<◌, ◌≤◌, ◌==◌, List, [], ◌∷◌, length, drop, filter, Some, slice_get, slice_index_or}
+use Rattle.std.specs.Prelude.{◌≡◌, ℕ, ◌+◌, ◌<◌, ◌≤◌, ◌==◌, false, List, [], ◌∷◌, length, drop, filter, Some, slice_get, slice_index_or}
 use Rattle.std.specs.List.{range_with_len}
 use Rattle.cpa_units.specs.declared.bound.Bound.{Bound}
 use Rattle.cpa_units.specs.declared.bound.Bound.TheVariants.{Within}
@@ -18,7 +18,7 @@ use Rattle.cpa_model.specs.declared.entries.Activator.TheVariants.{Task}
 use Rattle.cpa_model.specs.declared.entries.Path.{Path}
 use Rattle.cpa_model.specs.Rules.{IsPath}
 use Rattle.cpa_model.specs.Streams.{source_stream}
-use Rattle.cpa_model.specs.SystemLists.{SystemLists, task_at}
+use Rattle.cpa_model.specs.SystemLists.{SystemLists, source_at, task_at, may_fall_silent}
 use Rattle.cpa_local.specs.Inputs.{input}
 use Rattle.cpa_trace.specs.Trace.{TraceLists, times_of, time_of, Obeys}
 use Rattle.cpa_sim.specs.Run.{Progress, no_job, run}
@@ -77,10 +77,10 @@ abbrev pub HasPassedBy : SystemLists → TraceLists → ℕ → TaskId → ℕ �
 HasPassedBy s tr t i k [] due = IsDoneBy s tr t i.0 k due
 HasPassedBy s tr t i k (next ∷ further) due = (n : ℕ) × IsStartedBy s tr t i k next n × HasPassedBy s tr t next n further due
 
--- any two events of a source are at most δ+ of its model apart: n + gap comes gap events after n
+-- any two events of a source that isn't sporadic are at most δ+ of its model apart: n + gap comes gap events after n
 abbrev pub SourcesStayNear : SystemLists → TraceLists → Type 0
 SourcesStayNear s tr =
-    (k n gap : ℕ) → n + gap < length (times_of tr k) → time_of tr k (n + gap) ≤ time_of tr k n + stream_delta_plus (source_stream s k) (gap + 1)
+    (k n gap : ℕ) → (source_at s k).sporadic ≡ false → n + gap < length (times_of tr k) → time_of tr k (n + gap) ≤ time_of tr k n + stream_delta_plus (source_stream s k) (gap + 1)
 
 -- the first task of a path, those after it, and the sum of its tasks' bounds
 abbrev pub first_of_path : Path → TaskId
@@ -111,8 +111,8 @@ pub record HoldIn (s : SystemLists) (x : List Bound) (tr : TraceLists) : Type 0 
   -- any two of one stream q of it are at least δ− of that stream apart
   pub streams_apart : (i q n gap t : ℕ) (m : Model) (st : Stream) → i < length s.tasks → input s x i ≡ Some m → slice_get m q ≡ Some st
       → HasArrival s tr t i q (n + gap) → stream_arrival s tr t i q n + stream_delta_minus st (gap + 1) ≤ stream_arrival s tr t i q (n + gap)
-  -- any two of one stream are at most its δ+ apart, where the events of the sources stay near
-  pub streams_near : SourcesStayNear s tr → (i q n gap t : ℕ) (m : Model) (st : Stream) → i < length s.tasks → input s x i ≡ Some m
+  -- any two of one stream are at most its δ+ apart, where the events of the sources stay near and none of the task's streams is sporadic
+  pub streams_near : SourcesStayNear s tr → (i q n gap t : ℕ) (m : Model) (st : Stream) → i < length s.tasks → may_fall_silent s i ≡ false → input s x i ≡ Some m
       → slice_get m q ≡ Some st → HasArrival s tr t i q (n + gap)
       → stream_arrival s tr t i q (n + gap) ≤ stream_arrival s tr t i q n + stream_delta_plus st (gap + 1)
 

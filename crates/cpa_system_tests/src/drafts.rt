@@ -79,6 +79,7 @@ fn add(alloc: Global, draft: &mut Draft, line: &str) -> Result<(), AllocError> {
             period: number(line, 2).unwrap_or(0),
             jitter: number(line, 3),
             distance: number(line, 4),
+            sporadic: false,
         })?,
         "path" => draft.paths.push(DraftPath {
             name: raw(alloc, field(line, 1))?,

@@ -231,6 +231,7 @@ fn refuses_the_first_place(rt: HostRuntime) -> Result<(), Fail> {
             period,
             jitter: None,
             distance: None,
+            sporadic: false,
         })?;
     }
     let draft = Draft {

@@ -12,6 +12,7 @@ returns c =
       c.first_unfit-3.ensures.place,
       c.first_unfit-4.ensures.place,
       c.size.ensures,
+      c.size-2.ensures,
       c.size-3.ensures,
       c.resource_entries.ensures,
       c.source_entries.ensures,
