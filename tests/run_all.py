@@ -46,13 +46,13 @@ def python_here() -> str:
 
 PYTHON = python_here()
 
-PROGRAMS = "cpa_cli cpa_schedule cpa_chain"
+PROGRAMS = "cpa_cli cpa_schedule_cli cpa_effect_cli"
 DRAWS = "module:matplotlib module:jinja2 command:dot"
 IMPORTS = "module:canmatrix module:lxml module:can module:tomlkit module:xlrd module:xlwt module:xlsxwriter"
 # what each check needs: programs, packages of Python, commands, files
 NEEDS = {
     "check_reports": "cpa_cli",
-    "check_runs": "cpa_cli cpa_schedule",
+    "check_runs": "cpa_cli cpa_schedule_cli",
     "check_orders": "cpa_cli",
     "check_large": "cpa_cli module:numpy",
     "check_slack": "cpa_cli",

@@ -21,7 +21,7 @@ from tests.rules.runs import Run, audit_text, schedule_text, simulated_text
 from tests.support.calls import NEEDS_PROGRAMS, add_number, built, outcome, reader_of, written
 from tests.support.systems import file_of, random_system, random_trace, rows_of
 
-PROGRAM, SCHEDULE = built("cpa_cli"), built("cpa_schedule")
+PROGRAM, SCHEDULE = built("cpa_cli"), built("cpa_schedule_cli")
 
 
 def buffers_text(system, run, report):
