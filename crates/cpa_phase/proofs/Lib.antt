@@ -1,0 +1,7 @@
+pub mod UpToLaws
+pub mod PhaseLaws
+pub mod MomentLaws
+pub mod CandidateLaws
+pub mod WorkLaws
+pub mod SentLaws
+mod WorkedCases
