@@ -15,7 +15,7 @@ mod phased;
 mod placed;
 
 pub use clock::{Clock, clock_work, clocks_work, work_from};
-pub use phased::{Phased, phased_work};
+pub use phased::{Phased, phased_work, put_phased};
 pub use placed::{MAX_OFFSET, MAX_PLACED, Placed};
 
 /// What a phase is, and how early events can come from a moment on.

@@ -1,10 +1,12 @@
 //! Streams as a window sees them that starts at some moment of their clock.
 
-ghost use Rattle.std.specs.Prelude.{◌≡◌, ◌+◌, ◌*◌, ◌^◌, ◌<◌, ◌≤◌};
+ghost use Rattle.std.specs.Prelude.{◌≡◌, ◌+◌, ◌*◌, ◌^◌, ◌<◌, ◌≤◌, map, OnOk};
 ghost use Rattle.cpa_phase.specs.Phases.{earliest_arrival, arrivals, by_period};
-ghost use Rattle.cpa_phase.specs.Streams.{phased_work, IsPhased, ArePhased};
+ghost use Rattle.cpa_phase.specs.Streams.{phased_from, phased_work, IsPhased, ArePlaced, ArePhased};
 
+use crate::placed::Placed;
 use cpa_events::Stream;
+use cpa_units::NoMemory;
 use cpa_units::limits::{MAX_BIT, MAX_LIMIT};
 
 /// A stream from the start of a window on. `phase` is how long after the start the next moment is at which an event comes
@@ -83,6 +85,18 @@ impl Phased {
     {
         self.arrivals(window) * self.worst
     }
+}
+
+/// The streams of a clock as a window sees them that starts at x, in place of what `phased` has.
+pub fn put_phased(phased: &mut Vec<Phased>, streams: &[Placed], x: u64) -> Result<(), NoMemory>
+    requires { ArePlaced streams.now }
+    ensures { OnOk result (phased.new.items ≡ map (phased_from x) streams.now) }
+{
+    phased.clear();
+    for stream in streams {
+        phased.push(stream.phased_from(x))?;
+    }
+    Ok(())
 }
 
 /// The work of streams from the start of a window on.
