@@ -25,7 +25,7 @@ use Rattle.cpa_phase.proofs.UpToLaws.{up_to-less}
 use Rattle.cpa_phase.proofs.PhaseLaws.{earliest_arrival-ge, earliest_arrival-plain}
 use Rattle.cpa_phase.proofs.CandidateLaws.{first_candidate}
 use Rattle.cpa_phase.proofs.WorkLaws.{earliest_arrival-fuller, work_from-nearer, work_from-denser, work_from-le_plain, nearer_is_fuller, denser_is_fuller}
-use Rattle.cpa_offset.specs.Offsets.{demand, elsewhere, others, window_bound, bound_from, offset_bound}
+use Rattle.cpa_offset.specs.Offsets.{demand, elsewhere, others, bound_from, offset_bound}
 use Rattle.cpa_offset.specs.Candidates.{GrowsNearer}
 use Rattle.cpa_offset.specs.Jobs.{others_work, jobs_work}
 use Rattle.cpa_window.proofs.RivalLaws.{work_in-bounded}
@@ -85,7 +85,7 @@ offset_bound-le_plain own blocking joint rest rivals limit cycle regular covers 
 
 -- ---- and where the task has no higher one on its clock, equal to it
 
-zero_plus : (b : Bound) → bound_plus (Within 0) b ≡ b
+pub zero_plus : (b : Bound) → bound_plus (Within 0) b ≡ b
 zero_plus (Within b) = ap Within (omega arith)
 zero_plus Overload = refl
 
@@ -154,18 +154,20 @@ offset_bound-low own blocking joint rest limit cycle regular long =
     IsAtMost_trans (Within own.worst) (offset_bound own blocking [] nobody limit cycle) (offset_bound own blocking joint rest limit cycle) low
     (offset_bound-grows own own blocking blocking [] joint nobody rest limit cycle (only_own own one) (no_denser_itself own) (omega arith) tt (λ w. zero_at_most (rest w)))
 
+-- what is without a clock is a part of what others ask for elsewhere
+pub work_in-le_elsewhere : (clocks : List Clock) (free : List Rival) (w : ℕ) → IsAtMost (work_in free w) (elsewhere clocks free w)
+work_in-le_elsewhere clocks free w =
+    subst (λ (b : Bound). IsAtMost b (elsewhere clocks free w)) (zero_plus (work_in free w)) (bound_plus-mono (Within 0) (Within (clocks_work clocks w)) (work_in free w) (work_in free w) (omega arith) (IsAtMost_refl (work_in free w)))
+
 -- an input without a bound leaves none
 pub offset_bound-unbounded : (own : Placed) (blocking : ℕ) (joint : List Placed) (clocks : List Clock) (free : List Rival) (limit cycle : ℕ) → AreRegular (own ∷ joint) → own.stream.period ≤ cycle → 0 < own.worst → some_unbounded free ≡ true → offset_bound own blocking joint (elsewhere clocks free) limit cycle ≡ Overload
 offset_bound-unbounded own blocking joint clocks free limit cycle regular long some h =
     let one : IsStream own.stream = regular 0 own (omega arith) in
     let alone : offset_bound own blocking [] (work_in free) limit cycle ≡ Overload = offset_bound-alone own blocking (work_in free) free limit cycle one long (λ w. refl) ∙ unbounded-overload (own.stream ∷ []) own.worst blocking free limit some h in
     let more : IsAtMost (offset_bound own blocking [] (work_in free) limit cycle) (offset_bound own blocking joint (elsewhere clocks free) limit cycle) =
-    offset_bound-grows own own blocking blocking [] joint (work_in free) (elsewhere clocks free) limit cycle (only_own own one) (no_denser_itself own) (omega arith) tt (λ w. work_in-below clocks free w)
+    offset_bound-grows own own blocking blocking [] joint (work_in free) (elsewhere clocks free) limit cycle (only_own own one) (no_denser_itself own) (omega arith) tt (work_in-le_elsewhere clocks free)
     in
     IsAtMost_antisymm (offset_bound own blocking joint (elsewhere clocks free) limit cycle) Overload tt (subst (λ (b : Bound). IsAtMost b (offset_bound own blocking joint (elsewhere clocks free) limit cycle)) alone more)
-  where
-    work_in-below : (clocks : List Clock) (free : List Rival) (w : ℕ) → IsAtMost (work_in free w) (elsewhere clocks free w)
-    work_in-below clocks free w = subst (λ (b : Bound). IsAtMost b (elsewhere clocks free w)) (zero_plus (work_in free w)) (bound_plus-mono (Within 0) (Within (clocks_work clocks w)) (work_in free w) (work_in free w) (omega arith) (IsAtMost_refl (work_in free w)))
 
 -- ---- in numbers
 

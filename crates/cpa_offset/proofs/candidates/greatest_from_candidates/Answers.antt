@@ -1,4 +1,4 @@
-use Rattle.std.proofs.Common.{◌∷◌, arith}
+use Rattle.std.proofs.Common.{arith}
 use Rattle.cpa_units.proofs.BoundLaws.{IsAtMost_trans, IsAtMost_antisymm}
 use Rattle.cpa_units.specs.Bounds.{IsAtMost, greatest_of}
 use Rattle.cpa_phase.proofs.CandidateLaws.{each_more}
