@@ -115,6 +115,7 @@ QUICK = {
     "check_chain_tools": "",
     "check_python": "",
     "check_messages": "--random 100",
+    "check_statuses": "120",
     "check_tools": "",
     "check_gantt": "",
     "check_reports": "100",
