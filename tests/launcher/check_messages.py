@@ -209,10 +209,8 @@ class Room:
         self.seen[sort, " ".join(it for it in program.split() if not it.isdigit() or "reason" in program)[:28]] += 1
         if program != here:
             self.wrong += 1
-            kept = [
-                shutil.copy(it, os.path.join(tempfile.gettempdir(), f"differs{self.wrong}.{os.path.basename(it)}"))
-                for it in files
-            ]
+            folder = tempfile.mkdtemp(prefix="lokwurmi-differs-")
+            kept = [shutil.copy(it, folder) for it in files]
             print(f"{sort}: the program: {program!r}, here: {here!r}; {' '.join(kept)}")
 
     def names(self, text: str) -> list[str]:

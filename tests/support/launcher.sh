@@ -69,13 +69,13 @@ it.send_signal(number)
 sys.exit(it.wait() != -number)' "$signal" "$number" "$room/children" "$work/lokwurmi" "$@" >"$room/text" 2>"$room/said" </dev/null
 }
 
-# How many of the children of the stand-in go on.
+# How many of the children of the stand-in go on: another process may have got the number of one since.
 left() {
   local it
   while read -r it; do
-    case $(ps -o stat= -p "$it") in
-    '' | Z*) ;;
-    *) echo "$it" ;;
+    case $(ps -o stat=,args= -p "$it") in
+    Z*) ;;
+    *sleep\ 30[0-9] | *"$room"*) echo "$it" ;;
     esac
   done <"$room/children" | wc -l
 }
@@ -197,7 +197,7 @@ run | lib)
     printf 'int lokwurmi_version(void) { return 1; }\n' >out/one.c && cc -fPIC -c -o out/one.o out/one.c && ar rcs out/libcpa_c.a out/one.o
   fi
   [ "$1" = run ] || exit 0
-  printf '#!/bin/sh\necho "called $*"\ncase $2 in sleep) echo 1 >>"$RT_ROOM/children"; exec sleep 300 ;; signal.*) kill -${2#signal.} $$ ;; status.*) exit ${2#status.} ;; esac\ncase $1 in anal*) exit 0 ;; esac\nexit 10\n' >"out/$own"
+  printf '#!/bin/sh\necho "called $*"\ncase $2 in sleep) echo $$ >>"$RT_ROOM/children"; exec sleep 300 ;; signal.*) kill -${2#signal.} $$ ;; status.*) exit ${2#status.} ;; esac\ncase $1 in anal*) exit 0 ;; esac\nexit 10\n' >"out/$own"
   chmod +x "out/$own"
   ;;
 doc)

@@ -24,7 +24,7 @@ from lokwurmi_tools.shared.analysed import analysed
 from lokwurmi_tools.shared.system_text import toml_of
 from tests.rules import bounds
 from tests.support import systems
-from tests.support.calls import TOP, answer, built, faults, hold, python_with, range_of, run, tell, without_progress
+from tests.support.calls import TOP, answer, built, faults, hold, python_with, range_of, run, tell
 
 PROGRAM = built("cpa_cli")
 # searches that are made here tell nothing
@@ -172,7 +172,7 @@ def check_calls(python, room):
     """What the tool writes and draws, and what it doesn't take."""
     sae, picture = os.path.join(TOP, "examples", "sae_can.toml"), os.path.join(room, "picture.svg")
     done = called(python, sae, "--deadlines", "--to", picture)
-    hold(done.returncode == 0 and not without_progress(done.stderr), f"sae_can.toml: {done.stderr}", "calls")
+    hold(done.returncode == 0 and not done.stderr, f"sae_can.toml: {done.stderr}", "calls")
     hold(
         re.search(r"^greatest execution of m16 +600 +800 +\+33\.3 %  path d8$", done.stdout, re.M), done.stdout, "calls"
     )
