@@ -42,6 +42,8 @@ done
 tell "chain of effects.toml" effects.chain.txt chain effects.toml sense filter act
 tell "chains of effects.toml" effects.chains.txt chains effects.toml effects.chains.toml
 tell "chain of camera_brake.toml" camera_brake.chain.txt chain camera_brake.toml capture detect send request decide act
+tell "chain of brake_pedal.toml" brake_pedal.chain.txt chain brake_pedal.toml decide act
+tell "brake_pedal.chains.toml" brake_pedal.chains.txt chains brake_pedal.toml brake_pedal.chains.toml
 tell "camera_brake.chains.toml" camera_brake.chains.txt chains camera_brake.toml camera_brake.chains.toml
 # made_system.toml is what was made, with a head before it
 tell "generate 42 1" <(grep -v '^#' made_system.toml) generate 42 1

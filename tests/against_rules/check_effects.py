@@ -1,8 +1,8 @@
 #!/usr/bin/env python3
 """Compares `chain` and `chains` with rules written down plainly, and holds their bounds against runs. Outside the gate.
 
-Random small systems of all four kinds and both formats get random traces that obey, and in which the events of a source
-stay near: any two are at most as far apart as its period and jitter say. A chain is a list of tasks, mostly none of
+Random small systems of all four kinds and all formats get random traces that obey, and in which the events of a source
+that isn't sporadic stay near: any two are at most as far apart as its period and jitter say. A chain is a list of tasks, mostly none of
 which starts the next. Of each run the greatest reaction, latency, age and time for which data is held are found over
 ALL reading times of its jobs, and none may be beyond the bound; for jobs that read in ticks in which they run, none
 beyond those of --while-running. So are those of jobs that read at their arrival, start or end, where
@@ -27,6 +27,7 @@ import time
 from collections import Counter
 
 from lokwurmi.model.view import SystemView
+from lokwurmi.refusals.silence import ASKED, AskedChain, silences_in
 from lokwurmi_tools.runs.effect_chain_in_run import RunOfJobs, gaps_in, seen_of
 from tests.rules import runs
 from tests.rules.bounds import OVERLOAD
@@ -154,6 +155,24 @@ def check_tool(system, run, chain, reading, most):
         stop(f"lokwurmi_tools/runs/effect_chain_in_run.py, {' '.join(chain)}, read {reading}", system, wanted, told)
 
 
+def check_silences(system, bounds, chains, tally):
+    """Which bounds of chains are open since a task waits for a sporadic source: those, and no other, that have numbers
+    where no source is sporadic, and some of those that have none there either."""
+    view = SystemView.of(system)
+    steady = system | {"source": [it | {"sporadic": False} for it in system["source"]]}
+    without = Bounds(file_of(steady))
+    for chain in chains:
+        for is_running in (False, True):
+            several = silences_in(view, [AskedChain("", chain)], is_running)
+            told = {what for it in several for what in it.bounds[""]}
+            word = "same-source" if is_running else ""
+            now, then = bounds.limits(chain, word), without.limits(chain, word)
+            opened = {what for what in ASKED if now[what] == OVERLOAD != then[what]}
+            if not opened <= told or any(now[what] != OVERLOAD for what in told):
+                stop(f"lokwurmi/refusals/silence.py, {' '.join(chain)}", system, opened, told)
+            tally["bounds that a sporadic source leaves open" + " while running" * is_running] += len(told)
+
+
 def check_run(system, bounds, chains, trace, tally):
     """One run: no chain of it is beyond its bounds, whenever its jobs read."""
     run, view = runs.Run(system, trace), SystemView.of(system)
@@ -187,6 +206,8 @@ def check_system(draw, traces, programs, tally):
     tally.counts["systems"] += 1
     tally.counts["chains"] += len(chains)
     tally.counts["systems of format 2"] += any(len(it["after"]) > 1 for it in tasks.values())
+    tally.counts["systems with sporadic sources"] += any(it.get("sporadic") for it in system["source"])
+    check_silences(system, bounds, chains, tally.counts)
     if programs:
         programs.begin(system)
         for chain in chains:

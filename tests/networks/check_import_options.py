@@ -99,6 +99,8 @@ def check_features(room):
         },
         f"periods: {periods}",
     )
+    sporadic = [it["name"] for it in system["source"] if it.get("sporadic")]
+    hold(sporadic == ["OnEvents.queued"] and system["format"] == 4, f"sent on events alone: {sporadic}")
     deadlines = {it["name"]: it["deadline"] for it in system["path"]}
     hold(deadlines["Speed"] == 7000 and deadlines["Extras"] == 20_000, f"deadlines: {deadlines}")
     tasks = {it["name"]: it for it in system["task"]}
@@ -118,6 +120,7 @@ def check_told(room):
         "deadline by --deadline, as there is no DeadlineMs: Extras",
         "no frame, but signals that are in none: VECTOR__INDEPENDENT_SIG_MSG",
         "period by GenMsgCycleTimeFast: Extras",
+        "sporadic: sent on events alone (Spontaneous): OnEvents",
         "period by the least distance of the database (GenMsgDelayTime), as there is no cycle time: OnEvents",
         "so the least distance and not the cycle time: Bursts",
         "but the database has no least distance (--others): Fast",

@@ -5,6 +5,7 @@ Nothing here is taken from the program or from the commands in Python: bounds of
 bounds.py, runs are followed tick by tick by runs.py, and what a run shows is looked for among all jobs.
 Times are ticks.
 """
+import tomllib
 from functools import lru_cache
 
 from tests.rules.bounds import OVERLOAD, System, said
@@ -17,9 +18,10 @@ READINGS = ("arrival", "start", "end", "whenever", "running")
 
 
 def stays_near(source, times):
-    """Whether any two events of a source are no farther apart than its period and jitter say."""
+    """Whether any two events of a source are no farther apart than its period and jitter say; of a sporadic source that
+    isn't asked."""
     period, jitter = source["period"], source.get("jitter", 0)
-    return all(times[n] - times[m] <= (n - m) * period + jitter for n in range(len(times)) for m in range(n))
+    return source.get("sporadic", False) or all(times[n] - times[m] <= (n - m) * period + jitter for n in range(len(times)) for m in range(n))
 
 
 class Bounds:
@@ -30,12 +32,20 @@ class Bounds:
     def __init__(self, text):
         self.rules = System(text)
         self.bound = self.rules.least_solution()
+        self.sporadic = {it["name"] for it in tomllib.loads(text).get("source", []) if it.get("sporadic")}
 
     def after(self, name):
         return self.rules.activators_of(name)
 
+    def may_fall_silent(self, name):
+        """Whether some stream of a task is that of a sporadic source."""
+        return any(source in self.sporadic for source in self.rules.sources_of(name))
+
     def gap(self, name):
-        """The greatest time from one job of a task to the next: the least over its streams."""
+        """The greatest time from one job of a task to the next: the least over its streams, and none where one of them
+        may fall silent."""
+        if self.may_fall_silent(name):
+            return OVERLOAD
         streams = self.rules.input_of(name, self.bound)
         return OVERLOAD if streams is None else min(period + jitter for period, jitter, _ in streams)
 

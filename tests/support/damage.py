@@ -7,7 +7,7 @@ import tomllib
 
 KEYS = (
     "name kind limit gap bit period jitter distance on after best worst payload extended"
-    " priority slot region tasks deadline wcet format nane"
+    " priority slot region sporadic tasks deadline wcet format nane"
 ).split()
 VALUES = [
     *"0 1 2 -1 3 7 10 1000001 1000000 536870912 2_000 0x10 1.5 10.0 99999999999 1979-05-27 true false [] {}".split(),
@@ -16,8 +16,15 @@ VALUES = [
 ]
 
 
+def with_sporadic(draw: random.Random, found: re.Match[str]) -> str:
+    """A period, and behind it in one of four places that its source is sporadic, or that it isn't."""
+    told = draw.choice(["", "", "", "sporadic = " + draw.choice(["true", "false"])])
+    return found[1] + (("\n" if found[2] == "\n" else ", ") + told if told else "") + found[2]
+
+
 def with_regions(draw: random.Random, text: str) -> str:
-    """A system file whose tasks on preemptive resources have regions: most small, and some as long as any job."""
+    """A system file whose tasks on preemptive resources have regions, most small, and some as long as any job; some of
+    its sources are sporadic."""
     read = tomllib.loads(text)
     kinds = {it["name"]: it["kind"] for it in read.get("resource", [])}
     tasks = iter([it for it in read.get("task", []) if "priority" in it])
@@ -31,6 +38,7 @@ def with_regions(draw: random.Random, text: str) -> str:
         return found[1] + (f", region = {region}" if is_inline else f"\nregion = {region}") + found[2]
 
     text = re.sub(r"^format = [12]$", "format = 4", text, count=1, flags=re.M)
+    text = re.sub(r"(\bperiod *= *\d+)(\D)", lambda it: with_sporadic(draw, it), text)
     return re.sub(r"(\bpriority *= *[\dx_A-Fa-f]+)(\D)", longer, text)
 
 

@@ -11,8 +11,10 @@ def some_region(pick, worst):
 
 
 def random_file(number):
-    """A random system: its size grows with the number. In two of four tasks on preemptive resources have regions."""
+    """A random system: its size grows with the number. In two of four tasks on preemptive resources have regions, and
+    sources are sporadic."""
     pick, regions = random.Random(number), random.Random(f"regions of {number}")
+    silent = random.Random(f"sporadic sources of {number}")
     has_regions = number // 2 % 2 == 1
     kinds = ["preemptive", "round-robin", "tdma", "can"]
     resources, tasks = pick.randint(1, 2 + number % 7), pick.randint(1, 3 + number % 25)
@@ -31,6 +33,8 @@ def random_file(number):
             f'[[source]]\nname = "s{s}"\nperiod = {period}\n'
             f"jitter = {pick.choice([0, 0, period // 3, 3 * period])}\ndistance = {pick.choice([0, 0, period // 4])}"
         )
+        if has_regions and silent.random() < 0.4:
+            lines[-1] += f"\nsporadic = {silent.choice(('true', 'true', 'false'))}"
     for t in range(tasks):
         r = pick.randrange(resources)
         after = [
@@ -95,6 +99,14 @@ def draw_regions(draw, tasks):
         task["region"] = some_region(draw, task["worst"]) if has_regions else 1
 
 
+def draw_sporadic(draw, sources):
+    """Lets sources be sporadic in one of three systems."""
+    has_some = draw.random() < 1 / 3
+    for it in sources:
+        if has_some and draw.random() < 0.5:
+            it["sporadic"] = True
+
+
 def some_phases(draw, system):
     """Where each TDMA resource is in its cycle as a run begins."""
     phases = {}
@@ -145,6 +157,7 @@ def random_system(draw):
         tasks[-1]["streams"] = sum(streams[name] for name in after)
     draw_priorities(draw, tasks)
     draw_regions(draw, tasks)
+    draw_sporadic(draw, sources)
     return {
         "resource": resources,
         "source": sources,
@@ -172,7 +185,8 @@ def quoted(names):
 def file_of(system):
     kinds = {it["name"]: it["kind"] for it in system["resource"]}
     has_region = {it["name"] for it in system["task"] if kinds[it["on"]] == "preemptive" and it["region"] > 1}
-    rows = [f"format = {4 if has_region else 1 if all(len(it['after']) == 1 for it in system['task']) else 2}"]
+    is_newest = has_region or any(it.get("sporadic") for it in system["source"])
+    rows = [f"format = {4 if is_newest else 1 if all(len(it['after']) == 1 for it in system['task']) else 2}"]
     for it in system["resource"]:
         rows += ["[[resource]]", f"name = \"{it['name']}\"", f"kind = \"{it['kind']}\"", "limit = 2000"] + (
             [f"gap = {it['gap']}"] if it["kind"] == "tdma" else []
@@ -182,6 +196,7 @@ def file_of(system):
             "[[source]]",
             f"name = \"{it['name']}\"",
             *(f"{key} = {it[key]}" for key in ("period", "jitter", "distance")),
+            *(["sporadic = true"] if it.get("sporadic") else []),
         ]
     for it in system["task"]:
         turn = "priority" if kinds[it["on"]] in ("preemptive", "can") else "slot"
@@ -237,11 +252,13 @@ def small_system(draw, kinds=KINDS):
         tasks[-1] |= {"best": draw.randint(1, worst), "worst": worst, "priority": k, "slot": draw.randint(1, 4)}
     draw_priorities(draw, tasks)
     draw_regions(draw, tasks)
+    draw_sporadic(draw, sources)
     return {"resource": resources, "source": sources, "task": tasks, "path": []}
 
 
 def near_events(draw, source, span, mood):
-    """The events of a source, of which any two are no farther apart than its period and jitter say."""
+    """The events of a source, of which any two are no farther apart than its period and jitter say, but where it is
+    sporadic."""
     times = [draw.randint(0, source["period"])]
     while times[-1] < span:
         n = len(times)
@@ -249,11 +266,15 @@ def near_events(draw, source, span, mood):
         high = min(times[m] + (n - m) * source["period"] + source["jitter"] for m in range(n))
         assert low <= high
         times.append((low, high, draw.randint(low, high), draw.choice((low, high, draw.randint(low, high))))[mood])
+    if source.get("sporadic"):
+        # what is left of events that obey does too, however far apart
+        share = draw.choice((0, 0.2, 0.6, 1))
+        times = [it for it in times if draw.random() < share]
     return times[: draw.randint(0, 3)] if draw.random() < 0.1 else times
 
 
 def near_trace(draw, system):
-    """A trace that obeys, and whose sources stay near."""
+    """A trace that obeys, and whose sources stay near but for the sporadic ones."""
     span, mood = draw.randint(40, 160), draw.randrange(4)
     events = {it["name"]: near_events(draw, it, span, mood) for it in system["source"]}
     executions = {}

@@ -80,7 +80,7 @@ WHOLE = {
         {"name": "c", "kind": "can", "bit": 1, "limit": 1},
         {"name": "p", "kind": "preemptive"},
     ],
-    "source": [{"name": "s", "period": 1000000000, "jitter": 1, "distance": 1}],
+    "source": [{"name": "s", "period": 1000000000, "jitter": 1, "distance": 1, "sporadic": True}],
     "task": [
         {"name": "t", "on": "r", "after": "s", "best": 1, "worst": 1, "slot": 1},
         {"name": "f", "on": "c", "after": "s", "payload": 1, "extended": True, "priority": 1},
@@ -100,13 +100,15 @@ def in_format(number):
     """A file with all keys that a format has."""
     file = {"format": number, **copy.deepcopy(WHOLE)}
     if number < 3:
-        del file["task"][2]["region"]
+        del file["task"][2]["region"], file["source"][0]["sporadic"]
     return file
 
 
 for number in (1, 2, 4):
     hold(validator.is_valid(in_format(number)), f"format {number}: a file with all keys isn't accepted")
-    hold(not number < 3 or not validator.is_valid(in_format(4) | {"format": number}), f"format {number} has a region")
+    for part, key in (("task", "region"), ("source", "sporadic")):
+        later = in_format(number) | {part: WHOLE[part]}
+        hold(validator.is_valid(later) == (number == 4), f"format {number}: the key {key} of a {part}")
 for place in (0, 1):
     hold(not accepts("task", place, "region", 1), f"a region beside {'slot' if place == 0 else 'payload'} is accepted")
 for number, names, is_in in (
@@ -333,7 +335,7 @@ class Output:
 
 
 VERDICT, DIFF = Output("lokwurmi.verdict.schema.json"), Output("lokwurmi.diff.schema.json")
-SIDE = {"file": "a report", "chains_file": None}
+SIDE = {"file": "a report", "chains_file": None, "notices": []}
 for tick in (None, Time.of("333ns")):
     before = None
     for report in sorted(glob.glob("examples/*.report.txt", root_dir=TOP)):

@@ -73,7 +73,7 @@ class System(NamedEntries):
 
     def to_toml(self) -> str:
         """The system file, in whole ticks; roundings stand in comments at its head. It has format 4 where a task has a
-        region, else 2 where one has several activators, else 1."""
+        region or a source is sporadic, else 2 where one has several activators, else 1."""
         text, told = self._file()
         self._warn(told)
         return text

@@ -37,7 +37,8 @@ def keys_of(form: int) -> dict[str, dict[str, Key]]:
     task |= {key: times["task"][key] for key in ("best", "worst")}
     task |= {"payload": Key("integer", 0, MOST_CLASSICAL), "extended": Key("truth")}
     task |= {"priority": Key("integer", 0, MOST_PRIORITY), "slot": times["task"]["slot"]}
-    task |= {key: times["task"][key] for key, since in KEYS_SINCE.items() if form >= since}
+    later = times["task"] | {"sporadic": Key("truth")}
+    added = {part: {key: later[key] for key, since in it.items() if form >= since} for part, it in KEYS_SINCE.items()}
     return {
         "resource": {
             **name,
@@ -45,8 +46,8 @@ def keys_of(form: int) -> dict[str, dict[str, Key]]:
             **times["resource"],
             "bit": Key("integer", 1, MOST_BIT),
         },
-        "source": name | times["source"],
-        "task": name | task,
+        "source": name | times["source"] | added["source"],
+        "task": name | task | added["task"],
         "path": {**name, "tasks": Key("texts", is_required=True), **times["path"]},
     }
 
@@ -77,6 +78,7 @@ OTHER_KEYS = by_word(
         "period": "cycle cycletime interval t p",
         "jitter": "j",
         "distance": "d dmin mindistance minimumdistance",
+        "sporadic": "aperiodic issporadic eventtriggered onevent",
         "bit": "bittime",
         "kind": "scheduler scheduling policy type",
         "tasks": "chain",

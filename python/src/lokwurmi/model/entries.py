@@ -46,6 +46,8 @@ class Source:
     """In ticks or as a time, rounded up. None: 0."""
     distance: Ticks | None = None
     """In ticks or as a time, rounded down, at most the period. None: 0."""
+    sporadic: bool | None = None
+    """Whether it may fall silent, so that nothing bounds how long an effect chain waits for it. None: it may not."""
 
 
 @dataclass(slots=True)

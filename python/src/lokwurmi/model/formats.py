@@ -8,8 +8,8 @@ FORMATS = tuple(LIMITS)
 """The formats of a system file, the newest one last."""
 WITH_LISTS = 2
 """The first format in which a task's `after` may be a list."""
-KEYS_SINCE = {"region": 4}
-"""The keys of tasks that a later format has alone, each with the first that has it."""
+KEYS_SINCE = {"source": {"sporadic": 4}, "task": {"region": 4}}
+"""The keys of each list that a later format has alone, each with the first that has it."""
 
 
 def _is_beyond(form: int, entries: Mapping[str, list[Mapping[str, Any]]]) -> bool:
@@ -33,9 +33,9 @@ def least_format(entries: Mapping[str, Iterable[Mapping[str, Any]]]) -> int:
     (1, 2)
     """
     lists = {part: list(several) for part, several in entries.items()}
-    tasks = lists.get("task", [])
-    wanted = max((KEYS_SINCE[key] for it in tasks for key in it if key in KEYS_SINCE), default=FORMATS[0])
-    if any(isinstance(it.get("after"), list) for it in tasks):
+    later = (keys[key] for part, keys in KEYS_SINCE.items() for it in lists.get(part, []) for key in it if key in keys)
+    wanted = max(later, default=FORMATS[0])
+    if any(isinstance(it.get("after"), list) for it in lists.get("task", [])):
         wanted = max(wanted, WITH_LISTS)
     fitting = [form for form in FORMATS if form >= wanted and not _is_beyond(form, lists)]
     return fitting[0] if fitting else wanted

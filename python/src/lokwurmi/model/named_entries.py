@@ -141,9 +141,17 @@ class NamedEntries:
         """Adds a CAN bus, whose bits take `bit` ticks or such a time each, or which has so many bits per second."""
         return self.resource(name, Kind.CAN, limit=limit, bit=bit, bitrate=bitrate)
 
-    def source(self, name: str, period: Ticks, *, jitter: Ticks | None = None, distance: Ticks | None = None) -> Source:
-        """Adds a source of events; times are in ticks, or have a unit."""
-        return self._add(Source(name, period, jitter, distance))
+    def source(
+        self,
+        name: str,
+        period: Ticks,
+        *,
+        jitter: Ticks | None = None,
+        distance: Ticks | None = None,
+        sporadic: bool | None = None,
+    ) -> Source:
+        """Adds a source of events; times are in ticks, or have a unit. One that is `sporadic` may fall silent."""
+        return self._add(Source(name, period, jitter, distance, sporadic))
 
     def task(
         self,

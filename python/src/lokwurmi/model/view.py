@@ -51,6 +51,8 @@ class SourceRow:
     period: int
     jitter: int = 0
     distance: int = 0
+    sporadic: bool = False
+    """Whether it may fall silent."""
 
 
 @dataclass(frozen=True, slots=True)
@@ -287,6 +289,11 @@ class SystemView:
     def sources_of(self, task: str) -> list[str]:
         """The source of each stream that starts a task, in the order of its streams; one may stand there twice."""
         return [way[0] for way in self.ways_to(task)]
+
+    def sporadic_sources_of(self, task: str) -> list[str]:
+        """The sporadic ones among the sources of a task's streams, each once: where there is one, nothing bounds the
+        wait for the next job of the task."""
+        return [it for it in dict.fromkeys(self.sources_of(task)) if self.sources[it].sporadic]
 
     def streams_from(self, name: str) -> int:
         """How many streams come out of a source, or out of a task."""

@@ -21,13 +21,13 @@ from lokwurmi.files.system_keys import (
     is_integer,
     keys_of,
 )
-from lokwurmi.model.formats import FORMATS, least_format
+from lokwurmi.model.formats import FORMATS, KEYS_SINCE, least_format
 from lokwurmi.model.limits import DOWN, MOST_TICKS, TIMES
 from lokwurmi.refusals.remark import Note, Remark, listed, nearest, page
 from lokwurmi.refusals.spots import Spot, spots_in
 
-# the key of tasks that format 4 has alone
-REGION = "region"
+# the key of tasks, and that of sources, that format 4 has alone
+REGION, SPORADIC = "region", "sporadic"
 # the keys whose safe side is below
 ROUNDED_DOWN = {key for keys in TIMES.values() for key, (side, _, _) in keys.items() if side == DOWN}
 # the keys that may have a unit in a file for `lokwurmi ticks`, and such a time
@@ -82,7 +82,7 @@ def other_format(document: Document) -> Remark | None:
         return None
     helps = (
         "write `format = 1`, `format = 2` so that a task's `after` may be a list, or `format = 4` so that a task may"
-        " have a `region` too"
+        " have a `region` and a source be `sporadic` too"
     )
     return Remark(f"the format {value} isn't known: it is 1, 2 or 4", format_span(document), helps)
 
@@ -191,8 +191,8 @@ def no_locks() -> str:
 
 
 def unknown_key(spot: Spot, key: str) -> Remark:
-    if spot.part == "task" and key == REGION:
-        return old_format(spot)
+    if key in KEYS_SINCE.get(spot.part, {}):
+        return old_format(spot, key)
     near, helps = way_of(spot, key)
     guess = f"; did you mean `{near}`?" if near else ""
     return spot.remark(f"the key `{key}` isn't known{guess}", spot.key(key), helps)
@@ -209,6 +209,9 @@ def way_of(spot: Spot, key: str) -> tuple[str | None, str]:
     if part == "task" and OTHER_KEYS.get(bare(key)) == REGION and REGION not in spot.entry:
         helps = "for so many ticks a job isn't preempted; one with a region of at least `worst` never is"
         return REGION, helps + ("" if REGION in known else "; it needs `format = 4`")
+    if part == "source" and OTHER_KEYS.get(bare(key)) == SPORADIC and SPORADIC not in spot.entry:
+        helps = "`sporadic = true` says that the source may fall silent; its period is its least distance in the long run"
+        return SPORADIC, helps + ("" if SPORADIC in known else "; it needs `format = 4`")
     if part in ("source", "task") and bare(key) in OFFSETS:
         return None, NO_OFFSETS
     if part == "resource" and bare(key) == "bitrate":
@@ -222,11 +225,12 @@ def way_of(spot: Spot, key: str) -> tuple[str | None, str]:
     return near, helps
 
 
-def old_format(spot: Spot) -> Remark:
-    """Of a task with a region in a file whose format has none."""
+def old_format(spot: Spot, key: str) -> Remark:
+    """Of an entry with a key that a later format has."""
     number, notes = spot.document.values["format"], [Note("the format of this file", format_span(spot.document))]
-    helps = f"write `format = 4`, which has all that format {number} has"
-    return spot.remark(f"it has a `{REGION}`, which format {number} hasn't", spot.key(REGION), helps, notes)
+    helps = f"write `format = {KEYS_SINCE[spot.part][key]}`, which has all that format {number} has"
+    has = f"a `{key}`" if key == REGION else f"the key `{key}`"
+    return spot.remark(f"it has {has}, which format {number} hasn't", spot.key(key), helps, notes)
 
 
 def wrong_type(spot: Spot, key: str) -> Remark:

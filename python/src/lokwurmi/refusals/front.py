@@ -226,9 +226,23 @@ class Call:
             remarks += notices.of_assign(document, self.words[1], self.status == Status.OK)
         elif self.command == "slack":
             remarks += notices.without_deadlines(document)
+        elif self.command in ("chain", "chains"):
+            remarks += self.silences(document)
         file = File(self.words[0], document.text)
         told = "".join(self.look.text(file, it) for it in remarks)
         return told + (self.refused_edits(document) if self.command == "session" and self.line else "")
+
+    def silences(self, document: Document) -> list[Remark]:
+        """The waits for sporadic sources that leave a bound of `chain` or `chains` open."""
+        from lokwurmi.refusals import silence
+
+        if self.status != Status.OVERLOAD:
+            return []
+        if self.command == "chain":
+            tasks = [it for it in self.words[1:] if not it.startswith("--")]
+            return [*silence.remarks_on(document, [silence.AskedChain("", tasks)], len(tasks) < len(self.words) - 1)]
+        chains = silence.asked_in(read_system(self.words[1]).text) if is_regular(self.words[1]) else []
+        return [*silence.remarks_on(document, chains)]
 
     def refused_edits(self, document: Document) -> str:
         """The edits that the program refused, by the lines that it wrote."""

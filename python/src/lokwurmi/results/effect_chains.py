@@ -1,8 +1,8 @@
 """Effect chains, whose tasks read what the one before wrote last: how soon they react, and how old their data can be.
 
 **The bounds hold where the sources keep their periods**: any two events of a source are at most as far apart as its
-period and jitter say. A source that falls silent voids `reaction`, `age` and `held`. docs/FILES.md, "Effect
-chains", has the whole premise.
+period and jitter say. A source that falls silent voids `reaction`, `age` and `held`, unless it is sporadic: then what
+waits for it has no bound. docs/FILES.md, "Effect chains", has the whole premise.
 """
 from collections.abc import Mapping, Sequence
 from dataclasses import dataclass, replace

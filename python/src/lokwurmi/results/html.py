@@ -116,7 +116,12 @@ def bit_text(it: "Resource") -> Any:
 def system(it: "NamedEntries") -> str:
     """The entries of a system."""
     resources = [(one.name, one.kind, one.limit, one.gap, bit_text(one)) for one in it.resources.values()]
-    sources = [(one.name, one.period, one.jitter or 0, one.distance or 0) for one in it.sources.values()]
+    is_sporadic = any(one.sporadic for one in it.sources.values())
+    sources = [
+        (one.name, one.period, one.jitter or 0, one.distance or 0)
+        + (("sporadic" if one.sporadic else "",) if is_sporadic else ())
+        for one in it.sources.values()
+    ]
     has_regions = any(one.region is not None for one in it.tasks.values())
     tasks = [
         (one.name, one.on, after_text(one), execution_text(one), one.slot if one.priority is None else one.priority)
@@ -128,7 +133,7 @@ def system(it: "NamedEntries") -> str:
     note = f"{unit_note(it.tick)} Numbers without a unit are ticks." if it.tick else unit_note(None)
     parts: list[tuple[str, Sequence[str], list[Any]]] = [
         ("Resources", ("resource", "kind", "limit", "gap", "bit"), resources),
-        ("Sources", ("source", "period", "jitter", "distance"), sources),
+        ("Sources", ("source", "period", "jitter", "distance", *(["silence"] if is_sporadic else [])), sources),
         ("Tasks", of_task, tasks),
         ("Paths", ("path", "tasks", "deadline"), paths),
     ]

@@ -25,7 +25,7 @@ PREMISE = "if sources stay near"
 """What the bounds and verdicts of chains presume, as the program writes it."""
 PREMISE_WORDS = (
     f"bounds and verdicts of chains hold {PREMISE}: a source that falls silent, or whose events come farther apart than"
-    " its period and jitter say, voids them"
+    " its period and jitter say, voids them, unless it is sporadic"
 )
 KINDS = ("task", "path", "chain")
 OF_CHAINS = ("reaction", "age", "held")

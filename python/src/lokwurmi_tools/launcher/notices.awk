@@ -1,6 +1,6 @@
 # Writes a line where a system file that is accepted may deserve a notice: a source that no `after` names, a frame on a CAN
-# resource whose priority is above that of 11 bits without `extended`, or with it where other frames have 11 bits. Where the
-# layout is uncommon it may miss one.
+# resource whose priority is above that of 11 bits without `extended`, or with it where other frames have 11 bits; and, where
+# `unbounded` tells of a chain without a bound, a sporadic source. Where the layout is uncommon it may miss one.
 { sub(/(^|[ \t])#.*$/, "") }
 /^[ \t]*\[\[/ { part = $0; gsub(/[][ \t\r]/, "", part); end_frame(); next }
 /^[ \t]*[a-z]+[ \t]*=[ \t]*\[/ && !/^[ \t]*(tasks|after)[ \t]*=/ { part = $0; sub(/[ \t]*=.*$/, "", part); sub(/^[ \t]*/, "", part) }
@@ -23,13 +23,15 @@ part == "source" {
   if (number ~ /^(0[xob]|[0-9][0-9][0-9][0-9])/) long = 1
   if (number ~ /^[0-9]+/ && number + 0 <= 2047 && number !~ /^0[xob]/) long = 0
 }
+/sporadic["' \t]*=[ \t]*true/ { sporadic = 1 }
 /extended[ \t]*=[ \t]*true/ { extended = 1 }
 /payload[ \t]*=/ { payload = 1 }
 /priority[ \t]*=/ && /[{}]/ { end_frame() }
 END {
   end_frame()
   for (name in sources) if (!(name in named)) { print "source"; exit }
-  if (can && (some_long || (some_extended && some_short))) print "priority"
+  if (can && (some_long || (some_extended && some_short))) { print "priority"; exit }
+  if (unbounded && sporadic) print "sporadic"
 }
 function end_frame() {
   if (long && !extended) some_long = 1

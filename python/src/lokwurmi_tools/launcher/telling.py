@@ -9,7 +9,7 @@ import sys
 from lokwurmi_tools.launcher.helping import names
 from lokwurmi_tools.launcher.operands import operands_of
 from lokwurmi_tools.launcher.paths import PAGE
-from lokwurmi_tools.launcher.table import BY_NAME, Command
+from lokwurmi_tools.launcher.table import BY_NAME, RUNNING, Command
 from lokwurmi_tools.launcher.wrong_words import said_of
 
 # seconds of work after which a hint by the status has to do
@@ -48,7 +48,8 @@ HINTS = {
         (
             "the file is TOML but no system: the line has the number of the reason, and the list and place of the"
             ' entry, from 1, or file 0 for the file as a whole. Where a task\'s "after" is a list, the file has format'
-            " = 2; where a task has a region, it has format = 4. Each reason, and what to change: "
+            " = 2; where a task has a region, or a source is sporadic, it has format = 4. Each reason, and what to"
+            " change: "
         ),
         "Refusals",
     ),
@@ -122,7 +123,9 @@ def in_words(status: int, line: str, command: Command, words: list[str]) -> bool
     try:
         from lokwurmi.refusals.front import main
 
-        return main([str(status), line, command.name, *found.words]) == 0
+        # which waits a chain counts hangs on the flag
+        flag = [RUNNING] if RUNNING in words else []
+        return main([str(status), line, command.name, *found.words, *flag]) == 0
     except Exception:
         if os.environ.get("LOKWURMI_FAULTS"):
             raise

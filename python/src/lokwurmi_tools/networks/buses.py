@@ -55,6 +55,12 @@ class Frame:
             for it in ("spontan", "event", "trigger", "change", "write", "demand", "ifactive", "repetit")
         )
 
+    @property
+    def is_on_events(self) -> bool:
+        """Whether its send type says that it is sent on events, and no cycle time that it is sent besides: it may fall
+        silent."""
+        return self.is_spontaneous and not self.cycle
+
 
 @dataclass
 class Bus:

@@ -72,6 +72,7 @@ def behind(taker: Taker, bus: str, rest: list[Taken]) -> Taken:
         forwarded=False,
         period=first.period,
         jitter=first.jitter,
+        sporadic=first.sporadic,
         deadline=None,
     )
 
@@ -96,7 +97,7 @@ def group_of(it: Taken, how: str) -> tuple[Any, ...]:
     """Frames of one group may have one source: they have equal event models, and with `sender` one sender."""
     if how == "none" or how == "sender" and len(it.frame.senders) != 1:
         return ("frame", it.frame.name)
-    return (it.frame.senders[0] if how == "sender" else "", it.period, it.jitter)
+    return (it.frame.senders[0] if how == "sender" else "", it.period, it.jitter, it.sporadic)
 
 
 def groups(taker: Taker, how: str) -> dict[tuple[Any, ...], list[Taken]]:
@@ -158,7 +159,8 @@ def add_bus(system: SystemEntries, taker: Taker, bus: str) -> None:
         name = it.frame.name
         if not it.forwarded and it.after not in known:
             known.add(it.after)
-            system.sources.append({"name": it.after, "period": it.period, "jitter": it.jitter or None})
+            source = {"name": it.after, "period": it.period, "jitter": it.jitter or None}
+            system.sources.append(source | {"sporadic": it.sporadic or None})
         system.tasks.append({"name": name, "on": bus, "after": it.after, **length_of(it), "priority": numbers[name]})
         if name != bus + BEHIND:
             system.notes[name] = f" # {it.frame.shown}"

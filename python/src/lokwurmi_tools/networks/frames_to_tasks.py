@@ -46,6 +46,7 @@ class Taken:
     least: int
     greatest: int
     by_payload: bool
+    sporadic: bool = False  # whether its source may fall silent
 
 
 @dataclass(frozen=True)
@@ -190,6 +191,8 @@ class Taker:
             report.add(report.changed, "another name", f"{frame.told!r} is {frame.name}")
         if len(frame.senders) > 1:
             report.add(report.assumed, "one sender alone at a time, where the database has several", frame.name)
+        if frame.is_on_events and frame.name not in self.forwards:
+            report.add(report.changed, f"sporadic: sent on events alone ({frame.send_type})", frame.name)
         if why:
             report.add(report.changed, f"period by {why}", frame.name)
         elif frame.is_spontaneous and not frame.delay and not self.options.others:
@@ -365,6 +368,7 @@ class Taker:
                 math.floor(least),
                 math.ceil(greatest),
                 rates.bit.denominator == 1 and not frame.is_fd,
+                frame.is_on_events and not forwarded,
             )
         )
 

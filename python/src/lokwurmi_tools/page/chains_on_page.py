@@ -4,6 +4,7 @@ from fractions import Fraction
 from lokwurmi.files.chain_files import has_ticks_off
 from lokwurmi.files.traces import text_of
 from lokwurmi.model.entries import Chain
+from lokwurmi.refusals.silence import asked_of
 from lokwurmi.results.effect_chains import ChainReport, JudgedChain, between_ticks, judged_between_ticks, waits_of
 from lokwurmi_tools.page.page_options import PageOptions
 from lokwurmi_tools.page.run_pictures import SeenRun
@@ -11,6 +12,7 @@ from lokwurmi_tools.page.system_tables import PageSystem, percent
 from lokwurmi_tools.pictures.colours import letters_on
 from lokwurmi_tools.runs.effect_chain_in_run import Late, RunOfJobs, gaps_in, seen_of
 from lokwurmi_tools.shared.chain_files import bounds_by, read_chains, verdicts_by
+from lokwurmi_tools.shared.system_file import silences_in
 from lokwurmi_tools.shared.types import Values
 
 ASKED = ("reaction", "age")
@@ -102,4 +104,6 @@ def chains_of(options: PageOptions, system: PageSystem, file: str, seen: SeenRun
         "is_seen": seen is not None,
         "counts": counts,
         "gaps": gaps_in(system.view, seen.trace[0]) if seen else [],
+        "silences": silences_in(options.file, asked_of(table.chains)),
+        "sporadic": [name for name, it in system.view.sources.items() if it.sporadic],
     }

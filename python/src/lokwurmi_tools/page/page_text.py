@@ -103,7 +103,7 @@ def page_of(options: PageOptions, system: PageSystem) -> str:
             missed=verdicts.count("missed"),
             unknown=verdicts.count("unknown"),
             with_deadline=sum(it["deadline"] is not None for it in paths),
-            notices=noticed_in(options.file),
+            notices=noticed_in(options.file) + (effects["silences"] if effects else []),
             tight=tightest(paths, effects["rows"] if effects else []),
             causes=causes,
             over=over,

@@ -128,7 +128,8 @@ class Drawing:
     def source(self, source: SourceRow) -> str:
         """What stands at a source."""
         keys = {"period": source.period, "jitter": source.jitter, "distance": source.distance}
-        return "\n".join([source.name, *(f"{key} {self.scale.text(ticks)}" for key, ticks in keys.items() if ticks)])
+        lines = [f"{key} {self.scale.text(ticks)}" for key, ticks in keys.items() if ticks]
+        return "\n".join([source.name, *lines, *(["sporadic"] if source.sporadic else [])])
 
     def arrows(self) -> list[str]:
         """Who activates whom, and who reads what whom wrote."""

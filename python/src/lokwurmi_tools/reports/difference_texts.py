@@ -18,6 +18,8 @@ from lokwurmi_tools.reports.judging import (
     put,
     report_of,
     room,
+    silences,
+    tell,
     time_of,
 )
 from lokwurmi_tools.reports.kept_reports import chains_in, is_report, report_in
@@ -86,6 +88,13 @@ class ComparedSystem:
                 NO_WORDS,
             )
         return chains_of(self.options.program, self.file, self.chains_file, self.options.tick)
+
+    def silences(self) -> list[str]:
+        """The waits for sporadic sources that leave bounds of its chains open, where it is a system with chains."""
+        several = (self.file, self.chains_file)
+        if any(it is None or is_report(self.text(it)) for it in several):
+            return []
+        return silences(self.file, self.chains_file)
 
 
 def groups_of(found: Changes, limit: Limit | None, is_all: bool) -> list[tuple[str, list[Change]]]:
@@ -176,7 +185,14 @@ def text_of(found: Changes, ticks: TickTexts, limit: Limit | None, is_all: bool)
 def json_of(found: Changes, sides: list[ComparedSystem], options: DifferenceOptions) -> str:
     """What changed as JSON, with the names of what was compared."""
     told = found.to_dict(options.all, options.worse)
-    names = {it.side: {"file": it.file.name, "chains_file": it.chains_file and it.chains_file.name} for it in sides}
+    names = {
+        it.side: {
+            "file": it.file.name,
+            "chains_file": it.chains_file and it.chains_file.name,
+            "notices": it.silences(),
+        }
+        for it in sides
+    }
     return json.dumps({"format": told.pop("format"), **names, **told}, indent=1) + "\n"
 
 
@@ -192,4 +208,6 @@ def tell_difference(options: DifferenceOptions) -> int:
             put(found.to_csv(options.all))
         else:
             put(shown(text_of(found, TickTexts(options.tick), options.worse, options.all)))
+        for it in () if options.json else sides:
+            tell(it.file, it.silences())
     return found.status(options.worse)

@@ -2,7 +2,7 @@
 import os
 import sys
 import tempfile
-from collections.abc import Iterator
+from collections.abc import Iterable, Iterator
 from contextlib import contextmanager
 from fractions import Fraction
 
@@ -14,6 +14,7 @@ from lokwurmi.model.units import Time
 from lokwurmi.model.view import SystemView
 from lokwurmi.refusals.front import is_regular
 from lokwurmi.refusals.remark import printable
+from lokwurmi.refusals.silence import asked_in, sentences_on
 from lokwurmi.results.effect_chains import ChainsReport, chains_report, judged_between_ticks
 from lokwurmi.results.reports import Report, reports
 from lokwurmi_tools.shared.chain_files import read_chains
@@ -112,11 +113,21 @@ def distinct() -> Iterator[None]:
         raise Told(FAILED) if isinstance(fault, Told) else Fault(str(fault), FAILED) from fault
 
 
-def tell_notices(file: Given) -> None:
-    """Says the notices on a system file that was accepted on standard error, but where `--quiet` keeps them back."""
+def silences(file: Given, chains: Given | None) -> list[str]:
+    """The waits for sporadic sources that leave bounds of chains open, a sentence each."""
+    return [] if chains is None else sentences_on(file.text(), asked_in(chains.text()))
+
+
+def tell(file: Given, notices: Iterable[str]) -> None:
+    """Says notices on a file on standard error, but where `--quiet` keeps them back."""
     if os.environ.get("LOKWURMI_QUIET", "") in ("", "0"):
-        for it in noticed_in(file.path):
+        for it in notices:
             print(f"{printable(file.name)}: notice: {it}", file=sys.stderr)
+
+
+def notices_on(file: Given, chains: Given | None) -> list[str]:
+    """The notices on a system file that was accepted, and on its chains."""
+    return [*noticed_in(file.path), *silences(file, chains)]
 
 
 def put(text: str) -> None:

@@ -7,8 +7,17 @@ from lokwurmi.results.effect_chains import ChainsReport
 from lokwurmi.results.reports import Verdict
 from lokwurmi.results.verdicts import KINDS, PREMISE_WORDS, Bound, Verdicts
 from lokwurmi_tools.bounds.bound_texts import shown
-from lokwurmi_tools.reports.judging import Given, TickTexts, chains_of, distinct, put, report_of, room, tell_notices
-from lokwurmi_tools.shared.system_file import noticed_in
+from lokwurmi_tools.reports.judging import (
+    Given,
+    TickTexts,
+    chains_of,
+    distinct,
+    notices_on,
+    put,
+    report_of,
+    room,
+    tell,
+)
 from lokwurmi_tools.shared.tables import columns, numbered
 
 
@@ -99,12 +108,13 @@ def tell_verdict(options: VerdictOptions) -> int:
         file = Given(options.file, folder)
         report = report_of(options.program, file, options.tick)
         chains: ChainsReport | None = None
-        if options.chains is not None:
-            chains = chains_of(options.program, file, Given(options.chains, folder), options.tick)
-        found = Verdicts(report, chains)
+        chains_file = None if options.chains is None else Given(options.chains, folder)
+        if chains_file is not None:
+            chains = chains_of(options.program, file, chains_file, options.tick)
+        found, notices = Verdicts(report, chains), notices_on(file, chains_file)
         if options.json:
-            put(json_of(found, options.file, options.chains, noticed_in(file.path)))
+            put(json_of(found, options.file, options.chains, notices))
             return found.status
         put(found.to_csv() if options.csv else shown(text_of(found, TickTexts(options.tick))))
-        tell_notices(file)
+        tell(file, notices)
     return found.status

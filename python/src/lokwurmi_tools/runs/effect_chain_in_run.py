@@ -214,8 +214,8 @@ def seen_of(run: RunOfJobs, tasks: list[str], reading: str) -> SeenChain:
 
 
 class Gap(NamedTuple):
-    """Two events of a source that are farther apart than its period and jitter say: their times, and how far apart they
-    may be."""
+    """Two events of a source that isn't sporadic, farther apart than its period and jitter say: their times, and how
+    far apart they may be."""
 
     source: str
     first: int
@@ -227,6 +227,8 @@ def gaps_in(view: SystemView, events: dict[str, list[int]]) -> list[Gap]:
     """The first such events of each source that has any; there are none where all sources stay near."""
     found = []
     for name, it in view.sources.items():
+        if it.sporadic:
+            continue
         least, place, period, jitter = NEVER, 0, it.period, it.jitter
         for n, time in enumerate(events.get(name, [])):
             if time - n * period > least + jitter:

@@ -3,12 +3,13 @@ from dataclasses import dataclass
 
 from lokwurmi.model.entries import Chain
 from lokwurmi.model.view import SystemView
+from lokwurmi.refusals.silence import AskedChain
 from lokwurmi.results.effect_chains import ChainReport
 from lokwurmi_tools.runs.effect_chain_in_run import ASKED, READINGS, Gap, Late, RunOfJobs, gaps_in, seen_of
 from lokwurmi_tools.runs.jobs_in_run import read_schedule, read_trace, schedule_by
 from lokwurmi_tools.shared.chain_files import bounds_by, read_chains, totals_of
 from lokwurmi_tools.shared.faults import Fault
-from lokwurmi_tools.shared.system_file import read_system
+from lokwurmi_tools.shared.system_file import read_system, silences_in
 from lokwurmi_tools.shared.tables import columns, ratio_text
 
 # the rules of reading for which the bounds of jobs that read while they run hold
@@ -37,16 +38,17 @@ def chains_of(options: EffectOptions, view: SystemView) -> list[Chain]:
     return [Chain("", options.tasks, None, None)]
 
 
-def told_gaps(gaps: list[Gap], fed: set[str]) -> str:
+def told_gaps(gaps: list[Gap], fed: set[str], has_sporadic: bool = False) -> str:
     """Whether the premise of the bounds is there, and where it isn't."""
+    several = "all sources but sporadic ones" if has_sporadic else "all sources"
     if not gaps:
-        return "all sources stay near: the bounds hold in this run\n"
+        return f"{several} stay near: the bounds hold in this run\n"
     text = ""
     for it in gaps:
         text += f"source {it.source} doesn't stay near: events at {it.first} and {it.second}, {it.most} apart at most\n"
     if any(it.source in fed for it in gaps):
         return text + "so reaction, age and held MAY BE BEYOND the bounds in this run\n"
-    return text + "no task of the chain hangs on it; yet what is proved wants all sources near\n"
+    return text + f"no task of the chain hangs on it; yet what is proved wants {several} near\n"
 
 
 def cell(late: Late | None, bound: int | None) -> str:
@@ -71,7 +73,7 @@ class ChainInRun:
     """What there is to say of a chain."""
 
     def __init__(self, options: EffectOptions, run: RunOfJobs, chain: Chain):
-        self.run, self.chain, self.late = run, chain, options.late
+        self.run, self.chain, self.late, self.file = run, chain, options.late, options.file
         self.bounds = bounds_by(options.program, options.file, chain.tasks)
         self.tighter = bounds_by(options.program, options.file, chain.tasks, "--while-running")
         self.seen = {reading: seen_of(run, chain.tasks, reading) for reading in READINGS}
@@ -101,6 +103,13 @@ class ChainInRun:
         text += f"  of {seen.lasts} jobs of {last} {seen.ages} have an age: "
         return text + "not those before data came, nor those whose data is the last of all\n"
 
+    def silences(self) -> str:
+        """Which bounds are open since a task waits for a sporadic source."""
+        found = silences_in(self.file, [AskedChain("", self.chain.tasks)])
+        tighter = silences_in(self.file, [AskedChain("", self.chain.tasks)], True)
+        running = [] if tighter == found else [f"where jobs read while they run: {it}" for it in tighter]
+        return "".join(f"  {it}\n" for it in found + running)
+
     def jobs(self, what: str, late: Late) -> str:
         """The jobs along the chain, which count from 1."""
         rows = []
@@ -128,7 +137,8 @@ class ChainInRun:
 
     def text(self, premise: str) -> str:
         name = f"{self.chain.name}: " if self.chain.name else ""
-        text = f"chain {name}{' '.join(self.chain.tasks)}\n{premise}{table_of(self.rows())}{self.left_out()}"
+        head = f"chain {name}{' '.join(self.chain.tasks)}\n{premise}"
+        text = f"{head}{table_of(self.rows())}{self.silences()}{self.left_out()}"
         latest = self.seen[self.late].latest if self.late != "none" else {}
         return text + "".join(self.jobs(what, late) for what, late in latest.items() if late)
 
@@ -145,7 +155,8 @@ def tell_effects(options: EffectOptions) -> int:
     for place, chain in enumerate(chains):
         told = ChainInRun(options, run, chain)
         fed = {source for name in chain.tasks for source in view.sources_of(name)}
-        print(("\n" if place else "") + told.text(told_gaps(gaps, fed)), end="", flush=True)
+        premise = told_gaps(gaps, fed, any(it.sporadic for it in view.sources.values()))
+        print(("\n" if place else "") + told.text(premise), end="", flush=True)
         over = told.beyond() if not gaps else []
         if over:
             print(f"  BEYOND THE BOUND: {', '.join(over)}: is the schedule that of the trace, and does the trace obey?")

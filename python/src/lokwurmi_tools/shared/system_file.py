@@ -1,6 +1,7 @@
 """Reads a system file. One that the program refuses ends the command as the program would, with what `lokwurmi` says of
 it."""
 import sys
+from collections.abc import Sequence
 from typing import NoReturn
 
 from lokwurmi.files.documents import Document
@@ -11,6 +12,7 @@ from lokwurmi.refusals.front import Call, is_regular, look_for
 from lokwurmi.refusals.remark import printable
 from lokwurmi.refusals.rules import first_refusal
 from lokwurmi.refusals.sentences import notices_of
+from lokwurmi.refusals.silence import AskedChain, sentences_on
 from lokwurmi.refusals.toml_faults import fault_in
 from lokwurmi_tools.shared.faults import Fault, Told
 from lokwurmi_tools.shared.program import LAUNCHER, call, is_built
@@ -44,6 +46,13 @@ def noticed_in(name: str) -> list[str]:
     """The notices on a system file that is accepted, a sentence each."""
     with open(name, "rb") as it:
         return notices_of(decoded(it.read()).replace("\r\n", "\n"))
+
+
+def silences_in(name: str, chains: Sequence[AskedChain], while_running: bool = False) -> list[str]:
+    """Which bounds of chains of a system file that is accepted are open, since a task waits for a sporadic source, a
+    sentence each."""
+    with open(name, "rb") as it:
+        return sentences_on(decoded(it.read()).replace("\r\n", "\n"), chains, while_running)
 
 
 def asked(name: str) -> tuple[int, str] | None:
