@@ -91,6 +91,15 @@ def built(crate: str) -> str:
     return program
 
 
+def joined(folder: str) -> str:
+    """A program in a folder that answers as the script `lokwurmi`, by the built programs alone."""
+    lines = ["#!/bin/sh", 'case "$1" in', f'chain | chains) exec "{built("cpa_chain")}" "$@" ;;']
+    lines += [f'schedule) shift && exec "{built("cpa_schedule")}" "$@" ;;', f'*) exec "{built("cpa_cli")}" "$@" ;;']
+    program = written(folder, "joined", "\n".join([*lines, "esac", ""]))
+    os.chmod(program, 0o755)
+    return program
+
+
 def python_with(*modules: str) -> str | None:
     """A Python that has these modules: this one, or Debian's, for which packages are installed; None where neither has
     them."""
