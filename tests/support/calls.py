@@ -93,8 +93,8 @@ def built(crate: str) -> str:
 
 def joined(folder: str) -> str:
     """A program in a folder that answers as the script `lokwurmi`, by the built programs alone."""
-    lines = ["#!/bin/sh", 'case "$1" in', f'chain | chains) exec "{built("cpa_chain")}" "$@" ;;']
-    lines += [f'schedule) shift && exec "{built("cpa_schedule")}" "$@" ;;', f'*) exec "{built("cpa_cli")}" "$@" ;;']
+    lines = ["#!/bin/sh", 'case "$1" in', f'chain | chains) exec "{built("cpa_effect_cli")}" "$@" ;;']
+    lines += [f'schedule) shift && exec "{built("cpa_schedule_cli")}" "$@" ;;', f'*) exec "{built("cpa_cli")}" "$@" ;;']
     program = written(folder, "joined", "\n".join([*lines, "esac", ""]))
     os.chmod(program, 0o755)
     return program
