@@ -5,6 +5,7 @@ import sys
 from pathlib import Path
 from typing import TYPE_CHECKING
 
+from lokwurmi.model.statuses import Status
 from lokwurmi_tools.page.chains_on_page import chains_of
 from lokwurmi_tools.page.page_on_request import changes_of, helps_of, margins_of, priorities_of
 from lokwurmi_tools.page.page_options import PageOptions
@@ -20,8 +21,6 @@ from lokwurmi_tools.shared.written_entries import put
 if TYPE_CHECKING:
     import jinja2
 
-# the status by --strict where a task has no bound, as of `lokwurmi --strict session`
-LACKING = 5
 # how many letters of a name stay together on a narrow page
 LINE = 12
 
@@ -129,6 +128,6 @@ def write_page(options: PageOptions) -> int:
     if boundless and options.strict:
         several = f"{len(boundless)} tasks have" if len(boundless) > 1 else "a task has"
         told = f"{several} no bound: {', '.join(boundless[:8])}{' ..' if len(boundless) > 8 else ''}"
-        print(f"lokwurmi page: --strict: {told}: the status is {LACKING}", file=sys.stderr)
-        return LACKING
+        print(f"lokwurmi page: --strict: {told}: the status is {Status.LACKING}", file=sys.stderr)
+        return Status.LACKING
     return 0
