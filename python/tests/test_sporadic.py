@@ -43,7 +43,7 @@ class Files(unittest.TestCase):
     def test_refusals(self) -> None:
         text = pressed().to_toml()
         for number in (1, 2):
-            wanted = f"source \"pedal\": it has the key `sporadic`, which format {number} hasn't: write `format = 4`"
+            wanted = f'source "pedal": it has the key `sporadic`, which format {number} hasn\'t: write `format = 4`'
             with self.assertRaisesRegex(LokwurmiError, wanted):
                 System.from_toml(text.replace("format = 4", f"format = {number}"))
         with self.assertRaisesRegex(LokwurmiError, "the key `aperiodic` isn't known; did you mean `sporadic`"):
@@ -91,9 +91,7 @@ class Silences(unittest.TestCase):
         self.assertEqual(kinds_in(view, tasks), ["first", "register"])
         self.assertEqual(kinds_in(view, tasks, True), ["first", "same-source"])
         self.assertEqual(kinds_in(view, ["control", "show"], True), ["first", "above"])
-        self.assertEqual(
-            opened(system, *tasks), {("pedal", "press"): ASKED, ("pedal", "show"): ("reaction", "held")}
-        )
+        self.assertEqual(opened(system, *tasks), {("pedal", "press"): ASKED, ("pedal", "show"): ("reaction", "held")})
         self.assertEqual(opened(system, *tasks, while_running=True), {("pedal", "press"): ("reaction", "held")})
 
     def test_sentences(self) -> None:
