@@ -25,6 +25,8 @@ from tests.support.calls import NEEDS_PROGRAM, reader_of
 
 # of cpa_fix; in older builds it stood in a module `analysis` of cpa_run or cpa_cli
 ANALYSIS = ("::solving::least_bounds", "::analysis::least_bounds")
+# a processor counts `rep stosb` as one instruction, and valgrind each byte that it clears: so glibc clears by vectors
+CLEARS_BY_VECTORS = {"GLIBC_TUNABLES": "glibc.cpu.x86_rep_stosb_threshold=10000000"}
 # which systems are simulated, and how many ticks of them
 SIMULATED, TICKS = ("car-network", "preemptive-in-order", "mixed-in-order", "preemptive-activators"), 100_000
 
@@ -58,6 +60,7 @@ def count(program, folder, *words):
         ["valgrind", "--tool=callgrind", f"--callgrind-out-file={folder}/out", program, *words],
         capture_output=True,
         text=True,
+        env=os.environ | CLEARS_BY_VECTORS,
     )
     line = [line for line in done.stderr.splitlines() if "refs" in line][-1]
     return int(line.split(":")[-1].replace(",", "")), done.stdout

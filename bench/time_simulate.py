@@ -29,7 +29,7 @@ from tests.rules.runs import Run
 from tests.support.calls import NEEDS_PROGRAMS, TOP, built
 
 PROGRAM = os.path.join(TOP, "crates/cpa_cli/out/cpa_cli")
-SCHEDULE = built("cpa_schedule")
+SCHEDULE = built("cpa_schedule_cli")
 
 CHAIN_KINDS = ["preemptive", "can", "round-robin", "tdma", "preemptive", "can", "round-robin", "tdma"]
 

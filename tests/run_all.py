@@ -31,8 +31,9 @@ EXAMPLES = """examples:
 """
 # the first cell of a row: a call, and maybe the names of further scripts of the same kind
 ROW = re.compile(r"^\| (`(?:python3|bash|PYTHONPATH)[^|]*`) \|", re.M)
-# seconds for all quick checks
+# seconds for all quick checks, and with how few left none is begun
 QUICK_SECONDS = 285
+LEAST_SECONDS = 5
 # what Debian installs packages for, unless it is too old for these scripts
 DEBIAN = "/usr/bin/python3"
 IS_NEW = "import sys\nsys.exit(sys.version_info < (3, 11))"
@@ -46,13 +47,13 @@ def python_here() -> str:
 
 PYTHON = python_here()
 
-PROGRAMS = "cpa_cli cpa_schedule cpa_chain"
+PROGRAMS = "cpa_cli cpa_schedule_cli cpa_effect_cli"
 DRAWS = "module:matplotlib module:jinja2 command:dot"
 IMPORTS = "module:canmatrix module:lxml module:can module:tomlkit module:xlrd module:xlwt module:xlsxwriter"
 # what each check needs: programs, packages of Python, commands, files
 NEEDS = {
     "check_reports": "cpa_cli",
-    "check_runs": "cpa_cli cpa_schedule",
+    "check_runs": "cpa_cli cpa_schedule_cli",
     "check_orders": "cpa_cli",
     "check_large": "cpa_cli module:numpy",
     "check_slack": "cpa_cli",
@@ -73,10 +74,10 @@ NEEDS = {
     "check_gantt": f"{PROGRAMS} {DRAWS}",
     "check_page": f"{PROGRAMS} {DRAWS} module:selenium command:chromedriver",
     "check_chain_tools": f"{PROGRAMS} {DRAWS}",
-    "check_explain": "cpa_cli module:matplotlib",
+    "check_explain": f"{PROGRAMS} module:matplotlib",
     "check_helps": "cpa_cli",
-    "check_sensitivity": "cpa_cli module:matplotlib",
-    "check_optimise": "cpa_cli",
+    "check_sensitivity": f"{PROGRAMS} module:matplotlib",
+    "check_optimise": PROGRAMS,
     "check_imports": f"cpa_cli {IMPORTS}",
     "check_import_options": f"cpa_cli {IMPORTS}",
     "check_damaged_imports": IMPORTS,
@@ -115,6 +116,7 @@ QUICK = {
     "check_chain_tools": "",
     "check_python": "",
     "check_messages": "--random 100",
+    "check_statuses": "120",
     "check_tools": "",
     "check_gantt": "",
     "check_reports": "100",
@@ -253,13 +255,22 @@ def call_of(check: Check) -> str:
     return re.sub(r"(^|\s)(?:/usr/bin/)?python3\s", rf"\1{PYTHON} ", check.call, count=1)
 
 
-def found_by(check: Check, until: float | None) -> Found:
-    """Runs a check, up to a time where there is one."""
+def text_of_ended(work: subprocess.Popen[str]) -> str:
+    """Ends a check with all that it has started in its group, and what it wrote; what left the group may write on."""
+    os.killpg(work.pid, signal.SIGKILL)
+    try:
+        return work.communicate(timeout=LEAST_SECONDS)[0]
+    except subprocess.TimeoutExpired:
+        return ""
+
+
+def found_by(check: Check, until: float | None, least: float = LEAST_SECONDS) -> Found:
+    """Runs a check, up to a time where there is one and so many seconds are left."""
     if why := lacking(check):
         return Found(check, "skipped", why)
     began = time.monotonic()
     left = None if until is None else until - began
-    if left is not None and left < 5:
+    if left is not None and left < least:
         return Found(check, "skipped", "no time is left")
     work = subprocess.Popen(
         call_of(check),
@@ -275,9 +286,7 @@ def found_by(check: Check, until: float | None) -> Found:
     try:
         text, _ = work.communicate(timeout=left)
     except subprocess.TimeoutExpired:
-        # all that it has started
-        os.killpg(work.pid, signal.SIGKILL)
-        text, _ = work.communicate()
+        text = text_of_ended(work)
         seconds = time.monotonic() - began
         return Found(check, "skipped", f"not done after {seconds:.0f} s", seconds, text)
     some = re.search(r"skipped=(\d+)|, (\d+) skipped$", text, re.M)
@@ -295,13 +304,19 @@ def show(it: Found, verbose: bool) -> None:
         print("".join(f"    {line}\n" for line in it.text.splitlines()), end="", flush=True)
 
 
+def prepare(chosen: list[Check]) -> None:
+    """Does once what checks side by side would do each: looks for what they need, and has matplotlib list the fonts,
+    of which it would tell where that takes long."""
+    needs = {need for it in chosen if not lacking(it) for need in NEEDS.get(it.name, "").split()}
+    if "module:matplotlib" in needs:
+        subprocess.run([PYTHON, "-c", "import matplotlib.font_manager"], check=False, capture_output=True)
+
+
 def all_found(chosen: list[Check], asked: argparse.Namespace) -> list[Found]:
     """What comes of all checks, which are shown one by one."""
     until = time.monotonic() + QUICK_SECONDS if asked.quick else None
     jobs = asked.jobs or (min(4, os.cpu_count() or 1) if asked.quick else 1)
-    # what is looked for once, before any thread does
-    for it in chosen:
-        lacking(it)
+    prepare(chosen)
     found = []
     with ThreadPoolExecutor(jobs) as several:
         for done in as_completed([several.submit(found_by, it, until) for it in chosen]):

@@ -122,7 +122,7 @@ class Programs(unittest.TestCase):
     def test_own_programs(self) -> None:
         """In the repository three commands have programs of their own; an installed program has all commands."""
         with tempfile.TemporaryDirectory() as room:
-            for name in ("cpa_cli", "cpa_schedule", "cpa_chain", "lokwurmi"):
+            for name in ("cpa_cli", "cpa_schedule_cli", "cpa_effect_cli", "lokwurmi"):
                 file = Path(room, name)
                 file.write_text(f'#!/bin/sh\necho {name} "$@"\n')
                 file.chmod(0o755)
@@ -136,9 +136,9 @@ class Programs(unittest.TestCase):
                 (
                     "cpa_cli",
                     [
-                        "cpa_schedule system trace",
-                        "cpa_chain chain system a --while-running",
-                        "cpa_chain chains system chains",
+                        "cpa_schedule_cli system trace",
+                        "cpa_effect_cli chain system a --while-running",
+                        "cpa_effect_cli chains system chains",
                         "cpa_cli analyse system",
                     ],
                 ),
@@ -154,7 +154,7 @@ class Programs(unittest.TestCase):
             ):
                 program = Program(Path(room, file))
                 self.assertEqual([program.call(*it)[1].strip() for it in calls], told)
-            Path(room, "cpa_chain").unlink()
+            Path(room, "cpa_effect_cli").unlink()
             with self.assertRaisesRegex(NoEngine, "chain has a program of its own"):
                 Program(Path(room, "cpa_cli")).call("chain", [b""], ("a",))
         with self.assertRaises(NoEngine):

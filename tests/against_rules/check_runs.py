@@ -5,7 +5,8 @@ gate.
 Random systems with all four kinds of resource, in every other one of which tasks have regions, get random traces that
 obey. The step rules are followed plainly once more (tests/rules/runs.py): what is seen of each task, how many jobs are
 pending at each time, and who gets which tick, and from which job each one comes. `buffers` must tell those peaks, none
-of them above its bound, and each bound must be the most events of the task's streams in its greatest response; no response is above that.
+of them above its bound, and each bound must be the most events of the task's streams in its greatest response; no
+response is above that.
 `audit` must take the schedule that was recorded here, and of one with a row changed, left out, added or exchanged it
 must tell the first place that differs, with what is expected there. `schedule` must write the schedule that was
 recorded here, and of that `audit` must say that it is the run's.
@@ -21,7 +22,7 @@ from tests.rules.runs import Run, audit_text, schedule_text, simulated_text
 from tests.support.calls import NEEDS_PROGRAMS, add_number, built, outcome, reader_of, written
 from tests.support.systems import file_of, random_system, random_trace, rows_of
 
-PROGRAM, SCHEDULE = built("cpa_cli"), built("cpa_schedule")
+PROGRAM, SCHEDULE = built("cpa_cli"), built("cpa_schedule_cli")
 
 
 def buffers_text(system, run, report):

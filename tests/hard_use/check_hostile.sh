@@ -4,8 +4,8 @@
 # and ends with 1 where one answers otherwise than it should. Outside the gate: bash tests/hard_use/check_hostile.sh
 top=$(cd "$(dirname "${BASH_SOURCE[0]}")/../.." && pwd) || exit 1
 program=$top/crates/cpa_cli/out/cpa_cli
-schedule=$top/crates/cpa_schedule/out/cpa_schedule
-chain=$top/crates/cpa_chain/out/cpa_chain
+schedule=$top/crates/cpa_schedule_cli/out/cpa_schedule_cli
+chain=$top/crates/cpa_effect_cli/out/cpa_effect_cli
 work=$(mktemp -d) || exit 1
 trap 'rm -rf "$work"' EXIT
 cd "$work" || exit 1

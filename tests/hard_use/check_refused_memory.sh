@@ -6,8 +6,8 @@
 #   bash tests/hard_use/check_refused_memory.sh [analyse FILE | session FILE SCRIPT | .. | edit_without_memory]
 top=$(cd "$(dirname "${BASH_SOURCE[0]}")/../.." && pwd) || exit 1
 program=$top/crates/cpa_cli/out/cpa_cli
-schedule=$top/crates/cpa_schedule/out/cpa_schedule
-chain=$top/crates/cpa_chain/out/cpa_chain
+schedule=$top/crates/cpa_schedule_cli/out/cpa_schedule_cli
+chain=$top/crates/cpa_effect_cli/out/cpa_effect_cli
 tests=$top/crates/cpa_bound_tests/out/cpa_bound_tests_tests
 work=$(mktemp -d) || exit 1
 trap 'rm -rf "$work"' EXIT

@@ -77,7 +77,7 @@ LOKWURMI_JOBS=1 call analyse two.toml
 LOKWURMI_JOBS=3 call schedule two.toml trace.csv
 hold "schedule: status and text of its own program, without the word" is "$status $(cat "$room/text")" "10 called two.toml trace.csv"
 hold "schedule: it is built first" said "^lokwurmi: the program isn't built yet: it is proved and built first, 4 crates, of which 3 are proved already, 3 at a time; "
-hold "schedule: a line for the crate that is left" said '^lokwurmi: 4 of 4: cpa_schedule is proved; '
+hold "schedule: a line for the crate that is left" said '^lokwurmi: 4 of 4: cpa_schedule_cli is proved; '
 hold "schedule: the words that it is first run with" is "$(tail -n 1 "$room/calls")" "run -- data/crossing_chains.toml data/crossing_chains.trace.csv"
 hold "schedule: a file that isn't there is told" said "note: 'trace.csv' can't be read"
 call schedule two.toml trace.csv
@@ -85,9 +85,9 @@ hold "schedule: the second call builds nothing" unsaid 'built first'
 touch "$work/crates/cpa_fix/src/lib.rt"
 call schedule two.toml trace.csv
 hold "schedule: a source that it doesn't stand on is newer: nothing is built" unsaid 'built first'
-touch "$work/crates/cpa_schedule/src/lib.rt"
+touch "$work/crates/cpa_schedule_cli/src/lib.rt"
 call schedule two.toml trace.csv
-hold "schedule: a source of its own is newer: it is built again" said 'crates/cpa_schedule/src/lib.rt is newer than the program'
+hold "schedule: a source of its own is newer: it is built again" said 'crates/cpa_schedule_cli/src/lib.rt is newer than the program'
 in_terminal "'$work/lokwurmi' schedule two.toml status.17"
 hold "schedule: a status is handed on, with its hint" said '^lokwurmi: the trace is readable'
 hold "schedule: that status" is "$status" 17
@@ -102,7 +102,7 @@ hold "schedule: waits while the other program is built" said 'another call build
 hold "schedule: builds what is left then" said '4 crates, of which 3 are proved already'
 hold "schedule: each is proved once" is "$(sort "$room/proved" | uniq -d | wc -l)" 0
 afresh
-echo cpa_schedule >"$room/fail"
+echo cpa_schedule_cli >"$room/fail"
 call schedule two.toml trace.csv
 hold "schedule: a failure: status 70" is "$status" 70
 hold "schedule: a failure: the toolchain's message" said '^src/lib.rt:7: not proved: the sum may wrap$'

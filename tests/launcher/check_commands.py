@@ -214,10 +214,12 @@ def check_door(faults: Faults) -> None:
         run_all.NEEDS["tried"] = needs
         found = run_all.found_by(run_all.Check("tried", call), None)
         faults.hold((found.outcome, found.why) == wanted, f"run_all.py, {call} that needs {needs!r}: {found}")
-    found = run_all.found_by(run_all.Check("late", "sleep 60"), time.monotonic() + 6)
-    faults.hold(
-        found.outcome == "skipped" and "not done after" in found.why, f"run_all.py, a check without end: {found}"
-    )
+    for call in ("sleep 600", "setsid sleep 30"):
+        found = run_all.found_by(run_all.Check("late", call), time.monotonic() + 1, least=-60)
+        is_so = found.outcome == "skipped" and "not done after" in found.why
+        faults.hold(is_so, f"run_all.py, a check without end: {found}")
+    found = run_all.found_by(run_all.Check("late", "true"), time.monotonic())
+    faults.hold((found.outcome, found.why) == ("skipped", "no time is left"), f"run_all.py, no time left: {found}")
 
 
 def check_package(faults: Faults) -> None:

@@ -106,7 +106,8 @@ hold "it is built" is "$status" 0
 for it in 3 4 10 11 12 13 14 15 16 17 18 19 20 30; do
   in_terminal "'$work/lokwurmi' analyse status.$it"
   hold "status $it is handed on" is "$status" "$it"
-  hold "status $it has a hint" said '^lokwurmi: '
+  # of 3 there is a notice, which begins with the file
+  hold "status $it has a hint" said '^lokwurmi: |notice: '
   section=$(sed -nE 's/.*FILES\.md, "([^"]*)".*/\1/p' "$room/said")
   [ "$it" = 10 ] || hold "status $it: the section $section" said "^##+ $section" "$top/docs/FILES.md"
 done
@@ -147,19 +148,20 @@ call analyse two.toml <&3
 hold "standard input may be anything" is "$status" 0
 
 # ---- signals that come while the program runs
-for signal in INT TERM HUP; do
+for signal in INT TERM HUP QUIT; do
   rm -f "$room/children"
   interrupt "$signal" 1 analyse sleep
   hold "$signal while the program runs: ends by it" is $? 0
   hold "$signal while the program runs: says nothing" [ ! -s "$room/said" ]
-  hold "$signal while the program runs: the program has ended" is "$(pgrep -fc '^sleep 300$')" 0
+  hold "$signal while the program runs: the program has ended" is "$(wc -l <"$room/children") $(left)" "1 0"
 done
 python3 -c 'import subprocess, sys
 sys.exit(subprocess.run(sys.argv[1:]).returncode == -9)' "$work/lokwurmi" analyse signal.KILL >"$room/text" 2>"$room/said" </dev/null
 hold "a program that was killed: ends by the same signal" is $? 1
+hold "a program that was killed: says nothing" [ ! -s "$room/said" ]
 rm -f "$room/children"
 (until_started 1 && printf '\003' && sleep 2) | script -qec "'$work/lokwurmi' analyse sleep" /dev/null >"$room/text" 2>&1
-hold "the terminal's interrupt while the program runs: it has ended" is "$(pgrep -fc '^sleep 300$')" 0
+hold "the terminal's interrupt while the program runs: it has ended" is "$(wc -l <"$room/children") $(left)" "1 0"
 
 # ---- a call without proofs
 afresh

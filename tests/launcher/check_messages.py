@@ -43,7 +43,7 @@ from tests.support.calls import TOP, example_systems, reader_of
 from tests.support.damage import damaged, damaged_rows, damaged_script, with_regions
 
 CASES = os.path.join(TOP, "tests", "messages")
-PROGRAMS = {it: os.path.join(TOP, "crates", it, "out", it) for it in ("cpa_cli", "cpa_schedule", "cpa_chain")}
+PROGRAMS = {it: os.path.join(TOP, "crates", it, "out", it) for it in ("cpa_cli", "cpa_schedule_cli", "cpa_effect_cli")}
 
 
 @dataclass
@@ -182,7 +182,7 @@ def check_cases(keep: bool, only: str) -> tuple[int, int]:
 
 def wrote(*words: str) -> list[str]:
     """What the program itself writes."""
-    program = [PROGRAMS["cpa_schedule"], *words[1:]] if words[0] == "schedule" else [PROGRAMS["cpa_cli"], *words]
+    program = [PROGRAMS["cpa_schedule_cli"], *words[1:]] if words[0] == "schedule" else [PROGRAMS["cpa_cli"], *words]
     return subprocess.run(
         program, capture_output=True, text=True, errors="surrogateescape", check=False
     ).stdout.splitlines()
@@ -209,10 +209,8 @@ class Room:
         self.seen[sort, " ".join(it for it in program.split() if not it.isdigit() or "reason" in program)[:28]] += 1
         if program != here:
             self.wrong += 1
-            kept = [
-                shutil.copy(it, os.path.join(tempfile.gettempdir(), f"differs{self.wrong}.{os.path.basename(it)}"))
-                for it in files
-            ]
+            folder = tempfile.mkdtemp(prefix="lokwurmi-differs-")
+            kept = [shutil.copy(it, folder) for it in files]
             print(f"{sort}: the program: {program!r}, here: {here!r}; {' '.join(kept)}")
 
     def names(self, text: str) -> list[str]:

@@ -29,7 +29,7 @@ from tests.support.databases import (
 )
 from tests.support.logs import log_of, two_channels
 
-SCHEDULE = os.path.abspath(built("cpa_schedule"))
+SCHEDULE = os.path.abspath(built("cpa_schedule_cli"))
 
 
 def random_times(draw):

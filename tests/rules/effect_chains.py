@@ -27,12 +27,17 @@ def stays_near(source, times):
 class Bounds:
     """The bounds of the chains of a system file: where jobs read at any time, or `while_running` alone. Then less is
     told by two rules: "above" where a writer goes before its reader on one processor, which is preempted at each
-    tick, and with "same-source" still less where one source starts both besides. The program has the first of them."""
+    tick, and with "same-source" still less where one source starts both besides. The program has the first of them.
+    With `bound` the bounds of tasks are those, which are known already."""
 
-    def __init__(self, text):
+    def __init__(self, text, bound=None):
         self.rules = System(text)
+<<<<<<< HEAD
         self.bound = self.rules.least_solution()
         self.sporadic = {it["name"] for it in tomllib.loads(text).get("source", []) if it.get("sporadic")}
+=======
+        self.bound = self.rules.least_solution() if bound is None else bound
+>>>>>>> 642a719b159de1443d946eeca1a2d7aa00b1f324
 
     def after(self, name):
         return self.rules.activators_of(name)

@@ -23,6 +23,7 @@ PROGRESS = re.compile(
     rf"sensitivity: \d+ of \d+ numbers, \d+ reports{LEFT}"
     r"|optimise: \d+ orders?, .*; the best so far: .*"
     rf"|worst: (?:\d+ of \d+, (?:task|path) \S+|\w+): seen \d+ of (?:\d+|overload), \d+ of \d+ tries{LEFT}"
+    r"|import log: (?:frame \d+ of \d+|.*: \d+ frames are read)"
     r")"
 )
 
@@ -90,6 +91,15 @@ def built(crate: str) -> str:
     return program
 
 
+def joined(folder: str) -> str:
+    """A program in a folder that answers as the script `lokwurmi`, by the built programs alone."""
+    lines = ["#!/bin/sh", 'case "$1" in', f'chain | chains) exec "{built("cpa_effect_cli")}" "$@" ;;']
+    lines += [f'schedule) shift && exec "{built("cpa_schedule_cli")}" "$@" ;;', f'*) exec "{built("cpa_cli")}" "$@" ;;']
+    program = written(folder, "joined", "\n".join([*lines, "esac", ""]))
+    os.chmod(program, 0o755)
+    return program
+
+
 def python_with(*modules: str) -> str | None:
     """A Python that has these modules: this one, or Debian's, for which packages are installed; None where neither has
     them."""
@@ -108,9 +118,9 @@ def tool(name: str, python: str = sys.executable) -> list[str]:
 def run(
     name: str, *words: object, python: str = sys.executable, given: str | None = None, env: dict[str, str] | None = None
 ) -> subprocess.CompletedProcess[str]:
-    """A call of such a command: its status, and what it writes on both streams. `given` is its standard input, and
-    `env` is added to the environment."""
-    return subprocess.run(
+    """A call of such a command: its status, and what it writes on both streams, but for how far it is: a slow machine
+    is told that sooner. `given` is its standard input, and `env` is added to the environment."""
+    done = subprocess.run(
         [*tool(name, python), *map(str, words)],
         input=given,
         capture_output=True,
@@ -118,6 +128,8 @@ def run(
         check=False,
         env=os.environ | env if env else None,
     )
+    done.stderr = without_progress(done.stderr)
+    return done
 
 
 def written(folder: str, name: str, text: str, encoding: str = "utf-8") -> str:

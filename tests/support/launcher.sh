@@ -69,13 +69,13 @@ it.send_signal(number)
 sys.exit(it.wait() != -number)' "$signal" "$number" "$room/children" "$work/lokwurmi" "$@" >"$room/text" 2>"$room/said" </dev/null
 }
 
-# How many of the children of the stand-in go on.
+# How many of the children of the stand-in go on: another process may have got the number of one since.
 left() {
   local it
   while read -r it; do
-    case $(ps -o stat= -p "$it") in
-    '' | Z*) ;;
-    *) echo "$it" ;;
+    case $(ps -o stat=,args= -p "$it") in
+    Z*) ;;
+    *sleep\ 30[0-9] | *"$room"*) echo "$it" ;;
     esac
   done <"$room/children" | wc -l
 }
@@ -83,16 +83,16 @@ left() {
 # is_built COMMAND: this repository's program for the command is built
 is_built() {
   case $1 in
-  schedule) [ -x "$top/crates/cpa_schedule/out/cpa_schedule" ] ;;
-  chain | chains) [ -x "$top/crates/cpa_chain/out/cpa_chain" ] ;;
+  schedule) [ -x "$top/crates/cpa_schedule_cli/out/cpa_schedule_cli" ] ;;
+  chain | chains) [ -x "$top/crates/cpa_effect_cli/out/cpa_effect_cli" ] ;;
   *) [ -x "$top/crates/cpa_cli/out/cpa_cli" ] ;;
   esac
 }
 # run_built WORD..: what that program makes of the words
 run_built() {
   case ${1-} in
-  schedule) "$top/crates/cpa_schedule/out/cpa_schedule" "${@:2}" ;;
-  chain | chains) "$top/crates/cpa_chain/out/cpa_chain" "$@" ;;
+  schedule) "$top/crates/cpa_schedule_cli/out/cpa_schedule_cli" "${@:2}" ;;
+  chain | chains) "$top/crates/cpa_effect_cli/out/cpa_effect_cli" "$@" ;;
   *) "$top/crates/cpa_cli/out/cpa_cli" "$@" ;;
   esac
 }
@@ -112,13 +112,13 @@ cpa_io: cpa_units
 cpa_model: cpa_units indexmap
 cpa_fix: cpa_units cpa_io cpa_model
 cpa_cli may_wait=1: cpa_io cpa_fix
-cpa_schedule: cpa_io cpa_model
-cpa_chain: cpa_io cpa_model
+cpa_schedule_cli: cpa_io cpa_model
+cpa_effect_cli: cpa_io cpa_model
 cpa_c staticlib: cpa_units cpa_io cpa_model cpa_fix
 cpa_bench: cpa_units
 cpa_cases: cpa_units cpa_model
 END
-  for it in cpa_units cpa_io cpa_model cpa_fix cpa_cli cpa_schedule cpa_chain cpa_c cpa_bench cpa_cases; do
+  for it in cpa_units cpa_io cpa_model cpa_fix cpa_cli cpa_schedule_cli cpa_effect_cli cpa_c cpa_bench cpa_cases; do
     mkdir -p "$work/crates/$it"/{src,specs,proofs}
     touch -d '1 hour ago' "$work/crates/$it"/src/lib.rt "$work/crates/$it"/{src,specs,proofs}
   done
@@ -138,7 +138,7 @@ own=${PWD##*/}
 case $own in
 cpa_cli) below="cpa_units cpa_io cpa_model cpa_fix" ;;
 cpa_fix) below="cpa_units cpa_io cpa_model" ;;
-cpa_schedule | cpa_chain) below="cpa_units cpa_io cpa_model" ;;
+cpa_schedule_cli | cpa_effect_cli) below="cpa_units cpa_io cpa_model" ;;
 cpa_c) below="cpa_units cpa_io cpa_model cpa_fix" ;;
 *) [ "$1" = doc ] || exit 2 ;;
 esac
@@ -197,7 +197,7 @@ run | lib)
     printf 'int lokwurmi_version(void) { return 1; }\n' >out/one.c && cc -fPIC -c -o out/one.o out/one.c && ar rcs out/libcpa_c.a out/one.o
   fi
   [ "$1" = run ] || exit 0
-  printf '#!/bin/sh\necho "called $*"\ncase $2 in sleep) echo 1 >>"$RT_ROOM/children"; exec sleep 300 ;; signal.*) kill -${2#signal.} $$ ;; status.*) exit ${2#status.} ;; esac\ncase $1 in anal*) exit 0 ;; esac\nexit 10\n' >"out/$own"
+  printf '#!/bin/sh\necho "called $*"\ncase $2 in sleep) echo $$ >>"$RT_ROOM/children"; exec sleep 300 ;; signal.*) kill -${2#signal.} $$ ;; status.*) exit ${2#status.} ;; esac\ncase $1 in anal*) exit 0 ;; esac\nexit 10\n' >"out/$own"
   chmod +x "out/$own"
   ;;
 doc)

@@ -37,7 +37,6 @@ from tests.support.calls import (
     run,
     tell,
     tool,
-    without_progress,
     written,
 )
 
@@ -196,7 +195,7 @@ def check_drawn(page, text, room, python):
                 continue
             drawn = os.path.join(room, os.path.basename(words[-1]))
             done = run("", *words[1:-1], drawn, python=python)
-            hold_same(f"{page}: {line}", without_progress(done.stderr), "")
+            hold_same(f"{page}: {line}", done.stderr, "")
             if not done.returncode:
                 for wrote, told in zip(said(read(drawn)), said(read(words[-1]))):
                     hold_same(

@@ -9,9 +9,9 @@ as check_reports.py has them: how many jobs of a rival come in the window, which
 there are, and when the job came. That no job of the window answers later is told by the bound itself; that none before
 it is as late is tried on preemptive and TDMA resources. Of a task whose own busy window has no end the rival since
 which it hasn't is tried by the proved program: on a resource of its own, with the streams of the report as sources, the
-task has the bounds that are told with the rivals before that one, and none with it. What the program prints and draws
-of the examples is looked at, a report with another bound must be told as an error, and what isn't taken is refused in a
-line.
+task has the bounds that are told with the rivals before that one, and none with it. The parts of effect chains are held
+against the plain rules of these, over one of 20 systems. What the program prints and draws of the examples is looked
+at, a report with another bound must be told as an error, and what isn't taken is refused in a line.
 
     python3 -m tests.tools.check_explain [NUMBER of systems, 5000 if absent] [NUMBER to begin with, 0 if absent]
 """
@@ -30,18 +30,21 @@ from lokwurmi_tools.shared.system_text import toml_of
 from tests.rules import bounds as plain
 from tests.support import systems
 from tests.support.calls import (
+    NEEDS_PROGRAMS,
     TOP,
     answer,
     built,
     example_systems,
     faults,
     hold,
+    joined,
     python_with,
     range_of,
     run,
     tell,
     written,
 )
+from tests.tools.explained_chains import check_chain_faults, check_chain_picture, check_chain_texts, check_random_chains
 
 PROGRAM = built("cpa_cli")
 TOOL = "explain"
@@ -367,10 +370,16 @@ def check_told(python, room):
 
 
 def main():
-    numbers = range_of(__doc__, 5000)
+    numbers = range_of(__doc__, 5000, NEEDS_PROGRAMS)
     python = python_with("matplotlib")
     with tempfile.TemporaryDirectory() as room:
         check_random(numbers, room)
+        check_random_chains(numbers[::20], room)
+        program = joined(room)
+        check_chain_texts(room, program)
+        check_chain_faults(room, program)
+        if python:
+            check_chain_picture(python, room, program)
         check_worked()
         if python:
             check_examples(python, room)

@@ -7,11 +7,13 @@ system has tasks with regions; where there are up to 20,000 orders of all resour
 of the proved program, each an exchange of two priorities from the one before. So it is known whether there is an order
 under which all deadlines are met; where there is none, none may be found. Large systems have ten to sixteen chains, and
 deadlines that are met by an order that the search isn't told. The edits of each order that is found must make a system
-that `analyse` accepts with status 0. Ends with 1 at the first answer that can't be.
+that `analyse` accepts with status 0. Every fifth small system has effect chains with deadlines besides, on all of whose
+orders the plain rules say whether they are met. Ends with 1 at the first answer that can't be.
 
     python3 -m tests.tools.check_optimise [SMALL systems, 100 if absent] [LARGE ones of each kind, 20] [first, 0]
 """
 import collections
+import itertools
 import json
 import math
 import os
@@ -26,7 +28,10 @@ from lokwurmi_tools.search.priorities import PriorityOptions, PrioritySearch
 from lokwurmi_tools.shared import progress
 from lokwurmi_tools.shared.analysed import analysed
 from lokwurmi_tools.shared.system_text import toml_of
-from tests.support.calls import NEEDS_PROGRAM, TOP, add_number, answer, built, reader_of, run
+from tests.rules import effect_chains
+from tests.rules.bounds import OVERLOAD
+from tests.support import chain_files
+from tests.support.calls import NEEDS_PROGRAMS, TOP, add_number, answer, built, joined, reader_of, run, written
 from tests.support.systems import some_region
 
 PROGRAM = built("cpa_cli")
@@ -244,6 +249,72 @@ def check_calls():
         sys.exit(f"{file}: {done.returncode} {done.stderr}")
 
 
+def chained_small(number):
+    """A system of one processor and up to four tasks, and a chain over it, with a deadline that some orders meet."""
+    pick = random.Random(f"chains of {number}")
+    sources = [{"name": f"s{k}", "period": pick.choice((10, 20, 25, 40))} for k in range(pick.randint(2, 4))]
+    tasks = [
+        {"name": f"t{k}", "on": "p", "after": it["name"], "best": 1, "worst": pick.randint(1, 4), "priority": k}
+        for k, it in enumerate(sources)
+    ]
+    resource = [{"name": "p", "kind": "preemptive", "limit": 2000}]
+    system = {"format": 1, "resource": resource, "source": sources, "task": tasks}
+    way = [it["name"] for it in pick.sample(tasks, pick.randint(1, len(tasks)))]
+    found = [(order, limits["reaction"], limits["age"]) for order, limits in all_limits(system, way)]
+    reaction, age = (sorted(it[place] for it in found) for place in (1, 2))
+    # a deadline that is hard, or that is too hard by a tick
+    hard = reaction[0] - (1 if pick.random() < 0.3 else 0), pick.choice(age)
+    return system, way, hard, any(a <= hard[0] and b <= hard[1] for _, a, b in found)
+
+
+def all_limits(system, way):
+    """What a chain takes by each order of the one resource, by the plain rules; orders without a bound are left out."""
+    names = [it["name"] for it in system["task"]]
+    for order in itertools.permutations(names):
+        ranked = [it | {"priority": order.index(it["name"])} for it in system["task"]]
+        rules = effect_chains.Bounds(toml_of(system | {"task": ranked}))
+        if OVERLOAD not in rules.bound.values():
+            yield order, rules.limits(way)
+
+
+def check_with_chains(number, room, program):
+    """Whether an order is found where there is one by which the chain is met, and what is told of it before and
+    after."""
+    system, way, hard, is_there = chained_small(number)
+    file = written(room, "chained.toml", toml_of(system))
+    listed = written(room, "listed.toml", chain_files.text_of([("c", way, *hard, None)]))
+    script = os.path.join(room, "chained.script")
+    words = [file, "--chains", listed, "--script", script, "--rounds", "5", "--restarts", "2"]
+    done = run("optimise", "--program", program, *words, "--json")
+    told = json.loads(done.stdout)
+    what = f"chains, system {number}: {done.stdout}\n{toml_of(system)}{way} {hard}"
+    if told["found"] != is_there or done.returncode != (0 if is_there else 3):
+        sys.exit(f"{what}: is an order there: {is_there}")
+    order = told["order"].get("p", [it["name"] for it in sorted(system["task"], key=lambda it: it["priority"])])
+    limits = {"before": dict(all_limits(system, way)).get(tuple(it["name"] for it in system["task"]))}
+    limits["after"] = dict(all_limits(system, way))[tuple(order)]
+    for it in told["chains"]:
+        for when, known in limits.items():
+            if known is not None and it[when] != known[it["what"]]:
+                sys.exit(f"{what}: {when} it takes {known}")
+    if told["premise"] != "if sources stay near" or len(told["chains"]) != 2:
+        sys.exit(f"{what}: the premise, and two deadlines")
+    return is_there
+
+
+def check_chains(count, first):
+    """Such systems; how many have an order that meets."""
+    with tempfile.TemporaryDirectory() as room:
+        program = joined(room)
+        several = [check_with_chains(number, room, program) for number in range(first, first + count)]
+        bad = written(room, "bad.toml", chain_files.text_of([("a", ["nobody"], None, None, None)]))
+        file = os.path.join(TOP, "examples", "effects.toml")
+        done = run("optimise", "--program", program, file, "--chains", bad)
+        if done.returncode != 18 or "bad.toml:3:" not in done.stderr:
+            sys.exit(f"a file of chains that is refused: {done.returncode} {done.stderr}")
+    print(f"chains: {len(several)} systems, of which {sum(several)} have an order that meets, and each is found")
+
+
 # two resources, of which the first is asked for 5/4 + 5/4000 of its time, and the second one for all of it
 TOO_MUCH = """format = 2
 resource = [{ name = "one", kind = "preemptive" }, { name = "two", kind = "preemptive" }]
@@ -281,13 +352,14 @@ def check_overloaded():
 
 
 def main():
-    reader = reader_of(__doc__, "10 2", NEEDS_PROGRAM)
+    reader = reader_of(__doc__, "10 2", NEEDS_PROGRAMS)
     add_number(reader, "small", 100, "how many small systems")
     add_number(reader, "large", 20, "how many large ones of each kind")
     add_number(reader, "first", 0, "the number to begin with, which makes other systems")
     words = reader.parse_args()
     check_calls()
     check_overloaded()
+    check_chains(max(2, words.small // 5), words.first)
     kinds = [("small", False, words.small, 0.8)]
     kinds += [(f"large, from {tight} of the deadline on", True, words.large, tight) for tight in TIGHT]
     with tempfile.TemporaryDirectory() as room:

@@ -7,7 +7,9 @@ of each number is tried by files of their own, which say the system with that nu
 the value that is told, and at some in between, all holds, and one step beyond it, and at some further ones, it doesn't,
 where there are such values; what is told to come first beyond it is what the report says. With --deadlines what is told
 of an execution is what `lokwurmi slack` says. Of a bus whose executions take longer the bit is as before. With a goal a
-path is held against that. Then the tool is called as it is from outside.
+path is held against that. With deadlines of effect chains what these take is worked out by the plain rules; all values
+of a period up to what is told are tried, since a chain may be late and in time again, and periods move longer too. Then
+the tool is called as it is from outside.
 
     python3 -m tests.tools.check_sensitivity [NUMBER of systems, 150 if absent] [NUMBER to begin with, 0 if absent]
 """
@@ -19,12 +21,27 @@ import tempfile
 import tomllib
 
 from lokwurmi_tools.search import margins
+from lokwurmi_tools.search.chain_goals import ChainGoals
 from lokwurmi_tools.shared import progress
 from lokwurmi_tools.shared.analysed import analysed
 from lokwurmi_tools.shared.system_text import toml_of
-from tests.rules import bounds
-from tests.support import systems
-from tests.support.calls import TOP, answer, built, faults, hold, python_with, range_of, run, tell, without_progress
+from tests.rules import bounds, effect_chains
+from tests.support import chain_files, systems
+from tests.support.calls import (
+    NEEDS_PROGRAMS,
+    TOP,
+    answer,
+    built,
+    faults,
+    hold,
+    joined,
+    python_with,
+    range_of,
+    run,
+    tell,
+    without_progress,
+    written,
+)
 
 PROGRAM = built("cpa_cli")
 # searches that are made here tell nothing
@@ -71,14 +88,46 @@ def moved(system, number, steps):
                 it["worst"] = bounds.ceiling(it["worst"] * (1000 + steps), 1000)
     else:
         it = next(it for it in other["source"] if it["name"] == number.name)
-        it["period"] -= steps if number.kind == "period" else 0
+        it["period"] += {"period": -steps, "longer-period": steps}.get(number.kind, 0)
         it["jitter"] = it.get("jitter", 0) + (steps if number.kind == "jitter" else 0)
         it["distance"] = min(it.get("distance", 0), it["period"])
     return other
 
 
-def judged(system, goals, deadlines):
-    """What doesn't hold of a system, by its report, read here once more."""
+def some_chains(number, system):
+    """Some chains of a system, with deadlines that are met, with more or less to spare; none where one has no bound."""
+    pick, names = random.Random(f"chains of {number}"), [it["name"] for it in system["task"]]
+    text = toml_of(system)
+    rules, chains = limits_of(text, answer(PROGRAM, text, "analyse")[1]), []
+    for place in range(pick.randint(1, 3)):
+        tasks = [pick.choice(names) for _ in range(pick.randint(1, 4))]
+        limits = rules.limits(tasks)
+        if bounds.OVERLOAD not in limits.values():
+            asked = (limits[what] + pick.randint(0, limits[what]) for what in effect_chains.ASKED)
+            chains.append((f"c{place}", tasks, *(it if pick.random() < 0.6 else None for it in asked)))
+    return chains
+
+
+def limits_of(text, report):
+    """The rules of chains over a system, at the bounds of its report."""
+    told = re.findall(r"^task (\S+) .* worst (\S+)$", report, re.M)
+    known = {name: bounds.OVERLOAD if worst == "overload" else int(worst) for name, worst in told}
+    return effect_chains.Bounds(text, known)
+
+
+def late_chains(text, report, chains):
+    """Which deadlines of chains aren't met, by the plain rules."""
+    rules, found = limits_of(text, report), []
+    for name, tasks, *deadlines in chains:
+        limits = rules.limits(tasks)
+        for what, deadline in zip(effect_chains.ASKED, deadlines):
+            if deadline is not None and limits[what] > deadline:
+                found.append(f"chain {name} {what}")
+    return found
+
+
+def judged(system, goals, deadlines, chains=()):
+    """What doesn't hold of a system, by its report, read here once more, and by the rules of chains."""
     status, text = answer(PROGRAM, toml_of(system), "analyse")
     if status not in (0, 1, 2):
         return [f"status {status}: {text}"]
@@ -87,9 +136,9 @@ def judged(system, goals, deadlines):
         limit = goals.get(name, None if deadline == "-" else int(deadline))
         if limit is not None and (worst == "overload" or int(worst) > limit):
             found.append(f"path {name}")
-    return found + (
-        [] if deadlines else [f"task {name}" for name in re.findall(r"^task (\S+) .* worst overload$", text, re.M)]
-    )
+    endless = [f"task {name}" for name in re.findall(r"^task (\S+) .* worst overload$", text, re.M)]
+    late = late_chains(toml_of(system), text, chains) if chains else []
+    return found + ([] if deadlines else endless) + late
 
 
 def check_regions(what, system, rows, least):
@@ -168,11 +217,69 @@ def called(python, *words):
     return run(TOOL, "--program", PROGRAM, *words, python=python, env={"PYTHONIOENCODING": "utf-8"})
 
 
+def values_up_to(pick, steps):
+    """So many values, or some of them, and those at the end."""
+    few = {steps, max(0, steps - 1), *(pick.randint(0, steps) for _ in range(10))}
+    return range(steps + 1) if steps <= 12 else sorted(few)
+
+
+def check_with_chains(number, system, chains, room, program):
+    """Each number of a system with chains, by files of its own; a period at all values up to what is told."""
+    file = written(room, "chained.toml", toml_of(system))
+    listed, pick = written(room, "listed.toml", chain_files.text_of(chains)), random.Random(number)
+    known = analysed(program, file)
+    question = margins.MarginQuestion(known, {}, True, ChainGoals(known, listed))
+    now = question.now().first()
+    hold(now == judged(system, {}, True, chains), f"system {number} with chains: {now}", "chains first")
+    if now:
+        return
+    for it, told in margins.answers_of(question, margins.KINDS, 1):
+        what = f"system {number}, {it.kind} {it.name}, chains {chains}: {told}\n{toml_of(system)}"
+        asked = lambda steps: judged(moved(system, it, steps), {}, True, chains)  # noqa: B023
+        good = values_up_to(pick, told.steps) if it.kind in margins.PERIODS else (told.steps,)
+        hold(not any(asked(steps) for steps in good), f"{what}: up to there not all holds", f"chains {it.kind}")
+        hold(told.ends == (told.steps < it.most), f"{what}: how it ends", f"chains {it.kind}")
+        if told.ends:
+            beyond = asked(told.steps + 1)
+            hold(beyond == told.first != [], f"{what}: beyond it {beyond}", f"chains {it.kind}")
+    wanted = {f"{name} {what}" for name, _, *limits in chains for what, it in zip(effect_chains.ASKED, limits) if it}
+    rows = {it["name"] for it in margins.rows_of_deadlines(question) if it["first"][0].startswith("chain ")}
+    hold(rows == wanted, f"system {number}: the deadlines of chains are {rows}", "chains deadline")
+
+
+def check_chain_calls(room, program):
+    """What the tool writes of chains, and what it says of files that aren't taken."""
+    file = os.path.join(TOP, "examples", "effects.toml")
+    good = written(room, "good.toml", chain_files.text_of([("show", ["sense", "act"], 50, None, None)]))
+    done = run(TOOL, "--program", program, file, "--chains", good, "--only", "longer-period", "--only", "deadline")
+    # the wait of act is 20 + 5 - 1 = 24, and its reaction 9 + 3 + 24 + 9 = 45: five ticks more are 50
+    hold(re.search(r"^period of slow +20 +25 +\+25.0 % +chain show reaction$", done.stdout, re.M), done.stdout, "calls")
+    hold(re.search(r"^deadline of show reaction +50 +45 ", done.stdout, re.M), done.stdout, "calls")
+    hold("hold if sources stay near: a source that falls silent" in done.stdout, "the premise", "calls")
+    told = json.loads(run(TOOL, "--program", program, file, "--chains", good, "--only", "deadline", "--json").stdout)
+    hold(told["premise"] == "if sources stay near" and told["chains_file"] == good, f"{told}", "calls")
+    late = written(room, "late.toml", chain_files.text_of([("a", ["act"], None, None, None), ("b", ["act"], 9, 9, 9)]))
+    bad = written(room, "bad.toml", chain_files.text_of([("a", ["nobody"], None, None, None)]))
+    never = os.path.join(TOP, "examples", "overload.toml")
+    endless = written(room, "endless.toml", chain_files.text_of([("never", ["a1", "b1"], 500, None, None)]))
+    # the wait of act is 24, its response 9
+    for words, status, said in (
+        ([file, "--chains", late], 3, f"{late}: line 4: chain b reaction: 33, 24 too late, of 9\n"),
+        ([never, "--chains", endless, "--deadlines"], 3, "line 3: chain never reaction: no bound, of 500"),
+        ([file, "--chains", bad], 18, "chains refused reason 5 chain 1"),
+        ([file, "--chains", bad], 18, "bad.toml:3:"),
+        ([file, "--chains", os.path.join(room, "nothing.toml")], 11, "cannot read"),
+    ):
+        done = run(TOOL, "--program", program, *words)
+        is_told = said in done.stderr and "Traceback" not in done.stderr
+        hold(done.returncode == status and is_told, f"{words}: {done.returncode} {done.stderr}", "calls")
+
+
 def check_calls(python, room):
     """What the tool writes and draws, and what it doesn't take."""
     sae, picture = os.path.join(TOP, "examples", "sae_can.toml"), os.path.join(room, "picture.svg")
     done = called(python, sae, "--deadlines", "--to", picture)
-    hold(done.returncode == 0 and not without_progress(done.stderr), f"sae_can.toml: {done.stderr}", "calls")
+    hold(done.returncode == 0 and not done.stderr, f"sae_can.toml: {done.stderr}", "calls")
     hold(
         re.search(r"^greatest execution of m16 +600 +800 +\+33\.3 %  path d8$", done.stdout, re.M), done.stdout, "calls"
     )
@@ -224,11 +331,14 @@ def check_calls(python, room):
 
 
 def main():
-    numbers = range_of(__doc__, 150)
+    numbers = range_of(__doc__, 150, NEEDS_PROGRAMS)
     python, held = python_with("matplotlib"), 0
     with tempfile.TemporaryDirectory() as room:
+        program = joined(room)
         for number in numbers:
             system = made(number)
+            if number % 2 == 0 and (chains := some_chains(number, system)):
+                check_with_chains(number, system, chains, room, program)
             held += check_system(number, system, room, number % 3 != 0, {})
             paths = [it["name"] for it in system.get("path", []) if "deadline" in it]
             if paths and number % 4 == 0:
@@ -241,6 +351,7 @@ def main():
                 )
             if len(faults) > 3:
                 break
+        check_chain_calls(room, program)
         if python:
             check_calls(python, room)
     without = "" if python else ", without calls: matplotlib is not here"

@@ -7,7 +7,7 @@ import sys
 
 from tests.rules.runs import replayed
 from tests.support.browser import Browser
-from tests.support.calls import TOP, hold, run, without_progress
+from tests.support.calls import TOP, hold, run
 
 EXAMPLES = os.path.join(TOP, "examples")
 
@@ -113,7 +113,7 @@ class Pages:
         """The page of a file, in the browser."""
         made_page = os.path.join(self.folder, name + ".html")
         done = run("page", "--program", self.program, "--to", made_page, *more, file)
-        if done.returncode or without_progress(done.stderr):
+        if done.returncode or done.stderr:
             sys.exit(f"{name}: no page: {done.stderr}")
         with open(made_page, encoding="utf-8") as it:
             hold(not re.search(r"https?://|@import|url\((?!#)", it.read()), f"{name}: it has a link to the outside")

@@ -375,7 +375,7 @@ fn edits_or_keeps(alloc: Global, session: &mut Session, edit: &Edit) -> Result<b
 }
 
 /// Where an edit of the case *session_reports* runs out of memory the session is as before. Each allocation in turn is
-/// refused by tests/check_refused_memory.sh; wherever else one is, the test ends with the fault of the allocation.
+/// refused by tests/hard_use/check_refused_memory.sh; wherever else one is, the test ends with the fault of the allocation.
 #[test]
 fn edit_without_memory(rt: HostRuntime) -> Result<(), Fail> {
     let alloc = rt.alloc();

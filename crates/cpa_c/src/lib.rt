@@ -7,7 +7,7 @@ ghost use Rattle.cpa_edit.specs.Script.{script_of};
 ghost use Rattle.cpa_call.specs.Plans.{system_in};
 ghost use Rattle.cpa_segments.specs.Calls as segments;
 ghost use Rattle.cpa_effects.specs.Calls as effects;
-ghost use Rattle.cpa_chains.specs.Calls as chained;
+ghost use Rattle.cpa_effect_files.specs.Calls as chained;
 ghost use Rattle.cpa_words.specs.Words.{Analyse, Session, Simulate, Generate, Hammer, Assign, Slack, Buffers, Audit, AreTraces, IsNumber, IsSize, IsWithin};
 ghost use Rattle.cpa_words.specs.Commands.{asked};
 ghost use Rattle.cpa_run.specs.Answers.{IsReport};

@@ -2,7 +2,7 @@
 use Rattle.std.proofs.Common.{get_or, ◌≡◌, ℕ, suc, ◌+◌, ◌≤◌, Bool, true, false, List, [], ◌∷◌, map, length, inl, inr, Option, Some, None, Ok, String, Global, Ordering, Less, Equal, Greater, string_bytes, refl, sym, subst, ◌∙◌, arith}
 use Rattle.std.specs.Prelude.{◌==◌, not}
 use Rattle.std.specs.List.{list_all}
-use Rattle.std.proofs.lemmas.Bool.{cases_Bool, and_parts, false≢true, eqb-true, eq-eqb}
+use Rattle.std.proofs.lemmas.Bool.{cases_Bool, and_parts, not-true, false≢true, eqb-true, eq-eqb}
 use Rattle.std.proofs.lemmas.List.Sums.{list_all-from_AllPass}
 use Rattle.std.proofs.lemmas.Bool.Decides.{nat_tests}
 use Rattle.std.specs.Ordering.{match_ordering}

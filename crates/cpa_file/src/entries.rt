@@ -1,17 +1,17 @@
 //! The entries of a system file.
 
-ghost use Rattle.std.specs.Prelude.{◌≡◌, ◌∷◌, [], Some};
+ghost use Rattle.std.specs.Prelude.{◌≡◌, ◌∷◌, [], Some, false, unwrap_or};
 ghost use Rattle.toml.specs.View.{view, items_view};
 ghost use Rattle.cpa_file.specs.Lists.{GivesList, read_all};
 ghost use Rattle.toml.specs.Data.{as_str};
 ghost use Rattle.cpa_file.specs.Fields.{Gives, required, optional, has_only};
-ghost use Rattle.cpa_file.specs.Entries.{kind_of_word, as_kind, as_texts, as_after, usual_keys, task_keys, task_fields};
+ghost use Rattle.cpa_file.specs.Entries.{source_keys, kind_of_word, as_kind, as_texts, as_after, usual_keys, task_keys, task_fields};
 ghost use Rattle.cpa_model.specs.Built.{has_executions};
 
 use crate::fault::ReadFault;
 use crate::fields::{
-    only_has, optional_integer, optional_integer_unless, optional_truth, optional_truth_unless, required_integer,
-    required_text,
+    only_has, optional_integer, optional_integer_unless, optional_truth, optional_truth_unless,
+    required_integer, required_text,
 };
 use crate::format::Format;
 use cpa_model::{DraftPath, DraftResource, DraftSource, DraftTask, KindWord, Raw, RawList};
@@ -177,6 +177,16 @@ impl Entry for DraftTask {
     }
 }
 
+/// A truth value that may be absent; false where it is.
+fn is_set(truth: Option<bool>) -> bool
+    ensures { result ≡ unwrap_or truth false }
+{
+    match truth {
+        Some(truth) => truth,
+        None => false,
+    }
+}
+
 /// Whether an entry has no key but those that a source may have.
 fn has_source_keys(format: Format, value: &Value) -> bool
     ensures { result ≡ has_only (source_keys format) (view value.now) }
@@ -206,7 +216,7 @@ impl Entry for DraftSource {
                 period,
                 jitter,
                 distance,
-                sporadic: sporadic.unwrap_or(false),
+                sporadic: is_set(sporadic),
             })
         } else {
             Err(ReadFault::Malformed)

@@ -5,7 +5,7 @@ ghost use Rattle.std.specs.Str.Lines.{lines};
 ghost use Rattle.cpa_call.specs.Answers.{reply};
 ghost use Rattle.cpa_segments.specs.Calls as segments;
 ghost use Rattle.cpa_effects.specs.Calls as effects;
-ghost use Rattle.cpa_chains.specs.Calls as chained;
+ghost use Rattle.cpa_effect_files.specs.Calls as chained;
 ghost use Rattle.cpa_memory.specs.Held.{held_in};
 ghost use Rattle.cpa_memory.specs.Words.{schedule_words, reading_of, chain_call, chains_words};
 
@@ -13,7 +13,7 @@ use crate::calling::ended;
 use crate::texts::{CHAINS, SYSTEM, TRACE, Texts};
 use crate::written_output::Written;
 use cpa_call::errors::Reply;
-use cpa_chains::write_chains;
+use cpa_effect_files::write_chains;
 use cpa_effects::{Reading, write_chain_by};
 use cpa_segments::write_schedule;
 use cpa_units::NoMemory;

@@ -1,5 +1,5 @@
 -- Worked runs, and a bound that is one too small and doesn't hold.
-use Rattle.std.proofs.Common.{◌≡◌, ℕ, zero, suc, ◌+◌, ◌<◌, ◌≤◌, length, map, get_or, List, [], ◌∷◌, Some, None, refl, sym, ◌∙◌, ap, arith}
+use Rattle.std.proofs.Common.{◌≡◌, ℕ, zero, suc, ◌+◌, ◌<◌, ◌≤◌, length, map, get_or, List, [], ◌∷◌, false, Some, None, refl, sym, ◌∙◌, ap, arith}
 use Rattle.cpa_units.specs.declared.bound.Bound.TheVariants.{Within}
 use Rattle.cpa_units.specs.declared.limits.Size.TheVariants.{Small}
 use Rattle.cpa_units.specs.Search.{least_from, greatest_to}

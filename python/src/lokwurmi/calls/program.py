@@ -12,7 +12,7 @@ from lokwurmi.model.commands import FILES
 
 TOP = Path(__file__).resolve().parents[4]
 """The repository, where the package is used from there."""
-BESIDE = {"schedule": "cpa_schedule", "chain": "cpa_chain", "chains": "cpa_chain"}
+BESIDE = {"schedule": "cpa_schedule_cli", "chain": "cpa_effect_cli", "chains": "cpa_effect_cli"}
 """The programs of the repository that stand beside that of most commands."""
 
 

@@ -7,6 +7,7 @@ from fractions import Fraction
 from lokwurmi.model.view import SystemView
 from lokwurmi_tools.bounds.bound_texts import lines_of_path, lines_of_task, shown
 from lokwurmi_tools.bounds.explained import Explained
+from lokwurmi_tools.bounds.explained_chain import AskedChain, ExplainedChains, asked_chain, chains_in, lines_of_chain
 from lokwurmi_tools.search.helpful_changes import Help, helps_for, lines_of_helps, lines_of_regions
 from lokwurmi_tools.shared.analysed import analysed
 from lokwurmi_tools.shared.faults import Fault
@@ -18,13 +19,16 @@ from lokwurmi_tools.shared.types import Values
 
 @dataclass(frozen=True, slots=True)
 class ExplainOptions:
-    """Which bounds are told of: that of a task, those along a path, or all; as JSON or as lines, and drawn into the
-    picture `to`. `tick` is in nanoseconds."""
+    """Which bounds are told of: that of a task, those along a path, those of an effect chain, by its tasks or by its
+    name in the file `chains`, or all; as JSON or as lines, and drawn into the picture `to`. `tick` is in
+    nanoseconds."""
 
     file: str
     program: str
     task: str | None = None
     path: str | None = None
+    chain: str | None = None
+    chains: str | None = None
     all: bool = False
     json: bool = False
     to: str | None = None
@@ -45,48 +49,71 @@ def check_names(options: ExplainOptions, view: SystemView) -> None:
         raise Fault(f"{options.file} has no task")
 
 
-def draw(options: ExplainOptions, explained: Explained, tasks: list[Values], paths: list[Values]) -> None:
+@dataclass(frozen=True, slots=True)
+class ToldBounds:
+    """What is told of tasks, of paths with what would help them, and of chains."""
+
+    explained: Explained
+    tasks: list[Values]
+    paths: list[Values]
+    helps: list[list[Help]]
+    chains: list[Values]
+    faults: list[str]
+
+
+def draw(options: ExplainOptions, told: ToldBounds) -> None:
     """Draws what is told into the picture that is named."""
     from lokwurmi_tools.pictures.bound_bars import Bars, NothingToDraw
 
-    bars = Bars(explained, options.to or "")
+    bars = Bars(told.explained, options.to or "")
     try:
-        if options.path:
-            bars.path(paths[0])
+        if options.chain:
+            bars.chain(told.chains[0])
+        elif options.path:
+            bars.path(told.paths[0])
         elif options.task:
-            bars.task(tasks[0])
+            bars.task(told.tasks[0])
         else:
-            bars.all(tasks, options.file)
+            bars.all(told.tasks, options.file)
     except NothingToDraw:
         raise Fault("none of these has a bound: there is nothing to draw")
 
 
-def json_text(options: ExplainOptions, explained: Explained, tasks: list[Values], paths: list[Values]) -> str:
+def json_text(options: ExplainOptions, told: ToldBounds) -> str:
     """All that is told, as JSON."""
-    told = {
+    for path, several in zip(told.paths, told.helps):
+        path["helps"] = [it.told() for it in several]
+    found = {
         "file": options.file,
         "notices": noticed_in(options.file),
-        "tasks": tasks,
-        "paths": paths,
-        "faults": explained.faults,
+        "tasks": told.tasks,
+        "paths": told.paths,
+        "chains": told.chains,
+        "faults": told.faults,
     }
-    return json.dumps(told, indent=1)
+    return json.dumps(found, indent=1)
 
 
-def text_of(options: ExplainOptions, tasks: list[Values], paths: list[Values], helps: list[list[Help]]) -> str:
+def text_of(options: ExplainOptions, told: ToldBounds) -> str:
     """All that is told, in lines."""
     scale = Scale(options.tick)
     blocks = [[f"notice: {it}"] for it in noticed_in(options.file)]
-    blocks += [lines_of_task(it, scale) for it in tasks] + [lines_of_path(it, scale) for it in paths]
-    for path, several in zip(paths, helps):
+    blocks += [lines_of_task(it, scale) for it in told.tasks] + [lines_of_path(it, scale) for it in told.paths]
+    for path, several in zip(told.paths, told.helps):
         blocks[-1] += lines_of_helps(several, scale) + lines_of_regions(path, options.file)
+    blocks += [lines_of_chain(it, told.explained, scale) for it in told.chains]
     return shown("\n\n".join("\n".join(it) for it in blocks))
 
 
-def tell_bounds(options: ExplainOptions) -> int:
-    """Tells all that is asked for; 1 where the parts of a bound don't come to it."""
-    if options.to:
-        need("matplotlib")
+def chains_of(options: ExplainOptions, view: SystemView) -> list[AskedChain]:
+    """The chains that are asked for: one, or with all those of the file of chains."""
+    if options.chain is not None:
+        return [asked_chain(options.chain, options.chains, options.file, view)]
+    return chains_in(options.chains, view) if options.all and options.chains else []
+
+
+def told_of(options: ExplainOptions) -> ToldBounds:
+    """All that is asked for."""
     known = analysed(options.program, options.file)
     explained = Explained(known.view, known.report)
     check_names(options, known.view)
@@ -95,14 +122,19 @@ def tell_bounds(options: ExplainOptions) -> int:
     told_tasks, told_paths = [explained.task(it) for it in tasks], [explained.path(it) for it in paths]
     # what would help is tried for a path that is asked for, and not for each
     helps = [helps_for(known, it) for it in paths] if options.path else []
-    if options.json:
-        for path, several in zip(told_paths, helps):
-            path["helps"] = [it.told() for it in several]
-        print(json_text(options, explained, told_tasks, told_paths))
-    else:
-        print(text_of(options, told_tasks, told_paths, helps))
+    of_chains = ExplainedChains(explained, options.program, options.file, options.tick is not None)
+    chains = [of_chains.chain(it) for it in chains_of(options, known.view)]
+    return ToldBounds(explained, told_tasks, told_paths, helps, chains, explained.faults + of_chains.faults)
+
+
+def tell_bounds(options: ExplainOptions) -> int:
+    """Tells all that is asked for; 1 where the parts of a bound don't come to it."""
     if options.to:
-        draw(options, explained, told_tasks, told_paths)
-    for it in explained.faults:
+        need("matplotlib")
+    told = told_of(options)
+    print(json_text(options, told) if options.json else text_of(options, told))
+    if options.to:
+        draw(options, told)
+    for it in told.faults:
         print(f"lokwurmi explain: an error of this tool: {it}", file=sys.stderr)
-    return 1 if explained.faults else 0
+    return 1 if told.faults else 0

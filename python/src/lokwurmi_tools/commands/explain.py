@@ -9,8 +9,10 @@ least a tick (a priority by one place), alone, and the proved program reports th
 the model, and no advice that they can be made. With --all it tells of each task and each path. Of a task without a
 bound it tells what work its resource has, by whom, and with which rival its busy window has no end.
 
-The deadlines are those of paths; it knows no effect chains. What a bound of one is made of stands in what `lokwurmi
-chain` writes.
+With --chain it tells what the bounds of an effect chain are made of, one of --chains by its name or one by its tasks:
+the waits for a job that comes next, by the period and the jitter of what starts it, where the jitter of tasks is their
+bound less their least execution; and the responses, with whom each waits for. These bounds hold if sources stay near: a
+source that falls silent voids them. The deadlines beside tasks are those of paths.
 
 The parts are worked out here, at the bounds of the report, and held against it: where they don't add up to the bound
 that the proved program has written, the tool says so and ends with 1. They are no part of what is proved.
@@ -23,6 +25,8 @@ from lokwurmi_tools.shared.faults import Fault
 EXAMPLES = """examples:
   ./lokwurmi explain examples/can_bus.toml m3
   ./lokwurmi explain examples/car_network.toml --path chain9 --to chain9.svg
+  ./lokwurmi explain examples/effects.toml --chain brake --chains examples/effects.chains.toml
+  ./lokwurmi explain examples/effects.toml --chain sense,act
   ./lokwurmi explain examples/overload.toml --all
 
 docs/PARTS.md tells how to read it.
@@ -34,6 +38,10 @@ def main(arguments: list[str] | None = None) -> int:
     reader.add_argument("file", metavar="FILE", help="a system file")
     reader.add_argument("task", metavar="TASK", nargs="?", help="the name of a task in it")
     reader.add_argument("--path", metavar="PATH", help="a path: whom it waits for, and what would help most")
+    says = "an effect chain, by its tasks in the order of the data: what its reaction, age and held are made of"
+    reader.add_argument("--chain", metavar="TASK,TASK..", help=says)
+    says = "a file of effect chains: --chain is the name of one; with --all each of them"
+    reader.add_argument("--chains", metavar="CHAINS", help=says)
     reader.add_argument("--all", action="store_true", help="each task and each path")
     reader.add_argument("--json", action="store_true", help="write JSON")
     says = "draw it, by matplotlib, into a picture whose name ends with .svg, .png or .pdf"
@@ -41,8 +49,11 @@ def main(arguments: list[str] | None = None) -> int:
     add_tick(reader)
     add_program(reader)
     options = options_of(ExplainOptions, reader.parse_args(arguments))
-    if sum((options.task is not None, options.path is not None, options.all)) != 1:
-        raise Fault("name a task, or --path PATH, or --all")
+    one = (options.task, options.path, options.chain)
+    if sum(it is not None for it in one) + options.all != 1:
+        raise Fault("name a task, or --path PATH, or --chain, or --all")
+    if options.chains is not None and options.chain is None and not options.all:
+        raise Fault("--chains wants --chain, the name of one of them, or --all")
     if options.to:
         check_name(options.to)
     return tell_bounds(options)

@@ -10,8 +10,11 @@ two priorities, those first with whom a late path waits longest, as lokwurmi exp
 What is told as found is what the proved program says of the edits of --script. Where nothing is found there may still
 be an order: the search proves nothing about what it didn't try. The same call gives the same answer for the same
 --seed, unless --seconds ends it. The status is 0, and 3 where nothing is found; then the best that was found is told.
-Where a resource is asked for more than all of the time, nothing is searched, and it says so at once. The deadlines are
-those of paths: those of a file of effect chains aren't looked at.
+Where a resource is asked for more than all of the time, nothing is searched, and it says so at once.
+
+Without --chains the deadlines are those of paths alone: an order that is found may have an effect chain miss its own.
+With --chains those of that file count too, and what each chain takes by the priorities of the file and by those that
+were found stands below. It holds if sources stay near: a source that falls silent voids it.
 """
 from lokwurmi_tools.commands.argument_parsers import add_program, options_of, reader_of
 from lokwurmi_tools.search.priorities import PriorityOptions
@@ -21,6 +24,7 @@ from lokwurmi_tools.shared.faults import Fault
 EXAMPLES = """examples:
   ./lokwurmi optimise examples/overload.toml --script better.script.txt
   ./lokwurmi session examples/overload.toml better.script.txt
+  ./lokwurmi optimise examples/effects.toml --chains examples/effects.chains.toml
 
 docs/PRIORITIES.md tells how often it finds an order, and on which systems.
 """
@@ -32,6 +36,8 @@ def main(arguments: list[str] | None = None) -> int:
     restarts = "how often it begins anew from a disturbed order; 4 if absent"
     reader.add_argument("file", metavar="FILE", help="a system file")
     reader.add_argument("--script", metavar="SCRIPT", help="where the edits go to that make the order")
+    says = "a file of effect chains, whose deadlines count too"
+    reader.add_argument("--chains", metavar="CHAINS", help=says)
     reader.add_argument("--rounds", metavar="N", type=int, default=20, help=rounds)
     reader.add_argument("--restarts", metavar="N", type=int, default=4, help=restarts)
     reader.add_argument("--seconds", metavar="S", type=float, help="when it ends at the latest, about")
@@ -41,4 +47,4 @@ def main(arguments: list[str] | None = None) -> int:
     words = reader.parse_args(arguments)
     if words.rounds < 1 or words.restarts < 0:
         raise Fault("there is at least 1 round, and no negative number of restarts")
-    return tell_priorities(options_of(PriorityOptions, words), words.file, words.program, words.json)
+    return tell_priorities(options_of(PriorityOptions, words), words.file, words.program, words.chains, words.json)

@@ -9,8 +9,12 @@ moved alone: two that both move as far as is told may miss a deadline together. 
 another deadline than that of the file, or against one where the file has none. With --deadlines paths with a deadline
 count alone, as for `lokwurmi slack`, and a bound that is `overload` only where such a path goes through its task.
 
-The deadlines are those of paths. Those of a file of effect chains aren't looked at: a number that moves as far as is
-told may have a chain miss its reaction time or its age. Try the system that comes of it by `lokwurmi chains`.
+Without --chains the deadlines are those of paths alone: a number that moves as far as is told may have an effect chain
+miss its deadline. With --chains the deadlines of that file count too, and what a chain doesn't allow stands beside the
+number by its name, as `chain brake reaction`. A period then moves both ways, since a chain waits for jobs: shorter, and
+longer for the sources behind the chains. Between two values a chain may be late and in time again: so what is told as
+how far it may move is up to the first value that fails. What is told of chains holds if sources stay near: a source
+that falls silent voids it.
 
 Both ends of each answer are reports of the proved program: with the number at the value that is told all holds, and one
 step beyond it doesn't. In between the tool halves the range. That nothing holds further on is proved of each single
@@ -35,6 +39,7 @@ EXAMPLES = """examples:
   ./lokwurmi sensitivity examples/car_network.toml --to car.svg
   ./lokwurmi sensitivity examples/sae_can.toml --only execution --deadlines
   ./lokwurmi sensitivity examples/pedal.toml --goal pedal_to_motor=4000 --json
+  ./lokwurmi sensitivity examples/camera_brake.toml --chains examples/camera_brake.chains.toml --only longer-period
 
 docs/SENSITIVITY.md tells how to read it, and why it is right.
 """
@@ -63,6 +68,8 @@ def main(arguments: list[str] | None = None) -> int:
     goal = "hold a path against this deadline; may be given several times"
     reader.add_argument("file", metavar="FILE", help="a system file")
     reader.add_argument("--goal", metavar="PATH=DEADLINE", action="append", default=[], help=goal)
+    says = "a file of effect chains, whose deadlines count too"
+    reader.add_argument("--chains", metavar="CHAINS", help=says)
     reader.add_argument("--deadlines", action="store_true", help="count deadlines alone, as `lokwurmi slack` does")
     only = f"move only these: {', '.join(KINDS)}; may be given several times"
     reader.add_argument("--only", metavar="KIND", action="append", choices=KINDS, help=only)

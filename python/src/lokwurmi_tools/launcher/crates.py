@@ -66,12 +66,15 @@ class Graph:
         return ["crates.txt", *(f"crates/{it}/{part}" for it in self.order for part in CLAIMED)]
 
     def keep_list(self) -> None:
-        """Lists beside the program what is in them, and what isn't there, for the script; where that can't be written,
-        it asks Python each time."""
+        """Lists beside the program what is in them, and what isn't there, for the script, at once, as calls side by
+        side read it; where that can't be written, the script asks Python each time."""
         found = [it for folder in self.folders() for it in (paths_below(TOP / folder) or [TOP / folder])]
         listed = [str(it.relative_to(TOP)) for it in (*found, program(self.top))]
+        kept = built_from(self.top)
+        begun = kept.with_name(f"{kept.name}.{os.getpid()}")
         try:
-            built_from(self.top).write_text("".join(it + "\0" for it in listed), encoding="utf-8")
+            begun.write_text("".join(it + "\0" for it in listed), encoding="utf-8")
+            begun.replace(kept)
         except OSError:
             pass
 

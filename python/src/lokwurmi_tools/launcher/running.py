@@ -5,7 +5,7 @@ import os
 import resource
 import signal
 import subprocess
-from collections.abc import Callable, Sequence
+from collections.abc import Sequence
 from typing import NoReturn
 
 HANDED_ON = (signal.SIGINT, signal.SIGTERM, signal.SIGHUP, signal.SIGQUIT)
@@ -23,26 +23,31 @@ def run(words: Sequence[str], is_session: bool) -> tuple[int, str]:
     """The status of a program, and of what it writes what there may be something to say of: its first line, or of a
     session that ends with 0 to 2 the lines of refused edits. All is handed on as it comes; where it can't be written,
     the status is 20, as the program's own would be. Where a signal ended it, this process ends by that too."""
-    child = subprocess.Popen(words, close_fds=False, restore_signals=True, stdout=subprocess.PIPE)
-    assert child.stdout is not None
-    source, kept, is_whole = child.stdout, Kept(), True
+    kept = Kept()
+    with Heard() as heard:
+        child = subprocess.Popen(words, close_fds=False, restore_signals=True, stdout=subprocess.PIPE)
+        heard.hand_to(child)
+        is_whole = pass_on(child, kept)
+        status = child.wait()
+    if status < 0:
+        end_by(-status)
+    status = status if is_whole else 20
+    lines = kept.edits if is_session and status <= 2 else [kept.first] if status > 2 else []
+    return status, b"\n".join(lines).decode("utf-8", "surrogateescape")
 
-    def hand_on() -> None:
-        nonlocal is_whole
+
+def pass_on(child: subprocess.Popen[bytes], kept: Kept) -> bool:
+    """Writes what a program does, as it comes, and whether all could be written."""
+    assert child.stdout is not None
+    with child.stdout as source:
         while part := os.read(source.fileno(), 1 << 16):
             kept.take(part)
             try:
                 while part:
                     part = part[os.write(1, part) :]
             except OSError:
-                is_whole = False
-                break
-        source.close()
-
-    status = ended(child, hand_on)
-    status = status if is_whole else 20
-    lines = kept.edits if is_session and status <= 2 else [kept.first] if status > 2 else []
-    return status, b"\n".join(lines).decode("utf-8", "surrogateescape")
+                return False
+    return True
 
 
 class Kept:
@@ -59,15 +64,31 @@ class Kept:
         self.edits += [it for it in lines if it.startswith(b"line ")]
 
 
-def ended(child: subprocess.Popen[bytes], meanwhile: Callable[[], None]) -> int:
-    """The status of a program that runs, to which signals are handed on."""
-    # what was ignored from the start stays so
-    heard = [it for it in HANDED_ON if signal.getsignal(it) is not signal.SIG_IGN]
-    before = {it: signal.signal(it, lambda number, _: child.send_signal(number)) for it in heard}
-    meanwhile()
-    status = child.wait()
-    for number, handler in before.items():
-        signal.signal(number, handler)
-    if status < 0:
-        end_by(-status)
-    return status
+class Heard:
+    """Signals that come while a program is started and runs: they are handed on to it. What was ignored from the start
+    stays so."""
+
+    def __init__(self) -> None:
+        self.child: subprocess.Popen[bytes] | None = None
+        self.early: list[int] = []
+
+    def __enter__(self) -> Heard:
+        heard = [it for it in HANDED_ON if signal.getsignal(it) is not signal.SIG_IGN]
+        self.before = {it: signal.signal(it, self._hand_on) for it in heard}
+        return self
+
+    def __exit__(self, *_: object) -> None:
+        for number, handler in self.before.items():
+            signal.signal(number, handler)
+
+    def _hand_on(self, number: int, _: object) -> None:
+        if self.child:
+            self.child.send_signal(number)
+        else:
+            self.early.append(number)
+
+    def hand_to(self, child: subprocess.Popen[bytes]) -> None:
+        """Hands signals on to this program, and those that came before it was there."""
+        self.child = child
+        for number in self.early:
+            child.send_signal(number)

@@ -58,7 +58,7 @@ class Command(NamedTuple):
 
     def handed(self, words: list[str]) -> list[str]:
         """The words that the program is called with: `schedule` is a program of its own without that word."""
-        return words if self.crate == "cpa_schedule" else [self.name, *words]
+        return words if self.crate == "cpa_schedule_cli" else [self.name, *words]
 
 
 class Word(NamedTuple):
@@ -177,7 +177,7 @@ COMMANDS = (
         "the schedule of the run under a trace: a row TASK,START,END for each stretch in which a job runs",
         "the schedule of the run under a trace",
         "examples/crossing_chains.toml examples/crossing_chains.trace.csv",
-        crate="cpa_schedule",
+        crate="cpa_schedule_cli",
     ),
     Command(
         "chain",
@@ -188,7 +188,7 @@ COMMANDS = (
         ),
         "how late a chain reacts, how old data gets",
         "examples/effects.toml sense filter act",
-        crate="cpa_chain",
+        crate="cpa_effect_cli",
         option=RUNNING,
         statuses="2: a bound is overload",
         note="--while-running, as the first word or the last: less, where tasks read only while they run",
@@ -201,7 +201,7 @@ COMMANDS = (
         " and how old it gets until it is overwritten",
         "the same of many, beside their deadlines",
         "examples/effects.toml examples/effects.chains.toml",
-        crate="cpa_chain",
+        crate="cpa_effect_cli",
         statuses=MISSED,
         premise=NEAR,
     ),
@@ -210,8 +210,8 @@ BY_NAME = {it.name: it for it in COMMANDS}
 # the programs, each with the words that it is first run with in its crate
 PROGRAMS = {
     "cpa_cli": ("analyse", "data/two_tasks.toml"),
-    "cpa_schedule": ("data/crossing_chains.toml", "data/crossing_chains.trace.csv"),
-    "cpa_chain": ("chain", "data/effects.toml", "sense", "filter", "act"),
+    "cpa_schedule_cli": ("data/crossing_chains.toml", "data/crossing_chains.trace.csv"),
+    "cpa_effect_cli": ("chain", "data/effects.toml", "sense", "filter", "act"),
 }
 WORDS = {
     "FILE": Word('a system file ("The system")', ending=".toml"),

@@ -2,6 +2,7 @@
 import os
 from typing import Any, NamedTuple
 
+from lokwurmi.results.verdicts import PREMISE_WORDS
 from lokwurmi_tools.bounds.bound_texts import note_of, percent, turn_of
 from lokwurmi_tools.bounds.explained import Explained
 from lokwurmi_tools.pictures.colours import letters_on, shades
@@ -206,6 +207,46 @@ class Bars:
         title += "" if deadline is None else f", its deadline is {deadline}"
         is_near = deadline is not None and deadline <= FAR * max(1, at)
         self.rows(it["tasks"], title, offsets, deadline if is_near else None)
+
+    def chain(self, it: Values) -> None:
+        """A chain: a row for each bound, with its waits and responses one after the other."""
+        asked = [what for what in ("reaction", "age", "held") if what != "held" or it[what]["deadline"] is not None]
+        if any(it[what]["bound"] is None for what in asked):
+            raise NothingToDraw
+        limits = [it[what]["deadline"] for what in asked]
+        most = max([it[what]["bound"] for what in asked])
+        near = [limit for limit in limits if limit is not None and limit <= FAR * most]
+        figure, axes = self.axes(asked, 11.0)
+        scale = BarScale(0, max([most, *near]), 11.0 * 72 * 0.86 / (1.06 * max([most, *near])))
+        for place, what in enumerate(asked):
+            self.chain_row(axes, place, it[what], scale)
+            if limits[place] in near:
+                line = {"color": "black", "linewidth": 1.4, "linestyle": ":", "zorder": 5}
+                axes.plot([limits[place]] * 2, [place - 0.45, place + 0.45], **line)
+        axes.set_xlim(0, 1.06 * scale.most)
+        dotted = "; the dotted line is the deadline" if near else ""
+        axes.set_xlabel(f"ticks; waits for the next job are hatched{dotted}; {PREMISE_WORDS.split(':')[0]}", fontsize=8)
+        name = f"{it['chain']}: " if it["chain"] else ""
+        axes.set_title(name + " → ".join(it["tasks"]), fontsize=9, loc="left")
+        self.save(figure)
+
+    def chain_row(self, axes: Any, place: int, it: Values, scale: BarScale) -> None:
+        """The bar of one bound of a chain, and the bound behind it."""
+        at = 0
+        for part in it["parts"]:
+            hue, is_wait = self.shades[part["task"]], part["kind"] == "wait"
+            look = {"color": "white", "edgecolor": hue, "hatch": "////"} if is_wait else {"color": hue}
+            axes.barh(place, part["ticks"], left=at, height=0.66, linewidth=0.8, zorder=2, **look)
+            word = "wait" if is_wait else part["task"]
+            room = part["ticks"] * scale.per_point
+            fits = (
+                text for text in (f"{word} {part['ticks']}", word, str(part["ticks"])) if letters(text, 7) + 4 < room
+            )
+            box = {"bbox": BOX, "color": "#18222d"} if is_wait else {"color": letters_on(hue)}
+            middle = {"ha": "center", "va": "center", "fontsize": 7, "zorder": 4}
+            axes.text(at + part["ticks"] / 2, place, next(fits, ""), **middle, **box)
+            at += part["ticks"]
+        axes.text(at, place, f" {it['bound']}", va="center", fontsize=7)
 
     def all(self, tasks: list[Values], file: str) -> None:
         """Each task of a file."""

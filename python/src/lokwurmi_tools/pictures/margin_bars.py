@@ -11,6 +11,7 @@ MOST_DRAWN = 40
 HUES = {
     "execution": "#1b6ca8",
     "period": "#2e7d4f",
+    "longer-period": "#8fbf5a",
     "jitter": "#a3862a",
     "speed": "#7b4fa3",
     "region": "#2a8c8c",

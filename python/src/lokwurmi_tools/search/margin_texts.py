@@ -5,8 +5,10 @@ import sys
 import time
 from dataclasses import dataclass
 
+from lokwurmi.results.verdicts import PREMISE
 from lokwurmi_tools.bounds.bound_texts import shown
-from lokwurmi_tools.search.margins import LAWS, PARTS, MarginQuestion, rows_of
+from lokwurmi_tools.search.chain_goals import PREMISE_WORDS, ChainGoals
+from lokwurmi_tools.search.margins import LAWS, MOST_TRIES, PARTS, MarginQuestion, rows_of
 from lokwurmi_tools.shared.analysed import analysed
 from lokwurmi_tools.shared.faults import Fault
 from lokwurmi_tools.shared.packages import need
@@ -16,6 +18,11 @@ from lokwurmi_tools.shared.types import Values
 
 # what has to be said beside the table
 NOTE = "each is moved alone: two that both move so far may miss a deadline together"
+# what has to be said of periods where chains count
+PERIODS = (
+    "a period has two rows where a chain waits for it: shorter, so that bounds rise, and longer, so that it waits"
+    " longer"
+)
 # what has to be said beside what doesn't hold already, where there are regions
 REGIONS = (
     "regions can't be shorter than now in this search: leave the key region out, "
@@ -24,6 +31,7 @@ REGIONS = (
 WORDS = {
     "execution": "greatest execution of",
     "period": "period of",
+    "longer-period": "period of",
     "jitter": "jitter of",
     "speed": "executions on",
     "region": "region of",
@@ -36,7 +44,8 @@ WHOLES = {"jitter": "the period of its source", "region": "the greatest executio
 @dataclass(frozen=True, slots=True)
 class MarginOptions:
     """Which kinds of numbers of a system move, by `jobs` calls at a time: `goals` are deadlines of paths in ticks, and
-    with `deadlines` these alone count; the answer is a table or JSON, and drawn into the picture `to`."""
+    with `deadlines` deadlines alone count, with the file `chains` those of its chains too; the answer is a table or
+    JSON, and drawn into the picture `to`."""
 
     file: str
     program: str
@@ -44,6 +53,7 @@ class MarginOptions:
     jobs: int
     goals: dict[str, int]
     deadlines: bool = False
+    chains: str | None = None
     json: bool = False
     to: str | None = None
 
@@ -66,6 +76,8 @@ def share_text(row: Values) -> str:
 
 def then_of(row: Values) -> str:
     """What comes first beyond the last value that holds."""
+    if not row["first"] and not row["limit"]:
+        return f"not known: {MOST_TRIES} values were tried"
     if row["limit"]:
         return "nothing: " + ("it is never preempted" if row["kind"] == "region" else "as far as the number goes")
     more = len(row["first"]) - 2
@@ -95,29 +107,49 @@ def lines_of_shares(rows: list[Values]) -> list[str]:
 def json_text(options: MarginOptions, question: MarginQuestion, rows: list[Values], seconds: float) -> str:
     """All that is told, as JSON."""
     asked = {"file": options.file, "goals": options.goals, "deadlines": options.deadlines}
+    asked |= {"chains_file": options.chains, "premise": PREMISE if options.chains else None}
     cost = {"calls": question.calls, "reports": question.probes, "seconds": round(seconds, 3)}
     return json.dumps({**asked, "numbers": rows, "laws": LAWS, **cost}, indent=1)
+
+
+def lines_of_chains(question: MarginQuestion) -> list[str]:
+    """What has to be said where chains count."""
+    return [PERIODS, PREMISE_WORDS] if question.chains else []
+
+
+def tell_nothing(question: MarginQuestion) -> int:
+    """Says what doesn't hold already, of chains with their lines in the file."""
+    regions = f"; {REGIONS}" if question.has_regions() else ""
+    now = question.now()
+    print(f"nothing may move, as this doesn't hold now: {', '.join(now.first())}{regions}", file=sys.stderr)
+    for line in question.chains.lines_of(now.late) if question.chains else ():
+        print(line, file=sys.stderr)
+    return 3
+
+
+def question_of(options: MarginOptions) -> MarginQuestion:
+    """What is asked; a goal of no path ends the tool."""
+    known = analysed(options.program, options.file)
+    paths, chains = known.view.paths, ChainGoals(known, options.chains) if options.chains else None
+    for name in options.goals:
+        if name not in paths:
+            raise Fault(f"{options.file}: there is no path {name}; it has {', '.join(paths) or 'none'}")
+    return MarginQuestion(known, options.goals, options.deadlines, chains)
 
 
 def tell_margins(options: MarginOptions) -> int:
     """Tells how far each number may move; 3 where something doesn't hold already."""
     if options.to:
         need("matplotlib")
-    start, known = time.monotonic(), analysed(options.program, options.file)
-    question, paths = MarginQuestion(known, options.goals, options.deadlines), known.view.paths
-    for name in options.goals:
-        if name not in paths:
-            raise Fault(f"{options.file}: there is no path {name}; it has {', '.join(paths) or 'none'}")
+    start, question = time.monotonic(), question_of(options)
     if not question.now().holds():
-        regions = f"; {REGIONS}" if question.has_regions() else ""
-        first = ", ".join(question.now().first())
-        print(f"nothing may move, as this doesn't hold now: {first}{regions}", file=sys.stderr)
-        return 3
+        return tell_nothing(question)
     rows = rows_of(question, options.only, options.jobs)
     if options.json:
         print(json_text(options, question, rows, time.monotonic() - start))
     else:
-        print(shown("\n".join([*lines_of(rows), "", NOTE, *lines_of_shares(rows)])))
+        notes = [NOTE, *lines_of_shares(rows), *lines_of_chains(question)]
+        print(shown("\n".join([*lines_of(rows), "", *notes])))
     if options.to:
         from lokwurmi_tools.pictures.margin_bars import draw_margins
 

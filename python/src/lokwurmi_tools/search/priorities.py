@@ -2,10 +2,10 @@
 import os
 import random
 import time
-from collections.abc import Callable, Iterator
+from collections.abc import Callable, Iterator, Sequence
 from dataclasses import dataclass
 from fractions import Fraction
-from typing import Any
+from typing import Any, NamedTuple
 
 from lokwurmi.model.event_models import Bounds, Stream, inputs_of
 from lokwurmi.model.formats import FORMATS
@@ -13,7 +13,10 @@ from lokwurmi.model.limits import DEFAULT_REGION, MOST_ENTRIES, MOST_PRIORITY, M
 from lokwurmi.model.view import SystemView
 from lokwurmi.results import reports
 from lokwurmi.results.reports import Report, Verdict
+from lokwurmi.results.verdicts import Bound
+from lokwurmi_tools.bounds.chain_parts import ChainSums
 from lokwurmi_tools.bounds.explained import Explained
+from lokwurmi_tools.search.chain_goals import ChainGoals, name_of
 from lokwurmi_tools.search.edit_trials import Trial, reports_after
 from lokwurmi_tools.shared.analysed import Analysed
 from lokwurmi_tools.shared.faults import OwnFault
@@ -43,35 +46,41 @@ class PriorityOptions:
     script: str | None = None
 
 
+class Aim(NamedTuple):
+    """What some tasks have a deadline for together: that of a path, or that of a chain less what it waits for jobs."""
+
+    name: str
+    tasks: tuple[str, ...]
+    deadline: int
+
+
 class OrderVerdict:
-    """What a report says of an order."""
+    """What a report says of an order, and its chains, where they count."""
 
-    def __init__(self, report: Report):
-        self.report, paths = report, report.paths
+    def __init__(self, report: Report, chains: Sequence[Bound] = ()):
+        self.report, self.chains, paths = report, chains, report.paths
         self.over = [it.name for it in report.tasks.values() if it.overload]
-        self.late = {it.name: -(it.slack or 0) for it in paths.values() if it.verdict is Verdict.MISSED}
-        unknown = sum(it.verdict is Verdict.UNKNOWN for it in paths.values())
+        judged = [(it.name, it.worst, it.deadline, it.verdict) for it in paths.values()]
+        judged += [(name_of(it), it.bound, it.deadline, it.verdict) for it in chains]
+        verdicts = {name: verdict for name, _, _, verdict in judged}
+        limits = {name: (worst, limit) for name, worst, limit, _ in judged if limit and worst is not None}
+        self.late = {name: limits[name][0] - limits[name][1] for name, it in verdicts.items() if it is Verdict.MISSED}
+        self.unknown = [name for name, it in verdicts.items() if it is Verdict.UNKNOWN]
         # fewer without a bound first, and then less that is late; to the full, so that a search sees each gain
-        late = sum(ticks / (paths[name].deadline or 1) for name, ticks in self.late.items())
-        tight = max(
-            (it.worst / it.deadline for it in paths.values() if it.deadline and it.worst is not None), default=0
-        )
-        self.cost: tuple[int, float, float] = (len(self.over) + unknown, late, tight)
-        self.holds = not self.over and not self.late and not unknown
+        late = sum(ticks / limits[name][1] for name, ticks in self.late.items())
+        tight = max((worst / limit for worst, limit in limits.values()), default=0)
+        self.cost: tuple[int, float, float] = (len(self.over) + len(self.unknown), late, tight)
+        self.holds = not self.over and not self.late and not self.unknown
 
-    def is_late(self, path: str) -> bool:
-        return self.report.paths[path].verdict in (Verdict.MISSED, Verdict.UNKNOWN)
+    def is_late(self, name: str) -> bool:
+        """Whether a path, or a bound of a chain, is late or isn't there."""
+        return name in self.late or name in self.unknown
 
     def told(self) -> str:
         words = [f"{len(self.over)} without a bound"] if self.over else []
         latest = sorted(self.late.items(), key=lambda it: -it[1])
         words += [f"{name} misses its deadline by {ticks}" for name, ticks in latest[:4]]
         return ", ".join(words) + (f" and {len(latest) - 4} more" if len(latest) > 4 else "") or "all deadlines are met"
-
-
-def verdict_in(text: str) -> OrderVerdict:
-    """The verdict of the last report in a text."""
-    return OrderVerdict(reports_in(text, "lokwurmi")[-1])
 
 
 def cost_of(found: tuple[Any, OrderVerdict, str]) -> tuple[int, float, float]:
@@ -86,10 +95,11 @@ def write(file: str, text: str) -> str:
 
 
 class PrioritySearch:
-    """The orders of a system's resources, what is known of them, and the best of them; `room` is a folder for files."""
+    """The orders of a system's resources, what is known of them, and the best of them; `room` is a folder for files.
+    With `chains` the deadlines of chains count too."""
 
-    def __init__(self, known: Analysed, options: PriorityOptions, room: str):
-        self.known, self.view, self.options, self.room = known, known.view, options, room
+    def __init__(self, known: Analysed, options: PriorityOptions, room: str, chains: ChainGoals | None = None):
+        self.known, self.view, self.options, self.room, self.chains = known, known.view, options, room, chains
         self.draw, self.looked = random.Random(options.seed), 0
         self.until = None if options.seconds is None else time.monotonic() + options.seconds
         self.progress = Progress("lokwurmi optimise")
@@ -97,10 +107,31 @@ class PrioritySearch:
         self.given: Order = {name: self.view.ranked(name) for name in ranked}
         self.numbers = {on: [self.view.tasks[it].rank for it in order] for on, order in self.given.items()}
         self.seen: dict[tuple[tuple[str, ...], ...], OrderVerdict] = {}
+        self.aims = [*self.aims_of_paths(), *self.aims_of_chains()]
         # nothing is known before the first look
+        self.first: Any = None
         self.best: Any = None
         self.best_verdict: Any = None
         self.how = ""
+
+    def aims_of_paths(self) -> list[Aim]:
+        return [Aim(it.name, it.tasks, it.deadline) for it in self.view.paths.values() if it.deadline is not None]
+
+    def aims_of_chains(self) -> list[Aim]:
+        """What chains leave to responses: their deadlines less their waits, where no response varies."""
+        if not self.chains:
+            return []
+        # a number that is asked for here is no bound: the waits are those of no jitter behind tasks
+        least, found = ChainSums(self.view, {name: it.best for name, it in self.view.tasks.items()}), []
+        for it in self.chains.now:
+            tasks = tuple(self.chains.tasks[it.name])
+            waits = (least.total(tasks, it.what) or 0) - sum(self.view.tasks[name].best for name in tasks)
+            found.append(Aim(name_of(it), tasks, max(1, (it.deadline or 0) - waits)))
+        return found
+
+    def verdict(self, report: Report) -> OrderVerdict:
+        """What there is to say of an order, by its report: priorities are nothing that a chain waits for."""
+        return OrderVerdict(report, self.chains.judged(self.view, bounds_in(report)) if self.chains else ())
 
     def overloaded(self) -> dict[str, Fraction]:
         """The resources that are asked for more than all of the time, and how much: whatever the priorities are, a task
@@ -128,8 +159,9 @@ class PrioritySearch:
         key = tuple(tuple(names) for names in order.values())
         if key not in self.seen:
             file = write(os.path.join(self.room, "order.toml"), self.with_order(order))
-            self.seen[key] = verdict_in(written_by(self.known.direct, "analyse", file))
+            self.seen[key] = self.verdict(reports_in(written_by(self.known.direct, "analyse", file), file)[-1])
             self.looked += 1
+            self.first = self.first or self.seen[key]
         return self.keep(order, self.seen[key], how)
 
     def keep(self, order: Order, verdict: OrderVerdict, how: str) -> OrderVerdict:
@@ -143,8 +175,9 @@ class PrioritySearch:
         return {on: sorted(names, key=key) for on, names in self.given.items()}
 
     def deadline(self, name: str) -> tuple[int, int]:
-        """The least deadline of the paths of a task; a task without one comes after all others, by its period."""
-        several = self.view.deadlines_over(name).values()
+        """The least deadline of the paths and chains of a task; a task without one comes after all others, by its
+        period."""
+        several = [it.deadline for it in self.aims if name in it.tasks]
         return (0, min(several)) if several else (1, self.view.shortest_period(name))
 
     def starts(self) -> Iterator[tuple[str, Order]]:
@@ -155,11 +188,10 @@ class PrioritySearch:
     def shared(self, weights: dict[str, float]) -> dict[str, float]:
         """Parts of the deadlines for the tasks, by weights."""
         parts: dict[str, float] = {}
-        for it in self.view.paths.values():
-            if it.deadline is not None:
-                whole = sum(weights[name] for name in it.tasks)
-                for name in it.tasks:
-                    parts[name] = min(parts.get(name, float("inf")), it.deadline * weights[name] / whole)
+        for it in self.aims:
+            whole = sum(weights[name] for name in it.tasks)
+            for name in it.tasks:
+                parts[name] = min(parts.get(name, float("inf")), it.deadline * weights[name] / whole)
         return parts
 
     def assigned(self, parts: dict[str, float], bounds: Bounds) -> Order:
@@ -214,14 +246,13 @@ class PrioritySearch:
                 parts = self.shared(self.moved(parts, verdict, factor))
 
     def excess(self, bound: dict[str, int]) -> dict[str, float]:
-        """By how much each task's share of a late path is too long, that of its latest path."""
+        """By how much each task's share of a late path or chain is too long, that of its latest."""
         found: dict[str, float] = {}
-        for it in self.view.paths.values():
-            if it.deadline is not None:
-                whole = sum(bound[name] for name in it.tasks)
-                late = (whole - it.deadline) / it.deadline
-                for name in it.tasks:
-                    found[name] = max(found.get(name, float("-inf")), late * bound[name] / whole)
+        for it in self.aims:
+            whole = sum(bound[name] for name in it.tasks)
+            late = (whole - it.deadline) / it.deadline
+            for name in it.tasks:
+                found[name] = max(found.get(name, float("-inf")), late * bound[name] / whole)
         return found
 
     def moved(self, parts: dict[str, float], verdict: OrderVerdict, factor: float) -> dict[str, float]:
@@ -246,14 +277,16 @@ class PrioritySearch:
         return names[: names.index(name)]
 
     def worth(self) -> dict[tuple[str, str], int]:
-        """Pairs of a task and one that waits for it, and how long: those of late paths, or of the tightest one."""
+        """Pairs of a task and one that waits for it, and how long: those of late paths and chains, or of the tightest
+        one."""
         verdict: OrderVerdict = self.best_verdict
         explained = Explained(self.ordered(self.best), verdict.report, MOST_LOOKS)
         found: dict[tuple[str, str], int] = {}
-        for path in sorted(verdict.report.paths, key=lambda it: -verdict.late.get(it, 0)):
-            if found and not verdict.is_late(path):
+        ways = {name: it.tasks for name, it in self.view.paths.items()} | {it.name: it.tasks for it in self.aims}
+        for name in sorted(ways, key=lambda it: -verdict.late.get(it, 0)):
+            if found and not verdict.is_late(name):
                 continue
-            for task in self.view.paths[path].tasks:
+            for task in ways[name]:
                 parts = explained.task(task).get("parts", ())
                 waits = {it["of"]: it["ticks"] for it in parts if it["kind"] == "rival"}
                 for rival in self.above(task):
@@ -264,7 +297,7 @@ class PrioritySearch:
         return found
 
     def exchanges(self) -> list[tuple[str, str]]:
-        """Pairs of tasks of one resource whose priorities might be exchanged, those first that help a late path most,
+        """Pairs of tasks of one resource whose priorities might be exchanged, those first that help most what is late,
         and some at random."""
         worth = self.worth()
         pairs = sorted(worth, key=lambda it: -worth[it])[: MOST_EXCHANGES * 3 // 4]
@@ -289,7 +322,7 @@ class PrioritySearch:
         trials = [Trial([f"swap {a} {b}"], [f"swap {a} {b}"]) for a, b in pairs]
         for (a, b), report in zip(pairs, reports_after(self.known.direct, file, trials, now) if pairs else []):
             self.looked, turn = self.looked + 1, {a: b, b: a}
-            verdict = OrderVerdict(report)
+            verdict = self.verdict(report)
             if verdict.cost < self.best_verdict.cost:
                 self.keep({on: [turn.get(it, it) for it in names] for on, names in order.items()}, verdict, how)
         return bool(self.best_verdict.cost < before)
@@ -344,7 +377,10 @@ class PrioritySearch:
         """What the program says of the edits that make the best order of the file's."""
         text = "".join(line + "\n" for line in self.script())
         script = write(self.options.script or os.path.join(self.room, "found.script"), text)
-        verdict = verdict_in(written_by(self.known.direct, "session", self.known.file, script))
+        told = written_by(self.known.direct, "session", self.known.file, script)
+        verdict = self.verdict(reports_in(told, "lokwurmi session")[-1])
+        if self.chains:
+            self.chains.compare(list(verdict.chains), self.chains.by_program(self.with_order(self.best)))
         if verdict.report.text != self.best_verdict.report.text:
             raise OwnFault("the edits don't make the order that was found")
         return verdict

@@ -4,9 +4,12 @@ import sys
 import tempfile
 from fractions import Fraction
 
+from lokwurmi.results.verdicts import PREMISE, Bound
+from lokwurmi_tools.search.chain_goals import PREMISE_WORDS, ChainGoals
 from lokwurmi_tools.search.priorities import OrderVerdict, PriorityOptions, PrioritySearch
 from lokwurmi_tools.shared.analysed import analysed
-from lokwurmi_tools.shared.tables import numbered
+from lokwurmi_tools.shared.tables import columns, numbered
+from lokwurmi_tools.shared.types import Values
 
 
 def above(share: Fraction) -> str:
@@ -14,12 +17,39 @@ def above(share: Fraction) -> str:
     return f"{-(-share * 1000 // 1) / 10:.1f}"
 
 
+def chains_told(search: PrioritySearch, verdict: OrderVerdict) -> list[Values]:
+    """The deadlines of chains, by the priorities of the file and by those that were found."""
+    return [
+        {"chain": after.name, "what": after.what, "deadline": after.deadline}
+        | {"before": before.bound, "verdict_before": before.verdict.value}
+        | {"after": after.bound, "verdict": after.verdict.value}
+        for before, after in zip(search.first.chains, verdict.chains)
+    ]
+
+
+def bound_text(it: Bound) -> str:
+    return "overload" if it.bound is None else str(it.bound)
+
+
+def lines_of_chains(search: PrioritySearch, verdict: OrderVerdict) -> list[str]:
+    """The same as a table, with what it presumes."""
+    if not search.chains:
+        return []
+    cells = [("chain", "", "before", "", "after", "", "deadline")]
+    for before, after in zip(search.first.chains, verdict.chains):
+        both = (bound_text(before), before.verdict.value, bound_text(after), after.verdict.value)
+        cells.append((after.name, after.what, *both, str(after.deadline)))
+    table = columns(cells, "", right=(2, 4, 6)) if verdict.chains else ["no chain has a deadline"]
+    return ["", *table, PREMISE_WORDS]
+
+
 def json_text(search: PrioritySearch, verdict: OrderVerdict) -> str:
     """All that was found, as JSON."""
     found = {"file": search.known.file, "found": verdict.holds, "orders": search.looked, "by": search.how}
     loads = {on: float(share) for on, share in search.overloaded().items()}
     late = {"late": verdict.late, "overload": verdict.over, "overloaded": loads}
-    return json.dumps({**found, **late, "order": search.changed(), "edits": search.script()}, indent=1)
+    chains = {"chains": chains_told(search, verdict), "premise": PREMISE if search.chains else None}
+    return json.dumps({**found, **late, "order": search.changed(), "edits": search.script(), **chains}, indent=1)
 
 
 def lines_of(search: PrioritySearch, verdict: OrderVerdict) -> list[str]:
@@ -35,7 +65,7 @@ def lines_of(search: PrioritySearch, verdict: OrderVerdict) -> list[str]:
         lines.append("there may be an order still: the search proves nothing about what it didn't try")
         if any("region" in it for it in search.view.values["task"]):
             lines.append("regions stay as they are: lokwurmi explain says whether a late path waits for one")
-    return lines
+    return lines + lines_of_chains(search, verdict)
 
 
 def searched_until(search: PrioritySearch) -> bool:
@@ -51,11 +81,12 @@ def searched_until(search: PrioritySearch) -> bool:
     return False
 
 
-def tell_priorities(options: PriorityOptions, file: str, program: str, is_json: bool) -> int:
+def tell_priorities(options: PriorityOptions, file: str, program: str, chains: str | None, is_json: bool) -> int:
     """Looks for priorities, and tells what was found; 3 where no order holds, and 130 after an interrupt."""
     with tempfile.TemporaryDirectory() as room:
         # a file that is refused is told here, and a program that isn't there is built
-        search = PrioritySearch(analysed(program, file), options, room)
+        known = analysed(program, file)
+        search = PrioritySearch(known, options, room, ChainGoals(known, chains) if chains else None)
         is_cut = searched_until(search)
         verdict = search.confirmed()
     print(json_text(search, verdict) if is_json else "\n".join(lines_of(search, verdict)))

@@ -124,7 +124,7 @@ class ChainSearch:
         self.bound = totals_of(bounds_by(options.program, options.file, tasks))[self.what]
         self.trace, self.ends = os.path.join(folder, "chain.csv"), 0.0
         # what the script lokwurmi calls, which is called many times here
-        self.program = often(options.program, "cpa_schedule")
+        self.program = often(options.program, "cpa_schedule_cli")
         self.draw = random.Random(f"{options.seed} {self.what} {' '.join(tasks)}")
         own = [view.sources[source] for name in tasks for source in view.sources_of(name)]
         self.span = 2 * (self.bound or UNBOUNDED) + 3 * max(it.period + it.jitter for it in own)

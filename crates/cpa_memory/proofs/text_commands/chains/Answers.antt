@@ -1,7 +1,7 @@
 use Rattle.std.proofs.Common.{◌≡◌, ℕ, List, map, string_bytes, Some, refl, ap, ◌∙◌, subst, arith}
 use Rattle.cpa_io.specs.Causes.{Rose}
 use Rattle.cpa_call.specs.Answers.{Sends}
-use Rattle.cpa_chains.specs.Calls as calls
+use Rattle.cpa_effect_files.specs.Calls as calls
 use Rattle.cpa_memory.specs.Held.{held_in}
 use Rattle.cpa_memory.specs.Words.{chains_words}
 use Rattle.cpa_memory.proofs.AnswerLaws.{ended-all}

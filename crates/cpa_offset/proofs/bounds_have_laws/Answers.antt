@@ -1,0 +1,25 @@
+use Rattle.cpa_offset.proofs.BoundLaws.{start_is_enough, offset_bound-grows, offset_bound-low, offset_bound-limit, offset_bound-le_plain, offset_bound-alone}
+use Rattle.cpa_offset.proofs.ApartLaws.{elsewhere-grows, elsewhere-le_plain, elsewhere-singles, apart_bound-grows, apart_bound-plain}
+use Rattle.cpa_offset.proofs.bounds_have_laws.Goals as goal
+
+pub returns-clause-starts : goal.returns-clause-starts
+returns-clause-starts c = start_is_enough
+
+pub returns-clause-grow : goal.returns-clause-grow
+returns-clause-grow c = offset_bound-grows
+
+pub returns-clause-in_range : goal.returns-clause-in_range
+returns-clause-in_range c own blocking joint rest limit cycle regular long =
+    (offset_bound-low own blocking joint rest limit cycle regular long, offset_bound-limit own blocking joint rest limit cycle)
+
+pub returns-clause-below : goal.returns-clause-below
+returns-clause-below c = offset_bound-le_plain
+
+pub returns-clause-alone : goal.returns-clause-alone
+returns-clause-alone c = offset_bound-alone
+
+pub returns-clause-elsewhere : goal.returns-clause-elsewhere
+returns-clause-elsewhere c = (elsewhere-grows, elsewhere-le_plain, elsewhere-singles)
+
+pub returns-clause-apart : goal.returns-clause-apart
+returns-clause-apart c = (apart_bound-grows, apart_bound-plain)

@@ -1,0 +1,4 @@
+pub mod Offsets
+pub mod Candidates
+pub mod Jobs
+pub mod Laws

@@ -1,0 +1,3 @@
+pub mod CanOffsets
+pub mod Frames
+pub mod Laws

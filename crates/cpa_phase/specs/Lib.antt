@@ -1,0 +1,5 @@
+pub mod Phases
+pub mod Streams
+pub mod Clocks
+pub mod Growth
+pub mod Laws
