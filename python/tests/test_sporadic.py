@@ -1,10 +1,11 @@
 """Sporadic sources. Expected numbers are worked out by hand."""
 import unittest
+import warnings
 from pathlib import Path
 
 from engine_for_tests import need_engine
 
-from lokwurmi import LokwurmiError, System, SystemRefused
+from lokwurmi import LokwurmiError, System, SystemRefused, UnitsRefused
 from lokwurmi.files.documents import values_in
 from lokwurmi.model.view import SystemView
 from lokwurmi.refusals.silence import ASKED, AskedChain, asked_in, kinds_in, sentences_on, silences_in
@@ -43,7 +44,7 @@ class Files(unittest.TestCase):
     def test_refusals(self) -> None:
         text = pressed().to_toml()
         for number in (1, 2):
-            wanted = f"source \"pedal\": it has the key `sporadic`, which format {number} hasn't: write `format = 4`"
+            wanted = f'source "pedal": it has the key `sporadic`, which format {number} hasn\'t: write `format = 4`'
             with self.assertRaisesRegex(LokwurmiError, wanted):
                 System.from_toml(text.replace("format = 4", f"format = {number}"))
         with self.assertRaisesRegex(LokwurmiError, "the key `aperiodic` isn't known; did you mean `sporadic`"):
@@ -91,9 +92,7 @@ class Silences(unittest.TestCase):
         self.assertEqual(kinds_in(view, tasks), ["first", "register"])
         self.assertEqual(kinds_in(view, tasks, True), ["first", "same-source"])
         self.assertEqual(kinds_in(view, ["control", "show"], True), ["first", "above"])
-        self.assertEqual(
-            opened(system, *tasks), {("pedal", "press"): ASKED, ("pedal", "show"): ("reaction", "held")}
-        )
+        self.assertEqual(opened(system, *tasks), {("pedal", "press"): ASKED, ("pedal", "show"): ("reaction", "held")})
         self.assertEqual(opened(system, *tasks, while_running=True), {("pedal", "press"): ("reaction", "held")})
 
     def test_sentences(self) -> None:
@@ -128,6 +127,21 @@ class Calls(unittest.TestCase):
         # 9 and the responses
         self.assertEqual(pressed().chain(["control", "act"]).reaction, 9 + 3 + 6)
         self.assertEqual(pressed().chain(["control", "press"]).age, 9 + 3 + 1)
+
+    def test_rounded_periods(self) -> None:
+        """The period of a sporadic source is the least time between events alone, which rounding down only shortens."""
+        need_engine("chain")
+        for sporadic in (True, False):
+            system = System(tick="1us")
+            cpu = system.preemptive("cpu")
+            with warnings.catch_warnings():
+                warnings.simplefilter("ignore")
+                source = system.source("pedal", "2.5us", sporadic=sporadic)
+                system.task("press", on=cpu, after=source, best="1us", worst="1us", priority=1)
+                if sporadic:
+                    self.assertIsNone(system.chain(["press"]).reaction)
+                else:
+                    self.assertRaises(UnitsRefused, system.chain, ["press"])
 
     def test_session(self) -> None:
         """An edit of the source keeps the key."""

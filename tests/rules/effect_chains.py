@@ -32,12 +32,8 @@ class Bounds:
 
     def __init__(self, text, bound=None):
         self.rules = System(text)
-<<<<<<< HEAD
-        self.bound = self.rules.least_solution()
-        self.sporadic = {it["name"] for it in tomllib.loads(text).get("source", []) if it.get("sporadic")}
-=======
         self.bound = self.rules.least_solution() if bound is None else bound
->>>>>>> 642a719b159de1443d946eeca1a2d7aa00b1f324
+        self.sporadic = {it["name"] for it in tomllib.loads(text).get("source", []) if it.get("sporadic")}
 
     def after(self, name):
         return self.rules.activators_of(name)

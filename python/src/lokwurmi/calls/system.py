@@ -260,9 +260,11 @@ class System(NamedEntries):
         return found
 
     def _check_periods(self) -> None:
-        """Refuses chains where a period was rounded: it is the longest time between events there, too."""
+        """Refuses chains where a period was rounded: it is the longest time between events there, too, but of a
+        sporadic source."""
+        may_be_silent = {f"source {name}" for name, it in self.sources.items() if it.sporadic}
         for it in self.roundings:
-            if it.key == "period":
+            if it.key == "period" and it.what not in may_be_silent:
                 raise UnitsRefused(
                     f"{it}: chains take the period as the longest time between events, too, so that it has no safe"
                     f" side; take a tick of which {text_of(it.time.nanoseconds)} is a multiple"
@@ -274,7 +276,7 @@ class System(NamedEntries):
         """How soon a chain of 1 to 32 tasks reacts at the latest, and how old its data can be, in ticks.
 
         Each task reads what the one before wrote last. The bounds hold where the sources keep their periods: a source
-        that falls silent voids them. Where the system has a tick, each wait has a tick more than `lokwurmi chain` says,
+        that falls silent voids them, unless it is sporadic, and then what waits for it has no bound. Where the system has a tick, each wait has a tick more than `lokwurmi chain` says,
         with which they hold for times between ticks too. `while_running` presumes that each task reads only while it
         runs, and so has smaller bounds.
         """

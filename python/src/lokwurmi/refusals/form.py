@@ -210,7 +210,9 @@ def way_of(spot: Spot, key: str) -> tuple[str | None, str]:
         helps = "for so many ticks a job isn't preempted; one with a region of at least `worst` never is"
         return REGION, helps + ("" if REGION in known else "; it needs `format = 4`")
     if part == "source" and OTHER_KEYS.get(bare(key)) == SPORADIC and SPORADIC not in spot.entry:
-        helps = "`sporadic = true` says that the source may fall silent; its period is its least distance in the long run"
+        helps = (
+            "`sporadic = true` says that the source may fall silent; its period is its least distance in the long run"
+        )
         return SPORADIC, helps + ("" if SPORADIC in known else "; it needs `format = 4`")
     if part in ("source", "task") and bare(key) in OFFSETS:
         return None, NO_OFFSETS

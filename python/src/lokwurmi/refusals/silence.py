@@ -1,4 +1,5 @@
-"""Notices on effect chains that wait for a sporadic source: which of their bounds that leaves open, by name and line."""
+"""Notices on effect chains that wait for a sporadic source, by name and line: which of their bounds that leaves
+open."""
 from __future__ import annotations
 
 import tomllib

@@ -17,7 +17,7 @@ Part = tuple[str, str]
 
 class StepParts(NamedTuple):
     """A step of a chain: the task, how data comes to it, the stream by which it waits least, its way, and the bound of
-    its response; None where there is no bound."""
+    its response; None where there is no bound, as where a stream is that of a sporadic source."""
 
     name: str
     kind: str
@@ -44,7 +44,7 @@ class ChainSums:
 
     def step(self, name: str, kind: str) -> StepParts:
         streams, ways = self.inputs[name], self.view.ways_to(name)
-        if not streams:
+        if not streams or self.view.sporadic_sources_of(name):
             return StepParts(name, kind, None, ways[0], self.bounds[name])
         least = min(range(len(streams)), key=lambda it: streams[it][0] + streams[it][1])
         return StepParts(name, kind, streams[least], ways[least], self.bounds[name])

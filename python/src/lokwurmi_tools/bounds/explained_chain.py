@@ -149,7 +149,9 @@ def lines_of_bound(told: Values, what: str, explained: Explained, scale: Scale) 
     for part in parts:
         cells = f"    {part['task']:<{wide}}  {part['kind']:<8}  "
         if part["ticks"] is None:
-            lines.append(f"{cells}overload")
+            silent = explained.view.sporadic_sources_of(part["task"]) if part["kind"] == "wait" else []
+            why = f"  {', '.join(silent)} may fall silent: sporadic" if silent else ""
+            lines.append(f"{cells}overload{why}")
             continue
         if part["kind"] == "wait":
             note = stream_text(part, explained, scale, is_between(scale))

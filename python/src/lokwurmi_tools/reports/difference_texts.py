@@ -186,11 +186,7 @@ def json_of(found: Changes, sides: list[ComparedSystem], options: DifferenceOpti
     """What changed as JSON, with the names of what was compared."""
     told = found.to_dict(options.all, options.worse)
     names = {
-        it.side: {
-            "file": it.file.name,
-            "chains_file": it.chains_file and it.chains_file.name,
-            "notices": it.silences(),
-        }
+        it.side: {"file": it.file.name, "chains_file": it.chains_file and it.chains_file.name, "notices": it.silences()}
         for it in sides
     }
     return json.dumps({"format": told.pop("format"), **names, **told}, indent=1) + "\n"

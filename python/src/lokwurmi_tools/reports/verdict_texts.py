@@ -7,17 +7,7 @@ from lokwurmi.results.effect_chains import ChainsReport
 from lokwurmi.results.reports import Verdict
 from lokwurmi.results.verdicts import KINDS, PREMISE_WORDS, Bound, Verdicts
 from lokwurmi_tools.bounds.bound_texts import shown
-from lokwurmi_tools.reports.judging import (
-    Given,
-    TickTexts,
-    chains_of,
-    distinct,
-    notices_on,
-    put,
-    report_of,
-    room,
-    tell,
-)
+from lokwurmi_tools.reports.judging import Given, TickTexts, chains_of, distinct, notices_on, put, report_of, room, tell
 from lokwurmi_tools.shared.tables import columns, numbered
 
 

@@ -62,12 +62,15 @@ def check_keys(file: str, document: Any, text: str) -> None:
 
 
 def starts_in(system: str, tick: Fraction) -> dict[str, Any]:
-    """What starts each task of a system; one with a period that is no whole number of ticks is refused."""
+    """What starts each task of a system; one with a period that is no whole number of ticks is refused, but of a
+    sporadic source, for which it is the least time between events alone."""
     text, document = parsed(system)
     starts = {str(it.get("name")): it.get("after", []) for it in entries_of(document, "task")}
     converter = Converter(tick, text)
     converter.convert(document)
-    if rounded := next((it for it in converter.told if it.key == "period"), None):
+    may_be_silent = {f"source {it.get('name')}" for it in entries_of(document, "source") if it.get("sporadic")}
+    periods = (it for it in converter.told if it.key == "period" and it.what not in may_be_silent)
+    if rounded := next(periods, None):
         whole = converter.whole_tick()
         then = f": take a tick of {text_of(whole)}" if whole else ": take a tick with which it is whole"
         raise Fault(f"{system}: {rounded}, and chains take a period as the longest time between two events, too{then}")
