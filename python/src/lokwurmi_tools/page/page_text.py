@@ -11,6 +11,7 @@ from lokwurmi_tools.page.page_on_request import changes_of, helps_of, margins_of
 from lokwurmi_tools.page.page_options import PageOptions
 from lokwurmi_tools.page.run_pictures import picture_of_graph, seen_run, told_of_run
 from lokwurmi_tools.page.system_tables import PageSystem, percent
+from lokwurmi_tools.search.chain_goals import ChainGoals
 from lokwurmi_tools.shared.analysed import analysed
 from lokwurmi_tools.shared.packages import need
 from lokwurmi_tools.shared.system_file import noticed_in
@@ -66,11 +67,13 @@ def tightest(paths: list[Values], chains: list[Values]) -> Values | None:
 
 def told_on_request(options: PageOptions, system: PageSystem) -> Values:
     """What the page has only where it is asked for."""
-    known = system.known
+    known, chains = system.known, None
+    if options.chains and (options.sensitivity or options.optimise):
+        chains = ChainGoals(known, options.chains, options.tick is not None)
     return {
         "changes": changes_of(known, options.session) if options.session else None,
-        "margins": margins_of(known, system.scale) if options.sensitivity else None,
-        "priorities": priorities_of(known) if options.optimise else None,
+        "margins": margins_of(known, system.scale, chains) if options.sensitivity else None,
+        "priorities": priorities_of(known, chains) if options.optimise else None,
         "helped": helps_of(system) if options.helps else None,
     }
 
