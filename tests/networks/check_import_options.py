@@ -166,6 +166,11 @@ def check_options(room):
         "multiplexed (--multiplexed out): Muxed" in told and "by --without: Speed, Signals" in told,
         f"--without: {told}",
     )
+
+
+def check_defaults(room):
+    """Defaults of the database, faster senders and longer ticks, by the words of a call."""
+    file = written(room, "car.dbc", DBC % "0")
     system, told, _ = imported(written(room, "defaults.dbc", DBC % "50"), *RATES, *LEAVE[2:], "--defaults")
     hold(
         {it["name"]: it["period"] for it in system["source"]}.get("Diagnosis.queued") == 50_000
@@ -210,6 +215,7 @@ def check_flexible(room):
 
 
 def check_refused(room):
+    """What is refused of rates, times, shares and names, and of what comes of them."""
     same = dumped(room, "same.kcd", {"same": matrix_of([("a", 1, False, 1, 10, {}), ("b", 1, False, 1, 10, {})])})
     one = dumped(room, "one.dbc", matrix_of([("a", 1, False, 1, 10, {}), ("b", 2, False, 1, 10, {})]))
     many = dumped(room, "many.dbc", matrix_of([(f"m{k}", k, True, 1, 10_000, {}) for k in range(8193)]))
@@ -240,6 +246,15 @@ def check_refused(room):
         ("taken; there are a, b", [one, "--bitrate", 500000, "--only", "c"]),
         ("--without c: there is no such frame; there are a, b", [one, "--bitrate", 500000, "--without", "c"]),
         ("--paths c*: there is no such frame among", [one, "--bitrate", 500000, "--paths", "c*"]),
+    )
+    hold_refused("import network", cases)
+
+
+def check_refused_files(room):
+    """What is refused of attributes and of files."""
+    one = dumped(room, "one.dbc", matrix_of([("a", 1, False, 1, 10, {}), ("b", 2, False, 1, 10, {})]))
+    minus = 'FormatVersion=5.0\nTitle="x"\n\n{SENDRECEIVE}\n\n[a]\nID=-03h\nDLC=1\nCycleTime=10\n'
+    cases = (
         ("no frame has such an attribute; there are", [one, "--bitrate", 500000, "--jitter-attribute", "Jitter"]),
         ("no frame has such an attribute; there are", [one, "--bitrate", 500000, "--deadline-attribute", "Dl"]),
         ("a: its GenMsgSendType is Cyclic", [one, "--bitrate", 500000, "--jitter-attribute", "GenMsgSendType"]),
@@ -250,15 +265,7 @@ def check_refused(room):
         ("two buses have the name one: name them", [one, one, "--bitrate", 500000]),
         (
             "`ID=-03h`, which says something of frames: its value is 3 or 8 hexadecimal digits and h",
-            [
-                written(
-                    room,
-                    "minus.sym",
-                    'FormatVersion=5.0\nTitle="x"\n\n{SENDRECEIVE}\n\n[a]\nID=-03h\nDLC=1\nCycleTime=10\n',
-                ),
-                "--bitrate",
-                500000,
-            ],
+            [written(room, "minus.sym", minus), "--bitrate", 500000],
         ),
         ("no frame is taken", [one, "--bitrate", 500000, "--without", "*"]),
         ("can't be written", [one, "--bitrate", 500000, "--to", os.path.join(room, "nowhere", "x.toml")]),
@@ -313,7 +320,10 @@ def check_unread(room):
         written(room, "comment.dbc", head + frames + comment + times), "--bitrate", 500000, "--defaults"
     )
     hold({it["name"] for it in system["task"]} == {"a", "b"}, "a frame in a comment is none")
-    # other formats
+
+
+def check_unread_elsewhere(room):
+    """The same of other formats, and of two frames with one identifier."""
     symbols = 'FormatVersion=5.0\nTitle="x"\n\n[lost]\nID=005h\nDLC=1\nCycleTime=10\n\n{SENDRECEIVE}\n\n'
     file = written(room, "unread.sym", symbols + "[a]\nID=003h\nDLC=1\nCycleTime=10\n")
     hold("line 4: [lost] isn't read" in said_by("import network", file, "--bitrate", 500000), "unread.sym")
@@ -463,9 +473,12 @@ if __name__ == "__main__":
         check_features,
         check_told,
         check_options,
+        check_defaults,
         check_flexible,
         check_refused,
+        check_refused_files,
         check_unread,
+        check_unread_elsewhere,
         check_wanted,
         check_vector,
     )

@@ -53,33 +53,26 @@ def sae_frames():
     ]
 
 
+def sae_report():
+    """The report of the benchmark, whose paths have the names of frames."""
+    with open("examples/sae_can.report.txt", encoding="ascii") as it:
+        return it.read().replace("path d", "path m")
+
+
 def check_sae(room):
     """The benchmark through databases and back."""
-    with open("examples/sae_can.report.txt", encoding="ascii") as it:
-        report = it.read().replace("path d", "path m")
+    report = sae_report()
     files = [dumped(room, "sae.dbc", matrix_of(sae_frames())), "examples/sae_can.dbc"]
     for file in files:
         system = os.path.join(room, "sae.toml")
-        done = called(
-            "import network", f"can={file}", "--bitrate", 125000, "--jitter-attribute", "JitterMs", "--to", system
-        )
+        words = [f"can={file}", "--bitrate", 125000, "--jitter-attribute", "JitterMs", "--to", system]
+        done = called("import network", *words)
         hold(
             done.returncode == 0 and analysed(system) == (0, report),
             f"the SAE benchmark by {file}: {done.stderr} {analysed(system)}",
         )
     # a bit is 10 ticks, all else is 1.25 times as many
-    done = called(
-        "import network",
-        f"can={files[0]}",
-        "--bitrate",
-        125000,
-        "--jitter-attribute",
-        "JitterMs",
-        "--tick",
-        "800ns",
-        "--to",
-        system,
-    )
+    done = called("import network", f"can={files[0]}", *words[1:], "--tick", "800ns")
     wanted = [
         [f"{int(word) * 5 // 4}" if word.isdigit() else word for word in line.split()]
         for line in report.splitlines()[:-1]
@@ -88,17 +81,15 @@ def check_sae(room):
         [line.split() for line in analysed(system)[1].splitlines()[:-1]] == wanted,
         f"the SAE benchmark by ticks of 800 ns: {done.stderr}",
     )
-    # without jitter, by formats that have none
+
+
+def check_without_jitter(room):
+    """The benchmark without jitter, by formats that have none."""
+    report, system = sae_report(), os.path.join(room, "sae.toml")
     for name, matrices in (("sae.sym", matrix_of(sae_frames())), ("sae.kcd", {"can": matrix_of(sae_frames())})):
         bounds = [line.split()[-1] for line in report.splitlines() if line.startswith("task ")]
-        done = called(
-            "import network",
-            f"can={dumped(room, name, matrices)}" if name.endswith("sym") else dumped(room, name, matrices),
-            "--bitrate",
-            125000,
-            "--to",
-            system,
-        )
+        file = f"can={dumped(room, name, matrices)}" if name.endswith("sym") else dumped(room, name, matrices)
+        done = called("import network", file, "--bitrate", 125000, "--to", system)
         hold(
             [line.split()[-1] for line in analysed(system)[1].splitlines() if line.startswith("task ")] == bounds,
             f"the SAE benchmark by {name}: {done.stderr}",
@@ -124,6 +115,43 @@ def bits_on_bus(identifier, extended):
     return f"{identifier >> 18:011b}" + "1" + "1" + f"{identifier & 0x3FFFF:018b}" + "0"
 
 
+def hold_entries(what, frames, system, bit):
+    """Holds the sources and the tasks of a system beside the frames that they are of, with the length of a bit."""
+    tasks, sources = {it["name"]: it for it in system["task"]}, {it["name"]: it for it in system["source"]}
+    hold(set(tasks) == {it[0] for it in frames} and len(sources) == len(tasks), what)
+    for name, _, extended, size, cycle, attributes in frames:
+        source = {"name": f"{name}.queued", "period": cycle * 1000} | (
+            {"jitter": round(attributes["JitterMs"] * 1000)} if attributes["JitterMs"] else {}
+        )
+        hold(sources[f"{name}.queued"] == source, f"{what} {name}: {sources[f'{name}.queued']}")
+        least, greatest = least_and_greatest(size, extended)
+        if bit.denominator == 1:
+            length = {"payload": size} | ({"extended": True} if extended else {})
+        else:
+            length = {"best": int(least * bit), "worst": -int(-greatest * bit // 1)}
+            hold(length["best"] <= least * bit and length["worst"] >= greatest * bit, f"{what}: lengths of {name}")
+        hold(
+            {key: it for key, it in tasks[name].items() if key not in ("name", "on", "after", "priority")} == length,
+            f"{what} {name}: {tasks[name]}",
+        )
+
+
+def hold_priorities(what, frames, system, bit):
+    """Holds priorities: they are identifiers where these are of one length and what is written tells of which."""
+    kinds = {it[2] for it in frames}
+    numbers = {it["name"]: it["priority"] for it in system["task"]}
+    if kinds == {False} or kinds == {True} and bit.denominator == 1:
+        hold(numbers == {it[0]: it[1] for it in frames}, f"{what}: its priorities aren't its identifiers")
+    else:
+        hold(sorted(numbers.values()) == list(range(len(frames))), f"{what}: its priorities aren't 0, 1, 2")
+    order = sorted(frames, key=lambda it: bits_on_bus(it[1], it[2]))
+    hold([it[0] for it in order] == sorted(numbers, key=lambda it: numbers[it]), f"{what}: its order")
+    hold(
+        len(set(numbers.values())) == len(numbers) and all(0 <= it <= 536_870_911 for it in numbers.values()),
+        f"{what}: its priorities",
+    )
+
+
 def check_random(room, count):
     draw = random.Random(1)
     for number in range(count):
@@ -134,43 +162,10 @@ def check_random(room, count):
         what = f"random bus {number}: {told}"
         bit = Fraction(1_000_000, rate)
         hold(system["resource"] == [{"name": "b", "kind": "can", "bit": -(-bit.numerator // bit.denominator)}], what)
-        tasks, sources = {it["name"]: it for it in system["task"]}, {it["name"]: it for it in system["source"]}
-        hold(set(tasks) == {it[0] for it in frames} and len(sources) == len(tasks), what)
-        for name, identifier, extended, size, cycle, attributes in frames:
-            source = {"name": f"{name}.queued", "period": cycle * 1000} | (
-                {"jitter": round(attributes["JitterMs"] * 1000)} if attributes["JitterMs"] else {}
-            )
-            hold(sources[f"{name}.queued"] == source, f"{what} {name}: {sources[f'{name}.queued']}")
-            least, greatest = least_and_greatest(size, extended)
-            if bit.denominator == 1:
-                length = {"payload": size} | ({"extended": True} if extended else {})
-            else:
-                length = {"best": int(least * bit), "worst": -int(-greatest * bit // 1)}
-                hold(length["best"] <= least * bit and length["worst"] >= greatest * bit, f"{what}: lengths of {name}")
-            hold(
-                {key: it for key, it in tasks[name].items() if key not in ("name", "on", "after", "priority")}
-                == length,
-                f"{what} {name}: {tasks[name]}",
-            )
-        # identifiers, where they are of one length and what is written tells of which
-        kinds = {it[2] for it in frames}
-        numbers = {it["name"]: it["priority"] for it in system["task"]}
-        if kinds == {False} or kinds == {True} and bit.denominator == 1:
-            hold(numbers == {it[0]: it[1] for it in frames}, f"{what}: its priorities aren't its identifiers")
-        else:
-            hold(sorted(numbers.values()) == list(range(len(frames))), f"{what}: its priorities aren't 0, 1, 2")
-        order = sorted(frames, key=lambda it: bits_on_bus(it[1], it[2]))
-        hold([it[0] for it in order] == sorted(tasks, key=lambda it: tasks[it]["priority"]), f"{what}: its order")
-        hold(
-            len({it["priority"] for it in tasks.values()}) == len(tasks)
-            and all(0 <= it["priority"] <= 536_870_911 for it in tasks.values()),
-            f"{what}: its priorities",
-        )
-        with open(os.path.join(room, "random.toml"), "w", encoding="ascii") as it:
-            it.write(text)
-        hold(analysed(os.path.join(room, "random.toml"))[0] in (0, 1, 2), f"{what}: it isn't accepted")
-        with open(os.path.join(room, "random.toml"), "w", encoding="ascii") as it:
-            it.write(text)
+        hold_entries(what, frames, system, bit)
+        hold_priorities(what, frames, system, bit)
+        accepted = analysed(written(room, "random.toml", text, "ascii"))[0] in (0, 1, 2)
+        hold(accepted, f"{what}: it isn't accepted")
         hold(
             {it["name"]: (it["tasks"], it["deadline"]) for it in system["path"]}
             == {it[0]: ([it[0]], it[4] * 1000) for it in frames},
@@ -360,6 +355,7 @@ def check_shipped(room):
 
 
 def check_words(_):
+    """Times, names, and lengths of frames."""
     hold(
         time_of("250us") == 250_000
         and time_of("0.5ms") == 500_000
@@ -374,6 +370,7 @@ def check_words(_):
         == ["a_b", "a-b", "a_b_2", "aaaaa", "aaa_2", "_-x", "_", "__2"],
         f"names: {taken}",
     )
+    hold(plain("Türsteuergerät (links)") == "Tursteuergerat_links_", "a name without its marks")
     for size in range(9):
         hold(
             least_and_greatest(size, False) == (47 + 8 * size, 55 + 10 * size) == execution({"payload": size}, {})
@@ -387,7 +384,10 @@ def check_words(_):
             hold(
                 found == least_and_greatest(size, extended), f"the lengths of a frame of {size} bytes in lokwurmi_tools"
             )
-    # k frames in each cycle, at any times within the jitter, are what --multiplexed each makes of them
+
+
+def check_multiplexed(_):
+    """k frames in each cycle, at any times within the jitter, are what --multiplexed each makes of them."""
     draw = random.Random(6)
     for _ in range(200):
         period, count, jitter = draw.randint(5, 60), draw.randint(1, 5), draw.choice((0, draw.randint(0, 150)))
@@ -401,12 +401,12 @@ def check_words(_):
             obeys(times, each, jitter + (count - 1) * each, 0),
             f"{count} frames in each cycle of {period}, with jitter {jitter}: {times}",
         )
-    hold(plain("Türsteuergerät (links)") == "Tursteuergerat_links_", "a name without its marks")
 
 
 if __name__ == "__main__":
     checks = (
         check_sae,
+        check_without_jitter,
         check_sheets,
         check_several,
         check_forward,
@@ -415,4 +415,4 @@ if __name__ == "__main__":
         check_clusters,
         check_shipped,
     )
-    run_checks(__doc__, (check_words, *checks), (check_random,))
+    run_checks(__doc__, (check_words, check_multiplexed, *checks), (check_random,))

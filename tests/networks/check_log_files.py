@@ -109,22 +109,42 @@ def check_kinds(room):
     )
 
 
+RELATIVE = """date Fri Nov 1 10:00:00.000 am 2024
+base hex timestamps relative
+no internal events logged
+0.1 1 10 Rx d 1 00
+0.1 1 10 Rx d 1 00
+"""
+
+
 def check_log_words(room):
-    """What is refused, and what is told then."""
+    """What is refused of words, and what is told then."""
     _, system, _, log = two_channels(room)
     report = written(room, "names.report.txt", analysed(system)[1])
+    known = [log, "--system", system, "--program", PROGRAM]
+    processors = ["--system", "examples/two_tasks.toml", "--report", "examples/two_tasks.report.txt"]
+    benchmark = ["--system", "examples/sae_can.toml", "--report", "examples/sae_can.report.txt"]
     cases = (
-        ("which bus is which channel", [log, "--system", system, "--program", PROGRAM]),
-        (
-            "the log has no such channel; it has can0, can1",
-            [log, "--system", system, "--bus", "b=can7", "--program", PROGRAM],
-        ),
-        ("there is no such bus; there are b", [log, "--system", system, "--bus", "c=can0", "--program", PROGRAM]),
+        ("which bus is which channel", known),
+        ("the log has no such channel; it has can0, can1", [*known, "--bus", "b=can7"]),
+        ("there is no such bus; there are b", [*known, "--bus", "c=can0"]),
         ("write it as BUS=CHANNEL", [log, "--bus", "b"]),
         ("--report wants --system", [log, "--report", report]),
         ("--period database wants --database", [log, "--period", "database"]),
         ("at least 0", [log, "--rough", "-1"]),
         ("is no time", [log, "--tick", "5"]),
+        (
+            "no frame of channel can0 has the identifier of a task on can: its priorities are no identifiers",
+            [log_of(room, "far.log", [(0, 0x700, False, 1, "can0")]), *benchmark],
+        ),
+        ("it has no CAN bus", [log, *processors]),
+    )
+    hold_refused("import log", cases)
+
+
+def check_refused_logs(room):
+    """What is refused of logs."""
+    cases = (
         ("can't be read", [os.path.join(room, "none.log")]),
         ("candump -l", [written(room, "plain.log", " can0  123   [2]  11 22\n")]),
         ("No read support for this unknown log format", [written(room, "plain.pcap", "x")]),
@@ -132,33 +152,7 @@ def check_log_words(room):
         ("there is no frame in it", [written(room, "empty.log", "")]),
         ("a line of the log is broken", [written(room, "huge.log", "(1.5) can0 010#00\n(1e300) can0 010#00\n")]),
         ("a line of the log is broken", [written(room, "nan.log", "(1.5) can0 010#00\n(nan) can0 010#00\n")]),
-        (
-            "times are relative to the line before",
-            [
-                written(
-                    room,
-                    "relative.asc",
-                    (
-                        "date Fri Nov 1 10:00:00.000 am 2024\nbase hex timestamps relative\nno internal events"
-                        " logged\n0.1 1 10 Rx d 1 00\n0.1 1 10 Rx d 1 00\n"
-                    ),
-                )
-            ],
-        ),
-        (
-            "no frame of channel can0 has the identifier of a task on can: its priorities are no identifiers",
-            [
-                log_of(room, "far.log", [(0, 0x700, False, 1, "can0")]),
-                "--system",
-                "examples/sae_can.toml",
-                "--report",
-                "examples/sae_can.report.txt",
-            ],
-        ),
-        (
-            "it has no CAN bus",
-            [log, "--system", "examples/two_tasks.toml", "--report", "examples/two_tasks.report.txt"],
-        ),
+        ("times are relative to the line before", [written(room, "relative.asc", RELATIVE)]),
     )
     hold_refused("import log", cases)
 
@@ -243,5 +237,14 @@ def check_can_utils(room):
 
 
 if __name__ == "__main__":
-    checks = (check_dropped, check_strange, check_errors, check_kinds, check_log_words, check_whole, check_can_utils)
+    checks = (
+        check_dropped,
+        check_strange,
+        check_errors,
+        check_kinds,
+        check_log_words,
+        check_refused_logs,
+        check_whole,
+        check_can_utils,
+    )
     run_checks(__doc__, checks)

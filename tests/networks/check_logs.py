@@ -11,6 +11,7 @@ import os
 import random
 import subprocess
 import tomllib
+from typing import NamedTuple
 
 from tests.rules.buses import Waiting
 from tests.support.calls import built, hold, written
@@ -61,6 +62,30 @@ def breach_of(times, period, jitter, distance, begin=0):
     return None
 
 
+ONE_TASK = """format = 1
+resource = [{ name = "r", kind = "preemptive" }]
+source = [{ name = "s", period = %d, jitter = %d, distance = %d }]
+task = [{ name = "t", on = "r", after = "s", best = 1, worst = 1, priority = 1 }]
+"""
+
+
+def hold_simulated(room, what, source, times):
+    """Holds what the program says of a trace with these times, with a source that fits and with less jitter."""
+    trace = written(room, "fit.csv", "".join(f"event,s,{time}\n" for time in times))
+    for less in (0, 1):
+        model = (source["period"], source.get("jitter", 0) - less, source.get("distance", 0))
+        if model[1] < 0:
+            continue
+        file = written(room, "fit.toml", ONE_TASK % model)
+        done = subprocess.run([PROGRAM, "simulate", file, trace], capture_output=True, text=True, check=False)
+        wanted = breach_of(times, *model)
+        hold(
+            wanted is None if done.returncode == 0 else done.stdout == f"trace disobeys source s times {wanted}\n",
+            f"{what}: {done.stdout} where {wanted} is expected",
+        )
+        hold(done.returncode == (17 if less else 0), f"{what}: {done.stdout}")
+
+
 def check_fits(room, count):
     """Sources of random logs, with many frames in one log."""
     draw = random.Random(2)
@@ -81,31 +106,8 @@ def check_fits(room, count):
         hold(not model[1] or not obeys(times, model[0], model[1] - 1, 0), f"{what}: less jitter would do")
         hold(model[2] == model[0] or not obeys(times, 1, 10**9, model[2] + 1), f"{what}: more distance would do")
         hold(model[2] <= model[0], f"{what}: its distance is above its period")
-    # what the program says of a trace with these times, with the source and with less
-    some = draw.sample(sorted(streams), min(40, len(streams)))
-    for identifier in some:
-        it, times = sources[identifier], streams[identifier]
-        trace = written(room, "fit.csv", "".join(f"event,s,{time}\n" for time in times))
-        for less in (0, 1):
-            jitter = it.get("jitter", 0) - less
-            if jitter < 0:
-                continue
-            model = f'{{ name = "s", period = {it["period"]}, jitter = {jitter}, distance = {it.get("distance", 0)} }}'
-            file = written(
-                room,
-                "fit.toml",
-                (
-                    f'format = 1\nresource = [{{ name = "r", kind = "preemptive" }}]\nsource = [{model}]\ntask = [{{'
-                    ' name = "t", on = "r", after = "s", best = 1, worst = 1, priority = 1 }]\n'
-                ),
-            )
-            done = subprocess.run([PROGRAM, "simulate", file, trace], capture_output=True, text=True, check=False)
-            wanted = breach_of(times, it["period"], jitter, it.get("distance", 0))
-            hold(
-                wanted is None if done.returncode == 0 else done.stdout == f"trace disobeys source s times {wanted}\n",
-                f"simulate of frame {identifier}: {done.stdout} where {wanted} is expected",
-            )
-            hold(done.returncode == (17 if less else 0), f"simulate of frame {identifier}: {done.stdout}")
+    for identifier in draw.sample(sorted(streams), min(40, len(streams))):
+        hold_simulated(room, f"simulate of frame {identifier}", sources[identifier], streams[identifier])
 
 
 def bus_run(draw, system, until):
@@ -132,6 +134,53 @@ def bus_run(draw, system, until):
     return found
 
 
+class RunOfBus(NamedTuple):
+    """A run of a bus: the words that tell its system, that system with its bounds, its frames by their names as they
+    stand in a log, and when each was received, with its response."""
+
+    words: list
+    system: dict
+    bounds: dict
+    frames: dict
+    found: list
+
+
+def hold_log(room, draw, number, it):
+    """Holds that a log of a run obeys its system."""
+    log = log_of(
+        room, draw.choice(("bus.log", "bus.asc", "bus.blf")), [(at, *it.frames[name], 0) for at, name, _ in it.found]
+    )
+    done = called("import log", log, *it.words)
+    lines = done.stdout.splitlines()
+    hold(
+        done.returncode == 0 and lines and lines[-1] == "summary beyond 0 strange 0" and not done.stderr,
+        f"run {number}: {done.stdout} {done.stderr}",
+    )
+    hold(
+        sum(" within " in line for line in lines) == len(it.system["task"]) and lines[-2].endswith(" rough 0"),
+        f"run {number}: {lines}",
+    )
+
+
+def hold_denser(room, draw, number, it):
+    """Holds that a source is told which sends one frame more than it may, as soon as the bus is free."""
+    name, (begin, _, _), (last, _, _) = draw.choice(sorted(it.frames)), it.found[0], it.found[-1]
+    source = next(one for one in it.system["source"] if one["name"] == f"{name}.queued")
+    least = least_and_greatest(it.frames[name][2], it.frames[name][1])[0] * 2
+    vary = it.bounds[name] - least
+    more = (source.get("jitter", 0) + vary) // (source["period"] - 200) + 2
+    added = [last + 200 * place for place in range(1, more + 1)]
+    dense = [(at, *it.frames[one], 0) for at, one, _ in it.found] + [(at, *it.frames[name], 0) for at in added]
+    done = called("import log", log_of(room, "dense.log", dense), *it.words)
+    times = [at - begin for at in [*(at for at, one, _ in it.found if one == name), *added]]
+    model = (source["period"], source.get("jitter", 0) + vary, max(-vary, least))
+    wanted = breach_of(times, *model, len(times) - more)
+    hold(
+        done.returncode == 4 and f"beyond output times {wanted}\n" in done.stdout,
+        f"denser run {number}: {done.stdout} where {wanted} is expected",
+    )
+
+
 def check_runs(room, count):
     """Logs of runs of a bus obey its system; those of a denser bus are told."""
     draw = random.Random(3)
@@ -149,44 +198,11 @@ def check_runs(room, count):
             all(response <= bounds[name] for _, name, response in found), f"run {number}: a response is above its bound"
         )
         frames = {name: (identifier, extended, size) for name, identifier, extended, size, _, _ in frames}
-        log = log_of(
-            room, draw.choice(("bus.log", "bus.asc", "bus.blf")), [(at, *frames[name], 0) for at, name, _ in found]
-        )
         database = ["--database", f"b={os.path.join(room, 'bus.dbc')}"]
         words = database if "in the order in which" in text else draw.choice(([], database))
-        done = called("import log", log, "--system", file, "--program", PROGRAM, *words)
-        lines = done.stdout.splitlines()
-        hold(
-            done.returncode == 0 and lines and lines[-1] == "summary beyond 0 strange 0" and not done.stderr,
-            f"run {number}: {done.stdout} {done.stderr}",
-        )
-        hold(
-            sum(" within " in line for line in lines) == len(system["task"]) and lines[-2].endswith(" rough 0"),
-            f"run {number}: {lines}",
-        )
-        # a source that sends one frame more than it may, as soon as the bus is free
-        name = draw.choice(sorted(frames))
-        source = next(it for it in system["source"] if it["name"] == f"{name}.queued")
-        vary = bounds[name] - (least_and_greatest(frames[name][2], frames[name][1])[0] * 2)
-        more = (source.get("jitter", 0) + vary) // (source["period"] - 200) + 2
-        last = found[-1][0]
-        dense = [(at, *frames[one], 0) for at, one, _ in found] + [
-            (last + 200 * place, *frames[name], 0) for place in range(1, more + 1)
-        ]
-        log = log_of(room, "dense.log", dense)
-        done = called("import log", log, "--system", file, "--program", PROGRAM, *words)
-        begin = found[0][0]
-        least = least_and_greatest(frames[name][2], frames[name][1])[0] * 2
-        times = [at - begin for at, one, _ in found if one == name] + [
-            last + 200 * place - begin for place in range(1, more + 1)
-        ]
-        wanted = breach_of(
-            times, source["period"], source.get("jitter", 0) + vary, max(-vary, least), len(times) - more
-        )
-        hold(
-            done.returncode == 4 and f"beyond output times {wanted}\n" in done.stdout,
-            f"denser run {number}: {done.stdout} where {wanted} is expected",
-        )
+        run = RunOfBus(["--system", file, "--program", PROGRAM, *words], system, bounds, frames, found)
+        hold_log(room, draw, number, run)
+        hold_denser(room, draw, number, run)
 
 
 def check_channels(room):
@@ -277,6 +293,22 @@ def check_tight(room):
     )
 
 
+def drawn_rows(draw, system):
+    """Rows of a trace of a system: ten events of each source, and ten executions of each task."""
+    rows = []
+    for it in system["source"]:
+        times = [
+            place * it["period"] + draw.choice((0, it.get("jitter", 0), draw.randint(0, it.get("jitter", 0))))
+            for place in range(10)
+        ]
+        rows += [f"event,{it['name']},{time}" for time in sorted(times)]
+    return rows + [
+        f"exec,{it['name']},{draw.choice((it['best'], it['worst'], draw.randint(it['best'], it['worst'])))}"
+        for it in system["task"]
+        for _ in range(10)
+    ]
+
+
 def check_chains(room):
     """Logs of the proved program's own runs, of buses whose frames come after tasks of processors: what `schedule`
     writes, as logs."""
@@ -289,24 +321,8 @@ def check_chains(room):
         )
         with open(file, "rb") as it:
             system = tomllib.load(it)
-        rows = []
-        for it in system["source"]:
-            times = [
-                place * it["period"] + draw.choice((0, it.get("jitter", 0), draw.randint(0, it.get("jitter", 0))))
-                for place in range(10)
-            ]
-            rows += [f"event,{it['name']},{time}" for time in sorted(times)]
-        rows += [
-            f"exec,{it['name']},{draw.choice((it['best'], it['worst'], draw.randint(it['best'], it['worst'])))}"
-            for it in system["task"]
-            for _ in range(10)
-        ]
-        done = subprocess.run(
-            [SCHEDULE, file, written(room, "made.csv", "".join(f"{it}\n" for it in rows))],
-            capture_output=True,
-            text=True,
-            check=False,
-        )
+        words = [SCHEDULE, file, written(room, "made.csv", "".join(f"{it}\n" for it in drawn_rows(draw, system)))]
+        done = subprocess.run(words, capture_output=True, text=True, check=False)
         hold(done.returncode == 0 and done.stdout, f"schedule of generated system {number}: {done.stdout}")
         tasks = {it["name"]: it for it in system["task"]}
         ends = [
@@ -329,7 +345,7 @@ def check_chains(room):
 
 
 def check_page(room):
-    """What docs/NETWORKS.md shows, and periods of logs with pauses and bursts."""
+    """What docs/NETWORKS.md shows."""
     with open("docs/NETWORKS.md", encoding="utf-8") as it:
         page = it.read()
     done = called("import log", "examples/sae_can.log", "--database", "can=examples/sae_can.dbc")
@@ -348,6 +364,10 @@ def check_page(room):
         shown and done.stdout.splitlines()[: len(shown)] == shown and done.returncode == 0,
         f"docs/NETWORKS.md: {shown} of {done.stdout}",
     )
+
+
+def check_periods(room):
+    """Periods of logs with pauses and bursts."""
     draw = random.Random(4)
     clean = [place * 1000 + draw.randint(0, 50) for place in range(400)]
     missing = [it for place, it in enumerate(clean) if place not in (77, 200, 201, 202, 350)]
@@ -372,4 +392,8 @@ def check_page(room):
 
 
 if __name__ == "__main__":
-    run_checks(__doc__, (check_channels, check_clocks, check_tight, check_chains, check_page), (check_fits, check_runs))
+    run_checks(
+        __doc__,
+        (check_channels, check_clocks, check_tight, check_chains, check_page, check_periods),
+        (check_fits, check_runs),
+    )

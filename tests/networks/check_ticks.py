@@ -168,13 +168,17 @@ def check_made(room, count):
             )
 
 
+BASE = """format = 1
+resource = [{ name = "r", kind = "tdma", gap = "1 us" }, { name = "c", kind = "can" }]
+source = [{ name = "s", period = "1 ms" }]
+task = [
+  { name = "t", on = "r", after = "s", best = "1 us", worst = "2 us", slot = "5 us" },
+]
+"""
+
+
 def check_refused(room):
     """What can't be turned is refused with its line."""
-    base = (
-        'format = 1\nresource = [{ name = "r", kind = "tdma", gap = "1 us" }, { name = "c", kind = "can" }]\n'
-        'source = [{ name = "s", period = "1 ms" }]\n'
-        'task = [\n  { name = "t", on = "r", after = "s", best = "1 us", worst = "2 us", slot = "5 us" },\n]\n'
-    )
     for said, old, new, tick in (
         ('line 3: source s: period = "1 week" is no time', "1 ms", "1 week", "1us"),
         (
@@ -200,24 +204,25 @@ def check_refused(room):
             "1us",
         ),
     ):
-        told = said_by("ticks", written(room, "bad.toml", base.replace(old, new, 1)), "--tick", tick)
+        told = said_by("ticks", written(room, "bad.toml", BASE.replace(old, new, 1)), "--tick", tick)
         hold(said in told, f"ticks: {said}: {told}")
-    file = written(room, "good.toml", base)
+
+
+def check_told(room):
+    """What is refused of words and files, and what is told of what is taken otherwise than it stands there."""
+    file = written(room, "good.toml", BASE)
     hold("is no time" in said_by("ticks", file, "--tick", "5"), "no tick")
     hold("can't be read" in said_by("ticks", os.path.join(room, "none.toml"), "--tick", "1us"), "no file")
     hold(
         "can't be written" in said_by("ticks", file, "--tick", "1us", "--to", os.path.join(room, "no", "x")),
         "no folder",
     )
-    done = called("ticks", written(room, "bare.toml", base.replace('"2 us"', "2")), "--tick", "1us")
+    done = called("ticks", written(room, "bare.toml", BASE.replace('"2 us"', "2")), "--tick", "1us")
     hold(done.returncode == 0 and "taken as ticks, since it has no unit: worst of task t" in done.stderr, done.stderr)
-    done = called(
-        "ticks", written(room, "limit.toml", base.replace('"tdma"', '"tdma", limit = "1 min"')), "--tick", "1us"
-    )
-    hold("is no time" in done.stderr, done.stderr)
-    done = called(
-        "ticks", written(room, "limit.toml", base.replace('"tdma"', '"tdma", limit = "11 s"')), "--tick", "1us"
-    )
+    file = written(room, "limit.toml", BASE.replace('"tdma"', '"tdma", limit = "1 min"'))
+    hold("is no time" in called("ticks", file, "--tick", "1us").stderr, "a limit in minutes")
+    file = written(room, "limit.toml", BASE.replace('"tdma"', '"tdma", limit = "11 s"'))
+    done = called("ticks", file, "--tick", "1us")
     hold("limit of 11s is 10000000, the most" in done.stderr and "limit = 10000000" in done.stdout, done.stderr)
 
 
@@ -383,4 +388,4 @@ def check_examples(room):
 
 
 if __name__ == "__main__":
-    run_checks(__doc__, (check_examples, check_refused, check_chains, check_pipe), (check_made,))
+    run_checks(__doc__, (check_examples, check_refused, check_told, check_chains, check_pipe), (check_made,))

@@ -21,6 +21,29 @@ class Generator:
         return ((word >> turn | word << (-turn & 31)) & 0xFFFFFFFF) % below
 
 
+def generated_tasks(numbers, k, processors, buses):
+    """The source, the three tasks and the path of a generated chain."""
+    period = (10000, 20000, 50000, 100000)[numbers.draw(4)]
+    jitter, first, payload, last = (
+        numbers.draw(1000),
+        numbers.draw(400) + 100,
+        numbers.draw(9),
+        numbers.draw(400) + 100,
+    )
+    processor = numbers.draw(processors)
+    names = [f"t{k}a", f"t{k}f", f"t{k}b"]
+    resources = (f"p{k % processors}", f"b{k % buses}", f"p{processor}")
+    lengths = ((first // 2, first), ((47 + 8 * payload) * 2, (55 + 10 * payload) * 2), (last // 2, last))
+    tasks = [
+        {"name": name, "on": on, "after": after, "best": best, "worst": worst, "priority": priority}
+        for name, on, after, (best, worst), priority in zip(
+            names, resources, [f"s{k}", *names], lengths, (2 * k, k, 2 * k + 1)
+        )
+    ]
+    source = {"name": f"s{k}", "period": period, "jitter": jitter, "distance": 0}
+    return source, tasks, {"name": f"c{k}", "tasks": names, "deadline": period}
+
+
 def generated_system(number, size):
     numbers = Generator(number, 54)
     processors, buses = -(-size // 4), -(-size // 8)
@@ -28,42 +51,10 @@ def generated_system(number, size):
     resources += [{"name": f"b{k}", "kind": "can", "limit": 1000000, "bit": 2} for k in range(buses)]
     sources, tasks, paths = [], [], []
     for k in range(size):
-        period = (10000, 20000, 50000, 100000)[numbers.draw(4)]
-        jitter, first, payload, last = (
-            numbers.draw(1000),
-            numbers.draw(400) + 100,
-            numbers.draw(9),
-            numbers.draw(400) + 100,
-        )
-        processor = numbers.draw(processors)
-        sources.append({"name": f"s{k}", "period": period, "jitter": jitter, "distance": 0})
-        tasks += [
-            {
-                "name": f"t{k}a",
-                "on": f"p{k % processors}",
-                "after": f"s{k}",
-                "best": first // 2,
-                "worst": first,
-                "priority": 2 * k,
-            },
-            {
-                "name": f"t{k}f",
-                "on": f"b{k % buses}",
-                "after": f"t{k}a",
-                "best": (47 + 8 * payload) * 2,
-                "worst": (55 + 10 * payload) * 2,
-                "priority": k,
-            },
-            {
-                "name": f"t{k}b",
-                "on": f"p{processor}",
-                "after": f"t{k}f",
-                "best": last // 2,
-                "worst": last,
-                "priority": 2 * k + 1,
-            },
-        ]
-        paths.append({"name": f"c{k}", "tasks": [f"t{k}a", f"t{k}f", f"t{k}b"], "deadline": period})
+        source, chain, path = generated_tasks(numbers, k, processors, buses)
+        sources.append(source)
+        tasks += chain
+        paths.append(path)
     return {"format": 1, "resource": resources, "source": sources, "task": tasks, "path": paths}
 
 

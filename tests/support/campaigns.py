@@ -2,6 +2,7 @@
 
 LOKWURMI_PROGRAM may name another program than that of this repository.
 """
+import contextlib
 import os
 import re
 import shutil
@@ -66,12 +67,12 @@ def added(file, calls):
 
 def stand_in(folder, name, text):
     """A script that is called in the program's place; $log takes a line of each hammer that went well, with its
-    number."""
+    number, and beside it stands the process of each that was begun."""
     path = os.path.join(folder, name)
     with open(path, "w") as it:
         it.write(
             f"#!/bin/bash\nlog={folder}/{name}.log\nroom={folder}\nprogram={PROGRAM}\n"
-            f'[ "$1" = hammer ] || exec "$program" "$@"\n{text}\n'
+            f'[ "$1" = hammer ] || exec "$program" "$@"\necho $$ >>"$log.begun"\n{text}\n'
         )
     os.chmod(path, 0o755)
     return path
@@ -86,7 +87,18 @@ def calls_in(path):
         return []
 
 
-def wait_for(is_so, seconds=60):
+def under_way(path):
+    """The processes of a stand-in's calls that go on; `sleep` may have taken a call's place."""
+    found = []
+    with contextlib.suppress(FileNotFoundError), open(path + ".log.begun") as it:
+        for number in it.read().split():
+            with contextlib.suppress(OSError), open(f"/proc/{number}/cmdline", "rb") as words:
+                found += [number] if re.search(rb"\0hammer\0|^sleep\0", words.read()) else []
+    return found
+
+
+def wait_for(is_so, seconds=600):
+    """Waits until something is so, on a busy machine too; whether it is."""
     end = time.monotonic() + seconds
     while not is_so() and time.monotonic() < end:
         time.sleep(0.1)

@@ -10,31 +10,54 @@ def some_region(pick, worst):
     return pick.choice([1, 2, 3, pick.randint(1, worst), worst, worst + 3, 1_000_000])
 
 
-def random_file(number):
-    """A random system: its size grows with the number. In two of four tasks on preemptive resources have regions, and
-    sources are sporadic."""
-    pick, regions = random.Random(number), random.Random(f"regions of {number}")
-    silent = random.Random(f"sporadic sources of {number}")
-    has_regions = number // 2 % 2 == 1
-    kinds = ["preemptive", "round-robin", "tdma", "can"]
-    resources, tasks = pick.randint(1, 2 + number % 7), pick.randint(1, 3 + number % 25)
-    lines, on_kind, chains, streams = [f"format = {4 if has_regions else 1 + number % 2}"], [], [], []
-    for r in range(resources):
-        kind = pick.choice(kinds)
-        on_kind.append(kind)
+def resource_lines(pick, count):
+    """Resources of any kind in lines of a file, and their kinds."""
+    lines, kinds = [], []
+    for r in range(count):
+        kind = pick.choice(["preemptive", "round-robin", "tdma", "can"])
+        kinds.append(kind)
         extra = {"tdma": f", gap = {pick.randint(0, 20)}", "can": f", bit = {pick.randint(1, 4)}"}.get(kind, "")
         lines.append(
             f'[[resource]]\nname = "r{r}"\nkind = "{kind}"\n'
             f'limit = {pick.choice([60, 300, 2000, 20000])}{extra.replace(", ", chr(10))}'
         )
+    return lines, kinds
+
+
+def source_lines(pick, tasks, silent):
+    """Three sources in lines of a file, the slower the more tasks there are; some are sporadic where `silent` draws so."""
     for s in range(3):
         period = pick.randint(10, 400) * (1 + tasks // 6)
-        lines.append(
+        line = (
             f'[[source]]\nname = "s{s}"\nperiod = {period}\n'
             f"jitter = {pick.choice([0, 0, period // 3, 3 * period])}\ndistance = {pick.choice([0, 0, period // 4])}"
         )
-        if has_regions and silent.random() < 0.4:
-            lines[-1] += f"\nsporadic = {silent.choice(('true', 'true', 'false'))}"
+        if silent and silent.random() < 0.4:
+            line += f"\nsporadic = {silent.choice(('true', 'true', 'false'))}"
+        yield line
+
+
+def path_lines(pick, tasks):
+    """Paths of two tasks in lines of a file, of which some have a deadline."""
+    for task in tasks:
+        after = [task["after"]] if isinstance(task["after"], str) else task["after"]
+        earlier = [it for it in after if it.startswith("t")]
+        if earlier and pick.random() < 0.4:
+            first, second = pick.choice(earlier)[1:], task["name"][1:]
+            deadline = pick.choice(["", f"\ndeadline = {pick.randint(1, 300)}"])
+            yield f'[[path]]\nname = "p{second}"\ntasks = ["t{first}", "t{second}"]{deadline}'
+
+
+def random_file(number):
+    """A random system: its size grows with the number. In two of four tasks on preemptive resources have regions, and
+    sources are sporadic."""
+    pick, regions = random.Random(number), random.Random(f"regions of {number}")
+    has_regions = number // 2 % 2 == 1
+    silent = random.Random(f"sporadic sources of {number}") if has_regions else None
+    resources, tasks = pick.randint(1, 2 + number % 7), pick.randint(1, 3 + number % 25)
+    lines, chains, streams = [f"format = {4 if has_regions else 1 + number % 2}"], [], []
+    of_resources, on_kind = resource_lines(pick, resources)
+    lines += [*of_resources, *source_lines(pick, tasks, silent)]
     for t in range(tasks):
         r = pick.randrange(resources)
         after = [
@@ -62,14 +85,7 @@ def random_file(number):
         )
         if has_regions and on_kind[r] == "preemptive" and regions.random() < 0.8:
             lines[-1] += f"\nregion = {some_region(regions, worst)}"
-    for task in tomllib.loads("\n".join(lines))["task"]:
-        earlier = [
-            it for it in ([task["after"]] if isinstance(task["after"], str) else task["after"]) if it.startswith("t")
-        ]
-        if earlier and pick.random() < 0.4:
-            first, second = pick.choice(earlier)[1:], task["name"][1:]
-            deadline = pick.choice(["", f"\ndeadline = {pick.randint(1, 300)}"])
-            lines.append(f'[[path]]\nname = "p{second}"\ntasks = ["t{first}", "t{second}"]{deadline}')
+    lines += path_lines(pick, tomllib.loads("\n".join(lines))["task"])
     return "\n".join(lines) + "\n"
 
 
@@ -117,22 +133,21 @@ def some_phases(draw, system):
     return phases
 
 
+def some_sources(draw):
+    """One to three sources, half of which have no jitter or no distance."""
+    sources = []
+    for k in range(draw.randint(1, 3)):
+        period = draw.randint(4, 40)
+        jitter, distance = draw.choice((0, 0, draw.randint(0, 60))), draw.choice((0, draw.randint(0, period)))
+        sources.append({"name": f"s{k}", "period": period, "jitter": jitter, "distance": distance})
+    return sources
+
+
 def random_system(draw):
     """A system: its resources, sources, tasks and paths; a task comes after sources and earlier tasks, mostly after
     one."""
     resources = some_resources(draw, 4, KINDS, 5)
-    sources = []
-    for k in range(draw.randint(1, 3)):
-        period = draw.randint(4, 40)
-        sources.append(
-            {
-                "name": f"s{k}",
-                "period": period,
-                "jitter": draw.choice((0, 0, draw.randint(0, 60))),
-                "distance": draw.choice((0, draw.randint(0, period))),
-            }
-        )
-    tasks = []
+    sources, tasks = some_sources(draw), []
     for k in range(draw.randint(1, 8)):
         on, several = draw.choice(resources), sources + tasks[-3:]
         after = [it["name"] for it in draw.sample(several, min(len(several), draw.choice((1, 1, 1, 2, 3))))]

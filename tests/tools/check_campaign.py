@@ -32,11 +32,18 @@ from tests.support.campaigns import (
     main,
     program_of,
     stand_in,
+    under_way,
     wait_for,
 )
 
 
 def hammers(folder):
+    """What is joined of calls, and what is refused before there is one."""
+    joined_texts(folder)
+    refused_words(folder)
+
+
+def joined_texts(folder):
     for file, whole, last in ((CROSSING, 9, 5), (CAR, 2, 3)):
         name = os.path.basename(file)
         done = campaign(
@@ -59,9 +66,10 @@ def hammers(folder):
             done.returncode == 0 and all(line.split()[1].isdigit() for line in it),
             "each call has a processor of its own",
         )
-    refused = os.path.join(folder, "refused.toml")
-    with open(refused, "w") as it:
-        it.write("format = 9\n")
+
+
+def refused_words(folder):
+    refused = written(folder, "refused.toml", "format = 9\n")
     done = campaign(PROGRAM, "hammer", refused, "--traces", 20, "--workers", 1)
     hold(
         (done.returncode, done.stdout) == (14, "system refused reason 13 file 0\n"),
@@ -99,32 +107,46 @@ def kill_worker(running, slow):
         ]
         return found
 
-    if wait_for(lambda: len(calls_in(slow)) >= 4) and wait_for(at_work, 20):
+    if wait_for(lambda: len(calls_in(slow)) >= 4) and wait_for(at_work):
         os.kill(found[-1], signal.SIGKILL)
         return 1
     return 0
 
 
-def failures(folder):
-    slow = stand_in(folder, "slow", '"$program" "$@"; status=$?; sleep 0.4; echo "$3" >>"$log"; exit $status')
-    wanted = added(CROSSING, [(it, 5) for it in range(1, 31)])
-    words = ("hammer", CROSSING, "--traces", 150, "--call", 5, "--workers", 2)
+# thirty calls, each of which takes a while by this stand-in
+WORDS = ("hammer", CROSSING, "--traces", 150, "--call", 5, "--workers", 2)
+SLOW = '"$program" "$@"; status=$?; sleep 0.4; echo "$3" >>"$log"; exit $status'
 
-    # into a pipe it tells at once how far it is, and what is under way before the first call is done
-    running = begin(slow, *words)
+
+def failures(folder):
+    """Workers, campaigns and calls that end before their time."""
+    slow, wanted = stand_in(folder, "slow", SLOW), added(CROSSING, [(it, 5) for it in range(1, 31)])
+    tell_at_once(slow, wanted)
+    killed_workers(slow, wanted)
+    for name in ("SIGINT", "SIGTERM"):
+        keep = os.path.join(folder, "kept" + name)
+        interrupted(slow, wanted, name, keep)
+    kept_folders(slow, keep)
+    calls_that_fail(folder)
+    calls_that_never_do(folder)
+
+
+def tell_at_once(slow, wanted):
+    """Into a pipe it tells at once how far it is, and what is under way before the first call is done."""
+    running = begin(slow, *WORDS)
     first, second = (running.stderr.readline().rstrip() for _ in range(2))
-    early = calls_in(slow)
-    hold(re.fullmatch(r"campaign: 0 of 150 traces, 0 s, workers begin", first), f"how far it is at first: {first}")
+    hold(re.fullmatch(r"campaign: 0 of 150 traces, \d+ s, workers begin", first), f"how far it is at first: {first}")
     wanted_line = r"campaign: 0 of 150 traces, \d+ s, \d+ of them under way in \d+ calls, 2 calls at a time"
     hold(re.fullmatch(wanted_line, second), f"and then: {second}")
-    hold(len(early) <= 2, f"after {len(early)} calls")
     text, told = running.communicate()
     hold((running.returncode, text) == (0, wanted), f"and it is whole: {told[-300:]}")
     os.remove(slow + ".log")
 
-    # a worker that is killed, beside another and as the only one
+
+def killed_workers(slow, wanted):
+    """A worker that is killed, beside another and as the only one."""
     for count in (2, 1):
-        running = begin(slow, *words[:-1], count)
+        running = begin(slow, *WORDS[:-1], count)
         killed = kill_worker(running, slow)
         text, _ = running.communicate()
         hold(
@@ -133,56 +155,58 @@ def failures(folder):
         )
         os.remove(slow + ".log")
 
-    # a campaign that is interrupted and goes on
-    for name in ("SIGINT", "SIGTERM"):
-        keep = os.path.join(folder, "kept" + name)
-        running = begin(slow, *words, "--resume", keep)
-        wait_for(lambda: len(calls_in(slow)) >= 8)
-        # an interrupt in a terminal comes to all processes of the group
-        (os.killpg if name == "SIGINT" else os.kill)(running.pid, getattr(signal, name))
-        text, told = running.communicate()
-        hold(
-            running.returncode == 130 and text == "" and f"--resume {keep}" in told and "Traceback" not in told,
-            f"{name} says how to go on",
-        )
-        with open(os.path.join(keep, "done.jsonl")) as it:
-            kept = re.findall(r'"key": "hammer (\d+) 5"', it.read())
-        hold(4 <= len(kept) < 30, f"a part of it is kept ({len(kept)} of 30)")
-        with open(os.path.join(keep, "done.jsonl"), "a") as it:
-            it.write('{"key": "hammer 29 5", "ans')
-        time.sleep(1)
-        os.remove(slow + ".log")
-        done = campaign(slow, *words, "--resume", keep)
-        again = calls_in(slow)
-        hold(
-            done.returncode == 0 and done.stdout == wanted, "it goes on to the same text, past a line that was cut off"
-        )
-        hold(sorted(again + kept, key=int) == [str(it) for it in range(1, 31)], "and repeats nothing")
-        done = campaign(slow, *words, "--resume", keep)
-        hold(done.stdout == wanted and calls_in(slow) == again, "once more: nothing is called")
-        os.remove(slow + ".log")
+
+def interrupted(slow, wanted, name, keep):
+    """A campaign that is interrupted and goes on, by what is kept in a folder."""
+    running = begin(slow, *WORDS, "--resume", keep)
+    wait_for(lambda: len(calls_in(slow)) >= 8)
+    # an interrupt in a terminal comes to all processes of the group
+    (os.killpg if name == "SIGINT" else os.kill)(running.pid, getattr(signal, name))
+    text, told = running.communicate()
+    hold(
+        running.returncode == 130 and text == "" and f"--resume {keep}" in told and "Traceback" not in told,
+        f"{name} says how to go on",
+    )
+    with open(os.path.join(keep, "done.jsonl")) as it:
+        kept = re.findall(r'"key": "hammer (\d+) 5"', it.read())
+    hold(4 <= len(kept) < 30, f"a part of it is kept ({len(kept)} of 30)")
+    with open(os.path.join(keep, "done.jsonl"), "a") as it:
+        it.write('{"key": "hammer 29 5", "ans')
+    # a call that was under way may write its line still
+    wait_for(lambda: not under_way(slow))
+    os.remove(slow + ".log")
+    done = campaign(slow, *WORDS, "--resume", keep)
+    again = calls_in(slow)
+    hold(done.returncode == 0 and done.stdout == wanted, "it goes on to the same text, past a line that was cut off")
+    hold(sorted(again + kept, key=int) == [str(it) for it in range(1, 31)], "and repeats nothing")
+    done = campaign(slow, *WORDS, "--resume", keep)
+    hold(done.stdout == wanted and calls_in(slow) == again, "once more: nothing is called")
+    os.remove(slow + ".log")
+
+
+def kept_folders(slow, keep):
+    """A folder of a campaign that is whole, with more traces and with other words."""
     done = campaign(slow, "hammer", CROSSING, "--traces", 165, "--call", 5, "--workers", 2, "--resume", keep)
     hold(
         done.stdout == added(CROSSING, [(it, 5) for it in range(1, 34)])
         and sorted(calls_in(slow)) == ["31", "32", "33"],
         "with more traces only the new ones are made",
     )
-    done = campaign(PROGRAM, *words, "--resume", keep)
+    done = campaign(PROGRAM, *WORDS, "--resume", keep)
     hold(done.returncode == 2 and "another program" in done.stderr, "a folder of another program is refused")
     done = campaign(slow, "hammer", CAR, "--traces", 5, "--resume", keep)
     hold(done.returncode == 2 and "another system file" in done.stderr, "a folder of another system is refused")
     with open(os.path.join(keep, "done.jsonl"), "a") as it:
         it.write("what is this\n")
-    done = campaign(slow, *words, "--resume", keep)
+    done = campaign(slow, *WORDS, "--resume", keep)
     hold(
         done.returncode == 2 and "line 35" in done.stderr and "Traceback" not in done.stderr,
         "a folder with a line of something else is refused",
     )
 
-    calls_that_fail(folder)
-
 
 def calls_that_fail(folder):
+    """Calls that fail once."""
     for name, end in (
         ("memory", "exit 30"),
         ("disk", "exit 20"),
@@ -201,6 +225,20 @@ def calls_that_fail(folder):
             done.returncode == 0 and done.stdout == added(CROSSING, [(it, 5) for it in range(1, 5)]),
             f"a call that fails once is tried again: {end}",
         )
+    gone = stand_in(
+        folder,
+        "rm",
+        'if [ "$3" = 2 ] && mkdir "$room/rm.failed" 2>/dev/null; then rm "$0" "$2"; fi; exec "$program" "$@"',
+    )
+    done = campaign(gone, "hammer", CROSSING, "--traces", 40, "--call", 5, "--workers", 1)
+    hold(
+        done.returncode == 0 and done.stdout == added(CROSSING, [(it, 5) for it in range(1, 9)]),
+        "files that are gone on a worker are written anew",
+    )
+
+
+def calls_that_never_do(folder):
+    """A call that fails however often it is tried."""
     never = stand_in(
         folder, "never", 'echo "$3" >>"$log"; [ "$3" != 2 ] || { echo "no room" >&2; exit 30; }; exec "$program" "$@"'
     )
@@ -228,16 +266,6 @@ def calls_that_fail(folder):
         and "Traceback" not in done.stderr,
         f"a call under which each worker dies is told after four {calls_in(deadly)} {done.stderr[-300:]}",
     )
-    gone = stand_in(
-        folder,
-        "rm",
-        'if [ "$3" = 2 ] && mkdir "$room/rm.failed" 2>/dev/null; then rm "$0" "$2"; fi; exec "$program" "$@"',
-    )
-    done = campaign(gone, "hammer", CROSSING, "--traces", 40, "--call", 5, "--workers", 1)
-    hold(
-        done.returncode == 0 and done.stdout == added(CROSSING, [(it, 5) for it in range(1, 9)]),
-        "files that are gone on a worker are written anew",
-    )
 
 
 def ends(folder):
@@ -246,27 +274,20 @@ def ends(folder):
         folder,
         "beyond",
         (
-            'if [ "$3" -gt 4 ]; then sleep 30; fi; echo "$3" >>"$log"; text=$("$program" "$@"); '
+            '[ "$3" -le 4 ] || exec sleep 900; echo "$3" >>"$log"; text=$("$program" "$@"); '
             'if [ "$3" = 3 ] && [ "$4" -gt 6 ]; then text=${text/beyond 0/beyond 2}; fi; echo "$text"'
         ),
     )
     keep = os.path.join(folder, "kept3")
-
-    def at_work():
-        lines = subprocess.run(
-            ["ps", "-eo", "pid=,args="], capture_output=True, text=True, check=False
-        ).stdout.splitlines()
-        return {it.split()[0] for it in lines if re.search(r"lokwurmi-\S+/program hammer", it)}
-
-    before, start = at_work(), time.monotonic()
+    start = time.monotonic()
     done = campaign(beyond, "hammer", CROSSING, "--traces", 100, "--call", 10, "--workers", 4, "--resume", keep)
     took = time.monotonic() - start
     hold(
         (done.returncode, done.stdout) == (1, "beyond seed 3 trace 6\n") and "hammer" in done.stderr,
         "a job beyond its bound is told with its number and trace",
     )
-    hold(took < 20, f"at once, with calls of 30 seconds under way ({took:.0f} s)")
-    hold(at_work() <= before, "and nothing of it runs on")
+    hold(took < 450, f"at once, with calls of 900 seconds under way ({took:.0f} s)")
+    hold(wait_for(lambda: not under_way(beyond), 60), "and nothing of it runs on")
     done = campaign(beyond, "hammer", CROSSING, "--traces", 100, "--call", 10, "--workers", 4, "--resume", keep)
     hold((done.returncode, done.stdout) == (1, "beyond seed 3 trace 6\n"), "once more from what is kept")
 

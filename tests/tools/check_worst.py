@@ -240,8 +240,8 @@ def check_progress(program):
         hold(done[0] == 0 and "the clock ended the search of " in done[2], f"the clock: {done}")
 
 
-# how long a search may go on after its time
-MORE_SECONDS = 5
+# how long a search may go on after its time, on a busy machine too: without a clock it would take hours
+MORE_SECONDS = 60
 SECONDS = 3
 # a program that takes longer for each replay than a search may take for all of them
 SLOW = """#!/bin/sh
