@@ -83,6 +83,16 @@ def hold_ending(script: str, number: int) -> None:
     hold(found == (wanted, rows, said), f"{' '.join(words[1:])}: {found}", "endings")
 
 
+def hold_unread(script: str, command: str) -> None:
+    """Holds a call whose reader ends after the first line: the output is known not to be whole."""
+    words = [script, command, "system", "lines.9000", "status.0"]
+    call = subprocess.Popen(words, stdout=subprocess.PIPE, stderr=subprocess.DEVNULL)
+    assert call.stdout is not None
+    call.stdout.readline()
+    call.stdout.close()
+    hold(call.wait(SECONDS) == 20, f"{command}, whose reader ends: {call.returncode}", "readers that end")
+
+
 def goes_on(process: str) -> bool:
     """Whether the program that has noted its process in this file goes on."""
     try:
@@ -125,6 +135,8 @@ def main() -> None:
     with tempfile.TemporaryDirectory() as room:
         script = installed(room)
         side_by_side(partial(hold_ending, script), count)
+        for command in ("simulate", "session"):
+            hold_unread(script, command)
         side_by_side(partial(hold_interrupted, script, room), count // 4)
     tell()
 

@@ -10,7 +10,8 @@ for the others, the tables of a page with long names aren't cut from 1366 on, an
 under the fixed column. Pages of overloaded systems must tell what lies behind; what is told of random systems that are
 overloaded must be so: with a limit a hundred times as high a task that has too much work has no bound still, and each
 task without one has a cause. A page with a file of chains shows their bounds and verdicts, what they are the sum of,
-and where a source of the run stays away. What page doesn't take is refused in a line.
+and where a source of the run stays away; they count in how far numbers may move, and in other priorities. What page
+doesn't take is refused in a line.
 
 A schedule that isn't among the examples is made by the step rules of check_runs.py. With --keep pictures of the pages,
 in light and dark, wide and narrow, the documents that they print, and the pages themselves stay in a folder.
@@ -33,7 +34,7 @@ from tests.tools.page_contents import (
     check_numbers,
 )
 from tests.tools.page_layout import check_filters, check_letters, check_names, check_sorting, check_views
-from tests.tools.page_options import check_chains, check_helps, check_searches, check_times
+from tests.tools.page_options import check_chain_searches, check_chains, check_helps, check_searches, check_times
 from tests.tools.page_widths import check_wide
 from tests.tools.pages import Pages, example, schedule_of
 
@@ -113,6 +114,7 @@ def main():
             check_examples(room, words, pages.page)
             check_wide(room, pages.page)
             check_chains(room, pages.page)
+            check_chain_searches(room, words.program, pages.page)
             check_cases(room, pages.page)
             check_times(words.program, pages.page)
             check_helps(words.program, pages.page)

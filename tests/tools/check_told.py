@@ -14,6 +14,7 @@ import subprocess
 import sys
 import tempfile
 
+from tests.support import verdicts
 from tests.support.calls import NEEDS_PROGRAMS, TOP, hold, python_with, reader_of, run, tell, written
 
 MIXED = """format = 1
@@ -25,14 +26,10 @@ task = [
 ]
 path = [{ name = "p", tasks = ["short"], deadline = 5000 }]
 """
-TWO = """format = 1
-resource = [{ name = "c1", kind = "preemptive" }, { name = "c2", kind = "preemptive" }]
-source = [{ name = "sa", period = 10 }, { name = "sb", period = 10 }]
-task = [
-  { name = "a", on = "c1", after = "sa", best = 2, worst = 2, priority = 1 },
-  { name = "b", on = "c2", after = "sb", best = 3, worst = 3, priority = 1 },
+TWO = f"""{verdicts.TWO}path = [
+  {{ name = "one", tasks = ["a"], deadline = 9 }},
+  {{ name = "two", tasks = ["b"], deadline = 9 }},
 ]
-path = [{ name = "one", tasks = ["a"], deadline = 9 }, { name = "two", tasks = ["b"], deadline = 9 }]
 """
 ENVIRONMENT = {key: it for key, it in os.environ.items() if key != "LOKWURMI_QUIET"}
 NOTICE = "goes on the bus before short"

@@ -51,6 +51,50 @@ def check_away(room, page_of):
     page.hold("In this run slow stays away: its events at 0 and 50 may be 20 apart at most." in words, words)
 
 
+# chains of effects.toml that are met, one by how long data is held
+MET = 'format = 1\nchain = [\n  { name = "brake", tasks = ["sense", "filter", "act"], reaction = 60, held = 70 },\n'
+MET += '  { name = "show", tasks = ["sense", "act"], reaction = 50, age = 30 },\n]\n'
+
+
+def check_chain_searches(room, program, page_of):
+    """How far numbers may move, and other priorities, where chains count, in ticks and in times between ticks; the tile
+    has all deadlines, and each place the premise."""
+    with open(example("effects", ".toml"), encoding="utf-8") as it:
+        text = it.read().replace('kind = "preemptive"', 'kind = "preemptive", limit = 500')
+    bounds, file, listed = (
+        effect_chains.Bounds(text),
+        written(room, "met.toml", text),
+        written(room, "listed.toml", MET),
+    )
+    page = page_of("chain_searches", file, "--chains", listed, "--sensitivity", "--optimise")
+    limits = {it["name"]: bounds.limits(it["tasks"]) for it in tomllib.loads(MET)["chain"]}
+    wanted = [(it["name"], what) for it in tomllib.loads(MET)["chain"] for what in ("reaction", "age", "held")]
+    asked = [it for it in wanted if it != ("show", "held")]
+    rows = [(it["Chain"], it["Of"], it["Bound"]) for it in page.table("chain-table")]
+    page.hold(rows == [(name, what, str(limits[name][what])) for name, what in asked], f"the chains are {rows}")
+    figures, head = page.text(".figures"), page.text("#verdict")
+    page.hold("chains, 4 of 4 deadlines met, if sources stay near" in figures, f"the tiles say {figures}")
+    page.hold("4 deadlines of chains are met, if sources stay near" in head, f"the head says {head}")
+    moves = {(it["May move"], it["By"][0]): it for it in page.table("margin-table")}
+    # the reaction of show is 9 + 3 + 24 + 9, of 50: its wait for act may be five ticks longer
+    slow = moves["period of slow", "+"]
+    page.hold((slow["As far as"], slow["Beyond that"]) == ("25", "chain show reaction"), f"the period of slow: {slow}")
+    for name, what in [it for it in asked if it != ("brake", "age")]:
+        last = moves[f"deadline of {name} {what}", "−"]["As far as"]
+        page.hold(last == str(limits[name][what]), f"the deadline of {name}, {what}: {last}")
+    said = page.text("#margins")
+    # with shorter periods act has no bound first
+    page.hold("a chain stops 8 of 10 numbers" in said and "sources stay near" in said, f"how far numbers may move: {said}")
+    found = {(it["Chain"], it["Of"]): it["With these"] for it in page.table("priority-chain-table")}
+    page.hold(all(found[it] == str(limits[it[0]][it[1]]) for it in found) and len(found) == 4, f"priorities: {found}")
+    # between ticks two waits have a tick more: 47, of 50
+    page = page_of("chain_times", file, "--chains", listed, "--sensitivity", "--tick", "1ms")
+    slow = next(it for it in page.table("margin-table") if it["May move"] == "period of slow" and it["By"][0] == "+")
+    page.hold(slow["As far as"] == "23ms", f"the period of slow between ticks: {slow}")
+    page = page_of("without_chains", file, "--sensitivity")
+    page.hold("an effect chain may miss its own by then" in page.text("#margins"), "that chains don't count isn't told")
+
+
 def check_parts(page, rows):
     """The parts of each bar of a chain: as long as what they tell, and their sum is the bound."""
     for place, row in enumerate(rows):

@@ -16,15 +16,15 @@ use Rattle.cpa_window.proofs.BusyWindowLaws.{busy_window_bound-grows, busy_windo
 use Rattle.cpa_spp.specs.Preemptive.{preemptive_demand, preemptive_bound}
 use Rattle.cpa_phase.specs.declared.clock.Clock.{Clock}
 use Rattle.cpa_phase.specs.Clocks.{clocks_work}
-use Rattle.cpa_phase.specs.Growth.{AreClocksNoDenser, AreRegular, plain_clocks_work, IsSingle}
+use Rattle.cpa_phase.specs.Growth.{AreClocksNoDenser, plain_clocks_work, IsSingle}
 use Rattle.cpa_phase.proofs.WorkLaws.{clocks_work-denser, clocks_work-le_plain, singles_work}
 use Rattle.cpa_offset.specs.Offsets.{demand, elsewhere, apart_bound}
 
 -- ---- what others ask for elsewhere
 
-pub elsewhere-grows : (clocks clocks' : List Clock) (free free' : List Rival) (w : ℕ) → All (λ (c : Clock). AreRegular c.streams.items) clocks → AreClocksNoDenser clocks clocks' → AreNoHeavier free free' → IsAtMost (elsewhere clocks free w) (elsewhere clocks' free' w)
-elsewhere-grows clocks clocks' free free' w each c f =
-    bound_plus-mono (Within (clocks_work clocks w)) (Within (clocks_work clocks' w)) (work_in free w) (work_in free' w) (clocks_work-denser clocks clocks' w each c) (work_in-mono free free' w f)
+pub elsewhere-grows : (clocks clocks' : List Clock) (free free' : List Rival) (w : ℕ) → AreClocksNoDenser clocks clocks' → AreNoHeavier free free' → IsAtMost (elsewhere clocks free w) (elsewhere clocks' free' w)
+elsewhere-grows clocks clocks' free free' w c f =
+    bound_plus-mono (Within (clocks_work clocks w)) (Within (clocks_work clocks' w)) (work_in free w) (work_in free' w) (clocks_work-denser clocks clocks' w c) (work_in-mono free free' w f)
 
 pub elsewhere-le_plain : (clocks : List Clock) (free : List Rival) (w : ℕ) → IsAtMost (elsewhere clocks free w) (bound_plus (Within (plain_clocks_work clocks w)) (work_in free w))
 elsewhere-le_plain clocks free w =

@@ -1,5 +1,5 @@
 -- The bound: it is that of some candidate, it grows, and it is never above the one without offsets.
-use Rattle.std.proofs.Common.{◌≡◌, ℕ, zero, suc, ◌+◌, ◌*◌, ◌<◌, ◌≤◌, true, false, List, [], ◌∷◌, map, length, All, slice_index_or, refl, sym, ◌∙◌, ap, subst, arith}
+use Rattle.std.proofs.Common.{◌≡◌, ℕ, suc, ◌+◌, ◌*◌, ◌<◌, ◌≤◌, true, false, List, [], ◌∷◌, map, length, All, slice_index_or, refl, sym, ◌∙◌, ap, subst, arith}
 use Rattle.std.proofs.Math.Nat.{mul-le-mul_left}
 use Rattle.cpa_units.specs.declared.bound.Bound.{Bound}
 use Rattle.cpa_units.specs.declared.bound.Bound.TheVariants.{Within, Overload}
@@ -20,7 +20,7 @@ use Rattle.cpa_phase.specs.declared.clock.Clock.{Clock}
 use Rattle.cpa_phase.specs.Phases.{earliest_arrival}
 use Rattle.cpa_phase.specs.Streams.{phase_at, phased_from, work_from, IsCandidate, IsPlacedOn}
 use Rattle.cpa_phase.specs.Clocks.{clocks_work}
-use Rattle.cpa_phase.specs.Growth.{plain_work, IsPlacedNoDenser, ArePlacedNoDenser, AreRegular}
+use Rattle.cpa_phase.specs.Growth.{plain_work, IsPlacedNoDenser, ArePlacedNoDenser}
 use Rattle.cpa_phase.proofs.UpToLaws.{up_to-less}
 use Rattle.cpa_phase.proofs.PhaseLaws.{earliest_arrival-ge, earliest_arrival-plain}
 use Rattle.cpa_phase.proofs.CandidateLaws.{first_candidate}
@@ -68,7 +68,7 @@ pub others-le_plain : (joint : List Placed) (rest : ℕ → Bound) (x w : ℕ) �
 others-le_plain joint rest x w =
     bound_plus-mono (Within (work_from joint x w)) (Within (plain_work joint w)) (rest w) (rest w) (work_from-le_plain joint x w) (IsAtMost_refl (rest w))
 
-pub offset_bound-le_plain : (own : Placed) (blocking : ℕ) (joint : List Placed) (rest : ℕ → Bound) (rivals : List Rival) (limit cycle : ℕ) → IsStream own.stream → ((w : ℕ) → IsAtMost (bound_plus (Within (plain_work joint w)) (rest w)) (work_in rivals w)) → IsAtMost (offset_bound own blocking joint rest limit cycle) (preemptive_bound (own.stream ∷ []) own.worst blocking rivals limit)
+pub offset_bound-le_plain : (own : Placed) (blocking : ℕ) (joint : List Placed) (rest : ℕ → Bound) (rivals : List Rival) (limit cycle : ℕ) → IsStream own.stream → ((x w : ℕ) → IsAtMost (others joint rest x w) (work_in rivals w)) → IsAtMost (offset_bound own blocking joint rest limit cycle) (preemptive_bound (own.stream ∷ []) own.worst blocking rivals limit)
 unfolding offset_bound
 offset_bound-le_plain own blocking joint rest rivals limit cycle regular covers =
     greatest_of-le (bound_from own blocking joint rest limit) cycle (preemptive_bound (own.stream ∷ []) own.worst blocking rivals limit)
@@ -79,8 +79,7 @@ offset_bound-le_plain own blocking joint rest rivals limit cycle regular covers 
     (late-le_busy d early limit)
     (busy_window_bound-grows d (preemptive_demand own.worst blocking rivals) early (delta_minus (own.stream ∷ [])) limit
     (λ q w.
-    bound_plus-mono (Within (blocking + q * own.worst)) (Within (blocking + q * own.worst)) (others joint rest x w) (work_in rivals w) (omega arith)
-    (IsAtMost_trans (others joint rest x w) (bound_plus (Within (plain_work joint w)) (rest w)) (work_in rivals w) (others-le_plain joint rest x w) (covers w)))
+    bound_plus-mono (Within (blocking + q * own.worst)) (Within (blocking + q * own.worst)) (others joint rest x w) (work_in rivals w) (omega arith) (covers x w))
     (λ q. let plain = earliest_arrival-ge own.stream (phase_at own x) q in omega (arith, plain, delta_minus-of_one own.stream q regular))))
 
 -- ---- and where the task has no higher one on its clock, equal to it
@@ -114,45 +113,40 @@ offset_bound-alone own blocking rest rivals limit cycle regular long same =
     subst (λ (b : Bound). IsAtMost b (offset_bound own blocking [] rest limit cycle)) here (le-offset_bound own blocking [] rest limit cycle (1 + phase_at own 1) (omega arith) (omega (arith, near)))
     in
     let below : IsAtMost (offset_bound own blocking [] rest limit cycle) plain =
-    offset_bound-le_plain own blocking [] rest rivals limit cycle regular (λ w. subst (λ (b : Bound). IsAtMost b (work_in rivals w)) (sym (zero_plus (rest w) ∙ same w)) (IsAtMost_refl (work_in rivals w)))
+    offset_bound-le_plain own blocking [] rest rivals limit cycle regular (λ x w. subst (λ (b : Bound). IsAtMost b (work_in rivals w)) (sym (others-alone rest x w ∙ same w)) (IsAtMost_refl (work_in rivals w)))
     in
     IsAtMost_antisymm (offset_bound own blocking [] rest limit cycle) plain below above
 
 -- ---- it grows
 
 -- others of wider intervals ask for no less
-pub others-grow : (joint joint' : List Placed) (rest rest' : ℕ → Bound) (x w : ℕ) → AreRegular joint → ArePlacedNoDenser joint joint' → ((w : ℕ) → IsAtMost (rest w) (rest' w)) → IsAtMost (others joint rest x w) (others joint' rest' x w)
-others-grow joint joint' rest rest' x w regular j r =
-    bound_plus-mono (Within (work_from joint x w)) (Within (work_from joint' x w)) (rest w) (rest' w) (work_from-denser joint joint' x w regular j) (r w)
+pub others-grow : (joint joint' : List Placed) (rest rest' : ℕ → Bound) (x w : ℕ) → ArePlacedNoDenser joint joint' → IsAtMost (rest w) (rest' w) → IsAtMost (others joint rest x w) (others joint' rest' x w)
+others-grow joint joint' rest rest' x w j r =
+    bound_plus-mono (Within (work_from joint x w)) (Within (work_from joint' x w)) (rest w) (rest' w) (work_from-denser joint joint' x w j) r
 
-pub offset_bound-grows : (own own' : Placed) (blocking blocking' : ℕ) (joint joint' : List Placed) (rest rest' : ℕ → Bound) (limit cycle : ℕ) → AreRegular (own ∷ joint) → IsPlacedNoDenser own own' → blocking ≤ blocking' → ArePlacedNoDenser joint joint' → ((w : ℕ) → IsAtMost (rest w) (rest' w)) → IsAtMost (offset_bound own blocking joint rest limit cycle) (offset_bound own' blocking' joint' rest' limit cycle)
+pub offset_bound-grows : (own own' : Placed) (blocking blocking' : ℕ) (joint joint' : List Placed) (rest rest' : ℕ → Bound) (limit cycle : ℕ) → IsPlacedNoDenser own own' → blocking ≤ blocking' → ((x w : ℕ) → IsAtMost (others joint rest x w) (others joint' rest' x w)) → IsAtMost (offset_bound own blocking joint rest limit cycle) (offset_bound own' blocking' joint' rest' limit cycle)
 unfolding offset_bound
-offset_bound-grows own own' blocking blocking' joint joint' rest rest' limit cycle regular o b j r =
+offset_bound-grows own own' blocking blocking' joint joint' rest rest' limit cycle o b more =
     greatest_of-mono (bound_from own blocking joint rest limit) (bound_from own' blocking' joint' rest' limit) cycle cycle (omega arith)
     (λ x some le.
     late-grows (demand own.worst blocking (others joint rest x)) (demand own'.worst blocking' (others joint' rest' x)) (earliest_arrival own.stream (phase_at own x)) (earliest_arrival own'.stream (phase_at own' x)) limit
     (λ q w.
     let jobs : q * own.worst ≤ q * own'.worst = mul-le-mul_left q o.worst in
     bound_plus-mono (Within (blocking + q * own.worst)) (Within (blocking' + q * own'.worst)) (others joint rest x w) (others joint' rest' x w) (omega (arith, b, jobs))
-    (others-grow joint joint' rest rest' x w (λ k d less. regular (suc k) d (omega arith)) j r))
-    (λ q. earliest_arrival-fuller (phased_from x own) (phased_from x own') q (denser_is_fuller own own' x (regular 0 own (omega arith)) o)))
-
-pub only_own : (own : Placed) → IsStream own.stream → AreRegular (own ∷ [])
-only_own own one zero d less = one
-only_own own one (suc k) d less = absurd (omega arith)
+    (more x w))
+    (λ q. earliest_arrival-fuller (phased_from x own) (phased_from x own') q (denser_is_fuller own own' x o)))
 
 pub no_denser_itself : (p : Placed) → IsPlacedNoDenser p p
 no_denser_itself p = record { period = refl; sooner = omega arith; later = omega arith; distance = omega arith; worst = omega arith }
 
 -- the execution is a bound from below
-pub offset_bound-low : (own : Placed) (blocking : ℕ) (joint : List Placed) (rest : ℕ → Bound) (limit cycle : ℕ) → AreRegular (own ∷ joint) → own.stream.period ≤ cycle → IsAtMost (Within own.worst) (offset_bound own blocking joint rest limit cycle)
-offset_bound-low own blocking joint rest limit cycle regular long =
-    let one : IsStream own.stream = regular 0 own (omega arith) in
+pub offset_bound-low : (own : Placed) (blocking : ℕ) (joint : List Placed) (rest : ℕ → Bound) (limit cycle : ℕ) → IsStream own.stream → own.stream.period ≤ cycle → IsAtMost (Within own.worst) (offset_bound own blocking joint rest limit cycle)
+offset_bound-low own blocking joint rest limit cycle one long =
     let nobody : ℕ → Bound = λ w. Within 0 in
     let alone : offset_bound own blocking [] nobody limit cycle ≡ preemptive_bound (own.stream ∷ []) own.worst blocking [] limit = offset_bound-alone own blocking nobody [] limit cycle one long (λ w. refl) in
     let low : IsAtMost (Within own.worst) (offset_bound own blocking [] nobody limit cycle) = rw alone (preemptive_bound-low (own.stream ∷ []) own.worst blocking [] limit) in
     IsAtMost_trans (Within own.worst) (offset_bound own blocking [] nobody limit cycle) (offset_bound own blocking joint rest limit cycle) low
-    (offset_bound-grows own own blocking blocking [] joint nobody rest limit cycle (only_own own one) (no_denser_itself own) (omega arith) tt (λ w. zero_at_most (rest w)))
+    (offset_bound-grows own own blocking blocking [] joint nobody rest limit cycle (no_denser_itself own) (omega arith) (λ x w. others-grow [] joint nobody rest x w tt (zero_at_most (rest w))))
 
 -- what is without a clock is a part of what others ask for elsewhere
 pub work_in-le_elsewhere : (clocks : List Clock) (free : List Rival) (w : ℕ) → IsAtMost (work_in free w) (elsewhere clocks free w)
@@ -160,12 +154,11 @@ work_in-le_elsewhere clocks free w =
     subst (λ (b : Bound). IsAtMost b (elsewhere clocks free w)) (zero_plus (work_in free w)) (bound_plus-mono (Within 0) (Within (clocks_work clocks w)) (work_in free w) (work_in free w) (omega arith) (IsAtMost_refl (work_in free w)))
 
 -- an input without a bound leaves none
-pub offset_bound-unbounded : (own : Placed) (blocking : ℕ) (joint : List Placed) (clocks : List Clock) (free : List Rival) (limit cycle : ℕ) → AreRegular (own ∷ joint) → own.stream.period ≤ cycle → 0 < own.worst → some_unbounded free ≡ true → offset_bound own blocking joint (elsewhere clocks free) limit cycle ≡ Overload
-offset_bound-unbounded own blocking joint clocks free limit cycle regular long some h =
-    let one : IsStream own.stream = regular 0 own (omega arith) in
+pub offset_bound-unbounded : (own : Placed) (blocking : ℕ) (joint : List Placed) (clocks : List Clock) (free : List Rival) (limit cycle : ℕ) → IsStream own.stream → own.stream.period ≤ cycle → 0 < own.worst → some_unbounded free ≡ true → offset_bound own blocking joint (elsewhere clocks free) limit cycle ≡ Overload
+offset_bound-unbounded own blocking joint clocks free limit cycle one long some h =
     let alone : offset_bound own blocking [] (work_in free) limit cycle ≡ Overload = offset_bound-alone own blocking (work_in free) free limit cycle one long (λ w. refl) ∙ unbounded-overload (own.stream ∷ []) own.worst blocking free limit some h in
     let more : IsAtMost (offset_bound own blocking [] (work_in free) limit cycle) (offset_bound own blocking joint (elsewhere clocks free) limit cycle) =
-    offset_bound-grows own own blocking blocking [] joint (work_in free) (elsewhere clocks free) limit cycle (only_own own one) (no_denser_itself own) (omega arith) tt (work_in-le_elsewhere clocks free)
+    offset_bound-grows own own blocking blocking [] joint (work_in free) (elsewhere clocks free) limit cycle (no_denser_itself own) (omega arith) (λ x w. others-grow [] joint (work_in free) (elsewhere clocks free) x w tt (work_in-le_elsewhere clocks free w))
     in
     IsAtMost_antisymm (offset_bound own blocking joint (elsewhere clocks free) limit cycle) Overload tt (subst (λ (b : Bound). IsAtMost b (offset_bound own blocking joint (elsewhere clocks free) limit cycle)) alone more)
 

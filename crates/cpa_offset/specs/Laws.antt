@@ -11,8 +11,8 @@ use Rattle.cpa_spp.specs.Preemptive.{preemptive_bound}
 use Rattle.cpa_phase.specs.declared.placed.Placed.{Placed}
 use Rattle.cpa_phase.specs.declared.clock.Clock.{Clock}
 use Rattle.cpa_phase.specs.Streams.{IsCandidate, IsPlacedOn}
-use Rattle.cpa_phase.specs.Growth.{IsPlacedNoDenser, ArePlacedNoDenser, AreClocksNoDenser, AreRegular, plain_work, plain_clocks_work, IsSingle}
-use Rattle.cpa_offset.specs.Offsets.{elsewhere, bound_from, offset_bound, apart_bound}
+use Rattle.cpa_phase.specs.Growth.{IsPlacedNoDenser, ArePlacedNoDenser, AreClocksNoDenser, plain_work, plain_clocks_work, IsSingle}
+use Rattle.cpa_offset.specs.Offsets.{elsewhere, others, bound_from, offset_bound, apart_bound}
 
 -- no start of a busy window, whenever it is, gives more than some candidate of the critical instant in the first cycle: a moment
 -- at which an event of the task or of a higher one on its clock comes as late as it can
@@ -22,26 +22,23 @@ StartsAreEnough =
     (k y : ℕ) × (k < length (own ∷ joint)) × (0 < y) × (y ≤ cycle) × IsCandidate (slice_index_or (own ∷ joint) k own) y ×
     IsAtMost (bound_from own blocking joint rest limit x) (bound_from own blocking joint rest limit y)
 
--- streams whose events may come sooner and later, longer executions, more blocking and others that ask for more leave no smaller
--- a bound
+-- own events that may come sooner and later, a longer execution, more blocking and others that ask for more leave no smaller a bound
 abbrev pub OffsetBoundsGrow : Type 0
 OffsetBoundsGrow =
-    (own own' : Placed) (blocking blocking' : ℕ) (joint joint' : List Placed) (rest rest' : ℕ → Bound) (limit cycle : ℕ) →
-    AreRegular (own ∷ joint) → IsPlacedNoDenser own own' → blocking ≤ blocking' → ArePlacedNoDenser joint joint' →
-    ((w : ℕ) → IsAtMost (rest w) (rest' w)) → IsAtMost (offset_bound own blocking joint rest limit cycle) (offset_bound own' blocking' joint' rest' limit cycle)
+    (own own' : Placed) (blocking blocking' : ℕ) (joint joint' : List Placed) (rest rest' : ℕ → Bound) (limit cycle : ℕ) → IsPlacedNoDenser own own' → blocking ≤ blocking' →
+    ((x w : ℕ) → IsAtMost (others joint rest x w) (others joint' rest' x w)) → IsAtMost (offset_bound own blocking joint rest limit cycle) (offset_bound own' blocking' joint' rest' limit cycle)
 
 -- a bound is at least the execution, and a number among bounds is within the limit
 abbrev pub OffsetBoundsAreInRange : Type 0
 OffsetBoundsAreInRange =
-    (own : Placed) (blocking : ℕ) (joint : List Placed) (rest : ℕ → Bound) (limit cycle : ℕ) → AreRegular (own ∷ joint) → own.stream.period ≤ cycle →
+    (own : Placed) (blocking : ℕ) (joint : List Placed) (rest : ℕ → Bound) (limit cycle : ℕ) → IsStream own.stream → own.stream.period ≤ cycle →
     IsAtMost (Within own.worst) (offset_bound own blocking joint rest limit cycle) × RespectsLimit limit (offset_bound own blocking joint rest limit cycle)
 
--- it is never above the bound without offsets, where the rivals bring at least the work of all these streams
+-- it is never above the bound without offsets, where the rivals ask for at least as much
 abbrev pub NeverAbovePlain : Type 0
 NeverAbovePlain =
     (own : Placed) (blocking : ℕ) (joint : List Placed) (rest : ℕ → Bound) (rivals : List Rival) (limit cycle : ℕ) → IsStream own.stream →
-    ((w : ℕ) → IsAtMost (bound_plus (Within (plain_work joint w)) (rest w)) (work_in rivals w)) →
-    IsAtMost (offset_bound own blocking joint rest limit cycle) (preemptive_bound (own.stream ∷ []) own.worst blocking rivals limit)
+    ((x w : ℕ) → IsAtMost (others joint rest x w) (work_in rivals w)) → IsAtMost (offset_bound own blocking joint rest limit cycle) (preemptive_bound (own.stream ∷ []) own.worst blocking rivals limit)
 
 -- where the task has no higher one on its clock, it is that bound
 abbrev pub AloneIsPlain : Type 0
@@ -49,12 +46,16 @@ AloneIsPlain =
     (own : Placed) (blocking : ℕ) (rest : ℕ → Bound) (rivals : List Rival) (limit cycle : ℕ) → IsStream own.stream → own.stream.period ≤ cycle →
     ((w : ℕ) → rest w ≡ work_in rivals w) → offset_bound own blocking [] rest limit cycle ≡ preemptive_bound (own.stream ∷ []) own.worst blocking rivals limit
 
--- what others ask for on other clocks and without one grows with them, and is no more than what is known of them without offsets;
--- it is as much where each clock has one stream
-abbrev pub ElsewhereGrows : Type 0
-ElsewhereGrows =
-    ((clocks clocks' : List Clock) (free free' : List Rival) (w : ℕ) → All (λ (c : Clock). AreRegular c.streams.items) clocks →
-    AreClocksNoDenser clocks clocks' → AreNoHeavier free free' → IsAtMost (elsewhere clocks free w) (elsewhere clocks' free' w)) ×
+-- others ask for more where the intervals of their events are wider
+abbrev pub OthersGrow : Type 0
+OthersGrow =
+    ((joint joint' : List Placed) (rest rest' : ℕ → Bound) (x w : ℕ) → ArePlacedNoDenser joint joint' → IsAtMost (rest w) (rest' w) → IsAtMost (others joint rest x w) (others joint' rest' x w)) ×
+    ((clocks clocks' : List Clock) (free free' : List Rival) (w : ℕ) → AreClocksNoDenser clocks clocks' → AreNoHeavier free free' → IsAtMost (elsewhere clocks free w) (elsewhere clocks' free' w))
+
+-- and for no more than what is known of them without offsets; elsewhere for as much, where each clock has one stream
+abbrev pub OthersAreFewer : Type 0
+OthersAreFewer =
+    ((joint : List Placed) (rest : ℕ → Bound) (x w : ℕ) → IsAtMost (others joint rest x w) (bound_plus (Within (plain_work joint w)) (rest w))) ×
     ((clocks : List Clock) (free : List Rival) (w : ℕ) → IsAtMost (elsewhere clocks free w) (bound_plus (Within (plain_clocks_work clocks w)) (work_in free w))) ×
     ((clocks : List Clock) (free : List Rival) (w : ℕ) → All IsSingle clocks → elsewhere clocks free w ≡ bound_plus (Within (plain_clocks_work clocks w)) (work_in free w))
 

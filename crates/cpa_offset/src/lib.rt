@@ -9,7 +9,7 @@
 //! are in ticks.
 #![tactic(auto)]
 
-ghost use Rattle.cpa_offset.specs.Laws.{StartsAreEnough, OffsetBoundsGrow, OffsetBoundsAreInRange, NeverAbovePlain, AloneIsPlain, ElsewhereGrows, ApartBoundsGrow};
+ghost use Rattle.cpa_offset.specs.Laws.{StartsAreEnough, OffsetBoundsGrow, OffsetBoundsAreInRange, NeverAbovePlain, AloneIsPlain, OthersGrow, OthersAreFewer, ApartBoundsGrow};
 
 mod bound;
 mod candidates;
@@ -27,6 +27,7 @@ pub fn bounds_have_laws()
     ensures in_range { OffsetBoundsAreInRange }
     ensures below { NeverAbovePlain }
     ensures alone { AloneIsPlain }
-    ensures elsewhere { ElsewhereGrows }
+    ensures others_grow { OthersGrow }
+    ensures others_below { OthersAreFewer }
     ensures apart { ApartBoundsGrow }
 {}

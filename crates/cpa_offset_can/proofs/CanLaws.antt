@@ -20,7 +20,7 @@ use Rattle.cpa_phase.specs.declared.placed.Placed.{Placed}
 use Rattle.cpa_phase.specs.declared.clock.Clock.{Clock}
 use Rattle.cpa_phase.specs.Phases.{earliest_arrival, arrivals}
 use Rattle.cpa_phase.specs.Streams.{phase_at, phased_from, IsCandidate, IsPlacedOn}
-use Rattle.cpa_phase.specs.Growth.{plain_work, IsPlacedNoDenser, ArePlacedNoDenser, AreRegular}
+use Rattle.cpa_phase.specs.Growth.{IsPlacedNoDenser}
 use Rattle.cpa_phase.proofs.UpToLaws.{up_to-less}
 use Rattle.cpa_phase.proofs.PhaseLaws.{earliest_arrival-ge, earliest_arrival-plain, arrivals-le_plain, arrivals-plain, arrivals-mono}
 use Rattle.cpa_phase.proofs.CandidateLaws.{first_candidate}
@@ -29,7 +29,7 @@ use Rattle.cpa_offset.specs.Offsets.{elsewhere, others}
 use Rattle.cpa_offset.specs.Candidates.{GrowsNearer}
 use Rattle.cpa_offset.specs.Jobs.{others_work}
 use Rattle.cpa_offset.proofs.CandidateLaws.{candidate_is_enough}
-use Rattle.cpa_offset.proofs.BoundLaws.{zero_plus, work_in-le_elsewhere, others-nearer, others-le_plain, others-alone, others-grow, others-bounded, elsewhere-bounded, only_own, no_denser_itself}
+use Rattle.cpa_offset.proofs.BoundLaws.{work_in-le_elsewhere, others-nearer, others-alone, others-grow, others-bounded, elsewhere-bounded, no_denser_itself}
 use Rattle.cpa_offset_can.specs.CanOffsets.{busy_demand, start_demand, frame_response, frames_bound, can_bound_from, can_offset_bound, can_apart_bound}
 
 -- ---- the frames of one busy window
@@ -98,15 +98,15 @@ can_start_is_enough own blocking joint rest bit limit cycle x some on =
 
 -- ---- it grows
 
-pub can_offset_bound-grows : (own own' : Placed) (blocking blocking' : ℕ) (joint joint' : List Placed) (rest rest' : ℕ → Bound) (bit limit cycle : ℕ) → AreRegular (own ∷ joint) → IsPlacedNoDenser own own' → blocking ≤ blocking' → ArePlacedNoDenser joint joint' → ((w : ℕ) → IsAtMost (rest w) (rest' w)) → IsAtMost (can_offset_bound own blocking joint rest bit limit cycle) (can_offset_bound own' blocking' joint' rest' bit limit cycle)
+pub can_offset_bound-grows : (own own' : Placed) (blocking blocking' : ℕ) (joint joint' : List Placed) (rest rest' : ℕ → Bound) (bit limit cycle : ℕ) → IsPlacedNoDenser own own' → blocking ≤ blocking' → ((x w : ℕ) → IsAtMost (others joint rest x w) (others joint' rest' x w)) → IsAtMost (can_offset_bound own blocking joint rest bit limit cycle) (can_offset_bound own' blocking' joint' rest' bit limit cycle)
 unfolding can_offset_bound
-can_offset_bound-grows own own' blocking blocking' joint joint' rest rest' bit limit cycle regular o b j r =
+can_offset_bound-grows own own' blocking blocking' joint joint' rest rest' bit limit cycle o b more =
     greatest_of-mono (can_bound_from own blocking joint rest bit limit) (can_bound_from own' blocking' joint' rest' bit limit) cycle cycle (omega arith)
     (λ x some le.
-    let fuller = denser_is_fuller own own' x (regular 0 own (omega arith)) o in
+    let fuller = denser_is_fuller own own' x o in
     frames_bound-grows own.worst own'.worst blocking blocking' (others joint rest x) (others joint' rest' x) (arrivals own.stream (phase_at own x)) (arrivals own'.stream (phase_at own' x))
     (earliest_arrival own.stream (phase_at own x)) (earliest_arrival own'.stream (phase_at own' x)) bit limit o.worst b
-    (λ w. others-grow joint joint' rest rest' x w (λ k d less. regular (suc k) d (omega arith)) j r)
+    (λ w. more x w)
     (λ v w longer. le_trans (arrivals-fuller (phased_from x own) (phased_from x own') v fuller) (arrivals-mono own'.stream (phase_at own' x) v w longer))
     (λ q. earliest_arrival-fuller (phased_from x own) (phased_from x own') q fuller))
 
@@ -122,14 +122,14 @@ le-can_offset_bound own blocking joint rest bit limit cycle x some le = le-great
 
 -- ---- never above the bound without offsets
 
-pub can_offset_bound-le_plain : (own : Placed) (blocking : ℕ) (joint : List Placed) (rest : ℕ → Bound) (rivals : List Rival) (bit limit cycle : ℕ) → IsStream own.stream → ((w : ℕ) → IsAtMost (bound_plus (Within (plain_work joint w)) (rest w)) (work_in rivals w)) → IsAtMost (can_offset_bound own blocking joint rest bit limit cycle) (can_bound (own.stream ∷ []) own.worst blocking rivals bit limit)
+pub can_offset_bound-le_plain : (own : Placed) (blocking : ℕ) (joint : List Placed) (rest : ℕ → Bound) (rivals : List Rival) (bit limit cycle : ℕ) → IsStream own.stream → ((x w : ℕ) → IsAtMost (others joint rest x w) (work_in rivals w)) → IsAtMost (can_offset_bound own blocking joint rest bit limit cycle) (can_bound (own.stream ∷ []) own.worst blocking rivals bit limit)
 unfolding can_offset_bound
 can_offset_bound-le_plain own blocking joint rest rivals bit limit cycle regular covers =
     greatest_of-le (can_bound_from own blocking joint rest bit limit) cycle (can_bound (own.stream ∷ []) own.worst blocking rivals bit limit)
     (λ x some le.
     frames_bound-grows own.worst own.worst blocking blocking (others joint rest x) (work_in rivals) (arrivals own.stream (phase_at own x)) (eta_plus (own.stream ∷ []))
     (earliest_arrival own.stream (phase_at own x)) (delta_minus (own.stream ∷ [])) bit limit (omega arith) (omega arith)
-    (λ w. IsAtMost_trans (others joint rest x w) (bound_plus (Within (plain_work joint w)) (rest w)) (work_in rivals w) (others-le_plain joint rest x w) (covers w))
+    (λ w. covers x w)
     (λ v w longer. le_trans (arrivals-mono own.stream (phase_at own x) v w longer) (omega (arith, arrivals-le_plain own.stream (phase_at own x) w, eta_plus-of_one own.stream w)))
     (λ q. omega (arith, earliest_arrival-ge own.stream (phase_at own x) q, delta_minus-of_one own.stream q regular)))
 
@@ -151,27 +151,25 @@ can_offset_bound-alone own blocking rest rivals bit limit cycle regular long sam
     subst (λ (b : Bound). IsAtMost b (can_offset_bound own blocking [] rest bit limit cycle)) here (le-can_offset_bound own blocking [] rest bit limit cycle (1 + phase_at own 1) (omega arith) (omega (arith, near)))
     in
     let below : IsAtMost (can_offset_bound own blocking [] rest bit limit cycle) plain =
-    can_offset_bound-le_plain own blocking [] rest rivals bit limit cycle regular (λ w. subst (λ (b : Bound). IsAtMost b (work_in rivals w)) (sym (zero_plus (rest w) ∙ same w)) (IsAtMost_refl (work_in rivals w)))
+    can_offset_bound-le_plain own blocking [] rest rivals bit limit cycle regular (λ x w. subst (λ (b : Bound). IsAtMost b (work_in rivals w)) (sym (others-alone rest x w ∙ same w)) (IsAtMost_refl (work_in rivals w)))
     in
     IsAtMost_antisymm (can_offset_bound own blocking [] rest bit limit cycle) plain below above
 
 -- the length of the frame is a bound from below
-pub can_offset_bound-low : (own : Placed) (blocking : ℕ) (joint : List Placed) (rest : ℕ → Bound) (bit limit cycle : ℕ) → AreRegular (own ∷ joint) → own.stream.period ≤ cycle → IsAtMost (Within own.worst) (can_offset_bound own blocking joint rest bit limit cycle)
-can_offset_bound-low own blocking joint rest bit limit cycle regular long =
-    let one : IsStream own.stream = regular 0 own (omega arith) in
+pub can_offset_bound-low : (own : Placed) (blocking : ℕ) (joint : List Placed) (rest : ℕ → Bound) (bit limit cycle : ℕ) → IsStream own.stream → own.stream.period ≤ cycle → IsAtMost (Within own.worst) (can_offset_bound own blocking joint rest bit limit cycle)
+can_offset_bound-low own blocking joint rest bit limit cycle one long =
     let nobody : ℕ → Bound = λ w. Within 0 in
     let alone : can_offset_bound own blocking [] nobody bit limit cycle ≡ can_bound (own.stream ∷ []) own.worst blocking [] bit limit = can_offset_bound-alone own blocking nobody [] bit limit cycle one long (λ w. refl) in
     let low : IsAtMost (Within own.worst) (can_offset_bound own blocking [] nobody bit limit cycle) = rw alone (can_bound-ge (own.stream ∷ []) own.worst blocking [] bit limit (one-is_model own.stream one)) in
     IsAtMost_trans (Within own.worst) (can_offset_bound own blocking [] nobody bit limit cycle) (can_offset_bound own blocking joint rest bit limit cycle) low
-    (can_offset_bound-grows own own blocking blocking [] joint nobody rest bit limit cycle (only_own own one) (no_denser_itself own) (omega arith) tt (λ w. zero_at_most (rest w)))
+    (can_offset_bound-grows own own blocking blocking [] joint nobody rest bit limit cycle (no_denser_itself own) (omega arith) (λ x w. others-grow [] joint nobody rest x w tt (zero_at_most (rest w))))
 
 -- an input without a bound leaves none
-pub can_offset_bound-unbounded : (own : Placed) (blocking : ℕ) (joint : List Placed) (clocks : List Clock) (free : List Rival) (bit limit cycle : ℕ) → AreRegular (own ∷ joint) → own.stream.period ≤ cycle → some_unbounded free ≡ true → can_offset_bound own blocking joint (elsewhere clocks free) bit limit cycle ≡ Overload
-can_offset_bound-unbounded own blocking joint clocks free bit limit cycle regular long h =
-    let one : IsStream own.stream = regular 0 own (omega arith) in
+pub can_offset_bound-unbounded : (own : Placed) (blocking : ℕ) (joint : List Placed) (clocks : List Clock) (free : List Rival) (bit limit cycle : ℕ) → IsStream own.stream → own.stream.period ≤ cycle → some_unbounded free ≡ true → can_offset_bound own blocking joint (elsewhere clocks free) bit limit cycle ≡ Overload
+can_offset_bound-unbounded own blocking joint clocks free bit limit cycle one long h =
     let alone : can_offset_bound own blocking [] (work_in free) bit limit cycle ≡ Overload = can_offset_bound-alone own blocking (work_in free) free bit limit cycle one long (λ w. refl) ∙ unbounded-overload (own.stream ∷ []) own.worst blocking free bit limit h in
     let more : IsAtMost (can_offset_bound own blocking [] (work_in free) bit limit cycle) (can_offset_bound own blocking joint (elsewhere clocks free) bit limit cycle) =
-    can_offset_bound-grows own own blocking blocking [] joint (work_in free) (elsewhere clocks free) bit limit cycle (only_own own one) (no_denser_itself own) (omega arith) tt (work_in-le_elsewhere clocks free)
+    can_offset_bound-grows own own blocking blocking [] joint (work_in free) (elsewhere clocks free) bit limit cycle (no_denser_itself own) (omega arith) (λ x w. others-grow [] joint (work_in free) (elsewhere clocks free) x w tt (work_in-le_elsewhere clocks free w))
     in
     IsAtMost_antisymm (can_offset_bound own blocking joint (elsewhere clocks free) bit limit cycle) Overload tt (subst (λ (b : Bound). IsAtMost b (can_offset_bound own blocking joint (elsewhere clocks free) bit limit cycle)) alone more)
 

@@ -1,14 +1,14 @@
 -- What phases are, and how early events come from a moment on.
-use Rattle.std.proofs.Common.{◌≡◌, ℕ, ◌+◌, ◌-◌, ◌*◌, ◌/◌, ◌%◌, ◌<◌, ◌≤◌, max, inl, inr, arith}
+use Rattle.std.proofs.Common.{◌≡◌, ℕ, zero, suc, ◌+◌, ◌-◌, ◌*◌, ◌/◌, ◌%◌, ◌<◌, ◌≤◌, max, inl, inr, arith}
 use Rattle.std.proofs.lemmas.Bool.{cases_lt}
-use Rattle.std.proofs.lemmas.Nat.{div-add-mod', mod_below}
+use Rattle.std.proofs.lemmas.Nat.{div-add-mod', le-div, mod_below}
 use Rattle.std.proofs.Math.Nat.{mul-le-mul_right, le_trans, le-max_left, le-max_right, max-le}
 use Rattle.cpa_events.specs.declared.stream.Stream.{Stream}
 use Rattle.cpa_events.specs.Streams.{IsStream}
 use Rattle.cpa_phase.specs.declared.placed.Placed.{Placed}
 use Rattle.cpa_phase.specs.Phases.{phase_of, earliest_arrival, arrivals}
 use Rattle.cpa_phase.specs.Streams.{phase_at}
-use Rattle.cpa_phase.proofs.UpToLaws.{up_to, up_to-later, up_to-meets, up_to-farther}
+use Rattle.cpa_phase.proofs.UpToLaws.{up_to, up_to-later, up_to-meets}
 use Rattle.cpa_phase.proofs.PhaseLaws.{earliest_arrival-by_gaps, arrivals-reach}
 
 -- the moment at the phase is some event's
@@ -77,11 +77,21 @@ phase-least m offset x start s u v n cycle p whole phase late =
 
 -- ---- of wider intervals
 
+-- the remainder of a greater number is greater by no more
+mod-more : (a d p : ℕ) → (a + d) % p ≤ a % p + d
+mod-more a d zero = omega (arith, div-add-mod' a 0, div-add-mod' (a + d) 0)
+mod-more a d (suc p) =
+    let whole = div-add-mod' a (suc p) in
+    let whole' = div-add-mod' (a + d) (suc p) in
+    let most : a / suc p * suc p ≤ a + d = omega arith in
+    let rows : a / suc p ≤ (a + d) / suc p = le-div (a / suc p) (a + d) (suc p) (omega arith) most in
+    let less : a / suc p * suc p ≤ (a + d) / suc p * suc p = mul-le-mul_right (suc p) rows in
+    omega arith
+
 -- a wider interval's phase is later by no more than its jitter is greater
-pub phase-wider : (m n : Stream) (offset offset' x : ℕ) → IsStream m → n.period ≡ m.period → offset' ≤ offset → offset + m.jitter ≤ offset' + n.jitter → phase_of n offset' x + m.jitter ≤ phase_of m offset x + n.jitter
-phase-wider m n offset offset' x regular period early late =
+pub phase-wider : (m n : Stream) (offset offset' x : ℕ) → n.period ≡ m.period → offset' ≤ offset → offset + m.jitter ≤ offset' + n.jitter → phase_of n offset' x + m.jitter ≤ phase_of m offset x + n.jitter
+phase-wider m n offset offset' x period early late =
     let d : ℕ = offset' + n.jitter - (offset + m.jitter) in
-    let far = up_to-farther m.period regular (offset + m.jitter) x d in
-    let e : offset + m.jitter + d ≡ offset' + n.jitter = omega arith in
-    let far' = rw e at far in
-    rw period (omega (arith, far'))
+    let more = mod-more (offset + m.jitter + (m.period - x % m.period)) d m.period in
+    let e : offset' + n.jitter + (m.period - x % m.period) ≡ offset + m.jitter + (m.period - x % m.period) + d = omega arith in
+    rw (period, e) (omega arith)

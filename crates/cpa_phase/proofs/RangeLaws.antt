@@ -5,7 +5,6 @@ use Rattle.std.proofs.lemmas.List.{length-map}
 use Rattle.std.proofs.Math.Nat.{mod-eq_of_lt}
 use Rattle.cpa_phase.specs.declared.placed.Placed.{Placed}
 use Rattle.cpa_phase.specs.Streams.{phased_from, IsPlaced, IsPhased, ArePlaced, ArePhased, IsPlacedOn}
-use Rattle.cpa_phase.specs.Growth.{AreRegular}
 use Rattle.cpa_phase.proofs.UpToLaws.{up_to-less}
 
 -- what a window sees of streams in range is in range
@@ -33,9 +32,6 @@ period_le p cycle some on =
 pub on_all : (own : Placed) (joint : List Placed) (cycle : ℕ) → IsPlacedOn cycle own → All (IsPlacedOn cycle) joint → All (IsPlacedOn cycle) (own ∷ joint)
 on_all own joint cycle o j zero d less = o
 on_all own joint cycle o j (suc k) d less = j k d (omega arith)
-
-pub on_regular : (ps : List Placed) (cycle : ℕ) → All (IsPlacedOn cycle) ps → AreRegular ps
-on_regular ps cycle on k d less = (on k d less).placed.stream.regular
 
 -- what holds of a stream and of each of some others holds of each of them
 pub first_or_rest : (P : Placed → Type 0) (d p : Placed) (ps : List Placed) → P p → ((k : ℕ) → k < length ps → P (slice_index_or ps k d)) → (k : ℕ) → k < length (p ∷ ps) → P (slice_index_or (p ∷ ps) k d)

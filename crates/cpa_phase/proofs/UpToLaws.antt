@@ -1,6 +1,5 @@
 -- From a moment of a clock up to the next that is another but for whole periods.
 use Rattle.std.proofs.Common.{◌≡◌, ℕ, ◌+◌, ◌-◌, ◌*◌, ◌/◌, ◌%◌, ◌<◌, ◌≤◌, sym, arith}
-use Rattle.std.proofs.Math.Nat.{mod-le}
 use Rattle.std.proofs.lemmas.Nat.{same_from_place, mod_below, mod-mul-add, div-add-mod'}
 
 -- from x up to a moment that is t, but for whole periods
@@ -34,17 +33,6 @@ module _ (period : ℕ) (regular : 0 < period) where
   pub up_to-nearer : (t x d : ℕ) → d ≤ up_to period t x → up_to period t (x + d) ≡ up_to period t x - d
   up_to-nearer t x d near =
       sym (up_to-only t (x + d) (up_to period t x - d) ((t + (period - x % period)) / period) (1 + x / period) (omega (arith, up_to-less t x)) (omega (arith, up_to-meets t x)))
-
-  -- a later moment is no more than that much farther
-  pub up_to-farther : (t x d : ℕ) → up_to period (t + d) x ≤ up_to period t x + d
-  up_to-farther t x d =
-      let whole = up_to-meets t x in
-      let r : ℕ = (up_to period t x + d) % period in
-      let k : ℕ = (up_to period t x + d) / period in
-      let split : k * period + r ≡ up_to period t x + d = div-add-mod' (up_to period t x + d) period in
-      let same : r ≡ up_to period (t + d) x = up_to-only (t + d) x r ((t + (period - x % period)) / period + k) (1 + x / period) (mod_below (up_to period t x + d) period regular) (omega (arith, whole, split)) in
-      let less = mod-le (up_to period t x + d) period in
-      omega (arith, same, less)
 
   -- moments that are the same but for whole periods see the same
   pub up_to-same : (t x y a b : ℕ) → x + a * period ≡ y + b * period → up_to period t x ≡ up_to period t y

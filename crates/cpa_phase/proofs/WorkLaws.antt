@@ -10,7 +10,7 @@ use Rattle.cpa_phase.specs.declared.clock.Clock.{Clock}
 use Rattle.cpa_phase.specs.Phases.{earliest_arrival, arrivals}
 use Rattle.cpa_phase.specs.Streams.{phase_at, phased_from, phased_work, work_from, IsCandidate, IsPlacedOn}
 use Rattle.cpa_phase.specs.Clocks.{most_of, clock_work, clocks_work}
-use Rattle.cpa_phase.specs.Growth.{IsPlacedNoDenser, ArePlacedNoDenser, AreClocksNoDenser, AreRegular, plain_work, plain_clocks_work, IsSingle}
+use Rattle.cpa_phase.specs.Growth.{IsPlacedNoDenser, ArePlacedNoDenser, AreClocksNoDenser, plain_work, plain_clocks_work, IsSingle}
 use Rattle.cpa_phase.proofs.UpToLaws.{up_to-less}
 use Rattle.cpa_phase.proofs.PhaseLaws.{earliest_arrival-wider, arrivals-wider, arrivals-mono, arrivals-plain, arrivals-le_plain}
 use Rattle.cpa_phase.proofs.MomentLaws.{phase-wider}
@@ -98,24 +98,23 @@ work_from-nearer d ps x y w h = phased_work-fuller (map (phased_from x) ps) (map
 
 -- ---- streams of wider intervals
 
-pub denser_is_fuller : (p q : Placed) (x : ℕ) → IsStream p.stream → IsPlacedNoDenser p q → IsNoFuller (phased_from x p) (phased_from x q)
-denser_is_fuller p q x regular h =
+pub denser_is_fuller : (p q : Placed) (x : ℕ) → IsPlacedNoDenser p q → IsNoFuller (phased_from x p) (phased_from x q)
+denser_is_fuller p q x h =
     record {
       period = omega (arith, h.period);
       jitter = omega (arith, h.sooner, h.later);
       distance = h.distance;
-      phase = phase-wider p.stream q.stream p.offset q.offset x regular h.period h.sooner h.later;
+      phase = phase-wider p.stream q.stream p.offset q.offset x h.period h.sooner h.later;
       worst = h.worst;
     }
 
-denser_are_fuller : (ps qs : List Placed) (x : ℕ) → AreRegular ps → ArePlacedNoDenser ps qs → AreNoFuller (map (phased_from x) ps) (map (phased_from x) qs)
-denser_are_fuller [] qs x regular h = tt
-denser_are_fuller (p ∷ ps) [] x regular h = absurd h
-denser_are_fuller (p ∷ ps) (q ∷ qs) x regular h =
-    (denser_is_fuller p q x (regular 0 p (omega arith)) h.0, denser_are_fuller ps qs x (λ k d less. regular (suc k) d (omega arith)) h.1)
+denser_are_fuller : (ps qs : List Placed) (x : ℕ) → ArePlacedNoDenser ps qs → AreNoFuller (map (phased_from x) ps) (map (phased_from x) qs)
+denser_are_fuller [] qs x h = tt
+denser_are_fuller (p ∷ ps) [] x h = absurd h
+denser_are_fuller (p ∷ ps) (q ∷ qs) x h = (denser_is_fuller p q x h.0, denser_are_fuller ps qs x h.1)
 
-pub work_from-denser : (ps qs : List Placed) (x w : ℕ) → AreRegular ps → ArePlacedNoDenser ps qs → work_from ps x w ≤ work_from qs x w
-work_from-denser ps qs x w regular h = phased_work-fuller (map (phased_from x) ps) (map (phased_from x) qs) w (denser_are_fuller ps qs x regular h)
+pub work_from-denser : (ps qs : List Placed) (x w : ℕ) → ArePlacedNoDenser ps qs → work_from ps x w ≤ work_from qs x w
+work_from-denser ps qs x w h = phased_work-fuller (map (phased_from x) ps) (map (phased_from x) qs) w (denser_are_fuller ps qs x h)
 
 -- ---- the work of clocks
 
@@ -128,20 +127,20 @@ clock_work-mono ps cycle v w h = most_of-mono (λ x. work_from ps x v) (λ x. wo
 pub clocks_work-mono : (cs : List Clock) (v w : ℕ) → v ≤ w → clocks_work cs v ≤ clocks_work cs w
 clocks_work-mono cs v w h = sum_by-le-sum_by (λ (c : Clock). clock_work c.streams.items c.cycle v) (λ (c : Clock). clock_work c.streams.items c.cycle w) cs (λ c. clock_work-mono c.streams.items c.cycle v w h)
 
-pub clock_work-denser : (ps qs : List Placed) (cycle w : ℕ) → AreRegular ps → ArePlacedNoDenser ps qs → clock_work ps cycle w ≤ clock_work qs cycle w
-clock_work-denser ps qs cycle w regular h = most_of-mono (λ x. work_from ps x w) (λ x. work_from qs x w) cycle (λ x. work_from-denser ps qs x w regular h)
+pub clock_work-denser : (ps qs : List Placed) (cycle w : ℕ) → ArePlacedNoDenser ps qs → clock_work ps cycle w ≤ clock_work qs cycle w
+clock_work-denser ps qs cycle w h = most_of-mono (λ x. work_from ps x w) (λ x. work_from qs x w) cycle (λ x. work_from-denser ps qs x w h)
 
-pub clocks_work-denser : (cs ds : List Clock) (w : ℕ) → All (λ (c : Clock). AreRegular c.streams.items) cs → AreClocksNoDenser cs ds → clocks_work cs w ≤ clocks_work ds w
-clocks_work-denser [] ds w regular h = omega arith
-clocks_work-denser (c ∷ cs) [] w regular h = absurd h
-clocks_work-denser (c ∷ cs) (d ∷ ds) w regular h =
-    let one : clock_work c.streams.items c.cycle w ≤ clock_work d.streams.items d.cycle w = rw h.0.cycle (clock_work-denser c.streams.items d.streams.items c.cycle w (regular 0 c (omega arith)) h.0.streams) in
+pub clocks_work-denser : (cs ds : List Clock) (w : ℕ) → AreClocksNoDenser cs ds → clocks_work cs w ≤ clocks_work ds w
+clocks_work-denser [] ds w h = omega arith
+clocks_work-denser (c ∷ cs) [] w h = absurd h
+clocks_work-denser (c ∷ cs) (d ∷ ds) w h =
+    let one : clock_work c.streams.items c.cycle w ≤ clock_work d.streams.items d.cycle w = rw h.0.cycle (clock_work-denser c.streams.items d.streams.items c.cycle w h.0.streams) in
     omega (
       arith,
       one,
       sum_by-cons (λ (c : Clock). clock_work c.streams.items c.cycle w) c cs,
       sum_by-cons (λ (c : Clock). clock_work c.streams.items c.cycle w) d ds,
-      clocks_work-denser cs ds w (λ k e less. regular (suc k) e (omega arith)) h.1,
+      clocks_work-denser cs ds w h.1,
     )
 
 -- where no candidate of a stream has more, no moment has

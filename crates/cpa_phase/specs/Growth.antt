@@ -1,5 +1,5 @@
 -- What streams and clocks are compared by.
-use Rattle.std.specs.Prelude.{ℕ, ◌≡◌, ◌+◌, ◌*◌, ◌≤◌, List, [], ◌∷◌, All, sum_by}
+use Rattle.std.specs.Prelude.{ℕ, ◌≡◌, ◌+◌, ◌*◌, ◌≤◌, List, [], ◌∷◌, sum_by}
 use Rattle.cpa_events.specs.Streams.{stream_eta_plus, IsStream}
 use Rattle.cpa_phase.specs.declared.placed.Placed.{Placed}
 use Rattle.cpa_phase.specs.declared.clock.Clock.{Clock}
@@ -28,10 +28,6 @@ abbrev pub AreClocksNoDenser : List Clock → List Clock → Type 0
 AreClocksNoDenser [] ds = Unit {0}
 AreClocksNoDenser (c ∷ cs) [] = ⊥
 AreClocksNoDenser (c ∷ cs) (d ∷ ds) = IsClockNoDenser c d × AreClocksNoDenser cs ds
-
--- every period is some ticks
-abbrev pub AreRegular : List Placed → Type 0
-AreRegular ps = All (λ (p : Placed). IsStream p.stream) ps
 
 -- the work of streams, of each as if nothing were known of its offset
 abbrev pub plain_work : List Placed → ℕ → ℕ

@@ -7,7 +7,7 @@ use Rattle.cpa_phase.specs.declared.clock.Clock.{Clock}
 use Rattle.cpa_phase.specs.Phases.{phase_of, earliest_arrival, arrivals}
 use Rattle.cpa_phase.specs.Streams.{phase_at, work_from, sent_on, IsCandidate, IsPlacedOn}
 use Rattle.cpa_phase.specs.Clocks.{clocks_work}
-use Rattle.cpa_phase.specs.Growth.{IsPlacedNoDenser, ArePlacedNoDenser, AreClocksNoDenser, AreRegular, plain_work, plain_clocks_work, IsSingle}
+use Rattle.cpa_phase.specs.Growth.{IsPlacedNoDenser, ArePlacedNoDenser, AreClocksNoDenser, plain_work, plain_clocks_work, IsSingle}
 
 -- n events fit into a window exactly where it is longer than the earliest arrival of the last of them
 abbrev pub ArrivalsFit : Type 0
@@ -55,11 +55,11 @@ CandidatesAreEnough =
 -- no clock brings less
 abbrev pub WiderIntervalsHaveMore : Type 0
 WiderIntervalsHaveMore =
-    ((p q : Placed) (x : ℕ) → IsStream p.stream → IsPlacedNoDenser p q →
+    ((p q : Placed) (x : ℕ) → IsPlacedNoDenser p q →
     ((n : ℕ) → earliest_arrival q.stream (phase_at q x) n ≤ earliest_arrival p.stream (phase_at p x) n) ×
     ((w : ℕ) → arrivals p.stream (phase_at p x) w ≤ arrivals q.stream (phase_at q x) w)) ×
-    ((ps qs : List Placed) (x w : ℕ) → AreRegular ps → ArePlacedNoDenser ps qs → work_from ps x w ≤ work_from qs x w) ×
-    ((cs ds : List Clock) (w : ℕ) → All (λ (c : Clock). AreRegular c.streams.items) cs → AreClocksNoDenser cs ds → clocks_work cs w ≤ clocks_work ds w)
+    ((ps qs : List Placed) (x w : ℕ) → ArePlacedNoDenser ps qs → work_from ps x w ≤ work_from qs x w) ×
+    ((cs ds : List Clock) (w : ℕ) → AreClocksNoDenser cs ds → clocks_work cs w ≤ clocks_work ds w)
 
 -- clocks bring no more than what is known of their streams without offsets, and as much where each has one stream
 abbrev pub OffsetsOnlyHelp : Type 0

@@ -8,8 +8,8 @@ pub returns-clause-grow : goal.returns-clause-grow
 returns-clause-grow c = can_offset_bound-grows
 
 pub returns-clause-in_range : goal.returns-clause-in_range
-returns-clause-in_range c own blocking joint rest bit limit cycle regular long =
-    (can_offset_bound-low own blocking joint rest bit limit cycle regular long, can_offset_bound-limit own blocking joint rest bit limit cycle)
+returns-clause-in_range c own blocking joint rest bit limit cycle one long =
+    (can_offset_bound-low own blocking joint rest bit limit cycle one long, can_offset_bound-limit own blocking joint rest bit limit cycle)
 
 pub returns-clause-below : goal.returns-clause-below
 returns-clause-below c = can_offset_bound-le_plain

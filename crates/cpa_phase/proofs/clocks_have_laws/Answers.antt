@@ -8,8 +8,8 @@ returns-clause-candidates c = cover
 
 pub returns-clause-wider : goal.returns-clause-wider
 returns-clause-wider c = (
-  λ p q x regular h.
-      let fuller = denser_is_fuller p q x regular h in
+  λ p q x h.
+      let fuller = denser_is_fuller p q x h in
       (λ n. earliest_arrival-fuller (phased_from x p) (phased_from x q) n fuller, λ w. arrivals-fuller (phased_from x p) (phased_from x q) w fuller),
   work_from-denser,
   clocks_work-denser,

@@ -15,6 +15,9 @@ class Status(IntEnum):
     """`assign`: no order meets; `slack`: there is none."""
     DIFFERS = 4
     """`audit`: the schedule isn't that of the run."""
+    LACKING = 5
+    """Of the launcher and the tools, by `--strict`: an edit of `session` was refused, or a task of `page` has no
+    bound."""
     WORDS_REFUSED = 10
     FILE_UNREAD = 11
     FILE_TOO_LONG = 12

@@ -12,10 +12,10 @@ beside the bounds, and the run as a Gantt chart: that of --schedule, or of what 
 With --session it shows what each report of that script changed, with --sensitivity how far each number may move
 (lokwurmi sensitivity), and with --optimise priorities under which all deadlines are met, where some are found (lokwurmi
 optimise). With --chains it has the reaction times and data ages of the effect chains of that file, beside their
-deadlines, and with --trace what the run shows of them. With --helps it says which change of one number would help the
-paths that are late. With --tick, as 1us, all times have units, and are exact; the file, --from and --until stay in
-ticks. Tables are sorted and filtered in the browser, which needs no network for it. With --strict the status is 5 where
-a task has no bound.
+deadlines, and with --trace what the run shows of them; these deadlines then count for --sensitivity and --optimise,
+too. With --helps it says which change of one number would help the paths that are late. With --tick, as 1us, all times
+have units, and are exact; the file, --from and --until stay in ticks. Tables are sorted and filtered in the browser,
+which needs no network for it. With --strict the status is 5 where a task has no bound.
 
 It needs Jinja2, Graphviz, and matplotlib for the Gantt chart: apt-get install python3-jinja2 graphviz
 python3-matplotlib

@@ -9,6 +9,7 @@ import sys
 from collections.abc import Callable
 from functools import partial
 
+from lokwurmi.model.statuses import Status
 from lokwurmi_tools.launcher import helping
 from lokwurmi_tools.launcher.operands import note_missing, operands_of, shown
 from lokwurmi_tools.launcher.paths import is_installed, program
@@ -16,8 +17,6 @@ from lokwurmi_tools.launcher.running import run
 from lokwurmi_tools.launcher.table import BY_NAME, STRICT
 from lokwurmi_tools.launcher.telling import tell
 from lokwurmi_tools.launcher.wrong_words import refuse
-
-LACKING = 5
 
 
 def session(words: list[str], quiet: bool) -> int:
@@ -38,8 +37,10 @@ def session(words: list[str], quiet: bool) -> int:
     if not quiet:
         count = len(wrote.split("\n"))
         edits = "an edit was" if count == 1 else f"{count} edits were"
-        print(f"lokwurmi: {STRICT}: {edits} refused: the status is {LACKING} in place of {status}", file=sys.stderr)
-    return LACKING
+        print(
+            f"lokwurmi: {STRICT}: {edits} refused: the status is {Status.LACKING} in place of {status}", file=sys.stderr
+        )
+    return Status.LACKING
 
 
 def perform(words: list[str], quiet: bool, call_tool: Callable[[list[str]], int]) -> int:

@@ -6,6 +6,7 @@ from lokwurmi.files.traces import text_of
 from lokwurmi.model.entries import Chain
 from lokwurmi.refusals.silence import asked_of
 from lokwurmi.results.effect_chains import ChainReport, JudgedChain, between_ticks, judged_between_ticks, waits_of
+from lokwurmi.results.verdicts import OF_CHAINS
 from lokwurmi_tools.page.page_options import PageOptions
 from lokwurmi_tools.page.run_pictures import SeenRun
 from lokwurmi_tools.page.system_tables import PageSystem, percent
@@ -14,8 +15,6 @@ from lokwurmi_tools.runs.effect_chain_in_run import Late, RunOfJobs, gaps_in, se
 from lokwurmi_tools.shared.chain_files import bounds_by, read_chains, verdicts_by
 from lokwurmi_tools.shared.system_file import silences_in
 from lokwurmi_tools.shared.types import Values
-
-ASKED = ("reaction", "age")
 
 
 def parts_of(bounds: ChainReport, what: str) -> list[tuple[str, str, int | None]]:
@@ -30,8 +29,9 @@ def parts_of(bounds: ChainReport, what: str) -> list[tuple[str, str, int | None]
 
 
 def limits_of(chain: JudgedChain) -> dict[str, int | None]:
-    """The deadlines of a chain."""
-    return {"reaction": chain.reaction_deadline, "age": chain.age_deadline}
+    """The deadlines of a chain, with what is shown of it: how long data is held only where that has one."""
+    limits = {what: getattr(chain, f"{what}_deadline") for what in OF_CHAINS}
+    return {what: it for what, it in limits.items() if what != "held" or it is not None}
 
 
 class ChainTable:
@@ -84,9 +84,9 @@ class ChainTable:
     def rows(self, run: RunOfJobs | None) -> list[Values]:
         rows = []
         for chain in self.chains:
-            latest = seen_of(run, chain.tasks, "whenever").latest if run else dict.fromkeys(ASKED)
+            latest = seen_of(run, chain.tasks, "whenever").latest if run else dict.fromkeys(OF_CHAINS)
             limits, bounds = limits_of(self.found[chain.name]), self.bounds[chain.name]
-            bars = [self.bar(chain, what, limits[what], latest[what]) for what in ASKED]
+            bars = [self.bar(chain, what, limit, latest[what]) for what, limit in limits.items()]
             told = {"name": chain.name, "tasks": chain.tasks, "bars": bars}
             rows.append(told | {"steps": bounds.steps, "held": bounds.held})
         return rows

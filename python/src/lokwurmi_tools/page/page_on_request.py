@@ -7,11 +7,12 @@ from lokwurmi.errors import RULES
 from lokwurmi.files.traces import text_of
 from lokwurmi.results.reports import PathReport, Report, TaskReport
 from lokwurmi_tools.page.system_tables import PageSystem, told_of_path
+from lokwurmi_tools.search.chain_goals import ChainGoals
 from lokwurmi_tools.search.helpful_changes import WARNING, change_text, helps_for, less_text, regions_text
 from lokwurmi_tools.search.margin_texts import REGIONS, name_of, share_text, then_of, value_of
 from lokwurmi_tools.search.margins import KINDS, MarginQuestion, rows_of
 from lokwurmi_tools.search.priorities import PriorityOptions, PrioritySearch
-from lokwurmi_tools.search.priority_texts import above
+from lokwurmi_tools.search.priority_texts import above, chains_told
 from lokwurmi_tools.shared.analysed import Analysed
 from lokwurmi_tools.shared.program import written_by
 from lokwurmi_tools.shared.report import reports_in
@@ -71,9 +72,9 @@ def changes_of(known: Analysed, script: str) -> Values:
     return {"name": os.path.basename(script), "steps": steps, "rows": rows, "kept": kept, "counts": counts}
 
 
-def margins_of(known: Analysed, scale: Scale) -> Values:
+def margins_of(known: Analysed, scale: Scale, chains: ChainGoals | None) -> Values:
     """How far each number may move, or what doesn't hold already."""
-    question = MarginQuestion(known, {}, False)
+    question = MarginQuestion(known, {}, False, chains)
     now = question.now()
     rows = rows_of(question, KINDS, os.cpu_count() or 1) if now.holds() else []
     told = [
@@ -83,6 +84,7 @@ def margins_of(known: Analysed, scale: Scale) -> Values:
             "share": it["share"],
             "by": share_text(it),
             "then": then_of(it),
+            "is_chain": it["first"][:1] != [] and it["first"][0].startswith("chain "),
             "now": value_of(it, "value", scale),
             "last": value_of(it, "last", scale),
             "value": it["value"],
@@ -90,13 +92,17 @@ def margins_of(known: Analysed, scale: Scale) -> Values:
         }
         for it in rows
     ]
-    return {"rows": told, "missed": now.first(), "regions": REGIONS if question.has_regions() else ""}
+    regions = REGIONS if question.has_regions() else ""
+    # a deadline is stopped by its own path or chain; paths and tasks come before chains in what is told
+    others = [it["is_chain"] for it in told if it["kind"] != "deadline"]
+    counts = {"with_chains": chains is not None, "by_chains": sum(others), "others": len(others)}
+    return {"rows": told, "missed": now.first(), "regions": regions} | counts
 
 
-def priorities_of(known: Analysed) -> Values:
+def priorities_of(known: Analysed, chains: ChainGoals | None) -> Values:
     """Priorities under which all deadlines are met, or the best that are found."""
     with tempfile.TemporaryDirectory() as room:
-        search = PrioritySearch(known, PriorityOptions(), room)
+        search = PrioritySearch(known, PriorityOptions(), room, chains)
         search.run()
         search.progress.clear()
         verdict = search.confirmed()
@@ -106,6 +112,7 @@ def priorities_of(known: Analysed) -> Values:
         "orders": search.looked,
         "order": search.changed(),
         "edits": search.script(),
+        "chains": chains_told(search, verdict),
         "overloaded": [{"on": on, "load": above(share)} for on, share in search.overloaded().items()],
     }
 

@@ -5,11 +5,13 @@ import sys
 from pathlib import Path
 from typing import TYPE_CHECKING
 
+from lokwurmi.model.statuses import Status
 from lokwurmi_tools.page.chains_on_page import chains_of
 from lokwurmi_tools.page.page_on_request import changes_of, helps_of, margins_of, priorities_of
 from lokwurmi_tools.page.page_options import PageOptions
 from lokwurmi_tools.page.run_pictures import picture_of_graph, seen_run, told_of_run
 from lokwurmi_tools.page.system_tables import PageSystem, percent
+from lokwurmi_tools.search.chain_goals import ChainGoals
 from lokwurmi_tools.shared.analysed import analysed
 from lokwurmi_tools.shared.packages import need
 from lokwurmi_tools.shared.system_file import noticed_in
@@ -20,8 +22,6 @@ from lokwurmi_tools.shared.written_entries import put
 if TYPE_CHECKING:
     import jinja2
 
-# the status by --strict where a task has no bound, as of `lokwurmi --strict session`
-LACKING = 5
 # how many letters of a name stay together on a narrow page
 LINE = 12
 
@@ -67,11 +67,13 @@ def tightest(paths: list[Values], chains: list[Values]) -> Values | None:
 
 def told_on_request(options: PageOptions, system: PageSystem) -> Values:
     """What the page has only where it is asked for."""
-    known = system.known
+    known, chains = system.known, None
+    if options.chains and (options.sensitivity or options.optimise):
+        chains = ChainGoals(known, options.chains, options.tick is not None)
     return {
         "changes": changes_of(known, options.session) if options.session else None,
-        "margins": margins_of(known, system.scale) if options.sensitivity else None,
-        "priorities": priorities_of(known) if options.optimise else None,
+        "margins": margins_of(known, system.scale, chains) if options.sensitivity else None,
+        "priorities": priorities_of(known, chains) if options.optimise else None,
         "helped": helps_of(system) if options.helps else None,
     }
 
@@ -129,6 +131,6 @@ def write_page(options: PageOptions) -> int:
     if boundless and options.strict:
         several = f"{len(boundless)} tasks have" if len(boundless) > 1 else "a task has"
         told = f"{several} no bound: {', '.join(boundless[:8])}{' ..' if len(boundless) > 8 else ''}"
-        print(f"lokwurmi page: --strict: {told}: the status is {LACKING}", file=sys.stderr)
-        return LACKING
+        print(f"lokwurmi page: --strict: {told}: the status is {Status.LACKING}", file=sys.stderr)
+        return Status.LACKING
     return 0

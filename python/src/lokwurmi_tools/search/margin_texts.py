@@ -109,7 +109,8 @@ def json_text(options: MarginOptions, question: MarginQuestion, rows: list[Value
     asked = {"file": options.file, "goals": options.goals, "deadlines": options.deadlines}
     asked |= {"chains_file": options.chains, "premise": PREMISE if options.chains else None}
     cost = {"calls": question.calls, "reports": question.probes, "seconds": round(seconds, 3)}
-    return json.dumps({**asked, "numbers": rows, "laws": LAWS, **cost}, indent=1)
+    laws = LAWS if options.chains is None else LAWS | {"period": f"{LAWS['period']}; what chains allow is argued"}
+    return json.dumps({**asked, "numbers": rows, "laws": laws, **cost}, indent=1)
 
 
 def lines_of_chains(question: MarginQuestion) -> list[str]:

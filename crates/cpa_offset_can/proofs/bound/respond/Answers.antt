@@ -1,5 +1,5 @@
-use Rattle.std.proofs.Common.{◌∷◌, sym, ◌∙◌}
-use Rattle.cpa_phase.proofs.RangeLaws.{period_le, on_all, on_regular}
+use Rattle.std.proofs.Common.{sym, ◌∙◌}
+use Rattle.cpa_phase.proofs.RangeLaws.{period_le}
 use Rattle.cpa_offset.specs.Offsets.{elsewhere}
 use Rattle.cpa_offset_can.specs.CanOffsets.{can_offset_bound}
 use Rattle.cpa_offset_can.proofs.CanLaws.{can_bound_from-nearer, can_offset_bound-unbounded}
@@ -8,7 +8,7 @@ use Rattle.cpa_offset_can.proofs.bound.respond.Goals as goal
 pub returns-then-some_unbounded : goal.returns-then-some_unbounded
 returns-then-some_unbounded c =
     let a = c.args in
-    sym (can_offset_bound-unbounded a.own.now a.blocking a.joint.now a.clocks.now a.free.now a.bit a.limit a.cycle (on_regular (a.own.now ∷ a.joint.now) a.cycle (on_all a.own.now a.joint.now a.cycle c.requires.own c.requires.joint_on))
+    sym (can_offset_bound-unbounded a.own.now a.blocking a.joint.now a.clocks.now a.free.now a.bit a.limit a.cycle c.requires.own.placed.stream.regular
     (period_le a.own.now a.cycle c.requires.some c.requires.own) (sym c.some_unbounded.ensures ∙ c.if-some_unbounded.true))
 
 pub greatest_from_candidates-requires-clause-nearer : goal.greatest_from_candidates-requires-clause-nearer

@@ -1,0 +1,5 @@
+pub mod Anchors
+pub mod Rivals
+pub mod Clocked
+pub mod Wider
+pub mod Laws
