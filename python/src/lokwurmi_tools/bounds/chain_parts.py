@@ -43,7 +43,7 @@ class ChainSums:
         return [self.step(*it) for it in zip(tasks, kinds_of(tasks, self.starts))]
 
     def step(self, name: str, kind: str) -> StepParts:
-        streams, ways = self.inputs[name], self.view.ways_to(name)
+        streams, ways = self.inputs[name] or [], self.view.ways_to(name)
         if not streams or self.view.sporadic_sources_of(name):
             return StepParts(name, kind, None, ways[0], self.bounds[name])
         least = min(range(len(streams)), key=lambda it: streams[it][0] + streams[it][1])

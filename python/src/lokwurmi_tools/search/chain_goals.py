@@ -13,6 +13,7 @@ from lokwurmi.files.documents import Document
 from lokwurmi.files.text_files import File
 from lokwurmi.model.event_models import Bounds
 from lokwurmi.model.view import SystemView
+from lokwurmi.refusals.silence import AskedChain
 from lokwurmi.results.effect_chains import chains_report, kinds_of, ticks_between
 from lokwurmi.results.reports import Verdict
 from lokwurmi.results.verdicts import OF_CHAINS, PREMISE_WORDS, Bound, bounds_of
@@ -23,6 +24,7 @@ from lokwurmi_tools.shared.chain_files import read_chains
 from lokwurmi_tools.shared.faults import OwnFault
 from lokwurmi_tools.shared.program import often, written_by
 from lokwurmi_tools.shared.report import bounds_in
+from lokwurmi_tools.shared.system_file import silences_in
 
 __all__ = ["PREMISE_WORDS", "ChainGoals", "failing", "name_of"]
 
@@ -75,6 +77,14 @@ class ChainGoals:
         """The sources behind the chains that have a deadline: these wait for them."""
         asked, ways = {it.name for it in self.now}, self.known.view.sources_of
         return {source for it in self.chains if it.name in asked for task in it.tasks for source in ways(task)}
+
+    def silences(self) -> list[str]:
+        """Which deadlines no change meets, since a task waits for a sporadic source, a sentence each."""
+        asked = [
+            AskedChain(it.name, it.tasks, [what for what in OF_CHAINS if getattr(it, what) is not None])
+            for it in self.chains
+        ]
+        return silences_in(self.known.file, asked)
 
     def judged(self, view: SystemView, bounds: Bounds) -> list[Bound]:
         """The bounds that have a deadline, by the periods and jitters of a system and the bounds of a report."""

@@ -125,6 +125,8 @@ def tell_nothing(question: MarginQuestion) -> int:
     print(f"nothing may move, as this doesn't hold now: {', '.join(now.first())}{regions}", file=sys.stderr)
     for line in question.chains.lines_of(now.late) if question.chains else ():
         print(line, file=sys.stderr)
+    for it in question.chains.silences() if question.chains else ():
+        print(f"{question.known.file}: {it}", file=sys.stderr)
     return 3
 
 

@@ -77,7 +77,9 @@ class OrderVerdict:
         return name in self.late or name in self.unknown
 
     def told(self) -> str:
-        words = [f"{len(self.over)} without a bound"] if self.over else []
+        # a chain may lack a bound though each task has one
+        lacking = self.over or self.unknown
+        words = [f"{len(lacking)} without a bound"] if lacking else []
         latest = sorted(self.late.items(), key=lambda it: -it[1])
         words += [f"{name} misses its deadline by {ticks}" for name, ticks in latest[:4]]
         return ", ".join(words) + (f" and {len(latest) - 4} more" if len(latest) > 4 else "") or "all deadlines are met"
@@ -132,6 +134,10 @@ class PrioritySearch:
     def verdict(self, report: Report) -> OrderVerdict:
         """What there is to say of an order, by its report: priorities are nothing that a chain waits for."""
         return OrderVerdict(report, self.chains.judged(self.view, bounds_in(report)) if self.chains else ())
+
+    def silences(self) -> list[str]:
+        """Which deadlines of chains no order meets, since a task waits for a sporadic source."""
+        return self.chains.silences() if self.chains else []
 
     def overloaded(self) -> dict[str, Fraction]:
         """The resources that are asked for more than all of the time, and how much: whatever the priorities are, a task
@@ -363,7 +369,7 @@ class PrioritySearch:
 
     def run(self) -> None:
         """Goes through all that is known, until an order holds; where none can, only that of the file is looked at."""
-        if self.overloaded():
+        if self.overloaded() or self.silences():
             self.look(self.given, "the order of the file")
             return
         for how, order in self.starts():

@@ -61,7 +61,8 @@ def lines_of(search: PrioritySearch, verdict: OrderVerdict) -> list[str]:
         lines.append("the order is that of the file")
     for on, share in search.overloaded().items():
         lines.append(f"no order can do: the utilisation of {on} is {above(share)} %, whatever the priorities are")
-    if not verdict.holds and not search.overloaded():
+    lines += [f"no order can do: {it}" for it in search.silences()]
+    if not verdict.holds and not search.overloaded() and not search.silences():
         lines.append("there may be an order still: the search proves nothing about what it didn't try")
         if any("region" in it for it in search.view.values["task"]):
             lines.append("regions stay as they are: lokwurmi explain says whether a late path waits for one")
