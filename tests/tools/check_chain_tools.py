@@ -6,7 +6,8 @@ network.
 `lokwurmi effects` tells of runs of a small system must be what the rules see of them, by each rule of reading; where a
 source stays away it must say so, and what is beyond a bound must be told. `lokwurmi graph` has a dotted line for each
 register, `lokwurmi gantt` the latest reaction and the oldest data, and what `lokwurmi worst` finds must be seen in the
-trace that it writes, whose sources stay near. What isn't taken is told in a line.
+trace that it writes, whose sources stay near, and in the picture that it draws of that run. What isn't taken is told in
+a line.
 
     python3 -m tests.tools.check_chain_tools
 """
@@ -113,18 +114,37 @@ def check_pictures(room, program):
 
 
 def check_worst(room, program):
-    trace, tasks = os.path.join(room, "late.csv"), SMALL_CHAINS[0]
-    words = [SMALL, "--chain", ",".join(tasks), "--tries", "30", "--to", trace, "--program", program]
+    trace, tasks, drawn = os.path.join(room, "late.csv"), SMALL_CHAINS[0], os.path.join(room, "late.svg")
+    named = ["--chains", "examples/effects.chains.toml", "--chain", "brake", "--program", program]
     sources = system_in(SMALL)["source"]
     for what in effect_chains.ASKED:
-        done = called("worst", *words, "--what", what)
+        done = called("worst", SMALL, *named, "--what", what, "--tries", "30", "--to", trace, "--draw", drawn)
         seen = replayed(SMALL, trace)
         most = effect_chains.Observed(seen.system, seen, "whenever").greatest(tasks)[0][what]
-        told = f" {what} seen {most} bound " in done.stdout
+        told = f"chain {','.join(tasks)} {what} seen {most} bound " in done.stdout
         hold(told, f"worst --what {what}: {done.stdout}{done.stderr}, in the trace {most}")
         events = plain_trace(trace)[0]
         near = all(effect_chains.stays_near(it, events.get(it["name"], [])) for it in sources)
         hold(near, f"worst --what {what}: a source doesn't stay near")
+        check_drawn(named, trace, what, most, drawn)
+    by_tasks = ["--chain", ",".join(tasks), "--what", what, "--tries", "30", "--to", trace, "--program", program]
+    hold(called("worst", SMALL, *by_tasks).stdout == done.stdout, "worst: a chain by its tasks")
+
+
+def check_drawn(named, trace, what, most, drawn):
+    """The picture of the run that was found: what is reached beside its bound, and nothing else of the chain. The same
+    trace drawn by gantt is the same picture."""
+    again = f"{drawn}.again.svg"
+    with open(SMALL, encoding="utf-8") as it:
+        bound = effect_chains.Bounds(it.read()).limits(SMALL_CHAINS[0])[what]
+    with open(drawn, encoding="utf-8") as it:
+        text = it.read()
+    is_told = f"{what} {most} of {bound}, where jobs read at the worst time" in text
+    alone = all(f">{other} " not in text for other in effect_chains.ASKED if other != what)
+    hold(is_told and alone, f"worst --draw, {what}: {most} of {bound}")
+    called("gantt", SMALL, "--trace", trace, *named, "--what", what, "--to", again)
+    with open(again, encoding="utf-8") as it:
+        hold(it.read() == text, f"worst --draw, {what}: gantt draws something else")
 
 
 def check_refused(room, program):
@@ -139,7 +159,12 @@ def check_refused(room, program):
         ("gantt", [*drawn, "--chain", "act,no"], "has no task no"),
         ("gantt", [*drawn, "--chains", CHAINS, "--chain", "no"], "is no chain no"),
         ("gantt", [FILE, "x.csv", "--chain", "act", "--to", "x.svg"], "--chain wants --trace"),
+        ("gantt", [*drawn, "--what", "age"], "--what wants --chain"),
         ("worst", [FILE, "--chain", "act,no"], "has no task no"),
+        ("worst", [FILE, "--chains", CHAINS, "--chain", "no"], "is no chain no"),
+        ("worst", [FILE, "act", "--chains", CHAINS], "--chains wants --chain"),
+        ("worst", [FILE, "act", "--draw", "x.gif"], "a picture's name ends with"),
+        ("worst", [FILE, "--all", "--draw", "x.svg"], "--to and --draw want one task, path or chain"),
     ):
         done = called(name, *words, "--program", program)
         is_told = done.returncode and said in done.stderr and "Traceback" not in done.stderr

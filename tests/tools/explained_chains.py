@@ -101,7 +101,7 @@ def check_chain_faults(room, program):
     for words, status, said in (
         ([EFFECTS, "--chain", "sense,no"], 1, "has no task no; it has sense, filter, act"),
         ([EFFECTS, "--chains", listed, "--chain", "d"], 1, "there is no chain d; it has c"),
-        ([EFFECTS, "--chains", listed], 1, "name a task, or --path PATH, or --chain, or --all"),
+        ([EFFECTS, "--chains", listed], 1, "name a task, or --path PATH, or --all, or --chain TASK,TASK.."),
         ([EFFECTS, "act", "--chains", listed], 1, "--chains wants --chain, the name of one of them, or --all"),
         ([EFFECTS, "--chains", bad, "--chain", "c"], 1, 'bad.toml: line 3: chain "c": no task is called "nobody"'),
         ([endless, "--chain", "a1,b1", "--to", "chain.svg"], 1, "there is nothing to draw"),

@@ -51,7 +51,7 @@ def main(arguments: list[str] | None = None) -> int:
     options = options_of(ExplainOptions, reader.parse_args(arguments))
     one = (options.task, options.path, options.chain)
     if sum(it is not None for it in one) + options.all != 1:
-        raise Fault("name a task, or --path PATH, or --chain, or --all")
+        raise Fault("name a task, or --path PATH, or --all, or --chain TASK,TASK..")
     if options.chains is not None and options.chain is None and not options.all:
         raise Fault("--chains wants --chain, the name of one of them, or --all")
     if options.to:

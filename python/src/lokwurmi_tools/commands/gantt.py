@@ -17,7 +17,8 @@ where the run is more than 20 times as long, unless --from or --until say otherw
 the first. Where a task and a path have one name, it is the task's, and path:NAME that of the path.
 
 --chain marks an effect chain, whose tasks read what the one before wrote last, or one of a file of chains by its name:
-its latest reaction in the run, in crimson, and its oldest data, dashed in green. Their jobs are framed, an arrow leads
+its latest reaction in the run, in crimson, and its oldest data, dashed in green; or with --what one of these, or how
+long data was held, dotted in violet. Their jobs are framed, an arrow leads
 from the end of each, which writes, to where the next one reads, and a line below shows the whole, beside the bound that
 `lokwurmi chain` tells. When jobs read isn't in a schedule: --reading says by which rule they are taken to."""
 import argparse
@@ -25,7 +26,7 @@ import argparse
 from lokwurmi_tools.commands.argument_parsers import add_picture, add_program, add_tick, options_of, reader_of
 from lokwurmi_tools.pictures.gantt_chart import GanttOptions, draw_gantt
 from lokwurmi_tools.pictures.plotting import check_name
-from lokwurmi_tools.runs.effect_chain_in_run import READINGS
+from lokwurmi_tools.runs.effect_chain_in_run import ASKED, READINGS
 from lokwurmi_tools.shared.faults import Fault
 
 EXAMPLES = """examples:
@@ -55,6 +56,8 @@ def gantt_reader() -> argparse.ArgumentParser:
     says = "marks the latest reaction of this effect chain and its oldest data; wants --trace"
     reader.add_argument("--chain", metavar="TASK,TASK..", help=says)
     reader.add_argument("--chains", metavar="CHAINS", help="a file of effect chains: --chain is the name of one")
+    says = "which time of the chain is marked; its latest reaction and its oldest data if absent"
+    reader.add_argument("--what", choices=ASKED, help=says)
     says = "when jobs of the chain are taken to read (whenever)"
     reader.add_argument("--reading", choices=READINGS, default="whenever", help=says)
     reader.add_argument("--from", metavar="T", type=int, dest="start", help="the first tick that is drawn; 0 if absent")
@@ -74,6 +77,8 @@ def check(options: GanttOptions) -> None:
             raise Fault(f"--{name} wants --trace, which tells when jobs came")
     if options.chains and not options.chain:
         raise Fault("--chains wants --chain, the name of one of them")
+    if options.what and not options.chain:
+        raise Fault("--what wants --chain, of which it is")
     if not (options.schedule or options.trace):
         raise Fault("name a SCHEDULE, or a trace by --trace, whose schedule `lokwurmi schedule` writes")
     start = options.start or 0

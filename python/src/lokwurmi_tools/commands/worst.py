@@ -19,11 +19,16 @@ at the end.
 
 With --chain it looks for a late reaction of an effect chain, whose tasks read what the one before wrote last, or with
 --what age for old data, beside the bound of `lokwurmi chain`. All its traces have sources that stay near, as that bound
-wants it."""
+wants it.
+
+With --draw the run that was found is drawn as by lokwurmi gantt: the job, or those of the path or the chain, are
+framed; of a chain arrows lead from each job, which writes, to where the next one reads, and a line below has what was
+reached beside the bound."""
 import argparse
 import os
 
 from lokwurmi_tools.commands.argument_parsers import add_program, options_of, reader_of
+from lokwurmi_tools.pictures.plotting import check_name
 from lokwurmi_tools.runs.effect_chain_in_run import ASKED, READINGS
 from lokwurmi_tools.search.worst_search import WorstOptions
 from lokwurmi_tools.search.worst_texts import find_worst
@@ -39,8 +44,10 @@ EXAMPLES = """examples:
       the table, and the traces that show it
   ./lokwurmi worst examples/effects.toml --chain sense,filter,act --what age --to old.trace.csv
       a trace under which a chain that reads registers has data as old as can be found
+  ./lokwurmi worst examples/effects.toml --chains examples/effects.chains.toml --chain brake --draw brake.svg
+      the same of a reaction, as a picture of the run
 
-The trace is drawn by lokwurmi gantt FILE --trace TRACE --longest NAME. More: docs/TIGHTNESS.md"""
+More: docs/TIGHTNESS.md"""
 
 
 def worst_reader() -> argparse.ArgumentParser:
@@ -53,10 +60,13 @@ def worst_reader() -> argparse.ArgumentParser:
     reader.add_argument("--all", action="store_true", help="all tasks and paths that have a bound, in a table")
     says = "an effect chain, whose tasks read what the one before wrote last"
     reader.add_argument("--chain", metavar="TASK,TASK..", help=says)
+    reader.add_argument("--chains", metavar="CHAINS", help="a file of effect chains: --chain is the name of one")
     reader.add_argument("--what", choices=ASKED, default="reaction", help="what of the chain is to be late (reaction)")
     says = "when jobs of the chain are taken to read (whenever)"
     reader.add_argument("--reading", choices=READINGS, default="whenever", help=says)
     reader.add_argument("--to", metavar="TRACE", help="writes the trace to this file")
+    says = "draws the run of the trace, by matplotlib: a name that ends with .svg, .png or .pdf"
+    reader.add_argument("--draw", metavar="PICTURE", help=says)
     reader.add_argument("--keep", metavar="FOLDER", help="writes the traces of --all into this folder")
     reader.add_argument("--tries", type=int, default=2000, help="how many traces are tried in a search (2000)")
     reader.add_argument("--seconds", type=float, default=60, help="it ends within 5 seconds after this time (60)")
@@ -72,10 +82,14 @@ def main(arguments: list[str] | None = None) -> int:
     targets = (options.task is not None) + (options.path is not None) + (options.chain is not None)
     if targets + options.all != 1:
         reader.error("name a task, or --path NAME, or --all, or --chain TASK,TASK..")
-    if options.all and options.to:
-        reader.error("--to wants one task, path or chain")
+    if options.all and (options.to or options.draw):
+        reader.error("--to and --draw want one task, path or chain")
+    if options.chains and not options.chain:
+        reader.error("--chains wants --chain, the name of one of them")
     if options.keep and not options.all:
         reader.error("--keep wants --all")
     if options.jobs < 1 or options.tries < 1 or options.seconds <= 0:
         reader.error("--jobs, --tries and --seconds are at least 1")
+    if options.draw:
+        check_name(options.draw)
     return find_worst(options)

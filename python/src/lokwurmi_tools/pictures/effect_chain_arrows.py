@@ -8,9 +8,14 @@ from lokwurmi_tools.pictures.plotting import Rectangle
 from lokwurmi_tools.runs.effect_chain_in_run import NEVER, Late, RunOfJobs, Watch, seen_of
 from lokwurmi_tools.shared.times import Scale
 
-# the latest reaction, and the oldest data, which is dashed besides, so that one isn't taken for the other without
-# colours
-LOOKS = {"reaction": ("#c2185b", "solid", 0.05), "age": ("#00695c", (0, (3, 2)), -0.05)}
+# the latest reaction, and the oldest data at an end and in the register, which are dashed besides, so that one isn't
+# taken for the other without colours; where nothing is asked for the first two are marked
+LOOKS = {
+    "reaction": ("#c2185b", "solid", 0.05),
+    "age": ("#00695c", (0, (3, 2)), -0.05),
+    "held": ("#4a3fa0", (0, (1, 1)), 0.0),
+}
+MARKED = ("reaction", "age")
 # a bar's height, and how far above the middle of its lane an arrow goes along, in parts of a lane
 BAR, OVER = 0.44, -0.42
 
@@ -33,17 +38,19 @@ def read_times(run: RunOfJobs, watch: Watch, late: Late, what: str) -> list[int]
     found, way = [], list(zip(watch.tasks, late.jobs))
     for (before, k), (name, n) in zip(way, way[1:]):
         done, job = watch.windows[before].done, run.jobs[name][n]
-        until = done[k + 1] - 1 if what == "age" and k + 1 < len(done) else NEVER
+        until = done[k + 1] - 1 if what != "reaction" and k + 1 < len(done) else NEVER
         times = [(max(done[k], first), min(until, last)) for first, last in watch.windows[name].times[n]]
         can = [first for first, last in times if first <= last]
         found.append(job.came if job.cause == (before, k) or not can else can[0])
     return found
 
 
-def marked_in(run: RunOfJobs, tasks: list[str], reading: str, bounds: dict[str, int | None], rule: str) -> list[Marked]:
-    """The latest reaction and the oldest data of a chain in a run, where there are any."""
+def marked_in(
+    run: RunOfJobs, tasks: list[str], reading: str, bounds: dict[str, int | None], rule: str, what: str | None = None
+) -> list[Marked]:
+    """The latest reaction and the oldest data of a chain in a run, where there are any, or what of it is asked for."""
     seen, watch = seen_of(run, tasks, reading), Watch(run, tasks, reading)
-    several = [(what, late) for what in LOOKS if (late := seen.latest[what])]
+    several = [(it, late) for it in ((what,) if what else MARKED) if (late := seen.latest[it])]
     return [Marked(what, it, tasks, read_times(run, watch, it, what), bounds.get(what), rule) for what, it in several]
 
 

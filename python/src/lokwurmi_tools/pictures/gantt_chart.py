@@ -32,7 +32,8 @@ MARGIN, LONG = 0.04, 20
 class GanttOptions:
     """Which run is drawn into the picture `to`: `schedule` is a file of rows, None for what the program writes of the
     trace. It is drawn from the tick `start` until the tick `until`; `longest` is the task or the path that is marked,
-    `chain` the effect chain, by its tasks or by its name in the file `chains`; `tick` is in nanoseconds."""
+    `chain` the effect chain, by its tasks or by its name in the file `chains`, and `what` the one of its times that is;
+    `tick` is in nanoseconds."""
 
     file: str
     program: str
@@ -43,6 +44,7 @@ class GanttOptions:
     longest: str | None = None
     chain: str | None = None
     chains: str | None = None
+    what: str | None = None
     reading: str = "whenever"
     start: int | None = None
     until: int | None = None
@@ -132,7 +134,7 @@ def marked_of(options: GanttOptions, view: SystemView, run: RunOfJobs) -> list[M
     if options.tick is not None:
         # what is shown as times has to hold between ticks too
         bounds = between_ticks(bounds)
-    marked = marked_in(run, tasks, options.reading, totals_of(bounds), READINGS[options.reading])
+    marked = marked_in(run, tasks, options.reading, totals_of(bounds), READINGS[options.reading], options.what)
     if not marked:
         raise Fault(f"{' '.join(tasks)}: nothing of the chain is seen in this run")
     return marked

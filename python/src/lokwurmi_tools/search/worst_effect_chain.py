@@ -13,9 +13,11 @@ from typing import NamedTuple
 
 from lokwurmi.files.traces import write
 from lokwurmi.model.view import SystemView
+from lokwurmi_tools.bounds.explained_chain import asked_chain
 from lokwurmi_tools.runs.effect_chain_in_run import Late, RunOfJobs, seen_of
 from lokwurmi_tools.runs.jobs_in_run import read_trace, schedule_in
 from lokwurmi_tools.search.trace_plans import NONE, TracePlan, Turn, rows_of
+from lokwurmi_tools.search.worst_pictures import draw_run
 from lokwurmi_tools.search.worst_search import INTERRUPTED, SEARCHED, TOO_LONG, Shown, WorstOptions, shortest
 from lokwurmi_tools.shared.chain_files import bounds_by, totals_of
 from lokwurmi_tools.shared.faults import Fault
@@ -188,16 +190,18 @@ def told(search: ChainSearch, late: Late, to: str | None) -> str:
 
 def perform_chain(options: WorstOptions, folder: str) -> int:
     """The whole of a call for a chain; its status."""
-    tasks, view = (options.chain or "").split(","), read_system(options.file)
-    if unknown := [it for it in tasks if it not in view.tasks]:
-        raise Fault(f"{options.file} has no task {unknown[0]}; it has {', '.join(view.tasks) or 'none'}")
+    view = read_system(options.file)
+    tasks = list(asked_chain(options.chain or "", options.chains, options.file, view).tasks)
     search = ChainSearch(options, view, tasks, folder)
     found = search.run()
     if found is None:
         raise Fault("in no trace that was tried a chain of jobs was whole: more --tries may find one")
     plan, span = shortest(search, found.plan, search.span, {("chain", search.what): found.late.ticks()})
     found = search.look(plan, span) or found
+    rows = rows_of(view, plan, span)
     if options.to:
-        write(options.to, rows_of(view, plan, span))
+        write(options.to, rows)
     print(told(search, found.late, options.to), flush=True)
+    if options.draw:
+        draw_run(options, rows, folder, chain=",".join(tasks), what=options.what, reading=options.reading)
     return search.status

@@ -40,9 +40,10 @@ Shown = dict[Target, int]
 
 @dataclass(frozen=True, slots=True)
 class WorstOptions:
-    """What is to be late: a task, a path, all of them, or an effect chain, of which `what` is and whose jobs are taken
-    to read by the rule `reading`. The search makes so many tries, in so many seconds at most, by a seed; so many traces
-    are replayed side by side. The trace goes into the file `to`, those of all into the folder `keep`."""
+    """What is to be late: a task, a path, all of them, or an effect chain, by its tasks or by its name in the file
+    `chains`, of which `what` is and whose jobs are taken to read by the rule `reading`. The search makes so many tries,
+    in so many seconds at most, by a seed; so many traces are replayed side by side. The trace goes into the file `to`,
+    its run into the picture `draw`, the traces of all into the folder `keep`."""
 
     file: str
     program: str
@@ -50,9 +51,11 @@ class WorstOptions:
     path: str | None
     all: bool
     chain: str | None
+    chains: str | None
     what: str
     reading: str
     to: str | None
+    draw: str | None
     keep: str | None
     tries: int
     seconds: float

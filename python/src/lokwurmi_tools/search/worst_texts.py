@@ -12,6 +12,7 @@ from lokwurmi.model.view import SystemView
 from lokwurmi_tools.runs.jobs_in_run import passages_in
 from lokwurmi_tools.search.trace_plans import rows_of
 from lokwurmi_tools.search.worst_effect_chain import perform_chain
+from lokwurmi_tools.search.worst_pictures import draw_run
 from lokwurmi_tools.search.worst_search import (
     INTERRUPTED,
     Best,
@@ -26,6 +27,7 @@ from lokwurmi_tools.search.worst_search import (
 )
 from lokwurmi_tools.shared.analysed import analysed
 from lokwurmi_tools.shared.faults import Fault
+from lokwurmi_tools.shared.packages import need
 from lokwurmi_tools.shared.tables import ratio_text
 from lokwurmi_tools.shared.types import Jobs, Times
 
@@ -124,6 +126,17 @@ def keep(options: WorstOptions, judge: Judge, best: Best, rows: Shown) -> None:
             if options.to:
                 write(options.to, trace)
             tell_late(judge, trace, [target], options.to)
+            if options.draw:
+                draw_target(options, judge, trace, target)
+
+
+def draw_target(options: WorstOptions, judge: Judge, trace: list[str], target: Target) -> None:
+    """Draws the run of a trace, with what is late in it beside its bound."""
+    kind, name = target
+    report = os.path.join(judge.folder, "report.txt")
+    with open(report, "w", encoding="ascii") as it:
+        it.write(judge.known.report.text)
+    draw_run(options, trace, judge.folder, report=report, longest=f"path:{name}" if kind == "path" else name)
 
 
 def perform(options: WorstOptions, folder: str) -> int:
@@ -167,6 +180,8 @@ def perform(options: WorstOptions, folder: str) -> int:
 
 def find_worst(options: WorstOptions) -> int:
     """Looks for late runs, and tells what was found; its status."""
+    if options.draw:
+        need("matplotlib")
     # before the search there is nothing to keep
     signal.signal(signal.SIGTERM, signal.default_int_handler)
     with tempfile.TemporaryDirectory() as folder:
