@@ -1,4 +1,4 @@
-"""Axes of pictures: their times, edges, legends and colours. It needs no package, since axes are those of the caller."""
+"""Axes of pictures: their times, edges, legends and colours. No package is needed, since axes are the caller's."""
 from collections.abc import Sequence
 from fractions import Fraction
 from typing import Any
