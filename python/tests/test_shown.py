@@ -143,16 +143,14 @@ class Charts(unittest.TestCase):
 
         figure = one_report(us(250)).plot()
         self.assertIsInstance(figure, Figure)
-        axes = figure.axes[0]
-        self.assertEqual(
-            [it.get_text() for it in axes.get_yticklabels()],
-            ["task a", "task <b>&amp;", "path pa", "path pb", "path pc", "path pd"],
-        )
-        self.assertIn("ms, where a tick is 250us", axes.get_xlabel())
-        # the bars of the bounds that are there, each with its least time: 3 ticks are 0.75 ms
-        widths = [it.get_width() for it in axes.patches]
-        self.assertEqual(widths, [0.75, 0.25, 0.75, 0.25, 2.0, 0.5, 2.0, 0.5])
-        self.assertIn("overload: no bound", "".join(it.get_text() for it in axes.texts))
+        paths, tasks = figure.axes
+        names = [[it.get_text() for it in axes.get_yticklabels()] for axes in (paths, tasks)]
+        self.assertEqual(names, [["pa", "pb", "pc", "pd"], ["cpu  a", "cpu  <b>&amp;"]])
+        self.assertIn("ms, where a tick is 250us", paths.get_xlabel())
+        # the bars of the bounds that are there, each with its least time, and one over the whole width
+        self.assertEqual([it.get_width() for it in tasks.patches], [3, 1, 3 * 1.03])
+        self.assertEqual([it.get_width() for it in paths.patches], [3, 1, 9 * 1.03, 8, 2, 8, 2])
+        self.assertEqual([it.get_text() for it in tasks.texts], ["750us", "overload"])
         self.assertTrue(figure._repr_png_().startswith(b"\x89PNG"))
         self.assertNotIn("matplotlib.pyplot", sys.modules)
 

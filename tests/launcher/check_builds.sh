@@ -182,8 +182,11 @@ hold "the terminal's interrupt: all of them have ended" is "$(left)" 0
 afresh
 touch "$room/slow"
 LOKWURMI_JOBS=2 "$work/lokwurmi" analyse two.toml 2>&1 </dev/null | (read -r _ && sleep 1)
-sleep 8
 touch "$room/children"
+for ((tries = 0; tries < 600; tries++)); do
+  [ "$(left) $(pgrep -fc "$room/(with|bin)")" != "0 0" ] || break
+  sleep 0.1
+done
 hold "nobody reads what is said: all of it has ended" is "$(left) $(pgrep -fc "$room/(with|bin)")" "0 0"
 
 # ---- two calls at a time

@@ -17,10 +17,8 @@ HUES = [
     "#c04f9b",
 ]
 PALE = ["#8fa9bd", "#c2a38c", "#9dbd9a", "#b3a3c9", "#cdbb7a", "#c79aa8", "#8fbcbc", "#a7adb2"]
-# one for each of some kinds that stand side by side, as resources, streams and numbers
-SIDE_BY_SIDE = ["#3f7cac", "#5b9a68", "#8a6bb1", "#a3862a", "#2a8c8c", "#7d6b5d", "#6f8c1f", "#5b6770"]
-# the ink and the paper of a picture, what is faint in it, and what is late or has no bound
-INK, PAPER, FAINT, LATE = "#1c2733", "#fefefe", "#9aa5b1", "#c0392b"
+# the ink and the paper of a picture, and what is faint in it
+INK, PAPER, FAINT = "#1c2733", "#fefefe", "#9aa5b1"
 # letters on a dark colour, and on a pale one
 ON_DARK, ON_PALE = "#ffffff", "#18222d"
 

@@ -3,7 +3,7 @@ from dataclasses import dataclass
 from fractions import Fraction
 
 from lokwurmi.model.event_models import first_windows, input_of, label_of, most_events
-from lokwurmi_tools.pictures.colours import SIDE_BY_SIDE
+from lokwurmi.results.axes import SIDE_BY_SIDE
 from lokwurmi_tools.pictures.plotting import bare, begun, check_name, save
 from lokwurmi_tools.shared.faults import Fault
 from lokwurmi_tools.shared.packages import need

@@ -4,7 +4,8 @@ from itertools import islice
 from typing import Any, NamedTuple
 
 from lokwurmi.model.view import ResourceRow, SystemView
-from lokwurmi_tools.pictures.colours import FAINT, INK, LATE, PALE, PAPER, hues, letters_on, shades
+from lokwurmi.results.axes import LATE
+from lokwurmi_tools.pictures.colours import FAINT, INK, PALE, PAPER, hues, letters_on, shades
 from lokwurmi_tools.pictures.effect_chain_arrows import Marked, draw_marked
 from lokwurmi_tools.pictures.plotting import Line2D, LineCollection, Patch, PatchCollection, Rectangle, begun
 from lokwurmi_tools.runs.effect_chain_in_run import RunOfJobs

@@ -1,8 +1,8 @@
 """Matplotlib for the commands that draw: how a picture begins, looks and is saved."""
 import os
-from collections.abc import Sequence
 from typing import Any
 
+from lokwurmi.results.axes import bare, legend_above
 from lokwurmi_tools.shared.faults import Fault
 
 try:
@@ -18,7 +18,7 @@ except ImportError:
     plt = LineCollection = PatchCollection = Line2D = Patch = Rectangle = None
 
 __all__ = ["Line2D", "LineCollection", "Patch", "PatchCollection", "Rectangle"]
-__all__ += ["begun", "bare", "check_name", "legend_above", "save"]
+__all__ += ["begun", "bare", "check_name", "legend_above", "prepare", "save"]
 FORMS = (".svg", ".png", ".pdf")
 
 
@@ -28,24 +28,17 @@ def check_name(picture: str) -> None:
         raise Fault(f"{picture}: a picture's name ends with {', '.join(FORMS[:-1])} or {FORMS[-1]}")
 
 
-def begun(*numbers: int, **look: Any) -> tuple[Any, Any]:
-    """A figure and its axes. Words stay words in it, and what is drawn twice gives the same picture."""
+def prepare() -> None:
+    """Has words stay words in pictures, and what is drawn twice give the same picture."""
     plt.rcParams.update({"svg.fonttype": "none", "svg.hashsalt": "lokwurmi", "font.family": "DejaVu Sans"})
     plt.rcParams.update({"hatch.linewidth": 0.6})
+
+
+def begun(*numbers: int, **look: Any) -> tuple[Any, Any]:
+    """A figure and its axes."""
+    prepare()
     figure, axes = plt.subplots(*numbers, layout="constrained", **look)
     return figure, axes
-
-
-def bare(axes: Any) -> None:
-    """Leaves out the lines above and to the right."""
-    for side in ("top", "right"):
-        axes.spines[side].set_visible(False)
-
-
-def legend_above(axes: Any, marks: Sequence[Any], texts: Sequence[str], **look: Any) -> None:
-    """A legend in one line above the axes, to the right."""
-    where = {"loc": "lower right", "bbox_to_anchor": (1.01, 0.99), "borderaxespad": 0.2, "columnspacing": 1.0}
-    axes.legend(marks, texts, fontsize=7, ncols=len(texts), frameon=False, **(where | look))
 
 
 def save(figure: Any, picture: str) -> None:
