@@ -269,6 +269,7 @@ def check_chain_calls(room, program):
         ([file, "--chains", bad], 18, "chains refused reason 5 chain 1"),
         ([file, "--chains", bad], 18, "bad.toml:3:"),
         ([file, "--chains", os.path.join(room, "nothing.toml")], 11, "cannot read"),
+        ([file, "--only", "longer-period"], 1, "--only longer-period wants --chains"),
     ):
         done = run(TOOL, "--program", program, *words)
         is_told = said in done.stderr and "Traceback" not in done.stderr
