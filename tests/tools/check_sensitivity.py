@@ -247,6 +247,29 @@ def check_with_chains(number, system, chains, room, program):
     hold(rows == wanted, f"system {number}: the deadlines of chains are {rows}", "chains deadline")
 
 
+# with a period of 10, 9, 8 and 7 ticks the chain a, b takes 9 + 4 + 99 + 9 = 121, 120, 7 + 4 + 99 + 13 = 123 and 122
+AGAIN = """format = 1
+resource = [{ name = "cpu", kind = "preemptive", limit = 500 }]
+source = [{ name = "s", period = 10 }, { name = "r", period = 100 }]
+task = [
+  { name = "a", on = "cpu", after = "s", best = 1, worst = 4, priority = 1 },
+  { name = "b", on = "cpu", after = "r", best = 1, worst = 5, priority = 2 },
+]
+"""
+
+
+def check_late_and_again(room, program):
+    """A chain that is late with a shorter period, and in time with a still shorter one: the first that is late counts,
+    though the tool tries the other before it."""
+    file = written(room, "again.toml", AGAIN)
+    listed = written(room, "again.chains.toml", chain_files.text_of([("c", ["a", "b"], 122, None, None)]))
+    done = run(TOOL, "--program", program, file, "--chains", listed, "--only", "period")
+    hold(re.search(r"^period of s +10 +9 +-10.0 % +chain c reaction$", done.stdout, re.M), done.stdout, "calls")
+    for period, takes in ((10, 121), (9, 120), (8, 123), (7, 122)):
+        limits = effect_chains.Bounds(AGAIN.replace("period = 10 ", f"period = {period} ")).limits(["a", "b"])
+        hold(limits["reaction"] == takes, f"with a period of {period}: {limits}", "calls")
+
+
 def check_chain_calls(room, program):
     """What the tool writes of chains, and what it says of files that aren't taken."""
     file = os.path.join(TOP, "examples", "effects.toml")
@@ -269,6 +292,7 @@ def check_chain_calls(room, program):
         ([file, "--chains", bad], 18, "chains refused reason 5 chain 1"),
         ([file, "--chains", bad], 18, "bad.toml:3:"),
         ([file, "--chains", os.path.join(room, "nothing.toml")], 11, "cannot read"),
+        ([file, "--only", "longer-period"], 1, "--only longer-period wants --chains"),
     ):
         done = run(TOOL, "--program", program, *words)
         is_told = said in done.stderr and "Traceback" not in done.stderr
@@ -357,6 +381,7 @@ def main():
             if len(faults) > 3:
                 break
         check_chain_calls(room, program)
+        check_late_and_again(room, program)
         if python:
             check_calls(python, room)
             check_refused(python)

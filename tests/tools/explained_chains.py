@@ -6,8 +6,9 @@ import re
 import tomllib
 
 from lokwurmi_tools.bounds.explained import Explained
-from lokwurmi_tools.bounds.explained_chain import AskedChain, ExplainedChains, lines_of_chain
+from lokwurmi_tools.bounds.explained_chain import ExplainedChains, lines_of_chain
 from lokwurmi_tools.shared.analysed import analysed
+from lokwurmi_tools.shared.chain_files import AskedChain
 from tests.rules import bounds, effect_chains
 from tests.support import chain_files, systems
 from tests.support.calls import TOP, hold, run, written

@@ -84,9 +84,12 @@ def check_chain_searches(room, program, page_of):
         page.hold(last == str(limits[name][what]), f"the deadline of {name}, {what}: {last}")
     said = page.text("#margins")
     # with shorter periods act has no bound first
-    page.hold("a chain stops 8 of 10 numbers" in said and "sources stay near" in said, f"how far numbers may move: {said}")
+    page.hold(
+        "a chain stops 8 of 10 numbers" in said and "sources stay near" in said, f"how far numbers may move: {said}"
+    )
     found = {(it["Chain"], it["Of"]): it["With these"] for it in page.table("priority-chain-table")}
-    page.hold(all(found[it] == str(limits[it[0]][it[1]]) for it in found) and len(found) == 4, f"priorities: {found}")
+    same = all(found[name, what] == str(limits[name][what]) for name, what in found)
+    page.hold(same and len(found) == 4, f"priorities: {found}")
     # between ticks two waits have a tick more: 47, of 50
     page = page_of("chain_times", file, "--chains", listed, "--sensitivity", "--tick", "1ms")
     slow = next(it for it in page.table("margin-table") if it["May move"] == "period of slow" and it["By"][0] == "+")

@@ -5,7 +5,7 @@ worked out here once more, at the bounds of a report, and is no part of what is 
 bound holds it against what `lokwurmi chain` or `lokwurmi chains` has written.
 """
 from collections.abc import Mapping, Sequence
-from typing import NamedTuple
+from typing import NamedTuple, Protocol
 
 from lokwurmi.model.event_models import Bounds, Stream, inputs_of
 from lokwurmi.model.view import SystemView, Way
@@ -13,6 +13,26 @@ from lokwurmi.results.effect_chains import kinds_of, waits_of
 
 # a task, and whether a part is its `wait` or its `response`
 Part = tuple[str, str]
+
+
+class HasParts(Protocol):
+    """A step of a chain, as it is worked out here, or as the program tells it."""
+
+    @property
+    def name(self) -> str:
+        ...
+
+    @property
+    def kind(self) -> str:
+        ...
+
+    @property
+    def wait(self) -> int | None:
+        ...
+
+    @property
+    def response(self) -> int | None:
+        ...
 
 
 class StepParts(NamedTuple):
@@ -55,7 +75,7 @@ class ChainSums:
         return sum_of(parts_of(self.steps(tasks), what))
 
 
-def parts_of(steps: Sequence[StepParts], what: str) -> list[tuple[Part, int | None]]:
+def parts_of(steps: Sequence[HasParts], what: str) -> list[tuple[Part, int | None]]:
     """What a bound of a chain is the sum of: a wait stands before the response of who waits."""
     waits, found = waits_of([it.kind for it in steps])[what], list[tuple[Part, int | None]]()
     for place, step in enumerate(steps):

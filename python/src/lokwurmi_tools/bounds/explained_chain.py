@@ -1,19 +1,11 @@
 """What the bounds of an effect chain are made of: the sums of their steps, which are held against what `lokwurmi chain`
 has written."""
-from collections.abc import Sequence
-from dataclasses import dataclass
-
-from lokwurmi.files.chain_files import has_ticks_off
-from lokwurmi.files.traces import text_of
-from lokwurmi.model.entries import Chain
-from lokwurmi.model.view import SystemView
 from lokwurmi.results.effect_chains import ChainReport, ticks_between
 from lokwurmi.results.verdicts import OF_CHAINS, PREMISE, PREMISE_WORDS
 from lokwurmi_tools.bounds.bound_texts import BAR, bar, waits_text
 from lokwurmi_tools.bounds.chain_parts import ChainSums, StepParts, parts_of, sum_of
 from lokwurmi_tools.bounds.explained import Explained
-from lokwurmi_tools.shared.chain_files import bounds_by, read_chains, totals_of
-from lokwurmi_tools.shared.faults import Fault
+from lokwurmi_tools.shared.chain_files import AskedChain, bounds_by, totals_of
 from lokwurmi_tools.shared.report import bounds_in
 from lokwurmi_tools.shared.times import TICKS, Scale
 from lokwurmi_tools.shared.types import Values
@@ -24,43 +16,6 @@ MEANS = {
     "age": "at the end of a job of {last}, since the job of {first} came whose data it has",
     "held": "in the register of {last}, until it is overwritten: its parts are those of the reaction",
 }
-
-
-@dataclass(frozen=True, slots=True)
-class AskedChain:
-    """A chain that is told of; `name` is that of a file of chains, else there is none. Deadlines with `off` have a tick
-    less for each wait already, as `lokwurmi ticks` writes them."""
-
-    name: str
-    tasks: Sequence[str]
-    deadlines: dict[str, int]
-    off: bool = False
-
-
-def chains_in(file: str, view: SystemView) -> list[AskedChain]:
-    """The chains of a file."""
-    off, found = False, read_chains(file, view)
-    if found:
-        off = has_ticks_off(text_of(file))
-    return [AskedChain(it.name, it.tasks, deadlines_of(it), off) for it in found]
-
-
-def deadlines_of(chain: Chain) -> dict[str, int]:
-    """The deadlines of a chain in ticks."""
-    return {what: ticks for what in OF_CHAINS if (ticks := getattr(chain, what)) is not None}
-
-
-def asked_chain(chain: str, chains: str | None, file: str, view: SystemView) -> AskedChain:
-    """The chain that is asked for: by its name in a file of chains, or by its tasks."""
-    if chains is not None:
-        several = {it.name: it for it in chains_in(chains, view)}
-        if chain not in several:
-            raise Fault(f"{chains}: there is no chain {chain}; it has {', '.join(several) or 'none'}")
-        return several[chain]
-    tasks = chain.split(",")
-    if unknown := [it for it in tasks if it not in view.tasks]:
-        raise Fault(f"{file}: the system has no task {unknown[0]}; it has {', '.join(view.tasks) or 'none'}")
-    return AskedChain("", tasks, {})
 
 
 class ExplainedChains:

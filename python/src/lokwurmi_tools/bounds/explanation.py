@@ -7,9 +7,10 @@ from fractions import Fraction
 from lokwurmi.model.view import SystemView
 from lokwurmi_tools.bounds.bound_texts import lines_of_path, lines_of_task, shown
 from lokwurmi_tools.bounds.explained import Explained
-from lokwurmi_tools.bounds.explained_chain import AskedChain, ExplainedChains, asked_chain, chains_in, lines_of_chain
+from lokwurmi_tools.bounds.explained_chain import ExplainedChains, lines_of_chain
 from lokwurmi_tools.search.helpful_changes import Help, helps_for, lines_of_helps, lines_of_regions
 from lokwurmi_tools.shared.analysed import analysed
+from lokwurmi_tools.shared.chain_files import AskedChain, asked_chain, asked_chains
 from lokwurmi_tools.shared.faults import Fault
 from lokwurmi_tools.shared.packages import need
 from lokwurmi_tools.shared.system_file import noticed_in
@@ -109,7 +110,7 @@ def chains_of(options: ExplainOptions, view: SystemView) -> list[AskedChain]:
     """The chains that are asked for: one, or with all those of the file of chains."""
     if options.chain is not None:
         return [asked_chain(options.chain, options.chains, options.file, view)]
-    return chains_in(options.chains, view) if options.all and options.chains else []
+    return asked_chains(options.chains, view) if options.all and options.chains else []
 
 
 def told_of(options: ExplainOptions) -> ToldBounds:

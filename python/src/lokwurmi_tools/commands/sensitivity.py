@@ -58,7 +58,8 @@ def goals_in(several: list[str]) -> dict[str, int]:
 
 def laws_text() -> str:
     """By which law nothing gets better as a number of each kind moves on."""
-    lines = [f"  {kind:<9}  {law}" for kind, law in LAWS.items()]
+    wide = max(map(len, LAWS))
+    lines = [f"  {kind:<{wide}}  {law}" for kind, law in LAWS.items()]
     return "\n".join(["", "by which law nothing gets better as a number moves on:", *lines, ""])
 
 
@@ -82,4 +83,6 @@ def main(arguments: list[str] | None = None) -> int:
         check_name(words.to)
     if words.jobs < 1:
         raise Fault("there is at least 1 job")
+    if "longer-period" in (words.only or ()) and words.chains is None:
+        raise Fault("--only longer-period wants --chains: only a chain is later with a longer period")
     return tell_margins(options_of(MarginOptions, words, goals=goals_in(words.goal), only=tuple(words.only or KINDS)))

@@ -5,8 +5,9 @@ from lokwurmi.files.chain_files import has_ticks_off
 from lokwurmi.files.traces import text_of
 from lokwurmi.model.entries import Chain
 from lokwurmi.refusals.silence import asked_of
-from lokwurmi.results.effect_chains import ChainReport, JudgedChain, between_ticks, judged_between_ticks, waits_of
+from lokwurmi.results.effect_chains import JudgedChain, between_ticks, judged_between_ticks
 from lokwurmi.results.verdicts import OF_CHAINS
+from lokwurmi_tools.bounds.chain_parts import parts_of
 from lokwurmi_tools.page.page_options import PageOptions
 from lokwurmi_tools.page.run_pictures import SeenRun
 from lokwurmi_tools.page.system_tables import PageSystem, percent
@@ -15,17 +16,6 @@ from lokwurmi_tools.runs.effect_chain_in_run import Late, RunOfJobs, gaps_in, se
 from lokwurmi_tools.shared.chain_files import bounds_by, read_chains, verdicts_by
 from lokwurmi_tools.shared.system_file import silences_in
 from lokwurmi_tools.shared.types import Values
-
-
-def parts_of(bounds: ChainReport, what: str) -> list[tuple[str, str, int | None]]:
-    """What a bound is the sum of: the name of a task, `wait` or `response`, and the ticks; those of a wait stand before
-    the response of who waits. An age lacks the last wait, unless a merge comes behind it."""
-    waits, parts = waits_of([step.kind for step in bounds.steps])[what], []
-    for place, step in enumerate(bounds.steps):
-        if place in waits:
-            parts.append((step.name, "wait", step.wait))
-        parts.append((step.name, "response", step.response))
-    return parts
 
 
 def limits_of(chain: JudgedChain) -> dict[str, int | None]:
@@ -66,7 +56,7 @@ class ChainTable:
             "bound": bound,
             "deadline": deadline,
             "verdict": getattr(found, f"{what}_verdict").value,
-            "parts": [self.part(*it) for it in parts_of(self.bounds[chain.name], what)],
+            "parts": [self.part(*of, ticks) for of, ticks in parts_of(self.bounds[chain.name].steps, what)],
             "at": None if deadline is None else self.share(deadline),
             "seen": late and late.ticks(),
             "seen_at": late and percent(min(Fraction(late.ticks()) / self.scale, Fraction(1))),

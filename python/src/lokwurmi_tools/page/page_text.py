@@ -2,6 +2,7 @@
 import os
 import re
 import sys
+from dataclasses import replace
 from pathlib import Path
 from typing import TYPE_CHECKING
 
@@ -11,6 +12,7 @@ from lokwurmi_tools.page.page_on_request import changes_of, helps_of, margins_of
 from lokwurmi_tools.page.page_options import PageOptions
 from lokwurmi_tools.page.run_pictures import picture_of_graph, seen_run, told_of_run
 from lokwurmi_tools.page.system_tables import PageSystem, percent
+from lokwurmi_tools.reports.judging import Given, room
 from lokwurmi_tools.search.chain_goals import ChainGoals
 from lokwurmi_tools.shared.analysed import analysed
 from lokwurmi_tools.shared.packages import need
@@ -122,7 +124,10 @@ def write_page(options: PageOptions) -> int:
     where a task has no bound."""
     need("jinja2", *(["matplotlib"] if options.trace else []))
     system = PageSystem(analysed(options.program, options.file), Scale(options.tick))
-    put(page_of(options, system), options.to)
+    with room() as folder:
+        # a pipe of chains is read several times
+        chains = options.chains and Given(options.chains, folder).path
+        put(page_of(replace(options, chains=chains), system), options.to)
     for it in system.explained.faults:
         print(f"lokwurmi page: an error of this command: {it}", file=sys.stderr)
     if system.explained.faults:

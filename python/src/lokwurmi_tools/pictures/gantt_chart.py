@@ -13,7 +13,7 @@ from lokwurmi_tools.pictures.gantt_lanes import DrawnJob, GanttChart, Longest, O
 from lokwurmi_tools.pictures.plotting import save
 from lokwurmi_tools.runs.effect_chain_in_run import READINGS, RunOfJobs
 from lokwurmi_tools.runs.jobs_in_run import jobs_in, passages_in, points_in, read_schedule, read_trace, schedule_by
-from lokwurmi_tools.shared.chain_files import bounds_by, read_chains, totals_of
+from lokwurmi_tools.shared.chain_files import asked_chain, bounds_by, totals_of
 from lokwurmi_tools.shared.faults import Fault
 from lokwurmi_tools.shared.packages import need
 from lokwurmi_tools.shared.report import bounds_in, latencies_in, read_report
@@ -114,22 +114,9 @@ def check_longest(name: str, view: SystemView) -> None:
         raise Fault(f"{name}: the system has no task of this name, and no path; its paths are {there}")
 
 
-def chain_in(options: GanttOptions, view: SystemView) -> list[str]:
-    """The tasks of the chain that is asked for."""
-    if options.chains:
-        chains = {it.name: it.tasks for it in read_chains(options.chains, view)}
-        if options.chain not in chains:
-            raise Fault(f"{options.chains}: there is no chain {options.chain}; it has {', '.join(chains) or 'none'}")
-        return chains[options.chain]
-    tasks = (options.chain or "").split(",")
-    if unknown := [it for it in tasks if it not in view.tasks]:
-        raise Fault(f"{options.file}: the system has no task {unknown[0]}")
-    return tasks
-
-
 def marked_of(options: GanttOptions, view: SystemView, run: RunOfJobs) -> list[Marked]:
     """What is marked of the chain that is asked for."""
-    tasks = chain_in(options, view)
+    tasks = list(asked_chain(options.chain or "", options.chains, options.file, view).tasks)
     bounds = bounds_by(options.program, options.file, tasks)
     if options.tick is not None:
         # what is shown as times has to hold between ticks too

@@ -13,13 +13,12 @@ from typing import NamedTuple
 
 from lokwurmi.files.traces import write
 from lokwurmi.model.view import SystemView
-from lokwurmi_tools.bounds.explained_chain import asked_chain
 from lokwurmi_tools.runs.effect_chain_in_run import Late, RunOfJobs, seen_of
 from lokwurmi_tools.runs.jobs_in_run import read_trace, schedule_in
 from lokwurmi_tools.search.trace_plans import NONE, TracePlan, Turn, rows_of
 from lokwurmi_tools.search.worst_pictures import draw_run
 from lokwurmi_tools.search.worst_search import INTERRUPTED, SEARCHED, TOO_LONG, Shown, WorstOptions, shortest
-from lokwurmi_tools.shared.chain_files import bounds_by, totals_of
+from lokwurmi_tools.shared.chain_files import asked_chain, bounds_by, totals_of
 from lokwurmi_tools.shared.faults import Fault
 from lokwurmi_tools.shared.program import call, often
 from lokwurmi_tools.shared.progress import Progress
