@@ -174,6 +174,20 @@ def main():
                 beside.append(start_loop(os.cpu_count() - 1))
             time.sleep(1)
     clock = time.monotonic() - begun
+    seconds = tell_parts(parts, chosen.edits)
+    print(
+        f"{clock / 60:.1f} minutes by the clock on {chosen.processors} processors, "
+        f"{seconds / 60:.1f} of one processor, status {gate.returncode}"
+    )
+    print(
+        f"a short loop took {before} s before, {seconds_of(beside)} beside the run,"
+        f" {seconds_of([start_loop(0)])} after it"
+    )
+    return gate.returncode
+
+
+def tell_parts(parts, with_edits):
+    """Prints a row for each crate, and maybe each edit; the seconds of one processor in all."""
     spent, counts = collections.Counter(), collections.Counter()
     each = collections.Counter()
     for name, kind, edit, ticks in parts.values():
@@ -184,17 +198,9 @@ def main():
     for name in sorted({name for name, _ in spent}):
         cells = [f"{spent[name, kind]:.0f}" if counts[name, kind] else "none" for kind in KINDS]
         print(f"| `{name}` | " + " | ".join(cells) + " |")
-    for edit, seconds in each.most_common() if chosen.edits else []:
+    for edit, seconds in each.most_common() if with_edits else []:
         print(f"{seconds:6.0f} {edit}")
-    print(
-        f"{clock / 60:.1f} minutes by the clock on {chosen.processors} processors, "
-        f"{sum(spent.values()) / 60:.1f} of one processor, status {gate.returncode}"
-    )
-    print(
-        f"a short loop took {before} s before, {seconds_of(beside)} beside the run,"
-        f" {seconds_of([start_loop(0)])} after it"
-    )
-    return gate.returncode
+    return sum(spent.values())
 
 
 if __name__ == "__main__":

@@ -303,6 +303,14 @@ def check_tightness(page, text, folder):
             [told.get((name, kind, what)), ratio_of(int(seen), int(bound))],
             [(int(bound), int(seen)), ratio],
         )
+    check_chain_rows(page, text, folder)
+    # each example is in a row
+    rows = {name for names in re.findall(r"^\| ([a-z_, ]+) \| \d+ \|", text, re.M) for name in names.split(", ")}
+    hold_same(f"{page}: its examples", sorted(rows), sorted(os.path.basename(it)[:-5] for it in example_systems()))
+
+
+def check_chain_rows(page, text, folder):
+    """The rows of effect chains."""
     for name, chain, what, bound, seen, ratio in re.findall(
         r"^\| (\w+) \| chain `([\w, ]+)`, (\w+) \| (\d+) \| (\d+) \| (\S+) \|", text, re.M
     ):
@@ -312,9 +320,6 @@ def check_tightness(page, text, folder):
             [found, ratio_of(int(seen), int(bound))],
             [(int(bound), int(seen)), ratio],
         )
-    # each example is in a row
-    rows = {name for names in re.findall(r"^\| ([a-z_, ]+) \| \d+ \|", text, re.M) for name in names.split(", ")}
-    hold_same(f"{page}: its examples", sorted(rows), sorted(os.path.basename(it)[:-5] for it in example_systems()))
 
 
 def check_blocks(room):

@@ -325,8 +325,8 @@ def check_worked():
         hold(is_told == ("blocking" in [it[0] for it in wanted]), f"{name}.toml, {task}: {lines}", "worked")
 
 
-def check_told(python, room):
-    """A report that isn't the program's is told as an error, and what isn't taken is refused."""
+def check_errors(python, room):
+    """A report that isn't the program's is told as an error."""
     two = os.path.join(TOP, "examples", "two_tasks.toml")
     for old, new, said in (
         ("worst 10", "worst 11", "b: the parts come to 7 + 3 - 0 = 10, and its bound is 11"),
@@ -344,15 +344,17 @@ def check_told(python, room):
             f"{new}: {done.returncode} {done.stderr}",
             "told",
         )
+
+
+def check_told(python, room):
+    """What isn't taken is refused, and a terminal without blocks gets others."""
+    two, crossing = (os.path.join(TOP, "examples", it) for it in ("two_tasks.toml", "crossing_chains.toml"))
     for words, said in (
         ([two], "name a task, or --path PATH, or --all"),
         ([two, "a", "--all"], "name a task, or --path PATH, or --all"),
         ([two, "c"], "there is no task c; it has a, b"),
-        ([os.path.join(TOP, "examples", "crossing_chains.toml"), "pb"], "pb is a path: write --path pb"),
-        (
-            [os.path.join(TOP, "examples", "crossing_chains.toml"), "--path", "a1"],
-            "a1 is a task: write it without --path",
-        ),
+        ([crossing, "pb"], "pb is a path: write --path pb"),
+        ([crossing, "--path", "a1"], "a1 is a task: write it without --path"),
         ([two, "--path", "p"], "there is no path p; it has none"),
         ([two, "a", "--to", "picture.gif"], "a picture's name ends with .svg, .png or .pdf"),
         ([written(room, "empty.toml", "format = 1\n"), "--all"], "empty.toml has no task"),
@@ -383,6 +385,7 @@ def main():
         check_worked()
         if python:
             check_examples(python, room)
+        check_errors(python or sys.executable, room)
         check_told(python or sys.executable, room)
     tell(without="" if python else ", without what is drawn: matplotlib is not here")
 

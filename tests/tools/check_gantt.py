@@ -60,7 +60,12 @@ def check_gantt(room, name):
         and ("a region ends, the job goes on" in texts) == (name in ("cooperative", "regions")),
         f"gantt {name}: it says {texts}",
     )
-    # the first bar and the last tell how long a tick is
+    hold_bars(name, system, rows, bars)
+
+
+def hold_bars(name, system, rows, bars):
+    """Holds the bars of a chart: the first and the last tell how long a tick is."""
+    on = {name: it.on for name, it in system.tasks.items()}
     first, last = min(start for _, start, _ in rows), max(end for _, _, end in rows)
     left = min(x for x, _, _ in bars)
     tick = (max(x for _, x, _ in bars) - left) / (last - first)
@@ -123,13 +128,24 @@ def check_jobs():
             hold(took == passages(run_of_it, path["tasks"]), f"gantt: the passages of random system {number}: {took}")
 
 
-def check_late(room):
-    """What is marked, cut out and refused."""
-    chains = ["examples/crossing_chains.toml", "examples/crossing_chains.schedule.csv"]
-    trace = ["--trace", "examples/crossing_chains.trace.csv"]
+CHAINS = ["examples/crossing_chains.toml", "examples/crossing_chains.schedule.csv"]
+TRACE = ["--trace", "examples/crossing_chains.trace.csv"]
+RING = """format = 1
+resource = [{ name = "ring", kind = "tdma", gap = 8 }]
+source = [{ name = "s", period = 40 }]
+task = [{ name = "t", on = "ring", after = "s", best = 3, worst = 3, slot = 2 }]
+"""
+
+
+def lower_report(room):
+    """A report with a bound that a job is above."""
     with open("examples/crossing_chains.report.txt", encoding="ascii") as it:
-        report = it.read()
-    lower = written(room, "lower.txt", report.replace("best 5 worst 30", "best 5 worst 25"))
+        return written(room, "lower.txt", it.read().replace("best 5 worst 30", "best 5 worst 25"))
+
+
+def check_late(room):
+    """What is marked and cut out."""
+    chains, trace, lower = CHAINS, TRACE, lower_report(room)
     texts, _, _ = gantt(room, *chains, *trace, "--report", lower)
     hold(
         "later than its bound" in texts and [it for it in texts if "bound " in it] == ["a1: 30, bound 25"],
@@ -147,18 +163,19 @@ def check_late(room):
     )
     with open(chains[1], encoding="ascii") as it:
         hold(gantt(room, chains[0], "-", given=it.read()) == gantt(room, *chains), "gantt: what comes in")
-    ring = (
-        'format = 1\nresource = [{ name = "ring", kind = "tdma", gap = 8 }]\nsource = [{ name = "s", period = 40 }]\n'
-        'task = [{ name = "t", on = "ring", after = "s", best = 3, worst = 3, slot = 2 }]\n'
-    )
     texts, _, marks = gantt(
         room,
-        written(room, "ring.toml", ring),
+        written(room, "ring.toml", RING),
         written(room, "ring.csv", "t,6,8\nt,16,17\n"),
         "--trace",
         written(room, "ring.trace.csv", "event,s,3\nphase,ring,4\n"),
     )
     hold("gap" in texts and marks == 2, f"gantt, a TDMA resource: {texts}")
+
+
+def check_refused(room):
+    """What is refused, and what is told then."""
+    chains, trace, lower = CHAINS, TRACE, lower_report(room)
     for said, words in (
         ("name a SCHEDULE, or a trace", chains[:1]),
         ("--report wants --trace", [*chains, "--report", lower]),
@@ -191,6 +208,7 @@ def main():
             check_gantt(room, os.path.basename(schedule).removesuffix(".schedule.csv"))
             check_longest(room, os.path.basename(schedule).removesuffix(".schedule.csv"))
         check_late(room)
+        check_refused(room)
     check_jobs()
     tell()
 

@@ -173,43 +173,43 @@ def check_system(number, system, room, deadlines, goals):
     for rows, least in ((answers, 2), (regions, 1)):
         check_regions(f"system {number}", system, [it for it, _ in rows if it.kind == "region"], least)
     for it, told in answers + regions:
-        what = f"system {number}, {it.kind} {it.name}, deadlines {deadlines}, goals {goals}: {told}\n{toml_of(system)}"
-        good = {told.steps, *(pick.randint(0, told.steps) for _ in range(2))}
-        hold(
-            all(not judged(moved(system, it, steps), goals, deadlines) for steps in good),
-            f"{what}: with {sorted(good)} not all holds",
-            it.kind,
-        )
-        hold(told.ends == (told.steps < it.most), f"{what}: how it ends", it.kind)
-        if told.ends:
-            hold(
-                judged(moved(system, it, told.steps + 1), goals, deadlines) == told.first != [],
-                f"{what}: beyond it",
-                it.kind,
-            )
-            bad = [pick.randint(told.steps + 1, min(it.most, 3 * told.steps + 1)) for _ in range(2)]
-            hold(
-                all(judged(moved(system, it, steps), goals, deadlines) for steps in bad),
-                f"{what}: with {bad} all holds",
-                it.kind,
-            )
-        if it.kind == "execution" and deadlines and not goals:
-            wanted = (0, f"slack {it.name} {told.steps} next {'missed' if told.ends else 'limit'}\n")
-            hold(
-                answer(PROGRAM, toml_of(system), "slack", it.name) == wanted,
-                f"{what}: {answer(PROGRAM, toml_of(system), 'slack', it.name)}",
-                "slack",
-            )
-    rows = margins.rows_of(question, ["deadline"], 1)
+        check_number(f"system {number}", system, it, told, (goals, deadlines), pick)
+    check_deadlines(f"system {number}", system, margins.rows_of(question, ["deadline"], 1), goals, deadlines)
+    return True
+
+
+def check_number(name, system, it, told, asked, pick):
+    """How far a number of a system may move: up to there all holds that is asked for, and beyond it something doesn't;
+    the execution of a task is what `slack` tells."""
+    goals, deadlines = asked
+    what = f"{name}, {it.kind} {it.name}, deadlines {deadlines}, goals {goals}: {told}\n{toml_of(system)}"
+
+    def late(steps):
+        return judged(moved(system, it, steps), goals, deadlines)
+
+    good = {told.steps, *(pick.randint(0, told.steps) for _ in range(2))}
+    hold(all(not late(steps) for steps in good), f"{what}: with {sorted(good)} not all holds", it.kind)
+    hold(told.ends == (told.steps < it.most), f"{what}: how it ends", it.kind)
+    if told.ends:
+        hold(late(told.steps + 1) == told.first != [], f"{what}: beyond it", it.kind)
+        bad = [pick.randint(told.steps + 1, min(it.most, 3 * told.steps + 1)) for _ in range(2)]
+        hold(all(late(steps) for steps in bad), f"{what}: with {bad} all holds", it.kind)
+    if it.kind == "execution" and deadlines and not goals:
+        wanted = (0, f"slack {it.name} {told.steps} next {'missed' if told.ends else 'limit'}\n")
+        found = answer(PROGRAM, toml_of(system), "slack", it.name)
+        hold(found == wanted, f"{what}: {found}", "slack")
+
+
+def check_deadlines(name, system, rows, goals, deadlines):
+    """How short each deadline may be: with it all holds, and with a tick less its path is late."""
     for it in rows:
         goal = goals | {it["name"]: it["last"]}
         hold(
             not judged(system, goal, deadlines)
             and judged(system, goal | {it["name"]: it["last"] - 1}, deadlines) == [f"path {it['name']}"],
-            f"system {number}: {it}",
+            f"{name}: {it}",
             "deadline",
         )
-    return True
 
 
 def called(python, *words):
@@ -276,7 +276,7 @@ def check_chain_calls(room, program):
 
 
 def check_calls(python, room):
-    """What the tool writes and draws, and what it doesn't take."""
+    """What the tool writes and draws."""
     sae, picture = os.path.join(TOP, "examples", "sae_can.toml"), os.path.join(room, "picture.svg")
     done = called(python, sae, "--deadlines", "--to", picture)
     hold(done.returncode == 0 and not done.stderr, f"sae_can.toml: {done.stderr}", "calls")
@@ -299,6 +299,11 @@ def check_calls(python, room):
         "the number of jobs is in the answer",
         "calls",
     )
+
+
+def check_refused(python):
+    """What the tool doesn't take, and where nothing may move."""
+    sae = os.path.join(TOP, "examples", "sae_can.toml")
     for words, status, said in (
         (
             [os.path.join(TOP, "examples", "crossing_chains.toml")],
@@ -354,6 +359,7 @@ def main():
         check_chain_calls(room, program)
         if python:
             check_calls(python, room)
+            check_refused(python)
     without = "" if python else ", without calls: matplotlib is not here"
     tell(f"{len(numbers)} systems, {held} times all held; ", without)
 

@@ -63,27 +63,29 @@ def check_graph(file, report, chains):
     links = {link for path in system.get("path", []) for link in zip(path["tasks"], path["tasks"][1:])}
     coloured = set(re.findall(r'^  "task (\S+)" -> "task (\S+)" \[color', done.stdout, re.M))
     hold(coloured == {link for link in links if link in wanted}, f"{what}: its coloured lines are {sorted(coloured)}")
-    told = {line.split()[1]: line for line in lines_of(report) if line.startswith("task ")} if report else {}
-    late = (
-        {line.split()[1] for line in lines_of(report) if line.startswith("path ") and line.endswith(" missed")}
-        if report
-        else set()
-    )
-    late = {name for path in system.get("path", []) if path["name"] in late for name in path["tasks"]}
     for name in drawn & set(nodes):
-        node = nodes[name]
-        hold(("peripheries = 2" in node) == (len(activators_of(tasks[name])) > 1), f"{what}: the edge of {name}")
-        streams = re.search(r"\\nstreams (\d+)", node)
-        if report:
-            hold(
-                (re.search(r" streams (\d+) ", told[name]) or [None, None])[1] == (streams and streams[1]),
-                f"{what}: the streams of {name}",
-            )
-            bound = told[name].split()[-1]
-            hold(f'\\nbound {bound}"' in node, f"{what}: the bound of {name}")
-            hold(("#f5b7b1" in node) == (bound == "overload"), f"{what}: {name} is marked as without a bound")
-            hold(("#fbe3b5" in node) == (bound != "overload" and name in late), f"{what}: {name} is marked as late")
+        has_several = len(activators_of(tasks[name])) > 1
+        hold(("peripheries = 2" in nodes[name]) == has_several, f"{what}: the edge of {name}")
+    if report:
+        hold_reported(what, system, lines_of(report), {name: nodes[name] for name in drawn & set(nodes)})
     return done.stdout
+
+
+def hold_reported(what, system, lines, nodes):
+    """Holds what the nodes of a graph tell of a report."""
+    told = {line.split()[1]: line for line in lines if line.startswith("task ")}
+    missed = {line.split()[1] for line in lines if line.startswith("path ") and line.endswith(" missed")}
+    late = {name for path in system.get("path", []) if path["name"] in missed for name in path["tasks"]}
+    for name, node in nodes.items():
+        streams = re.search(r"\\nstreams (\d+)", node)
+        hold(
+            (re.search(r" streams (\d+) ", told[name]) or [None, None])[1] == (streams and streams[1]),
+            f"{what}: the streams of {name}",
+        )
+        bound = told[name].split()[-1]
+        hold(f'\\nbound {bound}"' in node, f"{what}: the bound of {name}")
+        hold(("#f5b7b1" in node) == (bound == "overload"), f"{what}: {name} is marked as without a bound")
+        hold(("#fbe3b5" in node) == (bound != "overload" and name in late), f"{what}: {name} is marked as late")
 
 
 def check_charts(report, room):
@@ -199,6 +201,15 @@ def script(room, name, text):
     return file
 
 
+# calls a tool, where another Python than Debian's stands for that
+BY_ANOTHER = """import sys
+from lokwurmi_tools import __main__
+from lokwurmi_tools.shared import packages
+packages.DEBIAN = sys.argv[1]
+sys.exit(__main__.perform(sys.argv[2:]))
+"""
+
+
 def check_packages(room):
     """What a tool does whose package this Python doesn't have, where another stands for Debian's."""
     picture = os.path.join(room, "chart.svg")
@@ -211,39 +222,19 @@ def check_packages(room):
     )
     nowhere = os.path.join(room, "nowhere")
     with_all = script(room, "all", f'exec "{sys.executable}" "$@"\n')
+    lacks, install = "the package matplotlib isn't here: ", "apt-get install python3-matplotlib"
+    both = "the packages jinja2 and matplotlib aren't here: apt-get install python3-jinja2 python3-matplotlib"
     for words, debian, status, said in (
-        (
-            chart,
-            with_none,
-            1,
-            "lokwurmi chart: the package matplotlib isn't here: apt-get install python3-matplotlib; ",
-        ),
-        (chart, lying, 1, "lokwurmi chart: the package matplotlib isn't here: apt-get install python3-matplotlib\n"),
-        (chart, nowhere, 1, "lokwurmi chart: the package matplotlib isn't here: "),
-        (
-            [*page, "--trace", "examples/pedal.trace.csv"],
-            with_none,
-            1,
-            (
-                "lokwurmi page: the packages jinja2 and matplotlib aren't here: apt-get install python3-jinja2"
-                " python3-matplotlib"
-            ),
-        ),
+        (chart, with_none, 1, f"lokwurmi chart: {lacks}{install}; "),
+        (chart, lying, 1, f"lokwurmi chart: {lacks}{install}\n"),
+        (chart, nowhere, 1, f"lokwurmi chart: {lacks}"),
+        ([*page, "--trace", "examples/pedal.trace.csv"], with_none, 1, f"lokwurmi page: {both}"),
         (page, with_none, 1, "lokwurmi page: the package jinja2 isn't here: apt-get install python3-jinja2"),
-        (
-            hammer,
-            with_none,
-            2,
-            "lokwurmi campaign: the package distributed isn't here: apt-get install python3-distributed",
-        ),
+        (hammer, with_none, 2, "lokwurmi campaign: the package distributed isn't here: apt-get install python3-dis"),
         (chart, with_all, 0, ""),
     ):
-        text = (
-            "import sys; from lokwurmi_tools import __main__; from lokwurmi_tools.shared import packages;"
-            f" packages.DEBIAN = {debian!r};"
-            f" sys.exit(__main__.perform({words!r}))"
-        )
-        done = subprocess.run([sys.executable, "-S", "-c", text], capture_output=True, text=True, check=False)
+        called = [sys.executable, "-S", "-c", BY_ANOTHER, debian, *words]
+        done = subprocess.run(called, capture_output=True, text=True, check=False)
         hold(
             done.returncode == status and done.stderr.startswith(said) and done.stderr.count("\n") == bool(said),
             f"{words[0]} without packages, {debian}: {done.returncode} {done.stderr}",

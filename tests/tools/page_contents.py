@@ -13,6 +13,7 @@ from tests.tools.pages import call, example, told
 
 
 def check_numbers(page, program, with_trace):
+    """The tables of tasks and of paths, beside the report and what is seen under a trace."""
     file = example(page.name, ".toml")
     tasks, paths = told(call(program, "analyse", file))
     rows = page.table("task-table")
@@ -28,6 +29,14 @@ def check_numbers(page, program, with_trace):
             )
         else:
             page.hold(row["Period"] == f"{line[4]} streams", f"the streams of {line[1]}: {row}")
+    check_paths(page, paths)
+    if with_trace:
+        seen = told(call(program, "simulate", file, example(page.name, ".trace.csv")))
+        check_seen(page, *seen[:2])
+
+
+def check_paths(page, paths):
+    """The table of paths."""
     rows = page.table("path-table") if paths else []
     page.hold(len(rows) == len(paths), f"there are {len(rows)} paths")
     for row, line in zip(rows, paths):
@@ -37,27 +46,19 @@ def check_numbers(page, program, with_trace):
             == [line[1], line[3], line[5], line[7], room.replace("-", "−"), line[8]],
             f"path {line[1]}: {row}",
         )
-    if with_trace:
-        seen = told(call(program, "simulate", file, example(page.name, ".trace.csv")))
-        for kind, lines, key in (("task", seen[0], "Task"), ("path", seen[1], "Path")):
-            by_name = {it[key]: it for it in page.table(f"{kind}-table")} if lines else {}
-            for line in lines:
-                page.hold(
-                    by_name[line[1]]["Seen"].replace("–", "none") == line[-1],
-                    f"what is seen of {line[1]}: {by_name[line[1]]}",
-                )
-                if kind == "task":
-                    row = by_name[line[1]]
-                    # 100 % only where the bound is reached
-                    page.hold(
-                        row["Of bound"]
-                        == (
-                            f"{100 * int(row['Seen']) // int(row['Bound'])} %"
-                            if row["Seen"] != "–" and row["Bound"] != "overload"
-                            else "–"
-                        ),
-                        f"what is seen of the bound of {line[1]}: {row}",
-                    )
+
+
+def check_seen(page, tasks, paths):
+    """What is seen under a trace, of tasks also beside their bounds: 100 % only where a bound is reached."""
+    for kind, lines, key in (("task", tasks, "Task"), ("path", paths, "Path")):
+        by_name = {it[key]: it for it in page.table(f"{kind}-table")} if lines else {}
+        for line in lines:
+            row = by_name[line[1]]
+            page.hold(row["Seen"].replace("–", "none") == line[-1], f"what is seen of {line[1]}: {row}")
+            if kind == "task":
+                is_known = row["Seen"] != "–" and row["Bound"] != "overload"
+                share = f"{100 * int(row['Seen']) // int(row['Bound'])} %" if is_known else "–"
+                page.hold(row["Of bound"] == share, f"what is seen of the bound of {line[1]}: {row}")
 
 
 def check_bars(page):

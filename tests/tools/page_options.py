@@ -123,19 +123,12 @@ def time_of(ticks, tick):
 def check_times(program, page_of):
     """Pages of which a tick has a time: each number of ticks is shown as exactly that time, and tables are sorted by
     it."""
-    for name, tick, shown in (
-        ("pedal", "1000", "1us"),
-        ("crossing_chains", "2500", "2.5us"),
-        ("gateway", "333.3", "333.3ns"),
+    for name, tick, shown, more in (
+        ("pedal", "1000", "1us", ["--trace", example("pedal", ".trace.csv")]),
+        ("crossing_chains", "2500", "2.5us", ["--session", example("crossing_chains", ".script.txt")]),
+        ("gateway", "333.3", "333.3ns", []),
     ):
         file = example(name, ".toml")
-        more = (
-            ["--trace", example(name, ".trace.csv")]
-            if name == "pedal"
-            else ["--session", example(name, ".script.txt")]
-            if name == "crossing_chains"
-            else []
-        )
         page = page_of(f"{name}_{shown}", file, "--tick", shown, *more)
         page.browser.size(1400)
         head = page.text("#tick")
@@ -143,32 +136,7 @@ def check_times(program, page_of):
         report = call(program, "analyse", file)
         bounds = {task: int(worst) for task, worst in re.findall(r"^task (\S+) .* worst (\d+)$", report, re.M)}
         paths = re.findall(r"^path (\S+) best (\d+) worst (\d+) deadline (\S+)", report, re.M)
-        rows = {row["Task"]: row["Bound"].split()[0] for row in page.table("task-table")}
-        page.hold(rows == {task: time_of(worst, tick) for task, worst in bounds.items()}, f"the bounds are {rows}")
-        found = [
-            [row[key].split()[0] for key in ("Path", "Best", "Worst", "Deadline", "Room")]
-            for row in page.table("path-table")
-        ]
-        wanted = [
-            [
-                path,
-                time_of(int(best), tick),
-                time_of(int(worst), tick),
-                *(["–", "–"] if limit == "-" else [time_of(int(limit), tick), time_of(int(limit) - int(worst), tick)]),
-            ]
-            for path, best, worst, limit in paths
-        ]
-        page.hold(found == wanted, f"the paths are {found}, and not {wanted}")
-        first = page.run("document.querySelector('#task-table button[data-made]').dataset.made")
-        page.browser.click(f"#task-table button[data-made='{first}']")
-        lines = page.run(
-            "[...document.querySelectorAll('#task-table tr.parts dl > div')]"
-            ".map((line) => [...line.children].map((it) => it.textContent))"
-        )
-        page.hold(lines[-1][2] == time_of(bounds[first], tick), f"the parts of {first}: {lines}")
-        page.browser.click("#task-table thead th:nth-child(11) button")
-        order = [bounds[it] for it in page.shown("task-table") if it]
-        page.hold(order == sorted(order), f"sorted by the bound: {order}")
+        check_times_in_tables(page, tick, bounds, paths)
         texts = page.run("[...document.querySelectorAll('.graph text')].map((it) => it.textContent)")
         page.hold(all(f"bound {time_of(worst, tick)}" in texts for worst in bounds.values()), f"the graph says {texts}")
         if name == "pedal":
@@ -176,6 +144,29 @@ def check_times(program, page_of):
             page.hold("ms, where a tick is 1us" in marks, f"the chart says {marks}")
     page = page_of("two_tasks", example("two_tasks", ".toml"))
     page.hold(page.text("#tick") == "All times are in ticks.", "its head says what a number is")
+
+
+def check_times_in_tables(page, tick, bounds, paths):
+    """The tables of tasks and of paths, the parts of a bound, and the order by bounds."""
+    rows = {row["Task"]: row["Bound"].split()[0] for row in page.table("task-table")}
+    page.hold(rows == {task: time_of(worst, tick) for task, worst in bounds.items()}, f"the bounds are {rows}")
+    keys = ("Path", "Best", "Worst", "Deadline", "Room")
+    found = [[row[key].split()[0] for key in keys] for row in page.table("path-table")]
+    wanted = []
+    for path, best, worst, limit in paths:
+        room = ["–", "–"] if limit == "-" else [time_of(int(limit), tick), time_of(int(limit) - int(worst), tick)]
+        wanted.append([path, time_of(int(best), tick), time_of(int(worst), tick), *room])
+    page.hold(found == wanted, f"the paths are {found}, and not {wanted}")
+    first = page.run("document.querySelector('#task-table button[data-made]').dataset.made")
+    page.browser.click(f"#task-table button[data-made='{first}']")
+    lines = page.run(
+        "[...document.querySelectorAll('#task-table tr.parts dl > div')]"
+        ".map((line) => [...line.children].map((it) => it.textContent))"
+    )
+    page.hold(lines[-1][2] == time_of(bounds[first], tick), f"the parts of {first}: {lines}")
+    page.browser.click("#task-table thead th:nth-child(11) button")
+    order = [bounds[it] for it in page.shown("task-table") if it]
+    page.hold(order == sorted(order), f"sorted by the bound: {order}")
 
 
 def check_helps(program, page_of):

@@ -1,6 +1,6 @@
 -- No more work comes than is counted: whatever the moment, the events that inputs allow bring no more than the streams of each clock,
 -- as they come from that moment on, and those on none.
-use Rattle.std.proofs.Common.{◌≡◌, ℕ, zero, suc, ◌+◌, ◌*◌, ◌<◌, ◌≤◌, ◌==◌, if◌then◌else◌, List, [], ◌∷◌, map, All, Option, Some, None, refl, inl, inr, arith}
+use Rattle.std.proofs.Common.{◌≡◌, ℕ, zero, suc, ◌+◌, ◌*◌, ◌<◌, ◌≤◌, ◌==◌, if◌then◌else◌, List, [], ◌∷◌, map, Option, Some, None, refl, inl, inr, arith}
 use Rattle.std.specs.List.{sum_by, range_with_len, AllByRecursion}
 use Rattle.std.proofs.lemmas.Bool.{cases_Bool, eqb-true, eq-eqb}
 use Rattle.std.proofs.lemmas.List.Sums.{sum_by-cons}
@@ -8,9 +8,8 @@ use Rattle.std.proofs.Math.Nat.{mul-le-mul_right}
 use Rattle.cpa_units.specs.declared.bound.Bound.TheVariants.{Within}
 use Rattle.cpa_units.specs.Bounds.{IsAtMost, bound_times}
 use Rattle.cpa_events.specs.declared.stream.Stream.{Stream}
-use Rattle.cpa_events.specs.Streams.{IsStream}
 use Rattle.cpa_events.specs.Events.{Model, eta_plus}
-use Rattle.cpa_events.proofs.EventLaws.{eta_plus-of_one, first_of, rest_of as tail_of}
+use Rattle.cpa_events.proofs.EventLaws.{eta_plus-of_one}
 use Rattle.cpa_window.specs.declared.rivals.Rival.{Rival}
 use Rattle.cpa_window.specs.Rivals.{events_in, work_in}
 use Rattle.cpa_phase.specs.declared.placed.Placed.{Placed}
@@ -45,15 +44,15 @@ module _ (moment : Moment) (count w : ℕ) where
     within : IsAtMost (work_in frees w) (Within free)
     all : n * worst + free + sum_by (λ c. work_from (lists c) (moment c) w) (range_with_len 0 count) ≤ e + sum_by (λ c. work_from (more c) (moment c) w) (range_with_len 0 count)
 
-  covered-stream : (o : Option Anchor) (st : Stream) (worst : ℕ) (frees : List Rival) (lists : ℕ → List Placed) (e : ℕ) → IsStream st → ((a : Anchor) → o ≡ Some a → a.clock < count) → IsAtMost (work_in (with_free_stream worst o st frees) w) (Within e)
+  covered-stream : (o : Option Anchor) (st : Stream) (worst : ℕ) (frees : List Rival) (lists : ℕ → List Placed) (e : ℕ) → ((a : Anchor) → o ≡ Some a → a.clock < count) → IsAtMost (work_in (with_free_stream worst o st frees) w) (Within e)
       → Covered (arrivals st (phase_on moment o st) w) worst frees lists (λ c. with_stream c worst o st (lists c)) e
-  covered-stream None st worst frees lists e regular below h =
+  covered-stream None st worst frees lists e below h =
       let parts = plus-parts (bound_times (events_in (Some (st ∷ [])) w) worst) (work_in frees w) e h in
       let one : eta_plus (st ∷ []) w * worst ≤ parts.0 = parts.2 in
-      let same : arrivals st 0 w ≡ eta_plus (st ∷ []) w = omega (arith, arrivals-plain st w regular, eta_plus-of_one st w) in
+      let same : arrivals st 0 w ≡ eta_plus (st ∷ []) w = omega (arith, arrivals-plain st w, eta_plus-of_one st w) in
       let here : arrivals st 0 w * worst ≤ parts.0 = rw same one in
       record { free = parts.1; within = parts.3; all = omega (arith, here, parts.4) }
-  covered-stream (Some a) st worst frees lists e regular below h =
+  covered-stream (Some a) st worst frees lists e below h =
       let f : ℕ → ℕ = λ c. work_from (lists c) (moment c) w in
       let g : ℕ → ℕ = λ c. work_from (with_stream c worst (Some a) st (lists c)) (moment c) w in
       let n : ℕ = arrivals st (phase_of st a.offset (moment a.clock)) w * worst in
@@ -71,14 +70,14 @@ module _ (moment : Moment) (count w : ℕ) where
           ]
 
   -- one input more
-  covered-input : (anchors : Anchors) (first : ℕ) (m : Model) (worst : ℕ) (frees : List Rival) (lists : ℕ → List Placed) (e : ℕ) → All IsStream m → AreClocksBelow count anchors → IsAtMost (work_in (with_free_input worst anchors first m frees) w) (Within e)
+  covered-input : (anchors : Anchors) (first : ℕ) (m : Model) (worst : ℕ) (frees : List Rival) (lists : ℕ → List Placed) (e : ℕ) → AreClocksBelow count anchors → IsAtMost (work_in (with_free_input worst anchors first m frees) w) (Within e)
       → Covered (arrivals_from moment anchors first m w) worst frees lists (λ c. with_input c worst anchors first m (lists c)) e
-  covered-input anchors first [] worst frees lists e regular below h = record { free = e; within = h; all = omega arith }
-  covered-input anchors first (st ∷ m) worst frees lists e regular below h =
+  covered-input anchors first [] worst frees lists e below h = record { free = e; within = h; all = omega arith }
+  covered-input anchors first (st ∷ m) worst frees lists e below h =
       let one =
-      covered-stream (anchors first) st worst (with_free_input worst anchors (first + 1) m frees) (λ c. with_input c worst anchors (first + 1) m (lists c)) e (first_of IsStream st m regular) (below first) h
+      covered-stream (anchors first) st worst (with_free_input worst anchors (first + 1) m frees) (λ c. with_input c worst anchors (first + 1) m (lists c)) e (below first) h
       in
-      let rest = covered-input anchors (first + 1) m worst frees lists one.free (tail_of IsStream st m regular) below one.within in
+      let rest = covered-input anchors (first + 1) m worst frees lists one.free below one.within in
       let split : (arrivals st (phase_on moment (anchors first) st) w + arrivals_from moment anchors (first + 1) m w) * worst ≡ arrivals st (phase_on moment (anchors first) st) w * worst + arrivals_from moment anchors (first + 1) m w * worst = omega arith in
       record { free = rest.free; within = rest.within; all = omega (arith, split, one.all, rest.all) }
 
@@ -89,8 +88,8 @@ module _ (moment : Moment) (count w : ℕ) where
   covered-rival None anchors n worst frees lists e (suc v) same some below allowed h = absurd h
   covered-rival (Some m) anchors n worst frees lists e v same some below allowed h =
       let h' = rw same at h in
-      let all = covered-input anchors 0 m worst frees lists e allowed.0 below h' in
-      let fewer : n * worst ≤ arrivals_from moment anchors 0 m w * worst = mul-le-mul_right worst allowed.1 in
+      let all = covered-input anchors 0 m worst frees lists e below h' in
+      let fewer : n * worst ≤ arrivals_from moment anchors 0 m w * worst = mul-le-mul_right worst allowed in
       record { free = all.free; within = all.within; all = omega (arith, fewer, all.all) }
 
   module _ (some : 0 < w) (rival : ℕ → ClockedRival) (most : ℕ → ℕ) where

@@ -1,9 +1,8 @@
 -- The laws of bounds by clocks.
-use Rattle.std.specs.Prelude.{◌≡◌, ℕ, ◌*◌, ◌<◌, ◌≤◌, Option, Some, None, List, map, All, sum_by}
+use Rattle.std.specs.Prelude.{◌≡◌, ℕ, ◌*◌, ◌<◌, ◌≤◌, Option, Some, None, List, map, sum_by}
 use Rattle.std.specs.List.{AllByRecursion}
 use Rattle.cpa_units.specs.declared.bound.Bound.TheVariants.{Within}
 use Rattle.cpa_units.specs.Bounds.{IsAtMost}
-use Rattle.cpa_events.specs.Streams.{IsStream}
 use Rattle.cpa_events.specs.Events.{Model, IsModel}
 use Rattle.cpa_window.specs.declared.rivals.Rival.{Rival}
 use Rattle.cpa_spp.specs.Preemptive.{preemptive_bound}
@@ -16,7 +15,7 @@ use Rattle.cpa_clock.specs.Wider.{AreWider, AreRivalsWider, AreSameRivals, AreCl
 
 -- a number of events that an input allows in a window that starts at a moment
 abbrev pub IsAllowed : Moment → ℕ → Option Model → Anchors → ℕ → Type 0
-IsAllowed moment w (Some m) anchors n = All IsStream m × (n ≤ arrivals_from moment anchors 0 m w)
+IsAllowed moment w (Some m) anchors n = n ≤ arrivals_from moment anchors 0 m w
 IsAllowed moment w None anchors n = Unit {0}
 
 -- what is known of a rival of which n events come

@@ -139,7 +139,7 @@ alone_from_candidate : (own : Placed) (blocking : ℕ) (rest : ℕ → Bound) (r
 alone_from_candidate own blocking rest rivals bit limit x regular start same =
     frames_bound-same own.worst blocking (others [] rest x) (work_in rivals) (arrivals own.stream (phase_at own x)) (eta_plus (own.stream ∷ [])) (earliest_arrival own.stream (phase_at own x)) (delta_minus (own.stream ∷ [])) bit limit
     (λ w. others-alone rest x w ∙ same w)
-    (λ w. rw start (arrivals-plain own.stream w regular) ∙ sym (eta_plus-of_one own.stream w))
+    (λ w. rw start (arrivals-plain own.stream w) ∙ sym (eta_plus-of_one own.stream w))
     (λ q. rw start (earliest_arrival-plain own.stream q) ∙ sym (delta_minus-of_one own.stream q regular))
 
 pub can_offset_bound-alone : (own : Placed) (blocking : ℕ) (rest : ℕ → Bound) (rivals : List Rival) (bit limit cycle : ℕ) → IsStream own.stream → own.stream.period ≤ cycle → ((w : ℕ) → rest w ≡ work_in rivals w) → can_offset_bound own blocking [] rest bit limit cycle ≡ can_bound (own.stream ∷ []) own.worst blocking rivals bit limit

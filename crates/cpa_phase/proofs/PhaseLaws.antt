@@ -1,5 +1,5 @@
 -- The laws of one stream, as a window sees it that starts at a phase of it.
-use Rattle.std.proofs.Common.{◌≡◌, ℕ, zero, suc, ◌+◌, ◌-◌, ◌*◌, ◌<◌, ◌≤◌, max, min, ltb, refl, inl, inr, arith}
+use Rattle.std.proofs.Common.{◌≡◌, ℕ, zero, suc, ◌+◌, ◌-◌, ◌*◌, ◌<◌, ◌≤◌, max, min, ltb, refl, ap, inl, inr, arith}
 use Rattle.std.specs.Int.{div_ceil}
 use Rattle.std.proofs.lemmas.Bool.{cases_lt, ltb-true, lt-ltb}
 use Rattle.std.proofs.Math.Nat.{mul-le-mul_left, mul-le-mul_right, le_trans, le-max_left, le-max_right, max-le, le-min, min-le_left, min-le_right}
@@ -7,7 +7,8 @@ use Rattle.cpa_units.proofs.SearchLaws.{greatest_to-le, greatest_to-passes, grea
 use Rattle.cpa_units.proofs.NumberLaws.{div_ceil-le, div_ceil-le_self, lt-div_ceil, lt-div_ceil_below}
 use Rattle.cpa_events.specs.declared.stream.Stream.{Stream}
 use Rattle.cpa_events.specs.Streams.{stream_delta_minus, stream_eta_plus, IsStream}
-use Rattle.cpa_events.proofs.StreamLaws.{stream_delta_minus-below, stream_eta_plus-le, stream_eta_plus-reaches, at_least_from_below}
+use Rattle.cpa_units.specs.Search.{greatest_to}
+use Rattle.cpa_events.proofs.StreamLaws.{at_least_from_below}
 use Rattle.cpa_phase.specs.Phases.{earliest_arrival, arrivals, by_period}
 
 -- ---- how early the n-th event can come
@@ -116,15 +117,11 @@ arrivals-wider m n phase phase' w jitter period near less =
     arrivals-reach_within n phase' k w (omega (arith, arrivals-le m phase w)) (omega arith))
 
 -- at phase 0 it is the most events of any window
-pub arrivals-plain : (m : Stream) (w : ℕ) → IsStream m → arrivals m 0 w ≡ stream_eta_plus m w
-arrivals-plain m w p =
-    let up : arrivals m 0 w ≤ stream_eta_plus m w =
-    at_least_from_below _ _ (λ n one below.
-    stream_eta_plus-reaches m n w p (let h = earliest_arrival-below m 0 n w one below in rw (earliest_arrival-plain m n) at h)) in
-    let down : stream_eta_plus m w ≤ arrivals m 0 w =
-    at_least_from_below _ _ (λ n one below.
-    arrivals-reach_within m 0 n w (omega (arith, stream_eta_plus-le m w)) (rw (earliest_arrival-plain m n) (stream_delta_minus-below m n w one below))) in
-    omega arith
+pub arrivals-plain : (m : Stream) (w : ℕ) → arrivals m 0 w ≡ stream_eta_plus m w
+unfolding arrivals stream_eta_plus
+arrivals-plain m w =
+    let same : (λ n. earliest_arrival m 0 n) ≡ (λ n. stream_delta_minus m n) = λ i n. earliest_arrival-plain m n i in
+    ap (λ (f : ℕ → ℕ). greatest_to (λ n. ltb (f n) w) (w + m.jitter)) same
 
 pub arrivals-le_plain : (m : Stream) (phase w : ℕ) → arrivals m phase w ≤ stream_eta_plus m w
 unfolding stream_eta_plus

@@ -177,7 +177,7 @@ pub clock_work-one : (p : Placed) (cycle w : ℕ) → IsStream p.stream → p.st
 clock_work-one p cycle w regular long =
     let start : phase_at p (1 + phase_at p 1) ≡ 0 = first_candidate p regular in
     let near = up_to-less p.stream.period regular (p.offset + p.stream.jitter) 1 in
-    let here : work_from (p ∷ []) (1 + phase_at p 1) w ≡ stream_eta_plus p.stream w * p.worst = rw start (let e = arrivals-plain p.stream w regular in rw e (omega arith)) in
+    let here : work_from (p ∷ []) (1 + phase_at p 1) w ≡ stream_eta_plus p.stream w * p.worst = rw start (let e = arrivals-plain p.stream w in rw e (omega arith)) in
     let reached = le-most_of (λ x. work_from (p ∷ []) x w) cycle (1 + phase_at p 1) (omega arith) (omega (arith, near)) in
     let most = clock_work-le_plain (p ∷ []) cycle w in
     omega (arith, here, reached, most, sum_by-cons (λ (q : Placed). stream_eta_plus q.stream w * q.worst) p [])

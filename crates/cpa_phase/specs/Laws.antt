@@ -16,7 +16,7 @@ ArrivalsFit = (m : Stream) (phase n window : ℕ) → IsStream m → 0 < n → (
 -- at phase 0 they are the curves of the stream, and no phase makes a window denser
 abbrev pub PhasesThin : Type 0
 PhasesThin =
-    (m : Stream) → IsStream m → ((n : ℕ) → earliest_arrival m 0 n ≡ stream_delta_minus m n) × ((w : ℕ) → arrivals m 0 w ≡ stream_eta_plus m w)
+    (m : Stream) → ((n : ℕ) → earliest_arrival m 0 n ≡ stream_delta_minus m n) × ((w : ℕ) → arrivals m 0 w ≡ stream_eta_plus m w)
     × ((phase n : ℕ) → stream_delta_minus m n ≤ earliest_arrival m phase n) × ((phase w : ℕ) → arrivals m phase w ≤ stream_eta_plus m w)
 
 -- From a moment x on, the latest moments are that at the phase after it, and whole periods later. Each that is x or later is one

@@ -7,7 +7,7 @@ pub returns-clause-fit : goal.returns-clause-fit
 returns-clause-fit c m phase n window p one = (earliest_arrival-below m phase n window one, arrivals-reach m phase n window p)
 
 pub returns-clause-thin : goal.returns-clause-thin
-returns-clause-thin c m p = (earliest_arrival-plain m, λ w. arrivals-plain m w p, earliest_arrival-ge m, arrivals-le_plain m)
+returns-clause-thin c m = (earliest_arrival-plain m, arrivals-plain m, earliest_arrival-ge m, arrivals-le_plain m)
 
 pub returns-clause-first : goal.returns-clause-first
 returns-clause-first c p x regular = (up_to-later p.stream.period regular _ x, phase_is_some p x regular)

@@ -276,9 +276,9 @@ class System(NamedEntries):
         """How soon a chain of 1 to 32 tasks reacts at the latest, and how old its data can be, in ticks.
 
         Each task reads what the one before wrote last. The bounds hold where the sources keep their periods: a source
-        that falls silent voids them, unless it is sporadic, and then what waits for it has no bound. Where the system has a tick, each wait has a tick more than `lokwurmi chain` says,
-        with which they hold for times between ticks too. `while_running` presumes that each task reads only while it
-        runs, and so has smaller bounds.
+        that falls silent voids them, unless it is sporadic, and then what waits for it has no bound. Where the system
+        has a tick, each wait has a tick more than `lokwurmi chain` says, with which they hold for times between ticks
+        too. `while_running` presumes that each task reads only while it runs, and so has smaller bounds.
         """
         self._check_periods()
         names = names_of(tasks, "a chain")

@@ -46,7 +46,8 @@ class ChainSums:
         streams, ways = self.inputs[name] or [], self.view.ways_to(name)
         if not streams or self.view.sporadic_sources_of(name):
             return StepParts(name, kind, None, ways[0], self.bounds[name])
-        least = min(range(len(streams)), key=lambda it: streams[it][0] + streams[it][1])
+        apart = [period + jitter for period, jitter, _ in streams]
+        least = apart.index(min(apart))
         return StepParts(name, kind, streams[least], ways[least], self.bounds[name])
 
     def total(self, tasks: Sequence[str], what: str) -> int | None:
