@@ -2,12 +2,12 @@
 """Compares `chain` and `chains` with rules written down plainly, and holds their bounds against runs. Outside the gate.
 
 Random small systems of all four kinds and all formats get random traces that obey, and in which the events of a source
-that isn't sporadic stay near: any two are at most as far apart as its period and jitter say. A chain is a list of tasks, mostly none of
-which starts the next. Of each run the greatest reaction, latency, age and time for which data is held are found over
-ALL reading times of its jobs, and none may be beyond the bound; for jobs that read in ticks in which they run, none
-beyond those of --while-running. So are those of jobs that read at their arrival, start or end, where
-lokwurmi_tools/runs/effect_chain_in_run.py must find the same as the plain rules here do. How many are the bound to the
-tick is counted.
+that isn't sporadic stay near: any two are at most as far apart as its period and jitter say. A chain is a list of
+tasks, mostly none of which starts the next. Of each run the greatest reaction, latency, age and time for which data is
+held are found over ALL reading times of its jobs, and none may be beyond the bound; for jobs that read in ticks in
+which they run, none beyond those of --while-running. So are those of jobs that read at their arrival, start or end,
+where lokwurmi_tools/runs/effect_chain_in_run.py must find the same as the plain rules here do. How many are the bound
+to the tick is counted.
 
 Text and status of the program must be those of the rules, for chains and for files of chains with deadlines and
 without, and each fault of words and files must be refused. With --no-program the rules alone are held against runs, and

@@ -130,8 +130,10 @@ def main() -> None:
     reader = reader_of(__doc__, "6000")
     add_number(reader, "count", 600, "how many calls that end at once; a fourth as many get a signal")
     count = reader.parse_args().count
-    # what calls this may ignore interrupts, and programs would inherit that
+    # what calls this may ignore signals, and programs would inherit that
     signal.signal(signal.SIGINT, signal.default_int_handler)
+    for name in ("TERM", "HUP", "QUIT"):
+        signal.signal(getattr(signal, f"SIG{name}"), signal.SIG_DFL)
     with tempfile.TemporaryDirectory() as room:
         script = installed(room)
         side_by_side(partial(hold_ending, script), count)

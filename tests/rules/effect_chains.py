@@ -21,7 +21,9 @@ def stays_near(source, times):
     """Whether any two events of a source are no farther apart than its period and jitter say; of a sporadic source that
     isn't asked."""
     period, jitter = source["period"], source.get("jitter", 0)
-    return source.get("sporadic", False) or all(times[n] - times[m] <= (n - m) * period + jitter for n in range(len(times)) for m in range(n))
+    if source.get("sporadic", False):
+        return True
+    return all(times[n] - times[m] <= (n - m) * period + jitter for n in range(len(times)) for m in range(n))
 
 
 class Bounds:

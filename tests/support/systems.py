@@ -25,7 +25,7 @@ def resource_lines(pick, count):
 
 
 def source_lines(pick, tasks, silent):
-    """Three sources in lines of a file, the slower the more tasks there are; some are sporadic where `silent` draws so."""
+    """Three sources in lines of a file, the slower the more tasks there are; `silent` draws which are sporadic."""
     for s in range(3):
         period = pick.randint(10, 400) * (1 + tasks // 6)
         line = (

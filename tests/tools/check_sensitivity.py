@@ -39,7 +39,6 @@ from tests.support.calls import (
     range_of,
     run,
     tell,
-    without_progress,
     written,
 )
 
