@@ -5,6 +5,9 @@ import tomllib
 NAME = re.compile(r"[A-Za-z0-9_.-]{1,64}")
 KEYS = {"name", "tasks", "reaction", "age", "held"}
 MOST_TASKS, MOST_CHAINS, MOST_TICKS = 32, 128, 1_000_000_000
+# TOML 1.1, which the program reads, allows a comma behind the last key of an inline table, and tomllib doesn't; no text of
+# these files has such a sign
+LAST_COMMA = re.compile(r",(\s*\})")
 
 
 def has_form(entry):
@@ -25,7 +28,7 @@ def refusal_of(text, names):
     """Why a file of chains is refused over a system with tasks of these names: the reason, and the place of a chain or
     0; ("toml", 0) where it is no TOML; None where it isn't refused."""
     try:
-        read = tomllib.loads(text)
+        read = tomllib.loads(LAST_COMMA.sub(r"\1", text))
     except tomllib.TOMLDecodeError:
         return "toml", 0
     form, entries = read.get("format"), read.get("chain", [])
