@@ -358,7 +358,7 @@ def check_told(python, room):
         ([two, "--path", "p"], "there is no path p; it has none"),
         ([two, "a", "--to", "picture.gif"], "a picture's name ends with .svg, .png or .pdf"),
         ([written(room, "empty.toml", "format = 1\n"), "--all"], "empty.toml has no task"),
-        ([written(room, "bad.toml", "format = 3\n"), "--all"], "status 14: system refused reason 13 file 0"),
+        ([written(room, "bad.toml", "format = 3\n"), "--all"], "bad.toml:1:10: the format 3 isn't known"),
     ):
         done = called(python, *words)
         is_told = done.returncode > 0 and said in done.stderr and "Traceback" not in done.stderr

@@ -29,6 +29,8 @@ from lokwurmi_tools.shared.progress import span
 
 # how many calls are under way or wait at the workers, for each of their threads
 AHEAD = 4
+# seconds for which an answer may be fetched from its worker, and for which this machine may be without any worker
+FETCHING, WITHOUT_WORKERS = 60, 300
 # its key, how much it counts, and its call
 Unit = tuple[str, int, worker.Call]
 # workers have Dask, and need nothing else
@@ -140,7 +142,7 @@ class CallsUnderWay:
         self.running: dict[distributed.Future, list[Unit]] = {}
         self.tries: dict[str, int] = {}
         self.again = 0
-        self.threads, self.asked = 0, -math.inf
+        self.threads, self.asked, self.seen = 0, -math.inf, time.monotonic()
         self.sent = worker.Sent(read_bytes(options.program), read_bytes(options.file))
         client.register_worker_plugin(self.sent, name=self.sent.name)
 
@@ -167,10 +169,14 @@ class CallsUnderWay:
 
     def fill(self) -> None:
         """Has so many calls under way that no thread waits for its next one, those of workers that came meanwhile
-        too."""
+        too. This machine's own workers are begun anew where they end, unless it has too much else to do."""
         if time.monotonic() - self.asked > 2:
             self.asked = time.monotonic()
             self.threads = sum(self.client.nthreads().values())
+            if self.threads or self.options.scheduler:
+                self.seen = self.asked
+            elif self.asked - self.seen > WITHOUT_WORKERS:
+                raise Failed(f"no worker is left on this machine, and none began within {WITHOUT_WORKERS} seconds")
         while self.left and len(self.running) < AHEAD * max(1, self.threads):
             count = max(1, min(self.together, self.left // (2 * AHEAD * max(1, self.threads))))
             units = list(itertools.islice(self.waiting, count))
@@ -189,8 +195,15 @@ class CallsUnderWay:
         """Gives the units of a future that ended, with their answers; those that it lacks are tried again, each for
         itself."""
         units, where, answers, fault = self.running.pop(future), None, [], None
+        # the worker that had the answer ended meanwhile, which is no fault of the call
+        is_lost = False
         if future.status == "finished":
-            where, answers, fault = future.result()
+            try:
+                where, answers, fault = future.result(timeout=FETCHING)
+            except TimeoutError:
+                is_lost = True
+        elif future.status in ("lost", "pending") and self.client.status == "running":
+            is_lost = True
         elif future.status == "error":
             # the scheduler handed it on to other workers before
             fault = future.exception()
@@ -205,7 +218,7 @@ class CallsUnderWay:
             raise CallRefused(status, text, units[len(answers) - 1][2][2])
         # what comes after a call that failed wasn't tried
         for place, unit in enumerate(units[len(answers) :]):
-            if place == 0 or future.status == "error":
+            if not is_lost and (place == 0 or future.status == "error"):
                 self.tries[unit[0]] = self.tries.get(unit[0], 0) + 1
                 if self.tries[unit[0]] >= self.options.tries:
                     of = f" of the script\n{unit[2][2]}" if unit[2][2] else ""
