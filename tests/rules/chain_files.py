@@ -5,8 +5,8 @@ import tomllib
 NAME = re.compile(r"[A-Za-z0-9_.-]{1,64}")
 KEYS = {"name", "tasks", "reaction", "age", "held"}
 MOST_TASKS, MOST_CHAINS, MOST_TICKS = 32, 128, 1_000_000_000
-# TOML 1.1, which the program reads, allows a comma behind the last key of an inline table, and tomllib doesn't; no text of
-# these files has such a sign
+# TOML 1.1, which the program reads, allows a comma behind the last key of an inline table, and tomllib doesn't; no text
+# of these files has such a sign
 LAST_COMMA = re.compile(r",(\s*\})")
 
 
