@@ -15,7 +15,8 @@ use Rattle.cpa_offset.proofs.BoundLaws.{offset_bound-grows, offset_bound-le_plai
 use Rattle.cpa_offset.proofs.ApartLaws.{apart_bound-grows, apart_bound-plain}
 use Rattle.cpa_offset_can.specs.CanOffsets.{can_apart_bound}
 use Rattle.cpa_offset_can.proofs.CanLaws.{can_offset_bound-grows, can_offset_bound-le_plain, can_apart_bound-grows, can_apart_bound-plain}
-use Rattle.cpa_clock.specs.Anchors.{Anchor, Anchors, placed_at}
+use Rattle.cpa_clock.specs.Anchors.{Anchors, placed_at}
+use Rattle.cpa_clock.specs.declared.anchor.Anchor.{Anchor}
 use Rattle.cpa_clock.specs.Rivals.{ClockedRival, streams_on, rest_of}
 use Rattle.cpa_clock.specs.Clocked.{preemptive_at, can_at, clocked_preemptive_bound, clocked_can_bound}
 use Rattle.cpa_clock.specs.Wider.{IsWiderOn, AreWider, AreRivalsWider, AreSameRivals, AreClocksBelow}

@@ -20,7 +20,8 @@ use Rattle.cpa_phase.specs.Clocks.{clock_work}
 use Rattle.cpa_phase.proofs.PhaseLaws.{arrivals-mono, arrivals-plain}
 use Rattle.cpa_phase.proofs.WorkLaws.{le-most_of}
 use Rattle.cpa_offset.specs.Offsets.{others}
-use Rattle.cpa_clock.specs.Anchors.{Anchor, Anchors, Moment, placed_at, phase_on, arrivals_from}
+use Rattle.cpa_clock.specs.Anchors.{Anchors, Moment, placed_at, phase_on, arrivals_from}
+use Rattle.cpa_clock.specs.declared.anchor.Anchor.{Anchor}
 use Rattle.cpa_clock.specs.Rivals.{ClockedRival, with_stream, with_input, with_rival, streams_on, with_free_stream, with_free_input, with_free_rival, free_of, joint_of, unless_known, other_clocks_work, rest_of}
 use Rattle.cpa_clock.specs.Wider.{AreClocksBelow}
 use Rattle.cpa_clock.specs.Laws.{IsAllowed, IsKnownRival}

@@ -19,7 +19,8 @@ use Rattle.cpa_phase.specs.Clocks.{clock_work}
 use Rattle.cpa_phase.specs.Growth.{plain_work}
 use Rattle.cpa_phase.proofs.WorkLaws.{work_from-le_plain, clock_work-le_plain}
 use Rattle.cpa_offset.specs.Offsets.{others}
-use Rattle.cpa_clock.specs.Anchors.{Anchor, Anchors, placed_at}
+use Rattle.cpa_clock.specs.Anchors.{Anchors, placed_at}
+use Rattle.cpa_clock.specs.declared.anchor.Anchor.{Anchor}
 use Rattle.cpa_clock.specs.Rivals.{ClockedRival, with_stream, with_input, with_rival, streams_on, with_free_stream, with_free_input, with_free_rival, free_of, joint_of, unless_known, other_clocks_work, rest_of}
 use Rattle.cpa_clock.specs.Wider.{AreSameRivals}
 use Rattle.cpa_clock.proofs.SumLaws.{plus-parts, plus-within, range-grows, range-more, range-once}

@@ -22,7 +22,8 @@ use Rattle.cpa_phase.proofs.PhaseLaws.{arrivals-zero}
 use Rattle.cpa_phase.proofs.WorkLaws.{clock_work-denser, most_of-le}
 use Rattle.cpa_offset.specs.Offsets.{others}
 use Rattle.cpa_offset.proofs.BoundLaws.{others-grow}
-use Rattle.cpa_clock.specs.Anchors.{Anchor, Anchors, placed_at}
+use Rattle.cpa_clock.specs.Anchors.{Anchors, placed_at}
+use Rattle.cpa_clock.specs.declared.anchor.Anchor.{Anchor}
 use Rattle.cpa_clock.specs.Rivals.{ClockedRival, with_stream, with_input, with_rival, streams_on, with_free_stream, with_free_input, with_free_rival, free_of, joint_of, unless_known, other_clocks_work, rest_of}
 use Rattle.cpa_clock.specs.Wider.{IsWider, IsWiderOn, AreWider, IsInputWider, AreRivalsWider}
 use Rattle.cpa_clock.proofs.SumLaws.{plus-parts, plus-within, sum-grows}

@@ -3,12 +3,8 @@ use Rattle.std.specs.Prelude.{ℕ, ◌+◌, Option, Some, None, [], ◌∷◌}
 use Rattle.cpa_events.specs.declared.stream.Stream.{Stream}
 use Rattle.cpa_events.specs.Events.{Model}
 use Rattle.cpa_phase.specs.declared.placed.Placed.{Placed}
+use Rattle.cpa_clock.specs.declared.anchor.Anchor.{Anchor}
 use Rattle.cpa_phase.specs.Phases.{phase_of, arrivals}
-
--- where a stream is on a clock: its event number n comes from offset + n * period after the clock's start
-pub record Anchor : Type 0 where
-  pub clock : ℕ
-  pub offset : ℕ
 
 -- of each stream of an input, by its place, where it is on a clock, if it is on one
 abbrev pub Anchors : Type 0

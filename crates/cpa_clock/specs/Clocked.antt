@@ -4,7 +4,8 @@ use Rattle.cpa_units.specs.declared.bound.Bound.{Bound}
 use Rattle.cpa_events.specs.Events.{Model}
 use Rattle.cpa_offset.specs.Offsets.{offset_bound, apart_bound}
 use Rattle.cpa_offset_can.specs.CanOffsets.{can_offset_bound, can_apart_bound}
-use Rattle.cpa_clock.specs.Anchors.{Anchor, Anchors, placed_at}
+use Rattle.cpa_clock.specs.Anchors.{Anchors, placed_at}
+use Rattle.cpa_clock.specs.declared.anchor.Anchor.{Anchor}
 use Rattle.cpa_clock.specs.Rivals.{ClockedRival, joint_of, rest_of}
 
 -- whether an input has one stream, and that is on a clock: which one, and where

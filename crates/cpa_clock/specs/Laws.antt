@@ -1,5 +1,5 @@
 -- The laws of bounds by clocks.
-use Rattle.std.specs.Prelude.{◌≡◌, ℕ, ◌*◌, ◌<◌, ◌≤◌, Option, Some, None, List, map, sum_by}
+use Rattle.std.specs.Prelude.{◌≡◌, ℕ, ◌*◌, ◌<◌, ◌≤◌, Option, Some, None, List, map, All, sum_by}
 use Rattle.std.specs.List.{AllByRecursion}
 use Rattle.cpa_units.specs.declared.bound.Bound.TheVariants.{Within}
 use Rattle.cpa_units.specs.Bounds.{IsAtMost}
@@ -11,7 +11,7 @@ use Rattle.cpa_offset.specs.Offsets.{others}
 use Rattle.cpa_clock.specs.Anchors.{Anchors, Moment, arrivals_from}
 use Rattle.cpa_clock.specs.Rivals.{ClockedRival, joint_of, rest_of}
 use Rattle.cpa_clock.specs.Clocked.{clocked_preemptive_bound, clocked_can_bound}
-use Rattle.cpa_clock.specs.Wider.{AreWider, AreRivalsWider, AreSameRivals, AreClocksBelow}
+use Rattle.cpa_clock.specs.Wider.{AreWider, AreRivalsWider, AreSameRivals, AreClocksBelow, AreOffClocks}
 
 -- a number of events that an input allows in a window that starts at a moment
 abbrev pub IsAllowed : Moment → ℕ → Option Model → Anchors → ℕ → Type 0
@@ -48,3 +48,11 @@ ClocksRaiseNoBound =
     AreClocksBelow count anchors → AreSameRivals rivals plain →
     IsAtMost (clocked_preemptive_bound own anchors worst blocking rivals cycle count limit) (preemptive_bound own worst blocking plain limit) ×
     ((bit : ℕ) → IsAtMost (clocked_can_bound own anchors worst blocking rivals cycle count bit limit) (can_bound own worst blocking plain bit limit))
+
+-- where no stream is on a clock, they are the bounds without clocks
+abbrev pub PlainBoundsAreTheSame : Type 0
+PlainBoundsAreTheSame =
+    (own : Model) (anchors : Anchors) (worst blocking : ℕ) (rivals : List ClockedRival) (plain : List Rival) (cycle : ℕ → ℕ) (count limit : ℕ) → AreOffClocks anchors →
+    All (λ r. AreOffClocks r.anchors) rivals → AreSameRivals rivals plain →
+    (clocked_preemptive_bound own anchors worst blocking rivals cycle count limit ≡ preemptive_bound own worst blocking plain limit) ×
+    ((bit : ℕ) → clocked_can_bound own anchors worst blocking rivals cycle count bit limit ≡ can_bound own worst blocking plain bit limit)

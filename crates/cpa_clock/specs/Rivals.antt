@@ -10,7 +10,8 @@ use Rattle.cpa_window.specs.declared.rivals.Rival.{Rival}
 use Rattle.cpa_window.specs.Rivals.{work_in}
 use Rattle.cpa_phase.specs.declared.placed.Placed.{Placed}
 use Rattle.cpa_phase.specs.Clocks.{clock_work}
-use Rattle.cpa_clock.specs.Anchors.{Anchor, Anchors, placed_at}
+use Rattle.cpa_clock.specs.Anchors.{Anchors, placed_at}
+use Rattle.cpa_clock.specs.declared.anchor.Anchor.{Anchor}
 
 -- a rival with the clocks of its streams
 pub record ClockedRival : Type 0 where

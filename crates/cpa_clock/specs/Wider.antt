@@ -5,7 +5,8 @@ use Rattle.cpa_events.specs.Streams.{IsStream, IsStreamNoDenser}
 use Rattle.cpa_events.specs.Events.{Model}
 use Rattle.cpa_window.specs.declared.rivals.Rival.{Rival}
 use Rattle.cpa_phase.specs.Growth.{IsPlacedNoDenser}
-use Rattle.cpa_clock.specs.Anchors.{Anchor, Anchors, placed_at}
+use Rattle.cpa_clock.specs.Anchors.{Anchors, placed_at}
+use Rattle.cpa_clock.specs.declared.anchor.Anchor.{Anchor}
 use Rattle.cpa_clock.specs.Rivals.{ClockedRival}
 
 -- two streams on one clock, of which the second's intervals have those of the first within them
@@ -63,3 +64,7 @@ AreSameRivals (r ∷ rs) (s ∷ ss) = IsSameRival r s × AreSameRivals rs ss
 -- each stream's clock is one of the first so many
 abbrev pub AreClocksBelow : ℕ → Anchors → Type 0
 AreClocksBelow count anchors = (q : ℕ) (a : Anchor) → anchors q ≡ Some a → a.clock < count
+
+-- no stream is on a clock
+abbrev pub AreOffClocks : Anchors → Type 0
+AreOffClocks anchors = (q : ℕ) → anchors q ≡ None

@@ -4,3 +4,4 @@ pub mod BoundLaws
 pub mod WalkLaws
 pub mod ApartLaws
 mod WorkedCases
+pub mod IdleLaws

@@ -5,6 +5,7 @@ use Rattle.cpa_units.specs.declared.bound.Bound.{Bound}
 use Rattle.cpa_units.specs.declared.bound.Bound.TheVariants.{Within, Overload}
 use Rattle.cpa_units.specs.Bounds.{IsAtMost}
 use Rattle.cpa_window.specs.Windows.{window, IsWindow}
+use Rattle.cpa_window.specs.Walk.{IsSteady}
 use Rattle.cpa_window.specs.BusyWindow.{busy_window_bound, windows_of}
 use Rattle.cpa_window.proofs.WindowLaws.{window-from, window-least, window-overload}
 use Rattle.cpa_units.proofs.BoundLaws.{IsAtMost_trans, fits-from}
@@ -66,3 +67,15 @@ module _ (demand : ℕ → ℕ → ℕ) (earliest : ℕ → ℕ) (limit : ℕ) w
         none_last = λ q one below. absurd (omega arith);
         so_far = refl;
       }
+
+-- where nothing is looked ahead, nothing is said
+pub nothing_steady : (demand : ℕ → ℕ → ℕ) (each jobs from : ℕ) → IsSteady demand each jobs from 0
+nothing_steady demand each jobs from = record { adds = λ q v w more low less le. absurd (omega arith) }
+
+-- no window has room that is shorter than what one without room asks for
+pub refused-next : (demand : ℕ → ℕ) → ((v w : ℕ) → v ≤ w → demand v ≤ demand w) → (from window : ℕ) → ((v : ℕ) → from ≤ v → v < window → v < demand v) → (v : ℕ) → from ≤ v → v < demand window → v < demand v
+refused-next demand mono from window refused v low less =
+    elim (cases_lt v window) [
+      | inl before ↦ refused v low before
+      | inr after ↦ omega (arith, mono window v after, less)
+    ]

@@ -1,4 +1,5 @@
 pub mod Offsets
 pub mod Candidates
 pub mod Jobs
+pub mod Idle
 pub mod Laws

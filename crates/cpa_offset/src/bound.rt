@@ -7,12 +7,14 @@ ghost use Rattle.cpa_events.specs.Events.{IsModelInRange};
 ghost use Rattle.cpa_window.specs.Rivals.{AreRivals, some_unbounded};
 ghost use Rattle.cpa_phase.specs.Streams.{IsPlaced, IsPlacedOn, ArePlaced};
 ghost use Rattle.cpa_phase.specs.Clocks.{AreClocks};
+ghost use Rattle.cpa_offset.specs.Idle.{IsIdle};
 ghost use Rattle.cpa_offset.specs.Offsets.{elsewhere, bound_from, offset_bound, apart_bound};
 
 use crate::candidates::{FromMoment, greatest_from_candidates};
+use crate::idle::{idle_by, is_over};
 use crate::jobs::{Jobs, window_bound};
 use cpa_events::Model;
-use cpa_phase::{Clock, Phased, Placed, put_phased};
+use cpa_phase::{Clock, KnownWork, Phased, Placed, put_phased};
 use cpa_units::limits::{MAX_EXECUTION, MAX_LIMIT, MAX_PERIOD};
 use cpa_units::{Bound, NoMemory};
 use cpa_window::{Rival, busy_window_bound, some_unbounded};
@@ -27,6 +29,8 @@ struct Asked<'a> {
     clocks: &'a [Clock],
     free: &'a [Rival],
     limit: u64,
+    /// By when all others are done, wherever a window starts.
+    idle: Option<u64>,
     ghost own_in_range: { IsPlaced own.now },
     ghost execution: { IsExecution own.now.worst },
     ghost blocking_in_range: { blocking ≤ MAX_EXECUTION },
@@ -35,12 +39,24 @@ struct Asked<'a> {
     ghost free_in_range: { AreRivals free.now },
     ghost bounded: { some_unbounded free.now ≡ false },
     ghost limit_in_range: { limit ≤ MAX_LIMIT },
+    ghost others_done: { IsIdle blocking joint.now clocks.now free.now limit idle },
 }
 
 impl<'a> FromMoment for Asked<'a> {
     ghost bound = { λ a x. bound_from a.own.now a.blocking a.joint.now (elsewhere a.clocks.now a.free.now) a.limit x };
 
-    fn bound_from(&self, phased: &mut Vec<Phased>, x: u64) -> Result<Bound, NoMemory> {
+    ghost clocks = { λ a. a.clocks.now };
+
+    fn bound_from(
+        &self,
+        phased: &mut Vec<Phased>,
+        known: &mut KnownWork,
+        x: u64,
+    ) -> Result<Bound, NoMemory> {
+        let own = self.own.phased_from(x);
+        if is_over(self.idle, own.earliest_arrival(1)) {
+            return Ok(Bound::Within(0));
+        }
         put_phased(phased, self.joint, x)?;
         let jobs = Jobs {
             worst: self.own.worst,
@@ -49,7 +65,7 @@ impl<'a> FromMoment for Asked<'a> {
             clocks: self.clocks,
             free: self.free,
         };
-        Ok(window_bound(&jobs, &self.own.phased_from(x), self.limit))
+        Ok(window_bound(&jobs, known, &own, self.limit))
     }
 }
 
@@ -89,6 +105,7 @@ pub fn respond(
         clocks,
         free,
         limit,
+        idle: idle_by(alloc, own.worst, blocking, joint, clocks, free, limit)?,
     };
     greatest_from_candidates(alloc, &asked, own, joint, cycle)
 }

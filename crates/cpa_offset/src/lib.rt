@@ -13,11 +13,11 @@ ghost use Rattle.cpa_offset.specs.Laws.{StartsAreEnough, OffsetBoundsGrow, Offse
 
 mod bound;
 mod candidates;
+mod idle;
 mod jobs;
 
 pub use bound::{respond, respond_apart};
 pub use candidates::{FromMoment, greatest_from_candidates};
-pub use jobs::others_work;
 
 /// Some candidate gives the bound; it grows with what it is computed from, lies from the execution to the limit, is
 /// never above the bound without offsets, and is that bound where the task has no higher one on its clock.

@@ -14,7 +14,7 @@ use crate::frames::{FrameStarts, frames_bound};
 use crate::own::{Apart, OnClock};
 use cpa_events::Model;
 use cpa_offset::{FromMoment, greatest_from_candidates};
-use cpa_phase::{Clock, Phased, Placed, put_phased};
+use cpa_phase::{Clock, KnownWork, Phased, Placed, put_phased};
 use cpa_units::limits::{MAX_BIT, MAX_EXECUTION, MAX_LIMIT, MAX_PERIOD};
 use cpa_units::{Bound, NoMemory};
 use cpa_window::{Rival, some_unbounded};
@@ -44,7 +44,14 @@ struct Asked<'a> {
 impl<'a> FromMoment for Asked<'a> {
     ghost bound = { λ a x. can_bound_from a.own.now a.blocking a.joint.now (elsewhere a.clocks.now a.free.now) a.bit a.limit x };
 
-    fn bound_from(&self, phased: &mut Vec<Phased>, x: u64) -> Result<Bound, NoMemory> {
+    ghost clocks = { λ a. a.clocks.now };
+
+    fn bound_from(
+        &self,
+        phased: &mut Vec<Phased>,
+        known: &mut KnownWork,
+        x: u64,
+    ) -> Result<Bound, NoMemory> {
         put_phased(phased, self.joint, x)?;
         let starts = FrameStarts {
             worst: self.own.worst,
@@ -57,7 +64,7 @@ impl<'a> FromMoment for Asked<'a> {
         let own = OnClock {
             phased: self.own.phased_from(x),
         };
-        Ok(frames_bound(&own, &starts, self.limit))
+        Ok(frames_bound(&own, &starts, known, self.limit))
     }
 }
 
@@ -107,6 +114,7 @@ pub fn respond(
 /// The bound of a frame that comes by several streams, or by one without a clock. `clocks` are the streams of higher
 /// priority on each clock.
 pub fn respond_apart(
+    alloc: Global,
     own: &Model,
     worst: u64,
     blocking: u64,
@@ -135,5 +143,6 @@ pub fn respond_apart(
         clocks,
         free,
     };
-    frames_bound(&Apart { model: own }, &starts, limit)
+    let mut known = KnownWork::new(alloc);
+    frames_bound(&Apart { model: own }, &starts, &mut known, limit)
 }

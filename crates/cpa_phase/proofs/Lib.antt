@@ -6,3 +6,4 @@ pub mod WorkLaws
 pub mod RangeLaws
 pub mod SentLaws
 mod WorkedCases
+pub mod KnownLaws

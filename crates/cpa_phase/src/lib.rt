@@ -11,10 +11,12 @@
 ghost use Rattle.cpa_phase.specs.Laws.{ArrivalsFit, PhasesThin, PhaseIsFirst, PhaseIsLeast, ArrivalsComeLater, CandidatesAreEnough, WiderIntervalsHaveMore, OffsetsOnlyHelp, CompletionsKeepIntervals, CompletionsGrow};
 
 mod clock;
+mod known;
 mod phased;
 mod placed;
 
 pub use clock::{Clock, clock_work, clocks_work, work_from};
+pub use known::KnownWork;
 pub use phased::{Phased, phased_work, put_phased};
 pub use placed::{MAX_OFFSET, MAX_PLACED, Placed};
 

@@ -14,6 +14,7 @@ loop-x-init g c =
       near = omega (arith, c.phase-x.ensures.less, c.requires.some);
       more = IsAtMost_refl c.args.before;
       looked_at = λ y some before le there. absurd (none_before c.args.stream.now y regular some (omega (arith, before, c.phase-x.ensures.value)) there);
+      known = c.requires.known;
       most = c.requires.before;
     }
 
@@ -22,7 +23,7 @@ loop-x-preserved g c =
     let l = c.loop-x in
     let bound = g.B.FromMoment.bound c.args.bounds.now in
     let regular = c.requires.stream.placed.stream.regular in
-    let here : c.in_ok-here.here ≡ bound l.x = c.in_ok-here.ensures in
+    let here : c.in_ok-here.here ≡ bound l.x = c.in_ok-here.ensures.value in
     let whole : c.max-greatest.result ≡ bound_max l.greatest c.in_ok-here.here = c.max-greatest.ensures in
     let grown : IsAtMost l.greatest c.max-greatest.result = rw whole (le-bound_max_left l.greatest c.in_ok-here.here) in
     let reached : IsAtMost (bound l.x) c.max-greatest.result = rw (whole, ← here) (le-bound_max_right l.greatest c.in_ok-here.here) in
@@ -38,6 +39,7 @@ loop-x-preserved g c =
           | inr now ↦ let same : y ≡ l.x = omega arith in rw same reached
         ]
       ];
+      known = c.in_ok-here.ensures.known;
       most = rw whole (bound_max-le l.greatest c.in_ok-here.here (greatest_of bound c.args.cycle) l.invariant.most
           (rw here (le-greatest_of bound c.args.cycle l.x l.invariant.some (omega (arith, c.loop-x-test.true)))));
     }

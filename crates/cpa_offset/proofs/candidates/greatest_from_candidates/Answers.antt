@@ -7,6 +7,9 @@ use Rattle.cpa_offset.specs.Candidates.{IsGreatestFromCandidates}
 use Rattle.cpa_offset.proofs.CandidateLaws.{greatest_from_candidates-le}
 use Rattle.cpa_offset.proofs.candidates.greatest_from_candidates.Goals as goal
 
+pub greatest_from-requires-clause-known : goal.greatest_from-requires-clause-known
+greatest_from-requires-clause-known g c = c.new-known.ensures (g.B.FromMoment.clocks c.args.bounds.now)
+
 pub loop-stream-preserved : goal.loop-stream-preserved
 loop-stream-preserved g c =
     let l = c.loop-stream in
@@ -17,6 +20,7 @@ loop-stream-preserved g c =
       own = λ x some le start. IsAtMost_trans (bound x) l.greatest now (l.invariant.own x some le start) grown;
       looked_at = each_more (λ p. IsGreatestFromCandidates bound c.args.cycle p now) c.args.joint.now l.stream-index _ c.loop-stream-test.true
           (λ k d less x some le start. IsAtMost_trans (bound x) l.greatest now (l.invariant.looked_at k d less x some le start) grown) c.in_ok-greatest-2.ensures.candidates;
+      known = c.in_ok-greatest-2.ensures.known;
       most = c.in_ok-greatest-2.ensures.most;
     }
 

@@ -7,7 +7,10 @@ returns-then-some_unbounded c =
     let a = c.args in
     sym (can_apart_bound-unbounded a.own.now a.worst a.blocking a.clocks.now a.free.now a.bit a.limit (sym c.some_unbounded.ensures ∙ c.if-some_unbounded.true))
 
+pub frames_bound-requires-clause-known : goal.frames_bound-requires-clause-known
+frames_bound-requires-clause-known c = c.new-known.ensures c.args.clocks.now
+
 pub returns : goal.returns
 returns c =
     let a = c.args in
-    c.frames_bound.ensures ∙ can_apart_bound-bounded a.own.now a.worst a.blocking a.clocks.now a.free.now a.bit a.limit (sym c.some_unbounded.ensures ∙ c.if-some_unbounded.false)
+    c.frames_bound.ensures.value ∙ can_apart_bound-bounded a.own.now a.worst a.blocking a.clocks.now a.free.now a.bit a.limit (sym c.some_unbounded.ensures ∙ c.if-some_unbounded.false)

@@ -17,9 +17,9 @@ invariant_of-starts c =
       free_in_range = a.free_in_range;
     }
 
-pub returns : goal.returns
-returns c =
+pub returns-clause-value : goal.returns-clause-value
+returns-clause-value c =
     let a = c.args.self.now in
     let same : c.as_slice.result.now ≡ map (phased_from c.args.x) a.joint.now = c.as_slice.ensures.value ∙ c.in_ok-put_phased.ensures in
-    let found = rw (same, c.phased_from.ensures.value) at c.frames_bound.ensures in
+    let found = rw (same, c.phased_from.ensures.value) at c.frames_bound.ensures.value in
     found ∙ can_bound_from-bounded a.own.now a.blocking a.joint.now a.clocks.now a.free.now a.bit a.limit c.args.x a.bounded
