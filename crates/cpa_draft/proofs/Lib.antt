@@ -1,8 +1,11 @@
 pub mod ChainLaws
+pub mod ClockLaws
+pub mod ClockSources
 pub mod FirstLemmas
 pub mod LinkLaws
 pub mod ListLaws
 pub mod Maps
+pub mod MeasureLaws
 pub mod NameLaws
 pub mod RankLaws
 pub mod SearchLaws

@@ -25,6 +25,9 @@ Differ names = AllPairs (λ first second. first ≢ second) names
 pub same-bytes : (a : List ℕ) → bytes_eq a a ≡ true
 same-bytes a = (bytes_eq-Decides a a).1 refl
 
+pub bytes-same : (a b : List ℕ) → bytes_eq a b ≡ true → a ≡ b
+bytes-same a b h = (bytes_eq-Decides a b).0 h
+
 pub other-bytes : (a b : List ℕ) → bytes_eq a b ≡ false → a ≢ b
 other-bytes a b h same = true≢false (sym ((bytes_eq-Decides a b).1 same) ∙ h)
 

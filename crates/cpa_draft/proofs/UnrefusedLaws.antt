@@ -1,7 +1,7 @@
 -- What a draft has to which no reason applies, and that it is all.
-use Rattle.std.proofs.Common.{◌≡◌, ℕ, ◌≤◌, Bool, true, false, not, ◌||◌, nat_le, nat_lt, List, [], ◌∷◌, length, take, All, Option, Some, None, is_none, refl, sym, ap, ◌∙◌, arith, inl, inr}
+use Rattle.std.proofs.Common.{◌≡◌, ℕ, ◌≤◌, Bool, true, false, not, ◌||◌, ◌&&◌, nat_le, nat_lt, List, [], ◌∷◌, length, slice_index_or, take, All, Option, Some, None, is_none, refl, sym, ap, ◌∙◌, arith, inl, inr}
 use Rattle.std.specs.List.{list_all, list_any, filter_map}
-use Rattle.std.proofs.lemmas.Bool.{true≢false, le-leb, leb-true, ltb-true, ltb-false, cases_Bool, false_from_ne_true}
+use Rattle.std.proofs.lemmas.Bool.{and_parts, true≢false, le-leb, leb-true, ltb-true, ltb-false, cases_Bool, false_from_ne_true}
 use Rattle.std.proofs.lemmas.Option.{none-some}
 use Rattle.cpa_units.specs.Name.{is_name}
 use Rattle.cpa_units.specs.Sizes.{most_resources, most_sources, most_tasks, most_paths}
@@ -15,7 +15,9 @@ use Rattle.cpa_draft.specs.declared.draft.DraftTask.{DraftTask}
 use Rattle.cpa_draft.specs.declared.draft.DraftPath.{DraftPath}
 use Rattle.cpa_draft.specs.declared.refusal.Part.{Part}
 use Rattle.cpa_draft.specs.declared.refusal.Refusal.{Refusal}
-use Rattle.cpa_draft.specs.Refusals.{◌or_else◌, refusal_at, first_with, out_of_range, no_name, known_name, unknown_name, endless, long_chain, known_priority, misfit, crossed, unlinked, too_many, misfed, is_misfed, by_own_names, by_links, by_chains, by_kinds, first_refusal, resource_fits, source_fits, task_fits, path_fits, rank_of, is_taken, resource_misfits, task_misfits, is_crossed, is_linked}
+use Rattle.cpa_draft.specs.Refusals.{◌or_else◌, refusal_at, first_with, out_of_range, no_name, known_name, unknown_name, endless, long_chain, known_priority, misfit, crossed, unlinked, too_many, misfed, is_misfed, too_long_clock, has_clock_name, by_own_names, by_links, by_chains, by_kinds, first_refusal, resource_fits, source_fits, task_fits, path_fits, rank_of, is_taken, resource_misfits, task_misfits, is_crossed, is_linked}
+use Rattle.cpa_draft.specs.Clocks.{is_overlong, IsTicking}
+use Rattle.cpa_draft.proofs.ClockSources.{short-clocks, unmarked-clocks, fits-ticks}
 use Rattle.cpa_draft.proofs.FirstLemmas.{none_marked, all_unmarked}
 use Rattle.cpa_draft.proofs.ListLaws.{not-false}
 
@@ -27,6 +29,7 @@ pub record IsUnrefused (d : DraftLists) : Type 0 where
   pub paths_fit : All (λ p. path_fits d.size p ≡ true) d.paths
   pub resources_named : All (λ (r : DraftResource). is_name r.name ≡ true) d.resources
   pub sources_named : All (λ (r : DraftSource). is_name r.name ≡ true) d.sources
+  pub clocks_named : All (λ (r : DraftSource). has_clock_name r.clock ≡ true) d.sources
   pub tasks_named : All (λ (t : DraftTask). is_name t.name ≡ true) d.tasks
   pub paths_named : All (λ (p : DraftPath). is_name p.name ≡ true) d.paths
   pub new_resources : first_known (λ (r : DraftResource). r.name) [] d.resources ≡ None
@@ -47,6 +50,7 @@ pub record IsUnrefused (d : DraftLists) : Type 0 where
   pub few_tasks : length d.tasks ≤ most_tasks d.size
   pub few_paths : length d.paths ≤ most_paths d.size
   pub fed : first_place (is_misfed d) d.tasks ≡ None
+  pub short_clocks : All (λ (r : DraftSource). is_overlong r.clock d.sources ≡ false) d.sources
 
 or_none : {X : Type 0} (a b : Option X) → (a or_else b) ≡ None → (a ≡ None) × (b ≡ None)
 or_none None b e = (refl, e)
@@ -104,9 +108,10 @@ from_few : {X : Type 0} (n : ℕ) (xs : List X) → length xs ≤ n → first_pl
 from_few n xs less = all_unmarked (λ k x. nat_le n k) xs (λ k d below. false_from_ne_true _ (λ past. absurd (omega (arith, leb-true _ _ past))))
 
 pub unrefused : (d : DraftLists) → first_refusal d ≡ None → IsUnrefused d
-unfolding first_refusal out_of_range no_name known_name unknown_name endless long_chain known_priority misfit crossed unlinked too_many misfed
+unfolding first_refusal out_of_range no_name known_name unknown_name endless long_chain known_priority misfit crossed unlinked too_many misfed too_long_clock
 unrefused d h =
-    let z = or_none _ (misfed d) h in
+    let y = or_none _ (too_long_clock d) h in
+    let z = or_none _ (misfed d) y.0 in
     let a = or_none _ (too_many d) z.0 in
     let b = or_none _ (by_kinds d) a.0 in
     let c = or_none _ (by_links d) b.0 in
@@ -114,6 +119,8 @@ unrefused d h =
     let range = four _ _ _ _ e.0 in
     let g = or_none (no_name d) (known_name d) e.1 in
     let form = four _ _ _ _ g.0 in
+    let named = passes 3 _ (λ (r : DraftSource). is_name r.name && has_clock_name r.clock) d.sources form.second in
+    let fit = passes 2 _ (source_fits d.size) d.sources range.second in
     let known = four _ _ _ _ g.1 in
     let f = or_none (unknown_name d) (by_chains d) c.1 in
     let unknown = or_none _ _ f.0 in
@@ -123,11 +130,12 @@ unrefused d h =
     let many = four _ _ _ _ a.1 in
     record {
       resources_fit = passes 2 _ (resource_fits d.size) d.resources range.first;
-      sources_fit = passes 2 _ (source_fits d.size) d.sources range.second;
+      sources_fit = fit;
       tasks_fit = passes 2 _ (task_fits d.size) d.tasks range.third;
       paths_fit = passes 2 _ (path_fits d.size) d.paths range.fourth;
       resources_named = passes 3 _ (λ (r : DraftResource). is_name r.name) d.resources form.first;
-      sources_named = passes 3 _ (λ (r : DraftSource). is_name r.name) d.sources form.second;
+      sources_named = λ k d less. (and_parts _ _ (named k d less)).0;
+      clocks_named = λ k d less. (and_parts _ _ (named k d less)).1;
       tasks_named = passes 3 _ (λ (t : DraftTask). is_name t.name) d.tasks form.third;
       paths_named = passes 3 _ (λ (p : DraftPath). is_name p.name) d.paths form.fourth;
       new_resources = at_none 4 _ _ known.first;
@@ -148,12 +156,14 @@ unrefused d h =
       few_tasks = few (most_tasks d.size) d.tasks (at_none 12 _ _ many.third);
       few_paths = few (most_paths d.size) d.paths (at_none 12 _ _ many.fourth);
       fed = at_none 14 _ _ z.1;
+      short_clocks = short-clocks d.sources (λ k r less. fits-ticks d.size (slice_index_or d.sources k r) (fit k r less)) (at_none 15 _ _ y.1);
     }
 
 pub not_refused : (d : DraftLists) → IsUnrefused d → first_refusal d ≡ None
-unfolding first_refusal out_of_range no_name known_name unknown_name endless long_chain known_priority misfit crossed unlinked too_many misfed
+unfolding first_refusal out_of_range no_name known_name unknown_name endless long_chain known_priority misfit crossed unlinked too_many misfed too_long_clock
 not_refused d u =
-    none_or _ (misfed d)
+    none_or _ (too_long_clock d)
+    (none_or _ (misfed d)
     (none_or _ (too_many d)
     (none_or _ (by_kinds d)
     (none_or _ (by_links d)
@@ -167,7 +177,7 @@ not_refused d u =
     (none_or (no_name d) (known_name d)
     (from_four _ _ _ _ (record {
       first = from_passes 3 _ (λ (r : DraftResource). is_name r.name) d.resources u.resources_named;
-      second = from_passes 3 _ (λ (r : DraftSource). is_name r.name) d.sources u.sources_named;
+      second = from_passes 3 _ (λ (r : DraftSource). is_name r.name && has_clock_name r.clock) d.sources (λ k r less. rw (u.sources_named k r less, u.clocks_named k r less) refl);
       third = from_passes 3 _ (λ (t : DraftTask). is_name t.name) d.tasks u.tasks_named;
       fourth = from_passes 3 _ (λ (p : DraftPath). is_name p.name) d.paths u.paths_named;
     }))
@@ -194,4 +204,13 @@ not_refused d u =
       third = none_at 12 _ _ (from_few (most_tasks d.size) d.tasks u.few_tasks);
       fourth = none_at 12 _ _ (from_few (most_paths d.size) d.paths u.few_paths);
     })))
-    (none_at 14 _ _ u.fed)
+    (none_at 14 _ _ u.fed))
+    (none_at 15 _ _ (unmarked-clocks d.sources (λ k r less. fits-ticks d.size (slice_index_or d.sources k r) (u.sources_fit k r less)) u.short_clocks))
+
+-- the periods are in their range where reason 2 doesn't apply
+pub ticking : (d : DraftLists) → out_of_range d ≡ None → All IsTicking d.sources
+unfolding out_of_range
+ticking d h =
+    let range = four _ _ _ _ h in
+    let fit = passes 2 _ (source_fits d.size) d.sources range.second in
+    λ k r less. fits-ticks d.size (slice_index_or d.sources k r) (fit k r less)

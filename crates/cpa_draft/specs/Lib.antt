@@ -4,6 +4,7 @@ pub mod Held
 pub mod DraftLists
 pub mod Names
 pub mod Chains
+pub mod Clocks
 pub mod Search
 pub mod Refusals
 pub mod Validated

@@ -1,5 +1,5 @@
 -- Why a draft is refused: the reasons in their order, and the first place of the first that applies.
-use Rattle.std.specs.Prelude.{ℕ, ◌+◌, ◌-◌, ◌&&◌, ◌||◌, ◌==◌, nat_le, nat_lt, if◌then◌else◌, not, Bool, true, false, List, [], ◌∷◌, Option, Some, None, is_some, is_none, unwrap_or, option_map, length, take, slice_index_or}
+use Rattle.std.specs.Prelude.{ℕ, ℤ, ◌+◌, ◌-◌, ◌&&◌, ◌||◌, ◌==◌, nat_le, nat_lt, if◌then◌else◌, not, Bool, true, false, List, [], ◌∷◌, Option, Some, None, is_some, is_none, unwrap_or, option_map, length, take, slice_index_or}
 use Rattle.std.specs.List.{list_all, list_any, filter_map, range_with_len}
 use Rattle.cpa_units.specs.Name.{is_name}
 use Rattle.cpa_units.specs.declared.limits.Size.{Size}
@@ -12,6 +12,7 @@ use Rattle.cpa_draft.specs.First.{first_place, first_known}
 use Rattle.cpa_draft.specs.DraftLists.{DraftLists}
 use Rattle.cpa_draft.specs.Names.{resource_names, source_names, place_of, kind_of, link_of, links_of, is_nothing, is_task, is_after}
 use Rattle.cpa_draft.specs.Chains.{first_longer, stream_count_within}
+use Rattle.cpa_draft.specs.Clocks.{is_overlong}
 use Rattle.cpa_draft.specs.declared.draft.DraftResource.{DraftResource}
 use Rattle.cpa_draft.specs.declared.draft.DraftSource.{DraftSource}
 use Rattle.cpa_draft.specs.declared.draft.DraftTask.{DraftTask}
@@ -50,10 +51,20 @@ abbrev pub sporadic_fits : Size → Bool → Bool
 sporadic_fits Small sporadic = not sporadic
 sporadic_fits Large sporadic = true
 
+-- no source of a small system is on a clock
+abbrev pub clock_fits : Size → Bool → Bool
+clock_fits Small on_clock = not on_clock
+clock_fits Large on_clock = true
+
+-- an offset stands beside a clock alone, and is below the period
+abbrev pub offset_fits : Bool → ℤ → Option ℤ → Bool
+offset_fits false period offset = is_none offset
+offset_fits true period offset = may_be_within 0 (nat_of period - 1) offset
+
 abbrev pub source_fits : Size → DraftSource → Bool
 source_fits z r =
     is_within 1 MAX_PERIOD r.period && may_be_within 0 MAX_JITTER r.jitter && may_be_within 0 (nat_of r.period) r.distance
-    && sporadic_fits z r.sporadic
+    && sporadic_fits z r.sporadic && clock_fits z (is_some r.clock) && offset_fits (is_some r.clock) r.period r.offset
 
 abbrev pub task_fits : Size → DraftTask → Bool
 task_fits z t =
@@ -72,11 +83,16 @@ out_of_range d =
     or_else first_with 2 Task (λ t. not (task_fits d.size t)) d.tasks
     or_else first_with 2 Path (λ p. not (path_fits d.size p)) d.paths
 
--- 3: an entry's own name hasn't the form of one
+-- the name of a clock, where there is one, has the form of one
+abbrev pub has_clock_name : Option (List ℕ) → Bool
+has_clock_name None = true
+has_clock_name (Some name) = is_name name
+
+-- 3: an entry's own name, or that of a source's clock, hasn't the form of one
 unfoldable pub no_name : DraftLists → Option Refusal
 no_name d =
     first_with 3 Resource (λ (r : DraftResource). not (is_name r.name)) d.resources
-    or_else first_with 3 Source (λ (r : DraftSource). not (is_name r.name)) d.sources
+    or_else first_with 3 Source (λ (r : DraftSource). not (is_name r.name && has_clock_name r.clock)) d.sources
     or_else first_with 3 Task (λ (t : DraftTask). not (is_name t.name)) d.tasks
     or_else first_with 3 Path (λ (p : DraftPath). not (is_name p.name)) d.paths
 
@@ -202,6 +218,10 @@ is_misfed d i t = (nat_le (length t.after) 0 || has_double t.after) || nat_lt MA
 unfoldable pub misfed : DraftLists → Option Refusal
 misfed d = first_marked 14 Task (is_misfed d) d.tasks
 
+-- 15: the cycle of a clock, with the sources up to this one, is too long, or has too many events
+unfoldable pub too_long_clock : DraftLists → Option Refusal
+too_long_clock d = first_marked 15 Source (λ k r. is_overlong r.clock (take (k + 1) d.sources)) d.sources
+
 -- the reasons in their order
 abbrev pub by_own_names : DraftLists → Option Refusal
 by_own_names d = no_name d or_else known_name d
@@ -217,4 +237,4 @@ by_kinds d = known_priority d or_else misfit d or_else crossed d or_else unlinke
 
 -- the first reason that applies, with its first place
 unfoldable pub first_refusal : DraftLists → Option Refusal
-first_refusal d = out_of_range d or_else by_own_names d or_else by_links d or_else by_kinds d or_else too_many d or_else misfed d
+first_refusal d = out_of_range d or_else by_own_names d or_else by_links d or_else by_kinds d or_else too_many d or_else misfed d or_else too_long_clock d

@@ -123,6 +123,10 @@ pub struct DraftSource {
     pub distance: Option<i64>,
     /// Whether it may fall silent; a file says so by `sporadic = true`.
     pub sporadic: bool,
+    /// The name of the clock that it is on, if it is on one.
+    pub clock: Option<Raw>,
+    /// How long after the clock's start its first event comes; only beside a clock.
+    pub offset: Option<i64>,
 }
 
 /// A task as it was read. Each of the names in `after` is an activator's.

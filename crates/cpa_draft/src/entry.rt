@@ -1,9 +1,9 @@
 //! What each entry of a draft has: a name, and numbers in their ranges.
 
-ghost use Rattle.std.specs.Prelude.{◌≡◌, ◌<◌, ◌-◌, ◌^◌, nat_le, not, IfSome};
+ghost use Rattle.std.specs.Prelude.{◌≡◌, ◌<◌, ◌-◌, ◌^◌, ◌&&◌, nat_le, not, IfSome};
 ghost use Rattle.cpa_units.specs.Name.{is_name};
 ghost use Rattle.cpa_draft.specs.First.{first_place};
-ghost use Rattle.cpa_draft.specs.Refusals.{resource_fits, sporadic_fits, source_fits, task_fits, path_fits};
+ghost use Rattle.cpa_draft.specs.Refusals.{resource_fits, sporadic_fits, clock_fits, offset_fits, has_clock_name, source_fits, task_fits, path_fits};
 
 use crate::draft::{DraftPath, DraftResource, DraftSource, DraftTask, Raw};
 use crate::numbers::{is_within, may_be_within, natural};
@@ -74,6 +74,8 @@ impl Entry for DraftSource {
             && may_be_within(0, MAX_JITTER, self.jitter)
             && may_be_within(0, natural(self.period), self.distance)
             && sporadic_fits(size, self.sporadic)
+            && clock_fits(size, self.clock.is_some())
+            && offset_fits(self.clock.is_some(), self.period, self.offset)
     }
 }
 
@@ -84,6 +86,37 @@ fn sporadic_fits(size: Size, sporadic: bool) -> bool
     match size {
         Size::Small => !sporadic,
         Size::Large => true,
+    }
+}
+
+/// No source of a small system is on a clock.
+fn clock_fits(size: Size, on_clock: bool) -> bool
+    ensures { result ≡ clock_fits size on_clock }
+{
+    match size {
+        Size::Small => !on_clock,
+        Size::Large => true,
+    }
+}
+
+/// An offset stands beside a clock alone, and is below the period.
+fn offset_fits(on_clock: bool, period: i64, offset: Option<i64>) -> bool
+    ensures { result ≡ offset_fits on_clock period offset }
+{
+    if on_clock {
+        may_be_within(0, natural(period).saturating_sub(1), offset)
+    } else {
+        offset.is_none()
+    }
+}
+
+/// Whether the name of a clock, where there is one, has the form of one.
+fn has_clock_name(clock: &Option<Raw>) -> bool
+    ensures { result ≡ has_clock_name clock.now }
+{
+    match clock {
+        None => true,
+        Some(name) => is_name(name.bytes()),
     }
 }
 
@@ -144,6 +177,15 @@ pub(crate) fn first_unnamed<E: Named>(entries: &[E]) -> Option<usize>
         .iter()
         .enumerate()
         .position(|(_, entry)| !is_name(entry.name()))
+}
+
+/// The first source whose name, or that of its clock, hasn't the form of one.
+pub(crate) fn first_unnamed_source(sources: &[DraftSource]) -> Option<usize>
+    ensures place { result ≡ first_place (λ k r. not (is_name r.name && has_clock_name r.clock)) sources.now }
+    ensures within { IfSome result (λ k. k < 2 ^ 64 - 1) }
+{
+    sources.iter().enumerate().position(|(_, source)| !(is_name(source.name())
+        && has_clock_name(&source.clock)))
 }
 
 /// The first entry past a limit.

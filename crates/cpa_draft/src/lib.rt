@@ -1,10 +1,11 @@
 //! A system as it was read, and why it is refused.
 //!
 //! A draft has the entries of a system file, with what the file says of each. It is refused by the first of reasons 2
-//! to 12 and 14 that applies, at its first place; reasons 1 and 13 are the file reader's.
+//! to 12, 14 and 15 that applies, at its first place; reasons 1 and 13 are the file reader's.
 #![tactic(auto)]
 
 mod chains;
+pub mod clocks;
 mod display;
 pub mod draft;
 mod entry;

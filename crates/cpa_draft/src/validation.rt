@@ -5,6 +5,7 @@ ghost use Rattle.cpa_draft.specs.Names.{AreTables, links_of};
 ghost use Rattle.cpa_draft.specs.Refusals.{by_own_names, by_links, by_kinds, first_refusal};
 ghost use Rattle.cpa_draft.specs.Validated.{Validates};
 
+use crate::clocks::refuse_too_long_clock;
 use crate::draft::Draft;
 use crate::entry_checks::{
     refuse_chain, refuse_known_name, refuse_no_name, refuse_out_of_range, refuse_too_many,
@@ -103,11 +104,14 @@ fn find_refusal(
     if let Some(refusal) = refuse_too_many(draft) {
         return Ok(Some(refusal));
     }
-    refuse_misfed(alloc, draft, links.as_slice())
+    if let Some(refusal) = refuse_misfed(alloc, draft, links.as_slice())? {
+        return Ok(Some(refusal));
+    }
+    refuse_too_long_clock(alloc, draft)
 }
 
-/// Refused exactly where one of reasons 2 to 12 and 14 applies, with the first of them and its first place. Otherwise the
-/// places of the names.
+/// Refused exactly where one of reasons 2 to 12, 14 and 15 applies, with the first of them and its first place. Otherwise
+/// the places of the names.
 pub fn validate(alloc: Global, draft: &Draft) -> Result<Tables, BuildFault>
     ensures refusal { Validates result (first_refusal draft.now) }
     ensures tables { IfOk result (λ tables. AreTables draft.now tables.resources tables.activities) }

@@ -24,6 +24,7 @@ step-named key.Priority w h = tt
 step-named key.Swap w h = tt
 step-named key.Slot w h = tt
 step-named key.Source w h = tt
+step-named key.Offset w h = tt
 step-named key.Add [] h = cc
 step-named key.Add (name ∷ words) h = and-first (is_name name) _ h
 step-named key.Remove w h = tt

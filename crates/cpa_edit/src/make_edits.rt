@@ -3,7 +3,7 @@
 ghost use Rattle.std.specs.Prelude.{◌≡◌, ◌<◌, ◌^◌, true, None, OnOk, OnErr, unwrap_or};
 ghost use Rattle.cpa_model.specs.Rules.{IsSystem};
 ghost use Rattle.cpa_model.specs.declared.entries.Activator.TheVariants as activator;
-ghost use Rattle.cpa_edit.specs.declared.edit.Edit.TheVariants.{Exec, Priority, Swap, Slot, Source, Add, Remove};
+ghost use Rattle.cpa_edit.specs.declared.edit.Edit.TheVariants.{Exec, Priority, Swap, Slot, Source, Offset, Add, Remove};
 ghost use Rattle.cpa_edit.specs.Named.{activator_named, turn_of};
 ghost use Rattle.cpa_edit.specs.Edited.{change, refusal};
 
@@ -57,6 +57,15 @@ pub(crate) fn make_source(system: &mut System, name: &Name, period: u64, jitter:
 {
     let id = source_named(system, name);
     system.set_source(id, period, jitter, distance);
+}
+
+pub(crate) fn make_offset(system: &mut System, name: &Name, offset: u64)
+    requires allowed { refusal system.old (Offset name.now offset) ≡ None }
+    requires rules { IsSystem (change system.old (Offset name.now offset)) }
+    ensures { system.new ≡ change system.old (Offset name.now offset) }
+{
+    let id = source_named(system, name);
+    system.set_offset(id, offset);
 }
 
 /// The source or the task with a name, where there is one.

@@ -57,6 +57,7 @@ pub(crate) fn touched(system: &System, edit: &Edit) -> ResSet
         }
         Edit::Slot { task, .. } => only(resource_of_task(system, task)),
         Edit::Source { name, .. } => fed_by(system, source_named(system, name)),
+        Edit::Offset { name, .. } => fed_by(system, source_named(system, name)),
         Edit::Add { res, .. } => {
             system.has_rules();
             only(resource_named(system, res))

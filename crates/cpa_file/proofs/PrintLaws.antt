@@ -1,6 +1,6 @@
 -- What is printed is read as the draft that says the same.
 use Rattle.std.proofs.Common.{get_or, ◌≡◌, ℕ, suc, ◌+◌, ◌≤◌, Bool, true, false, List, [], ◌∷◌, map, length, inl, inr, Option, Some, None, Ok, String, Global, Ordering, Less, Equal, Greater, string_bytes, refl, sym, subst, ◌∙◌, arith}
-use Rattle.std.specs.Prelude.{◌==◌, not}
+use Rattle.std.specs.Prelude.{◌==◌, ◌&&◌, not, is_some, is_none}
 use Rattle.std.specs.List.{list_all}
 use Rattle.std.proofs.lemmas.Bool.{cases_Bool, and_parts, not-true, false≢true, eqb-true, eq-eqb}
 use Rattle.std.proofs.lemmas.List.Sums.{list_all-from_AllPass}
@@ -17,6 +17,7 @@ use Rattle.cpa_units.specs.Sizes.{most_region}
 use Rattle.cpa_units.specs.declared.places.TaskId.{TaskId}
 use Rattle.cpa_model.specs.declared.entries.Resource.{Resource}
 use Rattle.cpa_model.specs.declared.entries.Source.{Source}
+use Rattle.cpa_model.specs.declared.entries.OnClock.{OnClock}
 use Rattle.cpa_model.specs.declared.entries.Task.{Task}
 use Rattle.cpa_model.specs.declared.entries.Path.{Path}
 use Rattle.cpa_model.specs.declared.entries.Kind.{Kind}
@@ -25,26 +26,26 @@ use Rattle.cpa_model.specs.declared.entries.Turn.{Turn}
 use Rattle.cpa_model.specs.declared.entries.Turn.TheVariants.{Priority, Slot}
 use Rattle.cpa_model.specs.SystemLists.{SystemLists, resource_at, task_at, activator_name}
 use Rattle.cpa_model.specs.Rules.{IsSystem}
-use Rattle.cpa_draft.specs.Refusals.{sporadic_fits}
+use Rattle.cpa_draft.specs.Refusals.{sporadic_fits, clock_fits}
 use Rattle.cpa_model.proofs.SystemLaws.{region-range}
 use Rattle.cpa_file.specs.declared.format.Format.{Format}
 use Rattle.cpa_file.specs.declared.format.Format.TheVariants.{One, Two, Four}
 use Rattle.cpa_file.specs.Fields.{required, optional, has_only}
 use Rattle.cpa_file.specs.Formats.{has_lists}
 use Rattle.cpa_file.specs.Lists.{read_all}
-use Rattle.cpa_file.specs.Entries.{resource_entry, source_entry, as_after, task_entry, task_fields, path_entry}
+use Rattle.cpa_file.specs.Entries.{resource_entry, source_fields, source_entry, as_after, task_entry, task_fields, path_entry}
 use Rattle.cpa_file.specs.Document.{draft_of, lists_of, has_form, entries_at, items_at}
 use Rattle.cpa_model.specs.declared.entries.Activator.{Activator}
 use Rattle.cpa_model.specs.Redraft.{redraft_resource, redraft_source, redraft_task, redraft_path, redraft}
-use Rattle.cpa_file.specs.Printed.{put, resource_data, source_data, activator_data, after_data, task_names_data, task_data, has_one, name_data, path_data, system_data}
+use Rattle.cpa_file.specs.Printed.{put, resource_data, source_numbers_data, source_data, activator_data, after_data, task_names_data, task_data, has_one, name_data, path_data, system_data}
 
 -- a region of no more than a tick
 abbrev has_no_region : Task → Bool
 has_no_region t = t.region == 1
 
--- a source that isn't sporadic
-abbrev is_never_silent : Source → Bool
-is_never_silent r = not r.sporadic
+-- a source that isn't sporadic, and on no clock
+abbrev is_plain : Source → Bool
+is_plain r = not r.sporadic && is_none r.on_clock
 
 put_by : (o : Ordering) (a b c : List (String Global × Value)) → members_view (match_ordering o a b c) ≡ match_ordering o (members_view a) (members_view b) (members_view c)
 put_by Less a b c = refl
@@ -72,27 +73,38 @@ resource_by n (Can bit) l = refl
 resource-printed : (r : Resource) → resource_entry (resource_data r) ≡ Some (redraft_resource r)
 resource-printed r = resource_by r.name r.kind r.limit
 
--- a source that isn't sporadic is read in each format
-never_silent_by : (format : Format) (r : Source) → r.sporadic ≡ false → source_entry format (source_data r) ≡ Some (redraft_source r)
-unfolding source_entry source_data required optional has_only
-never_silent_by format r h = rw h refl
-
-sporadic_by : (r : Source) → r.sporadic ≡ true → source_entry Four (source_data r) ≡ Some (redraft_source r)
-unfolding source_entry source_data required optional has_only
-sporadic_by r h = rw h refl
+-- a plain source is read in each format
+plain_source_by : (format : Format) (r : Source) → r.sporadic ≡ false → r.on_clock ≡ None → source_entry format (source_data r) ≡ Some (redraft_source r)
+unfolding source_entry source_fields source_data source_numbers_data required optional has_only
+plain_source_by format r h off = rw (h, off) refl
 
 -- and any source in format 4
-source-printed : (r : Source) → source_entry Four (source_data r) ≡ Some (redraft_source r)
-source-printed r = elim (cases_Bool r.sporadic) [
-  | inl h ↦ sporadic_by r h
-  | inr h ↦ never_silent_by Four r h
+source_by : (r : Source) (sporadic : Bool) (on : Option OnClock) → r.sporadic ≡ sporadic → r.on_clock ≡ on → source_entry Four (source_data r) ≡ Some (redraft_source r)
+unfolding source_entry source_fields source_data source_numbers_data required optional has_only
+source_by r true None h off = rw (h, off) refl
+source_by r false None h off = rw (h, off) refl
+source_by r true (Some o) h on = elim (cases_Bool (o.offset == 0)) [
+  | inl first ↦ rw (h, on, first) refl
+  | inr later ↦ rw (h, on, later) refl
+]
+source_by r false (Some o) h on = elim (cases_Bool (o.offset == 0)) [
+  | inl first ↦ rw (h, on, first) refl
+  | inr later ↦ rw (h, on, later) refl
 ]
 
-never_silent-printed : (format : Format) (k : ℕ) (rs : List Source) → list_all is_never_silent rs ≡ true → read_all (source_entry format) k (items_of (map source_data rs)) ≡ Ok (map redraft_source rs)
-never_silent-printed format k [] h = refl
-never_silent-printed format k (r ∷ rs) h =
-    let here = and_parts (is_never_silent r) (list_all is_never_silent rs) h in
-    rw (never_silent_by format r (not-true _ here.0), never_silent-printed format (k + 1) rs here.1) refl
+source-printed : (r : Source) → source_entry Four (source_data r) ≡ Some (redraft_source r)
+source-printed r = source_by r r.sporadic r.on_clock refl refl
+
+no_clock : (on : Option OnClock) → is_none on ≡ true → on ≡ None
+no_clock None h = refl
+no_clock (Some o) h = absurd (false≢true h)
+
+plain_sources-printed : (format : Format) (k : ℕ) (rs : List Source) → list_all is_plain rs ≡ true → read_all (source_entry format) k (items_of (map source_data rs)) ≡ Ok (map redraft_source rs)
+plain_sources-printed format k [] h = refl
+plain_sources-printed format k (r ∷ rs) h =
+    let here = and_parts (is_plain r) (list_all is_plain rs) h in
+    let plain = and_parts (not r.sporadic) (is_none r.on_clock) here.0 in
+    rw (plain_source_by format r (not-true _ plain.0) (no_clock r.on_clock plain.1), plain_sources-printed format (k + 1) rs here.1) refl
 
 -- activators are read as their names: one where it stands alone, and each list where lists may be
 activators-printed : (s : SystemLists) (after : List Activator) → read_all as_str 1 (items_of (map (activator_data s) after)) ≡ Ok (map (activator_name s) after)
@@ -152,7 +164,7 @@ path-printed : (s : SystemLists) (p : Path) → path_entry (path_data s p) ≡ S
 path-printed s p = path_by s p p.deadline
 
 -- the document of a system is read as its draft: that of a small one has no region
-draft_by : (z : Size) (s : SystemLists) → (z ≡ Small → list_all has_no_region s.tasks ≡ true) → (z ≡ Small → list_all is_never_silent s.sources ≡ true) → let u : SystemLists = record s { size = z } in draft_of (system_data u) ≡ Ok (redraft u)
+draft_by : (z : Size) (s : SystemLists) → (z ≡ Small → list_all has_no_region s.tasks ≡ true) → (z ≡ Small → list_all is_plain s.sources ≡ true) → let u : SystemLists = record s { size = z } in draft_of (system_data u) ≡ Ok (redraft u)
 unfolding draft_of lists_of has_form entries_at items_at system_data has_only redraft
 draft_by Small s plain steady =
     let u : SystemLists = record s { size = Small } in
@@ -161,7 +173,7 @@ draft_by Small s plain steady =
           rw (
             one,
             read_all-printed resource_entry resource_data redraft_resource resource-printed 1 s.resources,
-            never_silent-printed One 1 s.sources (steady refl),
+            plain_sources-printed One 1 s.sources (steady refl),
             one_each-printed u 1 s.tasks (plain refl) one,
             read_all-printed path_entry (path_data u) (redraft_path u) (path-printed u) 1 s.paths,
           )
@@ -170,7 +182,7 @@ draft_by Small s plain steady =
           rw (
             several,
             read_all-printed resource_entry resource_data redraft_resource resource-printed 1 s.resources,
-            never_silent-printed Two 1 s.sources (steady refl),
+            plain_sources-printed Two 1 s.sources (steady refl),
             two-printed u 1 s.tasks (plain refl),
             read_all-printed path_entry (path_data u) (redraft_path u) (path-printed u) 1 s.paths,
           )
@@ -197,13 +209,18 @@ no-regions s rules small =
     let u = get_or s.tasks k t in
     no-region u (region-range (resource_at s u.res.0).kind u.region (rules.tasks k t less).region_fits).0 most)
 
-never-sporadic : (s : SystemLists) → IsSystem s → s.size ≡ Small → list_all is_never_silent s.sources ≡ true
-never-sporadic s rules small =
-    list_all-from_AllPass is_never_silent s.sources
-    (λ k r less. subst (λ z. sporadic_fits z (get_or s.sources k r).sporadic ≡ true) small (rules.sized.arrivals k r less))
+plain-small : (z : Size) (sporadic : Bool) (on : Option OnClock) → z ≡ Small → sporadic_fits z sporadic ≡ true → clock_fits z (is_some on) ≡ true → (not sporadic && is_none on) ≡ true
+plain-small Large sporadic on small p q = cc
+plain-small Small sporadic None small p q = rw p refl
+plain-small Small sporadic (Some o) small p q = absurd (false≢true q)
+
+plain-sources : (s : SystemLists) → IsSystem s → s.size ≡ Small → list_all is_plain s.sources ≡ true
+plain-sources s rules small =
+    list_all-from_AllPass is_plain s.sources
+    (λ k r less. let sized = rules.sized.arrivals k r less in let u = get_or s.sources k r in plain-small s.size u.sporadic u.on_clock small sized.0 sized.1)
 
 pub draft_of-printed : (s : SystemLists) → IsSystem s → draft_of (system_data s) ≡ Ok (redraft s)
-draft_of-printed s rules = draft_by s.size s (no-regions s rules) (never-sporadic s rules)
+draft_of-printed s rules = draft_by s.size s (no-regions s rules) (plain-sources s rules)
 
 -- no printed document is deep
 
@@ -222,13 +239,21 @@ resource-depth_by n (Can bit) l = omega arith
 resource-depth : (r : Resource) → depth (resource_data r) ≤ 2
 resource-depth r = resource-depth_by r.name r.kind r.limit
 
-source-depth_by : (r : Source) (sporadic : Bool) → r.sporadic ≡ sporadic → depth (source_data r) ≤ 2
-unfolding source_data
-source-depth_by r true is = rw is (omega arith)
-source-depth_by r false is = rw is (omega arith)
+source-depth_by : (r : Source) (sporadic : Bool) (on : Option OnClock) → r.sporadic ≡ sporadic → r.on_clock ≡ on → depth (source_data r) ≤ 2
+unfolding source_data source_numbers_data
+source-depth_by r true None is off = rw (is, off) (omega arith)
+source-depth_by r false None is off = rw (is, off) (omega arith)
+source-depth_by r true (Some o) is on = elim (cases_Bool (o.offset == 0)) [
+  | inl first ↦ rw (is, on, first) (omega arith)
+  | inr later ↦ rw (is, on, later) (omega arith)
+]
+source-depth_by r false (Some o) is on = elim (cases_Bool (o.offset == 0)) [
+  | inl first ↦ rw (is, on, first) (omega arith)
+  | inr later ↦ rw (is, on, later) (omega arith)
+]
 
 source-depth : (r : Source) → depth (source_data r) ≤ 2
-source-depth r = source-depth_by r r.sporadic refl
+source-depth r = source-depth_by r r.sporadic r.on_clock refl refl
 
 after-depth : (s : SystemLists) (after : List Activator) → depth (after_data s after) ≤ 1
 after-depth s [] = omega arith
@@ -284,13 +309,21 @@ resource-undated_by n (Can bit) l = refl
 resource-undated : (r : Resource) → has_valid_dates (resource_data r) ≡ true
 resource-undated r = resource-undated_by r.name r.kind r.limit
 
-source-undated_by : (r : Source) (sporadic : Bool) → r.sporadic ≡ sporadic → has_valid_dates (source_data r) ≡ true
-unfolding source_data
-source-undated_by r true is = rw is refl
-source-undated_by r false is = rw is refl
+source-undated_by : (r : Source) (sporadic : Bool) (on : Option OnClock) → r.sporadic ≡ sporadic → r.on_clock ≡ on → has_valid_dates (source_data r) ≡ true
+unfolding source_data source_numbers_data
+source-undated_by r true None is off = rw (is, off) refl
+source-undated_by r false None is off = rw (is, off) refl
+source-undated_by r true (Some o) is on = elim (cases_Bool (o.offset == 0)) [
+  | inl first ↦ rw (is, on, first) refl
+  | inr later ↦ rw (is, on, later) refl
+]
+source-undated_by r false (Some o) is on = elim (cases_Bool (o.offset == 0)) [
+  | inl first ↦ rw (is, on, first) refl
+  | inr later ↦ rw (is, on, later) refl
+]
 
 source-undated : (r : Source) → has_valid_dates (source_data r) ≡ true
-source-undated r = source-undated_by r r.sporadic refl
+source-undated r = source-undated_by r r.sporadic r.on_clock refl refl
 
 after-undated : (s : SystemLists) (after : List Activator) → has_valid_dates (after_data s after) ≡ true
 after-undated s [] = refl

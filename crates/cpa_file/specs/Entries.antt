@@ -1,5 +1,5 @@
 -- The entries of a system file, as they are read.
-use Rattle.std.specs.Prelude.{ℕ, Bool, true, false, List, [], ◌∷◌, Option, Some, None, unwrap_or, Result, Ok, Err, codes, if◌then◌else◌}
+use Rattle.std.specs.Prelude.{ℕ, Bool, true, false, List, [], ◌∷◌, Option, Some, None, is_none, is_some, ◌||◌, unwrap_or, Result, Ok, Err, codes, if◌then◌else◌}
 use Rattle.std.specs.Str.{bytes_eq}
 use Rattle.toml.specs.Data.{Data, Items, as_str, as_integer, as_bool, as_array}
 use Rattle.cpa_draft.specs.declared.draft.KindWord.{KindWord}
@@ -10,7 +10,7 @@ use Rattle.cpa_draft.specs.declared.draft.DraftTask.{DraftTask}
 use Rattle.cpa_draft.specs.declared.draft.DraftPath.{DraftPath}
 use Rattle.cpa_model.specs.Built.{has_executions}
 use Rattle.cpa_file.specs.declared.format.Format.{Format}
-use Rattle.cpa_file.specs.Formats.{has_lists, has_regions, has_sporadic}
+use Rattle.cpa_file.specs.Formats.{has_lists, has_regions, has_more_of_sources}
 use Rattle.cpa_file.specs.Lists.{read_all}
 use Rattle.cpa_file.specs.Fields.{◌>>=◌, optional, required, has_only}
 
@@ -97,26 +97,43 @@ with_executions t = if has_executions t then Some t else None
 unfoldable pub task_entry : Format → Data → Option DraftTask
 task_entry format d = task_fields format d >>= with_executions
 
--- the key of a source that only some formats know
-abbrev pub sporadic_key : Bool → List (List ℕ)
-sporadic_key true = codes "sporadic" ∷ []
-sporadic_key false = []
+-- the keys of a source that only some formats know
+abbrev pub more_source_keys : Bool → List (List ℕ)
+more_source_keys true = codes "sporadic" ∷ codes "clock" ∷ codes "offset" ∷ []
+more_source_keys false = []
 
 -- the keys that a source may have
 abbrev pub source_keys : Format → List (List ℕ)
-source_keys format = codes "name" ∷ codes "period" ∷ codes "jitter" ∷ codes "distance" ∷ sporadic_key (has_sporadic format)
+source_keys format = codes "name" ∷ codes "period" ∷ codes "jitter" ∷ codes "distance" ∷ more_source_keys (has_more_of_sources format)
 
--- the entry, if it has the form of a source
-unfoldable pub source_entry : Format → Data → Option DraftSource
-source_entry format d = do
+-- those that nearly all sources have, and no others
+abbrev pub usual_source_keys : List (List ℕ)
+usual_source_keys = codes "name" ∷ codes "period" ∷ codes "jitter" ∷ codes "distance" ∷ []
+
+-- the keys of a source, each of its type
+unfoldable pub source_fields : Format → Data → Option DraftSource
+source_fields format d = do
   name ← required as_str (codes "name") d
   period ← required as_integer (codes "period") d
   jitter ← optional as_integer (codes "jitter") d
   distance ← optional as_integer (codes "distance") d
   sporadic ← optional as_bool (codes "sporadic") d
+  clock ← optional as_str (codes "clock") d
+  offset ← optional as_integer (codes "offset") d
   if has_only (source_keys format) d
-      then Some (record { name = name; period = period; jitter = jitter; distance = distance; sporadic = unwrap_or sporadic false })
+      then Some (record { name = name; period = period; jitter = jitter; distance = distance; sporadic = unwrap_or sporadic false; clock = clock; offset = offset })
       else None
+
+-- an offset, where there is one, stands beside a clock
+abbrev pub has_offset_on_clock : DraftSource → Bool
+has_offset_on_clock r = is_none r.offset || is_some r.clock
+
+abbrev pub with_offset_on_clock : DraftSource → Option DraftSource
+with_offset_on_clock r = if has_offset_on_clock r then Some r else None
+
+-- the entry, if it has the form of a source
+unfoldable pub source_entry : Format → Data → Option DraftSource
+source_entry format d = source_fields format d >>= with_offset_on_clock
 
 -- the entry, if it has the form of a path
 unfoldable pub path_entry : Data → Option DraftPath

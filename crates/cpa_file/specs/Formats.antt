@@ -23,11 +23,11 @@ has_regions One = false
 has_regions Two = false
 has_regions Four = true
 
--- in format 4 a source may be sporadic
-abbrev pub has_sporadic : Format → Bool
-has_sporadic One = false
-has_sporadic Two = false
-has_sporadic Four = true
+-- in format 4 a source may be sporadic, and on a clock
+abbrev pub has_more_of_sources : Format → Bool
+has_more_of_sources One = false
+has_more_of_sources Two = false
+has_more_of_sources Four = true
 
 -- in format 4 a system may be large
 abbrev pub size_of : Format → Size

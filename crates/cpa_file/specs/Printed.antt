@@ -11,6 +11,7 @@ use Rattle.cpa_units.specs.declared.limits.Size.TheVariants.{Small, Large}
 use Rattle.cpa_units.specs.declared.places.TaskId.{TaskId}
 use Rattle.cpa_model.specs.declared.entries.Resource.{Resource}
 use Rattle.cpa_model.specs.declared.entries.Source.{Source}
+use Rattle.cpa_model.specs.declared.entries.OnClock.{OnClock}
 use Rattle.cpa_model.specs.declared.entries.Task.{Task}
 use Rattle.cpa_model.specs.declared.entries.Path.{Path}
 use Rattle.cpa_model.specs.declared.entries.Kind.{Kind}
@@ -46,9 +47,21 @@ abbrev pub with_sporadic : Bool → Members → Members
 with_sporadic true ms = put (codes "sporadic") (boolean true) ms
 with_sporadic false ms = ms
 
+-- an offset that isn't 0
+abbrev pub with_offset : ℕ → Members → Members
+with_offset ticks ms = if ticks == 0 then ms else put (codes "offset") (integer (pos ticks)) ms
+
+abbrev pub with_clock : Option OnClock → Members → Members
+with_clock None ms = ms
+with_clock (Some o) ms = with_offset o.offset (put (codes "clock") (string o.clock) ms)
+
+-- the numbers of a source
+unfoldable pub source_numbers_data : Source → Members
+source_numbers_data r =
+    put (codes "distance") (integer (pos r.distance)) (put (codes "jitter") (integer (pos r.jitter)) (put (codes "period") (integer (pos r.period)) (put (codes "name") (string r.name) no_members)))
+
 unfoldable pub source_data : Source → Data
-source_data r =
-    table (with_sporadic r.sporadic (put (codes "distance") (integer (pos r.distance)) (put (codes "jitter") (integer (pos r.jitter)) (put (codes "period") (integer (pos r.period)) (put (codes "name") (string r.name) no_members)))))
+source_data r = table (with_clock r.on_clock (with_sporadic r.sporadic (source_numbers_data r)))
 
 abbrev pub with_turn : Turn → Members → Members
 with_turn (Priority number) ms = put (codes "priority") (integer (pos number)) ms

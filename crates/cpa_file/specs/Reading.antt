@@ -18,7 +18,7 @@ pub data Reading : Type 0 where
   Refused : Refusal → Reading
   Accepted : SystemLists → Reading
 
--- by the first of reasons 2 to 12 and 14 that applies to a draft
+-- by the first of reasons 2 to 12, 14 and 15 that applies to a draft
 abbrev pub by_refusal : DraftLists → Option Refusal → Reading
 by_refusal d None = Accepted (system_of d)
 by_refusal d (Some r) = Refused r

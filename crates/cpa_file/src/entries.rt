@@ -5,13 +5,13 @@ ghost use Rattle.toml.specs.View.{view, items_view};
 ghost use Rattle.cpa_file.specs.Lists.{GivesList, read_all};
 ghost use Rattle.toml.specs.Data.{as_str};
 ghost use Rattle.cpa_file.specs.Fields.{Gives, required, optional, has_only};
-ghost use Rattle.cpa_file.specs.Entries.{source_keys, kind_of_word, as_kind, as_texts, as_after, usual_keys, task_keys, task_fields};
+ghost use Rattle.cpa_file.specs.Entries.{source_keys, usual_source_keys, source_fields, has_offset_on_clock, kind_of_word, as_kind, as_texts, as_after, usual_keys, task_keys, task_fields};
 ghost use Rattle.cpa_model.specs.Built.{has_executions};
 
 use crate::fault::ReadFault;
 use crate::fields::{
-    only_has, optional_integer, optional_integer_unless, optional_truth, optional_truth_unless,
-    required_integer, required_text,
+    only_has, optional_integer, optional_integer_unless, optional_text_unless,
+    optional_truth_unless, required_integer, required_text,
 };
 use crate::format::Format;
 use cpa_model::{DraftPath, DraftResource, DraftSource, DraftTask, KindWord, Raw, RawList};
@@ -187,15 +187,67 @@ fn is_set(truth: Option<bool>) -> bool
     }
 }
 
-/// Whether an entry has no key but those that a source may have.
-fn has_source_keys(format: Format, value: &Value) -> bool
+/// Whether an entry has no key but those that nearly all sources have.
+fn has_usual_source_keys(value: &Value) -> bool
+    ensures { result ≡ has_only usual_source_keys (view value.now) }
+{
+    only_has(value, &["name", "period", "jitter", "distance"])
+}
+
+/// Whether an entry has no key but those that a source may have, where it is known whether these are usual ones alone.
+fn has_source_keys(format: Format, value: &Value, usual: bool) -> bool
+    requires { usual ≡ has_only usual_source_keys (view value.now) }
     ensures { result ≡ has_only (source_keys format) (view value.now) }
 {
-    if format.has_sporadic() {
-        only_has(value, &["name", "period", "jitter", "distance", "sporadic"])
-    } else {
-        only_has(value, &["name", "period", "jitter", "distance"])
+    if usual {
+        return true;
     }
+    if format.has_more_of_sources() {
+        let known = [
+            "name", "period", "jitter", "distance", "sporadic", "clock", "offset",
+        ];
+        only_has(value, &known)
+    } else {
+        false
+    }
+}
+
+#[tactic(auto, unfolding(crate::specs::Entries::source_fields))]
+fn read_source_fields(
+    alloc: Global,
+    format: Format,
+    value: &Value,
+) -> Result<DraftSource, ReadFault>
+    ensures { Gives result (source_fields format (view value.now)) }
+{
+    let usual = has_usual_source_keys(value);
+    let name = required_text(alloc, value, "name")?;
+    let period = required_integer(value, "period")?;
+    let jitter = optional_integer(value, "jitter")?;
+    let distance = optional_integer(value, "distance")?;
+    let sporadic = optional_truth_unless(usual, value, "sporadic")?;
+    let clock = optional_text_unless(usual, alloc, value, "clock")?;
+    let offset = optional_integer_unless(usual, value, "offset")?;
+    if has_source_keys(format, value, usual) {
+        Ok(DraftSource {
+            name,
+            period,
+            jitter,
+            distance,
+            sporadic: is_set(sporadic),
+            clock,
+            offset,
+        })
+    } else {
+        Err(ReadFault::Malformed)
+    }
+}
+
+/// Whether an offset, where there is one, stands beside a clock.
+fn has_offset_on_clock(source: &DraftSource) -> bool
+    ensures { result ≡ has_offset_on_clock source.now }
+{
+    source.offset.is_none() || source.clock.is_some()
 }
 
 impl Entry for DraftSource {
@@ -205,19 +257,9 @@ impl Entry for DraftSource {
 
     #[tactic(auto, unfolding(crate::specs::Entries::source_entry))]
     fn read(alloc: Global, format: Format, value: &Value) -> Result<DraftSource, ReadFault> {
-        let name = required_text(alloc, value, "name")?;
-        let period = required_integer(value, "period")?;
-        let jitter = optional_integer(value, "jitter")?;
-        let distance = optional_integer(value, "distance")?;
-        let sporadic = optional_truth(value, "sporadic")?;
-        if has_source_keys(format, value) {
-            Ok(DraftSource {
-                name,
-                period,
-                jitter,
-                distance,
-                sporadic: is_set(sporadic),
-            })
+        let source = read_source_fields(alloc, format, value)?;
+        if has_offset_on_clock(&source) {
+            Ok(source)
         } else {
             Err(ReadFault::Malformed)
         }

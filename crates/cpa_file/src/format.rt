@@ -1,7 +1,7 @@
 //! The formats of system files.
 
 ghost use Rattle.std.specs.Prelude.{◌≡◌};
-ghost use Rattle.cpa_file.specs.Formats.{format_with, has_lists, has_regions, has_sporadic, size_of};
+ghost use Rattle.cpa_file.specs.Formats.{format_with, has_lists, has_regions, has_more_of_sources, size_of};
 
 use cpa_units::limits::Size;
 
@@ -12,7 +12,7 @@ pub enum Format {
     One,
     /// Tasks with several activators.
     Two,
-    /// Tasks with regions, sporadic sources, and large systems.
+    /// Tasks with regions, sporadic sources, sources on clocks, and large systems.
     Four,
 }
 
@@ -57,9 +57,9 @@ impl Format {
         }
     }
 
-    /// Whether a source may be sporadic.
-    pub(crate) fn has_sporadic(self) -> bool
-        ensures { result ≡ has_sporadic self }
+    /// Whether a source may be sporadic, and on a clock.
+    pub(crate) fn has_more_of_sources(self) -> bool
+        ensures { result ≡ has_more_of_sources self }
     {
         matches!(self, Format::Four)
     }

@@ -8,10 +8,10 @@ ghost use Rattle.toml.specs.View.{view, table_view};
 ghost use Rattle.cpa_model.specs.Rules.{IsSystem, IsResource, IsSource, IsActivator, IsTask, IsPath, KindFits};
 ghost use Rattle.cpa_model.specs.SystemLists.{resource_at, source_at, task_at, path_at, task_places, slot_of, activator_name};
 ghost use Rattle.cpa_file.specs.Reading.{reading_of, Accepted};
-ghost use Rattle.cpa_file.specs.Printed.{put, kind_text, with_kind_number, resource_data, with_sporadic, source_data, with_turn, with_region, activator_data, after_data, task_names_data, task_data, has_one, format_of, with_deadline, name_data, path_data, system_data, IsPrinted};
+ghost use Rattle.cpa_file.specs.Printed.{put, kind_text, with_kind_number, resource_data, with_sporadic, with_offset, with_clock, source_numbers_data, source_data, with_turn, with_region, activator_data, after_data, task_names_data, task_data, has_one, format_of, with_deadline, name_data, path_data, system_data, IsPrinted};
 
 use cpa_model::{
-    Activator, Activators, Kind, Path, Resource, Source, System, Task, TaskList, Turn,
+    Activator, Activators, Kind, OnClock, Path, Resource, Source, System, Task, TaskList, Turn,
 };
 use cpa_units::limits::Size;
 use cpa_units::{Name, NoMemory, PathId, ResId, SourceId, TaskId};
@@ -106,17 +106,53 @@ fn put_sporadic(alloc: Global, entry: &mut Table, sporadic: bool) -> Result<(), 
     }
 }
 
-#[tactic(auto, unfolding(crate::specs::Printed::source_data))]
-fn source_value(alloc: Global, source: &Source) -> Result<Value, NoMemory>
+/// Puts an offset, unless it is 0.
+fn put_offset(alloc: Global, entry: &mut Table, ticks: u64) -> Result<(), NoMemory>
+    requires { ticks < 2 ^ 63 }
+    ensures { OnOk result (table_view entry.new ≡ with_offset ticks (table_view entry.old)) }
+{
+    if ticks == 0 {
+        Ok(())
+    } else {
+        put_number(alloc, entry, "offset", ticks)
+    }
+}
+
+/// Puts the clock that a source is on, and its offset.
+fn put_clock(alloc: Global, entry: &mut Table, on_clock: &Option<OnClock>) -> Result<(), NoMemory>
+    requires { ForSome on_clock.now (λ o. o.offset < 2 ^ 63) }
+    ensures { OnOk result (table_view entry.new ≡ with_clock on_clock.now (table_view entry.old)) }
+{
+    match on_clock {
+        None => Ok(()),
+        Some(on) => {
+            put_text(alloc, entry, "clock", name_text(&on.clock))?;
+            put_offset(alloc, entry, on.offset)
+        }
+    }
+}
+
+#[tactic(auto, unfolding(crate::specs::Printed::source_numbers_data))]
+fn source_table(alloc: Global, source: &Source) -> Result<Table, NoMemory>
     requires { IsSource source.now }
-    ensures { IfOk result (λ v. view v ≡ source_data source.now) }
+    ensures { IfOk result (λ t. table_view t ≡ source_numbers_data source.now) }
 {
     let mut entry = Table::new(alloc);
     put_text(alloc, &mut entry, "name", name_text(&source.name))?;
     put_number(alloc, &mut entry, "period", source.period)?;
     put_number(alloc, &mut entry, "jitter", source.jitter)?;
     put_number(alloc, &mut entry, "distance", source.distance)?;
+    Ok(entry)
+}
+
+#[tactic(auto, unfolding(crate::specs::Printed::source_data))]
+fn source_value(alloc: Global, source: &Source) -> Result<Value, NoMemory>
+    requires { IsSource source.now }
+    ensures { IfOk result (λ v. view v ≡ source_data source.now) }
+{
+    let mut entry = source_table(alloc, source)?;
     put_sporadic(alloc, &mut entry, source.sporadic)?;
+    put_clock(alloc, &mut entry, &source.on_clock)?;
     Ok(Value::Table(entry))
 }
 

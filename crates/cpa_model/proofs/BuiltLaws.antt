@@ -48,6 +48,7 @@ use Rattle.cpa_model.specs.SystemLists.{SystemLists, task_at, streams_of, is_tas
 use Rattle.cpa_model.specs.Rules.{IsSized, IsSizedResource, IsSizedSource, IsSizedTask, IsSystem, IsResource, IsSource, IsTask, IsActivator, IsPath, IsLinked, AllDiffer, HaveOwnPriorities, TurnFits, RegionFits, activity_names}
 use Rattle.cpa_model.specs.Built.{built_kind, built_resource, built_source, built_task, built_path, built_turn, built_activator, activator_at, resource_place, activity_place, bit_time, task_named, has_executions, TaskFitsTypes, PathFitsTypes, system_of}
 use Rattle.cpa_model.proofs.SystemLaws.{path-short, activators-few}
+use Rattle.cpa_model.proofs.DraftClocks.{built-named, built-clocks}
 use Rattle.cpa_model.proofs.EntryLaws.{may-range, range, resource-kept, source-kept, place-kept, nothing-none, link-kept, task-kept, turn-kept, region-kept, executions-kept}
 
 -- chains
@@ -449,6 +450,8 @@ system-kept d u given = record {
   streams = streams-kept d u;
   resources_named = all-map (λ (r : Resource). is_name r.name ≡ true) built_resource d.resources u.resources_named;
   sources_named = all-map (λ (r : Source). is_name r.name ≡ true) built_source d.sources u.sources_named;
+  clocks_named = built-named d u.clocks_named;
+  clocks = built-clocks d u.short_clocks;
   tasks_named = all-map (λ (t : Task). is_name t.name ≡ true) (built_task d) d.tasks u.tasks_named;
   paths_named = all-map (λ (p : Path). is_name p.name ≡ true) (built_path d) d.paths u.paths_named;
   resource_names = resources-differ d u;

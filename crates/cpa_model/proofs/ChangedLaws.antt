@@ -11,7 +11,7 @@ use Rattle.cpa_model.specs.declared.entries.Path.{Path}
 use Rattle.cpa_model.specs.declared.entries.Turn.{Turn}
 use Rattle.cpa_model.specs.Rules.{IsSystem}
 use Rattle.cpa_model.specs.SystemLists.{SystemLists, no_task, no_source}
-use Rattle.cpa_model.specs.Changes.{with_task_at, with_exec, with_turn, with_swapped, with_source, with_task}
+use Rattle.cpa_model.specs.Changes.{with_task_at, with_exec, with_turn, with_swapped, with_source, with_offset, at_offset, with_task}
 
 pub exec-written : (s : SystemLists) (i best worst : ℕ) (t : Task) → i < length s.tasks → t ≡ slice_index_or s.tasks i t
     → with_task_at s i (record t { best = best; worst = worst }) ≡ with_exec s i best worst
@@ -27,6 +27,19 @@ pub source-written : (s : SystemLists) (k period jitter distance : ℕ) (r : Sou
 unfolding with_source
 source-written s k period jitter distance r less is =
     ap (λ (u : Source). record s { sources = slice_set s.sources k (record u { period = period; jitter = jitter; distance = distance }) }) (is ∙ get_or-any s.sources k r no_source less)
+
+-- what was read at a place is the entry there
+pub source-read : (rs : List Source) (k : ℕ) (r : Source) → k < length rs → r ≡ slice_index_or rs k r → r ≡ slice_index_or rs k no_source
+source-read rs k r less is = is ∙ get_or-any rs k r no_source less
+
+pub offset-moved : (rs : List Source) (k offset : ℕ) (r new : Source) → k < length rs → r ≡ slice_index_or rs k r → new ≡ record r { on_clock = at_offset offset r.on_clock }
+    → new ≡ record (slice_index_or rs k no_source) { on_clock = at_offset offset (slice_index_or rs k no_source).on_clock }
+offset-moved rs k offset r new less is moved = moved ∙ ap (λ (u : Source). record u { on_clock = at_offset offset u.on_clock }) (source-read rs k r less is)
+
+pub offset-written : (s : SystemLists) (k offset : ℕ) (r new : Source) → k < length s.sources → r ≡ slice_index_or s.sources k r → new ≡ record r { on_clock = at_offset offset r.on_clock }
+    → record s { sources = slice_set s.sources k new } ≡ with_offset s k offset
+unfolding with_offset
+offset-written s k offset r new less is moved = ap (λ (u : Source). record s { sources = slice_set s.sources k u }) (offset-moved s.sources k offset r new less is moved)
 
 -- a system by an equation
 pub system-same : (s t : SystemLists) → s ≡ t → IsSystem t → IsSystem s

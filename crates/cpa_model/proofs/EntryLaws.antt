@@ -1,5 +1,7 @@
 -- The rules of an entry, from what a draft has to which no reason applies.
-use Rattle.std.proofs.Common.{◌≡◌, ℕ, ℤ, pos, negsuc, ◌-◌, ◌*◌, ◌<◌, ◌≤◌, Bool, true, false, not, ◌&&◌, ◌||◌, nat_lt, List, length, Option, Some, None, is_some, is_none, unwrap_or, refl, arith, inl, inr, lit≤}
+use Rattle.std.proofs.Common.{◌≡◌, ℕ, ℤ, pos, negsuc, ◌-◌, ◌*◌, ◌<◌, ◌≤◌, Bool, true, false, not, ◌&&◌, ◌||◌, nat_lt, List, length, Option, Some, None, is_some, is_none, unwrap_or, refl, arith, inl, inr, lit≤, ap}
+use Rattle.std.specs.Option.{ForSome}
+use Rattle.std.proofs.lemmas.Option.{none-some, same_Some}
 use Rattle.std.proofs.Math.Nat.{mul-le-mul_right}
 use Rattle.std.proofs.lemmas.Bool.{and_parts, or_parts, false≢true, true≢false, leb-true, ltb-false, cases_Bool}
 use Rattle.cpa_units.specs.declared.limits.Size.{Size}
@@ -7,7 +9,7 @@ use Rattle.cpa_units.specs.declared.limits.Size.TheVariants.{Large}
 use Rattle.cpa_units.specs.Frames.{least_frame_bits, greatest_frame_bits}
 use Rattle.cpa_draft.specs.Numbers.{nat_of, nat_or, is_within, may_be_within}
 use Rattle.cpa_draft.specs.Names.{place_of, link_at, is_nothing, is_task}
-use Rattle.cpa_draft.specs.Refusals.{resource_fits, source_fits, by_priority, is_preemptive, turn_misfits}
+use Rattle.cpa_draft.specs.Refusals.{resource_fits, source_fits, offset_fits, by_priority, is_preemptive, turn_misfits}
 use Rattle.cpa_draft.specs.declared.draft.DraftResource.{DraftResource}
 use Rattle.cpa_draft.specs.declared.draft.DraftSource.{DraftSource}
 use Rattle.cpa_draft.specs.declared.draft.DraftTask.{DraftTask}
@@ -15,8 +17,9 @@ use Rattle.cpa_draft.specs.declared.draft.KindWord.{KindWord}
 use Rattle.cpa_draft.specs.declared.draft.KindWord.TheVariants as word
 use Rattle.cpa_draft.specs.declared.links.Link.TheVariants as link
 use Rattle.cpa_draft.proofs.NameLaws.{place_below}
+use Rattle.cpa_model.specs.declared.entries.OnClock.{OnClock}
 use Rattle.cpa_model.specs.Rules.{IsResource, IsSource, KindFits, TurnFits, RegionFits}
-use Rattle.cpa_model.specs.Built.{built_kind, built_resource, built_source, built_turn, least_execution, greatest_execution}
+use Rattle.cpa_model.specs.Built.{built_kind, built_resource, built_on_clock, built_source, built_turn, least_execution, greatest_execution}
 
 -- numbers in their ranges
 
@@ -49,15 +52,26 @@ resource-kept r h =
     let limit = may-range 1 100000000 1000000 r.limit (lit≤ tt, lit≤ tt) b.0 in
     record { some_limit = limit.0; limit = limit.1; kind_fits = kind-kept r.kind r.gap r.bit b.1 a.1 }
 
+-- an offset is below the period
+offset-kept : (clock : Option (List ℕ)) (period : ℤ) (offset : Option ℤ) → 1 ≤ nat_of period → offset_fits (is_some clock) period offset ≡ true → ForSome (built_on_clock clock offset) (λ o. o.offset < nat_of period)
+offset-kept None period offset some h = λ o e. absurd (none-some o e)
+offset-kept (Some name) period offset some h =
+    λ o e.
+    let least : nat_or 0 offset ≤ nat_of period - 1 = (may-range 0 (nat_of period - 1) 0 offset (omega arith, omega arith) h).1 in
+    let same : nat_or 0 offset ≡ o.offset = ap (λ (on : OnClock). on.offset) (same_Some _ o e) in
+    omega arith
+
 pub source-kept : (z : Size) (r : DraftSource) → source_fits z r ≡ true → IsSource (built_source r)
 source-kept z r h =
-    let s = and_parts _ _ h in
+    let f = and_parts _ _ h in
+    let c = and_parts _ _ f.0 in
+    let s = and_parts _ _ c.0 in
     let a = and_parts _ _ s.0 in
     let b = and_parts _ _ a.0 in
     let period = range 1 1000000000 r.period b.0 in
     let jitter = may-range 0 1000000000 0 r.jitter (lit≤ tt, lit≤ tt) b.1 in
     let distance = may-range 0 (nat_of r.period) 0 r.distance (omega arith, omega arith) a.1 in
-    record { some_period = period.0; period = period.1; jitter = jitter.1; distance = distance.1 }
+    record { some_period = period.0; period = period.1; jitter = jitter.1; distance = distance.1; offset = offset-kept r.clock r.period r.offset period.0 f.1 }
 
 -- names that name something
 

@@ -1,7 +1,12 @@
 pub mod ActivatorLaws
 pub mod BuiltLaws
 pub mod ChainLaws
+pub mod ChangedLaws
+pub mod ClockLaws
+pub mod DraftClocks
 pub mod EntryLaws
+pub mod KeptClocks
+pub mod KeptRules
 pub mod LongestLaws
 pub mod RedraftChains
 pub mod RedraftLaws
@@ -9,8 +14,6 @@ pub mod RedraftNames
 pub mod RedraftNumbers
 pub mod RedraftRanks
 pub mod RedraftUnrefused
+pub mod ResourceTaskLaws
 pub mod SizeLaws
 pub mod SystemLaws
-pub mod ChangedLaws
-pub mod KeptRules
-pub mod ResourceTaskLaws

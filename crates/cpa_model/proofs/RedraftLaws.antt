@@ -10,6 +10,8 @@ use Rattle.cpa_draft.proofs.ListLaws.{map-map}
 use Rattle.cpa_draft.proofs.UnrefusedLaws.{not_refused}
 use Rattle.cpa_model.specs.declared.entries.Resource.{Resource}
 use Rattle.cpa_model.specs.declared.entries.Source.{Source}
+use Rattle.cpa_model.specs.declared.entries.OnClock.{OnClock}
+use Rattle.cpa_model.specs.Clocks.{clock_name, offset_on}
 use Rattle.cpa_model.specs.declared.entries.Task.{Task}
 use Rattle.cpa_model.specs.declared.entries.Path.{Path}
 use Rattle.cpa_model.specs.declared.entries.Kind.{Kind}
@@ -18,8 +20,8 @@ use Rattle.cpa_model.specs.declared.entries.Turn.{Turn}
 use Rattle.cpa_model.specs.declared.entries.Turn.TheVariants as turn
 use Rattle.cpa_model.specs.SystemLists.{SystemLists, resource_at, task_at}
 use Rattle.cpa_model.specs.Rules.{IsSystem, IsTask, IsPath, TurnFits}
-use Rattle.cpa_model.specs.Built.{built_kind, built_resource, built_source, built_task, built_path, built_turn, task_named, system_of}
-use Rattle.cpa_model.specs.Redraft.{word_of, gap_at, bit_at, region_at, redraft_resource, redraft_source, redraft_task, redraft_path, redraft}
+use Rattle.cpa_model.specs.Built.{built_kind, built_resource, built_on_clock, built_source, built_task, built_path, built_turn, task_named, system_of}
+use Rattle.cpa_model.specs.Redraft.{word_of, gap_at, bit_at, region_at, offset_at, redraft_resource, redraft_source, redraft_task, redraft_path, redraft}
 use Rattle.cpa_model.proofs.RedraftNames.{place_of-resource, kind_of-redraft, activators-back, task-back}
 use Rattle.cpa_model.proofs.RedraftUnrefused.{redraft-unrefused}
 
@@ -34,9 +36,20 @@ kind-back (kind.Can bit) = refl
 resource-back : (r : Resource) → built_resource (redraft_resource r) ≡ r
 resource-back r = rw (kind-back r.kind) refl
 
+-- an offset comes back
+offset-back : (ticks : ℕ) → nat_or 0 (offset_at ticks) ≡ ticks
+offset-back ticks = elim (cases_eq ticks 0) [
+  | inl is ↦ rw (eq-eqb ticks 0 is) (sym is)
+  | inr isn't ↦ rw (ne_eqb ticks 0 isn't) refl
+]
+
+on_clock-back : (on : Option OnClock) → built_on_clock (clock_name on) (offset_at (offset_on on)) ≡ on
+on_clock-back None = refl
+on_clock-back (Some o) = rw (offset-back o.offset) refl
+
 -- and a source
 source-back : (r : Source) → built_source (redraft_source r) ≡ r
-source-back r = refl
+source-back r = rw (on_clock-back r.on_clock) refl
 
 -- a turn comes back where it fits the kind
 turn-back : (s : SystemLists) (t : Task) (k : Kind) (u : Turn) → t.turn ≡ u → TurnFits k u → built_turn (by_priority (Some (word_of k))) (redraft_task s t) ≡ u

@@ -1,12 +1,14 @@
 -- The numbers of the redraft of a system are in their ranges, and they fit the kinds.
-use Rattle.std.proofs.Common.{◌≡◌, ℕ, pos, ◌≤◌, true, false, not, ◌&&◌, Option, Some, None, is_some, option_map, refl, inl, inr, arith}
+use Rattle.std.proofs.Common.{◌≡◌, ℕ, pos, ◌-◌, ◌<◌, ◌≤◌, true, false, not, ◌&&◌, Option, Some, None, is_some, option_map, refl, inl, inr, arith}
 use Rattle.std.specs.Option.{ForSome}
 use Rattle.std.proofs.lemmas.Bool.{and_from, or_from, cases_eq, eq-eqb, ne_eqb, le-leb, le-ltb}
 use Rattle.std.proofs.Math.Bool.{and-false}
 use Rattle.cpa_draft.specs.Numbers.{is_within, may_be_within}
-use Rattle.cpa_draft.specs.Refusals.{resource_fits, source_fits, task_fits, path_fits, by_priority, is_preemptive, turn_misfits, task_misfits, resource_misfits, is_crossed}
+use Rattle.cpa_draft.specs.Refusals.{resource_fits, source_fits, clock_fits, offset_fits, task_fits, path_fits, by_priority, is_preemptive, turn_misfits, task_misfits, resource_misfits, is_crossed}
 use Rattle.cpa_model.specs.declared.entries.Resource.{Resource}
 use Rattle.cpa_model.specs.declared.entries.Source.{Source}
+use Rattle.cpa_model.specs.declared.entries.OnClock.{OnClock}
+use Rattle.cpa_model.specs.Clocks.{clock_name, offset_on}
 use Rattle.cpa_model.specs.declared.entries.Task.{Task}
 use Rattle.cpa_model.specs.declared.entries.Path.{Path}
 use Rattle.cpa_model.specs.declared.entries.Kind.{Kind}
@@ -19,7 +21,7 @@ use Rattle.cpa_units.specs.Sizes.{most_execution, most_region, most_gap, most_li
 use Rattle.cpa_model.specs.SystemLists.{SystemLists, resource_at, gap_of, slot_of}
 use Rattle.cpa_model.specs.Rules.{IsSizedResource, IsSizedSource, IsSizedTask, IsResource, IsSource, IsTask, IsPath, KindFits, TurnFits, RegionFits}
 use Rattle.cpa_model.proofs.SystemLaws.{region-range}
-use Rattle.cpa_model.specs.Redraft.{word_of, gap_at, bit_at, priority_at, slot_at, region_at, redraft_resource, redraft_source, redraft_task, redraft_path}
+use Rattle.cpa_model.specs.Redraft.{word_of, gap_at, bit_at, priority_at, slot_at, region_at, offset_at, redraft_resource, redraft_source, redraft_task, redraft_path}
 
 -- a number in its range
 number-within : (least most n : ℕ) → least ≤ n → n ≤ most → is_within least most (pos n) ≡ true
@@ -46,14 +48,33 @@ resource-fits z r fits small =
     (and_from _ _ (number-within 1 (most_limit z) r.limit fits.some_limit small.0) (gap-within z r.kind small.1))
     (bit-within r.kind fits.kind_fits)
 
+-- the offset that a source has
+offset-written : (most ticks : ℕ) → ticks ≤ most → may_be_within 0 most (offset_at ticks) ≡ true
+offset-written most ticks few = elim (cases_eq ticks 0) [
+  | inl is ↦ rw (eq-eqb ticks 0 is) refl
+  | inr isn't ↦ rw (ne_eqb ticks 0 isn't) (number-within 0 most ticks (omega arith) few)
+]
+
+offset-within : (on : Option OnClock) (period : ℕ) → ForSome on (λ o. o.offset < period) → offset_fits (is_some (clock_name on)) (pos period) (offset_at (offset_on on)) ≡ true
+offset-within None period less = refl
+offset-within (Some o) period less = let below : o.offset < period = less o refl in offset-written (period - 1) o.offset (omega arith)
+
+clocked-within : (z : Size) (on : Option OnClock) → clock_fits z (is_some on) ≡ true → clock_fits z (is_some (clock_name on)) ≡ true
+clocked-within z None fits = fits
+clocked-within z (Some o) fits = fits
+
 -- the numbers of a source
 pub source-fits : (z : Size) (r : Source) → IsSource r → IsSizedSource z r → source_fits z (redraft_source r) ≡ true
 source-fits z r fits sized =
     and_from _ _
     (and_from _ _
+    (and_from _ _
+    (and_from _ _
     (and_from _ _ (number-within 1 1000000000 r.period fits.some_period fits.period) (number-within 0 1000000000 r.jitter (omega arith) fits.jitter))
     (number-within 0 r.period r.distance (omega arith) fits.distance))
-    sized
+    sized.0)
+    (clocked-within z r.on_clock sized.1))
+    (offset-within r.on_clock r.period fits.offset)
 
 -- the priority that a turn may have
 priority-within : (k : Kind) (u : Turn) → TurnFits k u → may_be_within 0 536870911 (priority_at u) ≡ true

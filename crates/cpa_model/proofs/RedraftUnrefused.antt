@@ -11,7 +11,7 @@ use Rattle.cpa_units.specs.declared.places.TaskId.{TaskId}
 use Rattle.cpa_draft.specs.First.{first_place, first_known}
 use Rattle.cpa_draft.specs.Names.{source_names, resource_names, place_of, kind_of, link_of, links_of, is_nothing, is_task, is_after}
 use Rattle.cpa_draft.specs.DraftLists.{task_at as draft_task_at, no_task as no_draft_task}
-use Rattle.cpa_draft.specs.Refusals.{resource_fits, source_fits, task_fits, path_fits, resource_misfits, task_misfits, is_crossed, is_linked, is_misfed, has_double}
+use Rattle.cpa_draft.specs.Refusals.{has_clock_name, resource_fits, source_fits, task_fits, path_fits, resource_misfits, task_misfits, is_crossed, is_linked, is_misfed, has_double}
 use Rattle.cpa_draft.specs.Chains.{stream_count_within}
 use Rattle.cpa_draft.proofs.FirstLemmas.{all_unmarked}
 use Rattle.cpa_draft.proofs.Maps.{list_any-map}
@@ -33,6 +33,7 @@ use Rattle.cpa_model.specs.Rules.{IsSystem, IsTask, IsPath}
 use Rattle.cpa_model.specs.Redraft.{redraft_resource, redraft_source, redraft_task, redraft_path, redraft}
 use Rattle.cpa_model.proofs.ActivatorLaws.{task-one}
 use Rattle.cpa_model.proofs.BuiltLaws.{link_from, any-more, streams-same}
+use Rattle.cpa_model.proofs.DraftClocks.{redraft-clocks}
 use Rattle.cpa_model.proofs.RedraftNames.{place_of-resource, link_of-task, link_of-activator, links_of-redraft, names-differ, tasks-redraft, task_at-redraft, kind_of-redraft}
 use Rattle.cpa_model.proofs.RedraftNumbers.{resource-fits, source-fits, task-fits, path-fits, resource-suits, task-suits, task-ordered}
 use Rattle.cpa_model.proofs.RedraftRanks.{ranks-own}
@@ -167,6 +168,7 @@ redraft-unrefused s rules = record {
   paths_fit = all-map (λ p. path_fits s.size p ≡ true) (redraft_path s) s.paths (λ k p less. path-fits s.size s (get_or s.paths k p) (rules.paths k p less));
   resources_named = all-map (λ (r : DraftResource). is_name r.name ≡ true) redraft_resource s.resources rules.resources_named;
   sources_named = all-map (λ (r : DraftSource). is_name r.name ≡ true) redraft_source s.sources rules.sources_named;
+  clocks_named = all-map (λ (r : DraftSource). has_clock_name r.clock ≡ true) redraft_source s.sources rules.clocks_named;
   tasks_named = all-map (λ (t : DraftTask). is_name t.name ≡ true) (redraft_task s) s.tasks rules.tasks_named;
   paths_named = all-map (λ (p : DraftPath). is_name p.name ≡ true) (redraft_path s) s.paths rules.paths_named;
   new_resources = entries-new (λ (r : DraftResource). r.name) redraft_resource [] s.resources rules.resource_names;
@@ -191,4 +193,5 @@ redraft-unrefused s rules = record {
   few_tasks = rw (length-map s.tasks (redraft_task s)) rules.sized.tasks;
   few_paths = rw (length-map s.paths (redraft_path s)) rules.sized.paths;
   fed = all-fed s rules;
+  short_clocks = redraft-clocks s rules;
 }

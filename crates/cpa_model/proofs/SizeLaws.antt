@@ -1,5 +1,5 @@
 -- What a size allows is within the limits of all systems, and the tests of a draft's numbers say so of its system.
-use Rattle.std.proofs.Common.{◌≡◌, ℕ, ℤ, pos, negsuc, ◌*◌, ◌≤◌, Bool, true, false, ◌&&◌, Option, Some, None, unwrap_or, refl, arith}
+use Rattle.std.proofs.Common.{◌≡◌, ℕ, ℤ, pos, negsuc, ◌*◌, ◌≤◌, Bool, true, false, ◌&&◌, List, Option, Some, None, is_some, unwrap_or, refl, ap, ◌∙◌, arith}
 use Rattle.std.proofs.Math.Nat.{le_trans, mul-le-mul_right}
 use Rattle.std.proofs.lemmas.Bool.{and_parts, and_from, false≢true, leb-true, le-leb}
 use Rattle.cpa_units.specs.declared.limits.Size.{Size}
@@ -7,7 +7,7 @@ use Rattle.cpa_units.specs.declared.limits.Size.TheVariants.{Small, Large}
 use Rattle.cpa_units.specs.Sizes.{most_resources, most_sources, most_tasks, most_paths, most_execution, most_region, most_gap, most_limit}
 use Rattle.cpa_units.specs.Frames.{greatest_frame_bits}
 use Rattle.cpa_draft.specs.Numbers.{nat_of, nat_or, is_within, may_be_within}
-use Rattle.cpa_draft.specs.Refusals.{resource_fits, source_fits, task_fits}
+use Rattle.cpa_draft.specs.Refusals.{resource_fits, source_fits, task_fits, clock_fits}
 use Rattle.cpa_draft.specs.declared.draft.DraftResource.{DraftResource}
 use Rattle.cpa_draft.specs.declared.draft.DraftSource.{DraftSource}
 use Rattle.cpa_draft.specs.declared.draft.DraftTask.{DraftTask}
@@ -15,7 +15,7 @@ use Rattle.cpa_draft.specs.declared.draft.KindWord.{KindWord}
 use Rattle.cpa_draft.specs.declared.draft.KindWord.TheVariants as word
 use Rattle.cpa_model.specs.SystemLists.{gap_of, slot_of}
 use Rattle.cpa_model.specs.Rules.{IsSizedResource, IsSizedSource}
-use Rattle.cpa_model.specs.Built.{built_kind, built_resource, built_source, built_turn, greatest_execution}
+use Rattle.cpa_model.specs.Built.{built_kind, built_resource, built_on_clock, built_source, built_turn, greatest_execution}
 use Rattle.cpa_model.proofs.EntryLaws.{may-range}
 
 pub resources-most : (z : Size) → most_resources z ≤ 128
@@ -99,8 +99,16 @@ resource-sized z r h =
       gap-sized z r.kind r.gap r.bit b.1,
     )
 
+built-clocked : (clock : Option (List ℕ)) (offset : Option ℤ) → is_some (built_on_clock clock offset) ≡ is_some clock
+built-clocked None offset = refl
+built-clocked (Some name) offset = refl
+
 pub source-sized : (z : Size) (r : DraftSource) → source_fits z r ≡ true → IsSizedSource z (built_source r)
-source-sized z r h = (and_parts _ _ h).1
+source-sized z r h =
+    let f = and_parts _ _ h in
+    let c = and_parts _ _ f.0 in
+    let s = and_parts _ _ c.0 in
+    (s.1, ap (clock_fits z) (built-clocked r.clock r.offset) ∙ c.1)
 
 frame-most : (s : ℕ) (extended : Bool) → s ≤ 8 → greatest_frame_bits s extended ≤ 160
 frame-most s true h = omega arith

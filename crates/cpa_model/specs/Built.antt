@@ -16,6 +16,7 @@ use Rattle.cpa_draft.specs.declared.draft.KindWord.TheVariants as word
 use Rattle.cpa_model.specs.SystemLists.{SystemLists}
 use Rattle.cpa_model.specs.declared.entries.Resource.{Resource}
 use Rattle.cpa_model.specs.declared.entries.Source.{Source}
+use Rattle.cpa_model.specs.declared.entries.OnClock.{OnClock}
 use Rattle.cpa_model.specs.declared.entries.Task.{Task}
 use Rattle.cpa_model.specs.declared.entries.Path.{Path}
 use Rattle.cpa_model.specs.declared.entries.Kind.{Kind}
@@ -36,8 +37,11 @@ built_kind word.Can gap bit = kind.Can (nat_or 1 bit)
 abbrev pub built_resource : DraftResource → Resource
 built_resource r = record { name = r.name; kind = built_kind r.kind r.gap r.bit; limit = nat_or DEFAULT_LIMIT r.limit }
 
+abbrev pub built_on_clock : Option (List ℕ) → Option ℤ → Option OnClock
+built_on_clock clock offset = option_map (λ name. record { clock = name; offset = nat_or 0 offset }) clock
+
 abbrev pub built_source : DraftSource → Source
-built_source r = record { name = r.name; period = nat_of r.period; jitter = nat_or 0 r.jitter; distance = nat_or 0 r.distance; sporadic = r.sporadic }
+built_source r = record { name = r.name; period = nat_of r.period; jitter = nat_or 0 r.jitter; distance = nat_or 0 r.distance; sporadic = r.sporadic; on_clock = built_on_clock r.clock r.offset }
 
 -- the place of the resource with a name
 abbrev pub resource_place : DraftLists → List ℕ → ℕ

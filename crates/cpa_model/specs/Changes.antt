@@ -1,7 +1,8 @@
 -- What the changing calls make of a system's lists: each changes what it names, and nothing else.
-use Rattle.std.specs.Prelude.{ℕ, ◌-◌, nat_lt, if◌then◌else◌, ◌==◌, not, List, [], ◌∷◌, ◌++◌, map, filter, slice_set}
+use Rattle.std.specs.Prelude.{ℕ, ◌-◌, nat_lt, if◌then◌else◌, ◌==◌, not, List, [], ◌∷◌, ◌++◌, map, filter, slice_set, Option, option_map}
 use Rattle.std.specs.List.{remove}
 use Rattle.cpa_units.specs.declared.places.TaskId.{TaskId}
+use Rattle.cpa_model.specs.declared.entries.OnClock.{OnClock}
 use Rattle.cpa_model.specs.declared.entries.Task.{Task}
 use Rattle.cpa_model.specs.declared.entries.Path.{Path}
 use Rattle.cpa_model.specs.declared.entries.Turn.{Turn}
@@ -29,6 +30,13 @@ with_swapped s i j = with_turn (with_turn s i (task_at s j).turn) j (task_at s i
 unfoldable pub with_source : SystemLists → ℕ → ℕ → ℕ → ℕ → SystemLists
 with_source s k period jitter distance =
     record s { sources = slice_set s.sources k (record (source_at s k) { period = period; jitter = jitter; distance = distance }) }
+
+abbrev pub at_offset : ℕ → Option OnClock → Option OnClock
+at_offset offset on = option_map (λ (o : OnClock). record o { offset = offset }) on
+
+-- source k, which is on a clock, has this offset
+unfoldable pub with_offset : SystemLists → ℕ → ℕ → SystemLists
+with_offset s k offset = record s { sources = slice_set s.sources k (record (source_at s k) { on_clock = at_offset offset (source_at s k).on_clock }) }
 
 -- a task more, which is the last
 unfoldable pub with_task : SystemLists → Task → SystemLists

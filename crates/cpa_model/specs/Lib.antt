@@ -4,6 +4,7 @@ pub mod Kinds
 pub mod Rules
 pub mod SystemLists
 pub mod Redraft
+pub mod Clocks
 pub mod Changes
 pub mod ResourceTasks
 pub mod Streams

@@ -19,6 +19,7 @@ use Rattle.cpa_draft.specs.DraftLists.{DraftLists}
 use Rattle.cpa_draft.specs.Refusals.{first_refusal}
 use Rattle.cpa_model.specs.Built.{system_of}
 use Rattle.cpa_model.specs.Rules.{IsSystem}
+use Rattle.cpa_model.specs.Clocks.{clock_name, offset_on}
 use Rattle.cpa_model.specs.SystemLists.{SystemLists, resource_at, task_at, activator_name}
 
 abbrev pub word_of : Kind → KindWord
@@ -38,8 +39,12 @@ bit_at _ = None
 abbrev pub redraft_resource : Resource → DraftResource
 redraft_resource r = record { name = r.name; kind = word_of r.kind; limit = Some (pos r.limit); gap = gap_at r.kind; bit = bit_at r.kind }
 
+-- an offset that isn't the default
+abbrev pub offset_at : ℕ → Option ℤ
+offset_at ticks = if ticks == 0 then None else Some (pos ticks)
+
 abbrev pub redraft_source : Source → DraftSource
-redraft_source r = record { name = r.name; period = pos r.period; jitter = Some (pos r.jitter); distance = Some (pos r.distance); sporadic = r.sporadic }
+redraft_source r = record { name = r.name; period = pos r.period; jitter = Some (pos r.jitter); distance = Some (pos r.distance); sporadic = r.sporadic; clock = clock_name r.on_clock; offset = offset_at (offset_on r.on_clock) }
 
 abbrev pub priority_at : Turn → Option ℤ
 priority_at (Priority number) = Some (pos number)

@@ -1,5 +1,5 @@
 -- The rules that every system keeps.
-use Rattle.std.specs.Prelude.{◌≡◌, true, ◌≢◌, ℕ, ◌+◌, ◌≤◌, ◌<◌, List, ◌++◌, map, length, IsSome, slice_index_or, All}
+use Rattle.std.specs.Prelude.{◌≡◌, true, false, is_some, ◌≢◌, ℕ, ◌+◌, ◌≤◌, ◌<◌, List, ◌++◌, map, length, IsSome, slice_index_or, All}
 use Rattle.std.specs.List.{AllPairs}
 use Rattle.std.specs.Option.{ForSome}
 use Rattle.cpa_units.specs.declared.limits.TheConstants.{MAX_RESOURCES, MAX_SOURCES, MAX_TASKS, MAX_PATHS, MAX_PERIOD, MAX_JITTER, MAX_EXECUTION, MAX_GAP, MAX_BIT, MAX_LIMIT, MAX_PRIORITY, MAX_CHAIN}
@@ -7,7 +7,8 @@ use Rattle.cpa_units.specs.Name.{is_name}
 use Rattle.cpa_units.specs.declared.limits.Size.{Size}
 use Rattle.cpa_units.specs.Sizes.{most_resources, most_sources, most_tasks, most_paths, most_execution, most_region, most_gap, most_limit}
 use Rattle.cpa_units.specs.declared.places.TaskId.{TaskId}
-use Rattle.cpa_draft.specs.Refusals.{sporadic_fits}
+use Rattle.cpa_draft.specs.Refusals.{sporadic_fits, clock_fits, has_clock_name}
+use Rattle.cpa_draft.specs.Clocks.{is_too_long}
 use Rattle.cpa_model.specs.declared.entries.Resource.{Resource}
 use Rattle.cpa_model.specs.declared.entries.Source.{Source}
 use Rattle.cpa_model.specs.declared.entries.Task.{Task}
@@ -20,6 +21,7 @@ use Rattle.cpa_model.specs.declared.entries.Activator.{Activator}
 use Rattle.cpa_model.specs.declared.entries.Activator.TheVariants as activator
 use Rattle.cpa_model.specs.Chains.{depth_within, activators}
 use Rattle.cpa_model.specs.SystemLists.{SystemLists, resource_at, is_activated_by, streams_of, slot_of, gap_of}
+use Rattle.cpa_model.specs.Clocks.{clock_name, clock_periods}
 use Rattle.cpa_events.specs.declared.TheConstants.{MAX_STREAMS}
 
 -- the extra number of a kind is in its range
@@ -38,6 +40,7 @@ pub record IsSource (r : Source) : Type 0 where
   pub period : r.period ≤ MAX_PERIOD
   pub jitter : r.jitter ≤ MAX_JITTER
   pub distance : r.distance ≤ r.period
+  pub offset : ForSome r.on_clock (λ o. o.offset < r.period)
 
 -- an activator is in the lists
 abbrev pub IsActivator : SystemLists → Activator → Type 0
@@ -84,7 +87,11 @@ abbrev pub IsSizedResource : Size → Resource → Type 0
 IsSizedResource z r = (r.limit ≤ most_limit z) × (gap_of r.kind ≤ most_gap z)
 
 abbrev pub IsSizedSource : Size → Source → Type 0
-IsSizedSource z r = sporadic_fits z r.sporadic ≡ true
+IsSizedSource z r = (sporadic_fits z r.sporadic ≡ true) × (clock_fits z (is_some r.on_clock) ≡ true)
+
+-- the clock of a source has a short cycle, with few events
+abbrev pub HasShortClock : SystemLists → Source → Type 0
+HasShortClock s r = ForSome r.on_clock (λ o. is_too_long (clock_periods s o.clock) ≡ false)
 
 pub record IsSizedTask (z : Size) (t : Task) : Type 0 where
   pub worst : t.worst ≤ most_execution z
@@ -128,6 +135,8 @@ pub record IsSystem (s : SystemLists) : Type 0 where
   pub streams : (i : ℕ) → i < length s.tasks → length (streams_of s i) ≤ MAX_STREAMS
   pub resources_named : All (λ (r : Resource). is_name r.name ≡ true) s.resources
   pub sources_named : All (λ (r : Source). is_name r.name ≡ true) s.sources
+  pub clocks_named : All (λ (r : Source). has_clock_name (clock_name r.on_clock) ≡ true) s.sources
+  pub clocks : All (HasShortClock s) s.sources
   pub tasks_named : All (λ (t : Task). is_name t.name ≡ true) s.tasks
   pub paths_named : All (λ (p : Path). is_name p.name ≡ true) s.paths
   pub resource_names : AllDiffer (map (λ (r : Resource). r.name) s.resources)

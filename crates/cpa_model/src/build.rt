@@ -1,7 +1,7 @@
 //! From a draft to the system that it stands for.
 
 ghost use Rattle.std.specs.Prelude.{◌≡◌, ◌<◌, ◌≤◌, ◌^◌, All, map, length, option_map, unwrap_or, Some, None, true, false, not, IfOk, IfErr};
-ghost use Rattle.cpa_units.specs.declared.limits.TheConstants.{MAX_PAYLOAD, MAX_BIT, MAX_TASKS};
+ghost use Rattle.cpa_units.specs.declared.limits.TheConstants.{MAX_PAYLOAD, MAX_BIT};
 ghost use Rattle.cpa_units.specs.Name.{is_name};
 ghost use Rattle.cpa_draft.specs.declared.draft.DraftResource.{DraftResource};
 ghost use Rattle.cpa_draft.specs.declared.draft.DraftSource.{DraftSource};
@@ -10,18 +10,16 @@ ghost use Rattle.cpa_draft.specs.declared.draft.DraftPath.{DraftPath};
 ghost use Rattle.cpa_draft.specs.Numbers.{nat_of, nat_or};
 ghost use Rattle.cpa_draft.specs.Names.{AreTables, kind_of};
 ghost use Rattle.cpa_draft.specs.Validated.{Validates};
-ghost use Rattle.cpa_draft.specs.Refusals.{by_priority, first_refusal};
+ghost use Rattle.cpa_draft.specs.Refusals.{by_priority, has_clock_name, first_refusal};
 ghost use Rattle.cpa_draft.specs.declared.refusal.BuildFault.TheVariants.{Memory};
 ghost use Rattle.cpa_model.specs.declared.activators.TheConstants.{MAX_ACTIVATORS};
 ghost use Rattle.cpa_model.specs.declared.entries.Task.{Task};
-ghost use Rattle.cpa_model.specs.ResourceTasks.{AreTasksByResource};
-ghost use Rattle.cpa_model.specs.Built.{built_kind, built_resource, built_source, built_task, built_path, built_turn, built_activator, activity_place, task_named, least_execution, greatest_execution, has_executions, TaskFitsTypes, PathFitsTypes, system_of};
+ghost use Rattle.cpa_model.specs.Built.{built_kind, built_resource, built_on_clock, built_source, built_task, built_path, built_turn, built_activator, activity_place, task_named, least_execution, greatest_execution, has_executions, TaskFitsTypes, PathFitsTypes, system_of};
 ghost use Rattle.cpa_model.specs.Redraft.{OwnDraftsAreAccepted, OwnDraftsStand};
 
 use crate::activators::Activators;
-use crate::entries::{Activator, Kind, Path, Resource, Source, Task, TaskList, Turn};
+use crate::entries::{Activator, Kind, OnClock, Path, Resource, Source, Task, TaskList, Turn};
 use crate::system::System;
-use crate::task_lists::{ResourceTasks, gather};
 use cpa_draft::{
     BuildFault, Draft, DraftPath, DraftResource, DraftSource, DraftTask, KindWord, Raw, Tables,
     is_by_priority, natural, natural_or, validate,
@@ -69,8 +67,27 @@ fn build_resource(alloc: Global, draft: &DraftResource) -> Result<Resource, Buil
     })
 }
 
+fn build_on_clock(
+    alloc: Global,
+    clock: &Option<Raw>,
+    offset: Option<i64>,
+) -> Result<Option<OnClock>, BuildFault>
+    requires { has_clock_name clock.now ≡ true }
+    ensures ok { IfOk result (λ on. on ≡ built_on_clock clock.now offset) }
+    ensures err { IfErr result (λ e. e ≡ Memory) }
+{
+    match clock {
+        None => Ok(None),
+        Some(name) => Ok(Some(OnClock {
+            clock: build_name(alloc, name)?,
+            offset: natural_or(0, offset),
+        })),
+    }
+}
+
 fn build_source(alloc: Global, draft: &DraftSource) -> Result<Source, BuildFault>
-    requires { is_name draft.now.name ≡ true }
+    requires name { is_name draft.now.name ≡ true }
+    requires clock { has_clock_name draft.now.clock ≡ true }
     ensures ok { IfOk result (λ r. r ≡ built_source draft.now) }
     ensures err { IfErr result (λ e. e ≡ Memory) }
 {
@@ -80,6 +97,7 @@ fn build_source(alloc: Global, draft: &DraftSource) -> Result<Source, BuildFault
         jitter: natural_or(0, draft.jitter),
         distance: natural_or(0, draft.distance),
         sporadic: draft.sporadic,
+        on_clock: build_on_clock(alloc, &draft.clock, draft.offset)?,
     })
 }
 
@@ -243,7 +261,8 @@ fn build_resources(alloc: Global, drafts: &[DraftResource]) -> Result<Vec<Resour
 }
 
 fn build_sources(alloc: Global, drafts: &[DraftSource]) -> Result<Vec<Source>, BuildFault>
-    requires { All (λ (r : DraftSource). is_name r.name ≡ true) drafts.now }
+    requires named { All (λ (r : DraftSource). is_name r.name ≡ true) drafts.now }
+    requires clocks { All (λ (r : DraftSource). has_clock_name r.clock ≡ true) drafts.now }
     ensures ok { IfOk result (λ v. v.items ≡ map built_source drafts.now) }
     ensures err { IfErr result (λ e. e ≡ Memory) }
 {
@@ -292,23 +311,6 @@ fn build_paths(
     Ok(built)
 }
 
-/// The tasks of each resource.
-fn build_task_lists(
-    alloc: Global,
-    resources: &[Resource],
-    tasks: &[Task],
-) -> Result<Vec<ResourceTasks>, BuildFault>
-    requires few { length tasks.now ≤ MAX_TASKS }
-    requires placed { All (λ (t : Task). t.res.0 < length resources.now) tasks.now }
-    ensures ok { IfOk result (λ v. AreTasksByResource (length resources.now) tasks.now (length tasks.now) v.items) }
-    ensures err { IfErr result (λ e. e ≡ Memory) }
-{
-    match gather(alloc, resources, tasks) {
-        Ok(task_lists) => Ok(task_lists),
-        Err(NoMemory) => Err(BuildFault::Memory),
-    }
-}
-
 /// The system of a draft that isn't refused.
 fn build_validated(alloc: Global, draft: &Draft, tables: &Tables) -> Result<System, BuildFault>
     requires tables { AreTables draft.now tables.now.resources tables.now.activities }
@@ -321,19 +323,14 @@ fn build_validated(alloc: Global, draft: &Draft, tables: &Tables) -> Result<Syst
     let sources = build_sources(alloc, draft.source_entries())?;
     let tasks = build_tasks(alloc, draft, tables, draft.task_entries())?;
     let paths = build_paths(alloc, draft, tables, draft.path_entries())?;
-    let task_lists = build_task_lists(alloc, resources.as_slice(), tasks.as_slice())?;
-    Ok(System {
-        size: draft.size(),
-        resources,
-        sources,
-        tasks,
-        paths,
-        task_lists,
-    })
+    match System::of_lists(alloc, draft.size(), resources, sources, tasks, paths) {
+        Ok(system) => Ok(system),
+        Err(NoMemory) => Err(BuildFault::Memory),
+    }
 }
 
 impl System {
-    /// The system that a draft stands for. It is refused exactly where one of reasons 2 to 12 and 14 applies, with
+    /// The system that a draft stands for. It is refused exactly where one of reasons 2 to 12, 14 and 15 applies, with
     /// the first of them and its first place.
     pub fn build(alloc: Global, draft: Draft) -> Result<System, BuildFault>
         requires executions { All (λ t. has_executions t ≡ true) draft.tasks }

@@ -2,9 +2,10 @@
 
 ghost use Rattle.std.specs.Prelude.{◌≡◌, ◌<◌, length, map, IfOk, OnErr};
 ghost use Rattle.cpa_model.specs.Rules.{IsSystem};
-ghost use Rattle.cpa_model.specs.Changes.{with_exec, with_turn, with_swapped, with_source, with_task, without_task, id_without, activator_without, task_without, path_without};
+ghost use Rattle.cpa_model.specs.Changes.{with_exec, with_turn, with_swapped, with_source, with_offset, at_offset, with_task, without_task, id_without, activator_without, task_without, path_without};
 
-use crate::entries::{Activator, Path, Resource, Source, Task, TaskList, Turn};
+use crate::clocks::{renew_clock, set_kept_offset};
+use crate::entries::{Activator, OnClock, Path, Resource, Source, Task, TaskList, Turn};
 use crate::system::System;
 use crate::task_lists::{copy_task_lists, list_task, take_out};
 use cpa_units::{Name, NoMemory, SourceId, TaskId};
@@ -20,6 +21,18 @@ fn copy_resource(alloc: Global, resource: &Resource) -> Result<Resource, NoMemor
     })
 }
 
+fn copy_on_clock(alloc: Global, on: &Option<OnClock>) -> Result<Option<OnClock>, NoMemory>
+    ensures { IfOk result (λ copy. copy ≡ on.now) }
+{
+    match on {
+        None => Ok(None),
+        Some(on) => Ok(Some(OnClock {
+            clock: on.clock.copy(alloc)?,
+            offset: on.offset,
+        })),
+    }
+}
+
 fn copy_source(alloc: Global, source: &Source) -> Result<Source, NoMemory>
     ensures { IfOk result (λ copy. copy ≡ source.now) }
 {
@@ -29,6 +42,7 @@ fn copy_source(alloc: Global, source: &Source) -> Result<Source, NoMemory>
         jitter: source.jitter,
         distance: source.distance,
         sporadic: source.sporadic,
+        on_clock: copy_on_clock(alloc, &source.on_clock)?,
     })
 }
 
@@ -135,6 +149,15 @@ fn close_up_paths(paths: &mut [Path], removed: TaskId)
     }
 }
 
+/// A source that is on a clock has this offset there.
+fn move_on_clock(source: &mut Source, offset: u64)
+    ensures { source.new ≡ record source.old { on_clock = at_offset offset source.old.on_clock } }
+{
+    if let Some(on) = &mut source.on_clock {
+        on.offset = offset;
+    }
+}
+
 impl System {
     /// An equal system.
     pub fn copy(&self, alloc: Global) -> Result<System, NoMemory>
@@ -145,6 +168,7 @@ impl System {
         let tasks = copy_tasks(alloc, self.tasks.as_slice())?;
         let paths = copy_paths(alloc, self.paths.as_slice())?;
         let task_lists = copy_task_lists(alloc, self.task_lists.as_slice())?;
+        let clocks = Vec::from_slice(alloc, self.clocks.as_slice())?;
         Ok(System {
             size: self.size,
             resources,
@@ -152,6 +176,7 @@ impl System {
             tasks,
             paths,
             task_lists,
+            clocks,
         })
     }
 
@@ -201,6 +226,21 @@ impl System {
         entry.period = period;
         entry.jitter = jitter;
         entry.distance = distance;
+        renew_clock(
+            self.clocks.as_mut_slice(),
+            self.sources.as_slice(),
+            source.0 as usize,
+        );
+    }
+
+    /// Sets the offset of a source that is on a clock. The system keeps its rules with it.
+    pub fn set_offset(&mut self, source: SourceId, offset: u64)
+        requires there { source.0 < length self.old.sources }
+        requires rules { IsSystem (with_offset self.old source.0 offset) }
+        ensures { self.new ≡ with_offset self.old source.0 offset }
+    {
+        move_on_clock(&mut self.sources[source.0 as usize], offset);
+        set_kept_offset(self.clocks.as_mut_slice(), source.0 as usize, offset);
     }
 
     /// Adds a task as the last. The system keeps its rules with it.

@@ -50,6 +50,18 @@ pub struct Source {
     pub distance: u64,
     /// Whether it may fall silent. The bounds of tasks and paths are the same; those of effect chains don't hold then.
     pub sporadic: bool,
+    /// Where it is on a clock, if it is on one.
+    pub on_clock: Option<OnClock>,
+}
+
+/// Where a source is on a clock. Its event number n comes from `offset + n * period` after the clock's start to that and its
+/// jitter, and none is left out: static offsets of Tindell (1994).
+#[derive(Debug, Drop)]
+pub struct OnClock {
+    /// The name that all sources on the clock have in common.
+    pub clock: Name,
+    /// 0 to the period - 1.
+    pub offset: u64,
 }
 
 impl Source {

@@ -7,6 +7,7 @@ pub mod activators;
 pub mod build;
 mod chains;
 mod changes;
+pub mod clocks;
 pub mod entries;
 mod kinds;
 pub mod system;
@@ -14,9 +15,10 @@ mod task_lists;
 
 pub use activators::{Activators, MAX_ACTIVATORS};
 pub use build::own_drafts_have_laws;
+pub use clocks::Ticking;
 pub use cpa_draft::{
     BuildFault, Draft, DraftPath, DraftResource, DraftSource, DraftTask, KindWord, Part, Raw,
     RawList, Refusal,
 };
-pub use entries::{Activator, Kind, Path, Resource, Source, Task, TaskList, Turn};
+pub use entries::{Activator, Kind, OnClock, Path, Resource, Source, Task, TaskList, Turn};
 pub use system::System;

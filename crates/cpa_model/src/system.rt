@@ -5,6 +5,7 @@ ghost use Rattle.cpa_units.specs.declared.places.TaskId.{TaskId};
 ghost use Rattle.cpa_events.specs.declared.TheConstants.{MAX_STREAMS};
 
 use crate::chains::{chain_depth, chain_stream, chain_streams};
+use crate::clocks::{Ticking, gather_clocks};
 use crate::entries::{Path, Resource, Source, Task, first_with_name, gap_of};
 use crate::task_lists::{ResourceTasks, gather};
 use cpa_units::limits::{MAX_CHAIN, Size};
@@ -12,7 +13,7 @@ use cpa_units::{NoMemory, PathId, ResId, SourceId, TaskId};
 use std::alloc::Global;
 use std::marker::Model;
 
-/// A system, which keeps its rules. Beside its lists it knows the tasks of each resource.
+/// A system, which keeps its rules. Beside its lists it knows the tasks of each resource, and where sources are on clocks.
 #[derive(Debug, Drop)]
 pub struct System {
     pub(crate) size: Size,
@@ -21,6 +22,7 @@ pub struct System {
     pub(crate) tasks: Vec<Task>,
     pub(crate) paths: Vec<Path>,
     pub(crate) task_lists: Vec<ResourceTasks>,
+    pub(crate) clocks: Vec<Option<Ticking>>,
 }
 
 impl Model for System {
@@ -28,12 +30,14 @@ impl Model for System {
     ghost use Rattle.std.specs.Prelude.{length};
     ghost use Rattle.cpa_model.specs.Rules.{IsSystem};
     ghost use Rattle.cpa_model.specs.ResourceTasks.{AreTasksByResource};
+    ghost use Rattle.std.specs.Prelude.{◌≡◌};
+    ghost use Rattle.cpa_model.specs.Clocks.{of_sources, kept_clocks};
 
     ghost Value = { SystemLists };
 
     ghost view = { λ s. record { size = s.size; resources = s.resources.items; sources = s.sources.items; tasks = s.tasks.items; paths = s.paths.items } };
 
-    ghost invariant = { λ s. IsSystem (record { size = s.size; resources = s.resources.items; sources = s.sources.items; tasks = s.tasks.items; paths = s.paths.items }) × AreTasksByResource (length s.resources.items) s.tasks.items (length s.tasks.items) s.task_lists.items };
+    ghost invariant = { λ s. IsSystem (record { size = s.size; resources = s.resources.items; sources = s.sources.items; tasks = s.tasks.items; paths = s.paths.items }) × AreTasksByResource (length s.resources.items) s.tasks.items (length s.tasks.items) s.task_lists.items × (s.clocks.items ≡ kept_clocks (of_sources s.sources.items)) };
 }
 
 /// What threads may be handed and may share.
@@ -41,6 +45,7 @@ fn crosses_threads<T: Send + Sync>(_value: &T) {}
 
 impl System {
     ghost use Rattle.cpa_model.specs.SystemLists.{resource_at, source_at, task_at, path_at, is_higher, is_other, places_of, tasks_on, resource_named, source_named, task_named, root_of, stream_at, streams_of, depth_of, cycle_of};
+    ghost use Rattle.cpa_model.specs.Clocks.{ticking_of, has_clocks};
     ghost use Rattle.cpa_model.specs.Rules.{IsSystem, IsResource, IsSource, IsTask, IsPath};
 
     /// A system keeps its rules, and it can be handed to other threads and shared by them. The call does nothing.
@@ -64,6 +69,7 @@ impl System {
         ensures { IfOk result (λ s. s ≡ record { size = size; resources = resources.items; sources = sources.items; tasks = tasks.items; paths = paths.items }) }
     {
         let task_lists = gather(alloc, resources.as_slice(), tasks.as_slice())?;
+        let clocks = gather_clocks(alloc, sources.as_slice())?;
         Ok(System {
             size,
             resources,
@@ -71,6 +77,7 @@ impl System {
             tasks,
             paths,
             task_lists,
+            clocks,
         })
     }
 
@@ -127,6 +134,26 @@ impl System {
         ensures rules { IsSource result.now }
     {
         &self.sources[source.0 as usize]
+    }
+
+    /// Where a source is on a clock, if it is on one.
+    pub fn ticking(&self, source: SourceId) -> Option<Ticking>
+        requires { source.0 < length self.now.sources }
+        ensures { result ≡ ticking_of self.now source.0 }
+    {
+        if self.clocks.is_empty() {
+            None
+        } else {
+            self.clocks[source.0 as usize]
+        }
+    }
+
+    /// Whether some source is on a clock.
+    pub fn has_clocks(&self) -> bool
+        ensures value { result ≡ has_clocks self.now }
+        ensures rules { IsSystem self.now }
+    {
+        !self.clocks.is_empty()
     }
 
     pub fn task(&self, task: TaskId) -> &Task

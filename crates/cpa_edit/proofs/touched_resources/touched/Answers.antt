@@ -1,6 +1,6 @@
 use Rattle.std.proofs.Common.{refl}
 use Rattle.cpa_edit.specs.Edited.{touches}
-use Rattle.cpa_edit.proofs.AllowedLaws.{named-exec, named-priority, named-swap, named-slot, named-source, named-add, named-remove}
+use Rattle.cpa_edit.proofs.AllowedLaws.{named-exec, named-priority, named-swap, named-slot, named-source, named-offset, named-add, named-remove}
 use Rattle.cpa_edit.proofs.touched_resources.touched.Goals as goal
 
 pub resource_of_task-requires : goal.resource_of_task-requires
@@ -20,6 +20,9 @@ resource_of_task-requires-in-Slot c = named-slot _ _ _ (rw c.in-Slot.is at c.req
 
 pub source_named-requires : goal.source_named-requires
 source_named-requires c = named-source _ _ _ _ _ (rw c.in-Source.is at c.requires)
+
+pub source_named-requires-in-Offset : goal.source_named-requires-in-Offset
+source_named-requires-in-Offset c = named-offset _ _ _ (rw c.in-Offset.is at c.requires)
 
 pub resource_named-requires : goal.resource_named-requires
 resource_named-requires c = named-add _ _ _ _ _ _ _ (rw c.in-Add.is at c.requires)
@@ -46,6 +49,10 @@ returns-in-Slot c = λ r. rw (c.in-Slot.is, c.only-in-Slot.ensures r, c.resource
 pub returns-in-Source : goal.returns-in-Source
 unfolding touches
 returns-in-Source c = λ r. rw (c.in-Source.is, c.fed_by.ensures r, c.source_named.ensures.value) refl
+
+pub returns-in-Offset : goal.returns-in-Offset
+unfolding touches
+returns-in-Offset c = λ r. rw (c.in-Offset.is, c.fed_by-in-Offset.ensures r, c.source_named-in-Offset.ensures.value) refl
 
 pub returns-in-Add : goal.returns-in-Add
 unfolding touches

@@ -7,8 +7,11 @@ use Rattle.cpa_model.proofs.build.build_validated.Goals as goal
 pub build_resources-requires : goal.build_resources-requires
 build_resources-requires c = rw (c.resource_entries.ensures) (unrefused c.args.draft.now c.requires.refusal).resources_named
 
-pub build_sources-requires : goal.build_sources-requires
-build_sources-requires c = rw (c.source_entries.ensures) (unrefused c.args.draft.now c.requires.refusal).sources_named
+pub build_sources-requires-clause-named : goal.build_sources-requires-clause-named
+build_sources-requires-clause-named c = rw (c.source_entries.ensures) (unrefused c.args.draft.now c.requires.refusal).sources_named
+
+pub build_sources-requires-clause-clocks : goal.build_sources-requires-clause-clocks
+build_sources-requires-clause-clocks c = rw (c.source_entries.ensures) (unrefused c.args.draft.now c.requires.refusal).clocks_named
 
 pub build_tasks-requires-clause-named : goal.build_tasks-requires-clause-named
 build_tasks-requires-clause-named c = rw (c.task_entries.ensures) (unrefused c.args.draft.now c.requires.refusal).tasks_named
@@ -23,48 +26,27 @@ pub build_paths-requires-clause-fits : goal.build_paths-requires-clause-fits
 build_paths-requires-clause-fits c =
     rw (c.path_entries.ensures) (paths-fit-types c.args.draft.now (unrefused c.args.draft.now c.requires.refusal) c.requires.executions)
 
-pub build_task_lists-requires-clause-few : goal.build_task_lists-requires-clause-few
+pub of_lists-requires : goal.of_lists-requires
 unfolding system_of
-build_task_lists-requires-clause-few c =
-    rw (c.as_slice-2.ensures.value, c.in_ok-tasks.ensures.ok, c.task_entries.ensures)
-    (system-kept c.args.draft.now (unrefused c.args.draft.now c.requires.refusal) c.requires.executions).few_tasks
-
-pub build_task_lists-requires-clause-placed : goal.build_task_lists-requires-clause-placed
-unfolding system_of
-build_task_lists-requires-clause-placed c =
-    let kept = system-kept c.args.draft.now (unrefused c.args.draft.now c.requires.refusal) c.requires.executions in
+of_lists-requires c =
     rw (
-      c.as_slice.ensures.value,
-      c.as_slice-2.ensures.value,
       c.in_ok-resources.ensures.ok,
+      c.in_ok-sources.ensures.ok,
       c.in_ok-tasks.ensures.ok,
+      c.in_ok-paths.ensures.ok,
       c.resource_entries.ensures,
+      c.source_entries.ensures,
       c.task_entries.ensures,
+      c.path_entries.ensures,
+      c.size.ensures,
     )
-    (λ i d h. (kept.tasks i d h).placed)
+    (system-kept c.args.draft.now (unrefused c.args.draft.now c.requires.refusal) c.requires.executions)
 
-pub invariant_of-result : goal.invariant_of-result
+pub returns-in-Ok-clause-ok : goal.returns-in-Ok-clause-ok
 unfolding system_of
-invariant_of-result c = (
-  rw (
-    c.in_ok-resources.ensures.ok,
-    c.in_ok-sources.ensures.ok,
-    c.in_ok-tasks.ensures.ok,
-    c.in_ok-paths.ensures.ok,
-    c.resource_entries.ensures,
-    c.source_entries.ensures,
-    c.task_entries.ensures,
-    c.path_entries.ensures,
-    c.size.ensures,
-  )
-      (system-kept c.args.draft.now (unrefused c.args.draft.now c.requires.refusal) c.requires.executions),
-  rw (c.as_slice.ensures.value, c.as_slice-2.ensures.value) at c.in_ok-task_lists.ensures.ok,
-)
-
-pub returns-clause-ok : goal.returns-clause-ok
-unfolding system_of
-returns-clause-ok c =
+returns-in-Ok-clause-ok c =
     rw (
+      c.in-Ok.ensures,
       c.in_ok-resources.ensures.ok,
       c.in_ok-sources.ensures.ok,
       c.in_ok-tasks.ensures.ok,

@@ -17,6 +17,7 @@ invariant_of-self-2 c =
     let tasks = c.in_ok-push.ensures.items ∙ ap (λ ts. ts ++ c.args.task ∷ []) c.in_ok-reserve.ensures.items in (
       rw tasks (rw (← c.self.view_is) at c.requires.rules),
       task_lists-by _ _ _ _ _ tasks c.in_ok-list_task.ensures.ok (task_lists-push _ c.self.inside.tasks.items c.args.task _ c.self.inside.task_lists.items (omega arith) less c.self.invariant.1),
+      c.self.invariant.2,
     )
 
 pub returns-clause-ok : goal.returns-clause-ok

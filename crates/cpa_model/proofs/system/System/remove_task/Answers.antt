@@ -22,6 +22,7 @@ invariant_of-self c =
     let there = rw (← c.self.view_is) at c.requires.there in (
       system-same _ _ (lists-same _ _ _ _ _ _ _ tasks paths) rules,
       task_lists-by _ _ _ _ _ tasks task_lists (task_lists-without _ c.self.inside.tasks.items c.args.task.0 c.self.inside.task_lists.items there c.self.invariant.1),
+      c.self.invariant.2,
     )
 
 pub returns : goal.returns

@@ -9,6 +9,7 @@ invariant_of-self c =
     let there = rw (← c.self.view_is) at c.requires.there in (
       system-same _ _ (turn-written _ c.args.task.0 c.args.turn c.index_mut-entry.result.now (rw (← c.self.view_is) at c.requires.there) c.index_mut-entry.ensures.value) rules,
       task_lists-written _ _ c.args.task.0 c.index_mut-entry.result.now _ _ there c.index_mut-entry.ensures.value refl c.self.invariant.1,
+      c.self.invariant.2,
     )
 
 pub returns : goal.returns

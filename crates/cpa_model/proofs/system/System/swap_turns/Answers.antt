@@ -15,6 +15,7 @@ invariant_of-self c =
           (rw (← c.self.view_is) at c.requires.first) (rw (← c.self.view_is) at c.requires.second) c.index.ensures c.index-2.ensures c.index_mut-entry.ensures.value c.index_mut-other.ensures.value)
           rules,
       task_lists-written _ _ c.args.second.0 c.index_mut-other.result.now _ _ (rw (length-set c.self.inside.tasks.items c.args.first.0 (record c.index_mut-entry.result.now { turn = c.index-2.result.now.turn })) there) c.index_mut-other.ensures.value refl once,
+      c.self.invariant.2,
     )
 
 pub returns : goal.returns
