@@ -8,10 +8,9 @@ use Rattle.cpa_units.specs.Bounds.{IsNowhereAbove, bound_of}
 use Rattle.cpa_units.proofs.BoundLaws.{zero_at_most}
 use Rattle.cpa_events.specs.Events.{Model}
 use Rattle.cpa_window.specs.declared.rivals.Rival.{Rival}
-use Rattle.cpa_window.proofs.RivalLaws.{load_of, work_in-same}
-use Rattle.cpa_spp.proofs.PreemptiveLaws.{preemptive_bound-same}
 use Rattle.cpa_rr.specs.RoundRobin.{round_robin_bound}
-use Rattle.cpa_can.proofs.CanLaws.{can_bound-same}
+use Rattle.cpa_clock.specs.Clocked.{clocked_preemptive_bound, clocked_can_bound}
+use Rattle.cpa_model.specs.Clocks.{clock_cycle}
 use Rattle.cpa_model.specs.declared.entries.Kind.{Kind}
 use Rattle.cpa_model.specs.declared.entries.Kind.TheVariants.{Preemptive, RoundRobin, Tdma, Can}
 use Rattle.cpa_model.specs.SystemLists.{SystemLists, task_at, resource_at, resource_of, task_places, slot_of, is_higher, is_other, shares_resource, higher_tasks, no_task}
@@ -20,6 +19,7 @@ use Rattle.cpa_model.specs.Kinds.{has_feedback}
 use Rattle.cpa_local.specs.Blocking.{blocking_of}
 use Rattle.cpa_local.specs.Inputs.{input_along, input}
 use Rattle.cpa_local.specs.Local.{rival_of, bound_by_kind, bound_at_input, response}
+use Rattle.cpa_local.specs.OnClocks.{anchors_of, clocked_rival_of}
 use Rattle.cpa_local.specs.Solution.{IsClosed, IsVector, least_of}
 use Rattle.cpa_local.proofs.ResponseLaws.{bound_of-responses, bound_of-responses_past}
 use Rattle.cpa_local.proofs.SentLaws.{sent_all-same}
@@ -38,10 +38,6 @@ map-filter-same p f g (j ∷ js) h =
       | inl kept ↦ rw kept (let here = h j kept in cc)
       | inr dropped ↦ rw dropped rest
     ]
-
-loads-of : (s : SystemLists) (x : List Bound) (js : List ℕ) → map load_of (map (rival_of s x) js) ≡ map (λ j. (input s x j, (task_at s j).worst)) js
-loads-of s x [] = refl
-loads-of s x (j ∷ js) = ap (λ ls. (input s x j, (task_at s j).worst) ∷ ls) (loads-of s x js)
 
 module _ (s : SystemLists) (x y : List Bound) where
   input_along-same : (chain i : ℕ) → ((j : ℕ) → LeadsTo s j i → bound_of x j ≡ bound_of y j) → input_along s x chain i ≡ input_along s y chain i
@@ -62,23 +58,19 @@ module _ (s : SystemLists) (x y : List Bound) where
     own_input : (i : ℕ) → (task_at s i).res.0 ≡ r → input s x i ≡ input s y i
     own_input i on = input-same i (before i on)
 
-    loads-same : (i : ℕ) → (task_at s i).res.0 ≡ r → map load_of (map (rival_of s x) (higher_tasks s i)) ≡ map load_of (map (rival_of s y) (higher_tasks s i))
-    loads-same i on =
-        loads-of s x (higher_tasks s i)
-        ∙ map-filter-same (is_higher s i) (λ j. (input s x j, (task_at s j).worst)) (λ j. (input s y j, (task_at s j).worst)) (task_places s)
-        (λ j p. ap (λ m. (m, (task_at s j).worst)) (own_input j (shares r i j on (and_parts _ _ p).0)))
-        ∙ sym (loads-of s y (higher_tasks s i))
+    rivals-same : (i : ℕ) → (task_at s i).res.0 ≡ r → map (clocked_rival_of s x) (higher_tasks s i) ≡ map (clocked_rival_of s y) (higher_tasks s i)
+    rivals-same i on =
+        map-filter-same (is_higher s i) (clocked_rival_of s x) (clocked_rival_of s y) (task_places s)
+        (λ j p. ap (λ m. record { model = m; anchors = anchors_of s j; worst = (task_at s j).worst }) (own_input j (shares r i j on (and_parts _ _ p).0)))
 
     module _ (turns : (i : ℕ) (own : Model) → (task_at s i).res.0 ≡ r → (resource_of s i).kind ≡ RoundRobin → bound_by_kind s x i own RoundRobin ≡ bound_by_kind s y i own RoundRobin) where
       bound_by_kind-same : (i : ℕ) (own : Model) (kind : Kind) → (task_at s i).res.0 ≡ r → (resource_of s i).kind ≡ kind → bound_by_kind s x i own kind ≡ bound_by_kind s y i own kind
       bound_by_kind-same i own Preemptive on e =
-          preemptive_bound-same own (task_at s i).worst (blocking_of s Preemptive i) (map (rival_of s x) (higher_tasks s i)) (map (rival_of s y) (higher_tasks s i)) (resource_of s i).limit
-          (λ w. work_in-same (map (rival_of s x) (higher_tasks s i)) (map (rival_of s y) (higher_tasks s i)) w (loads-same i on))
+          ap (λ rivals. clocked_preemptive_bound own (anchors_of s i) (task_at s i).worst (blocking_of s Preemptive i) rivals (clock_cycle s) (length s.sources) (resource_of s i).limit) (rivals-same i on)
       bound_by_kind-same i own RoundRobin on e = turns i own on e
       bound_by_kind-same i own (Tdma gap) on e = refl
       bound_by_kind-same i own (Can bit) on e =
-          can_bound-same own (task_at s i).worst (blocking_of s (Can bit) i) (map (rival_of s x) (higher_tasks s i)) (map (rival_of s y) (higher_tasks s i)) bit (resource_of s i).limit
-          (λ w. work_in-same (map (rival_of s x) (higher_tasks s i)) (map (rival_of s y) (higher_tasks s i)) w (loads-same i on))
+          ap (λ rivals. clocked_can_bound own (anchors_of s i) (task_at s i).worst (blocking_of s (Can bit) i) rivals (clock_cycle s) (length s.sources) bit (resource_of s i).limit) (rivals-same i on)
 
       bound_at_input-same : (i : ℕ) (m : Option Model) → (task_at s i).res.0 ≡ r → bound_at_input s x i m ≡ bound_at_input s y i m
       bound_at_input-same i (Some own) on = bound_by_kind-same i own (resource_of s i).kind on refl

@@ -45,10 +45,10 @@ pub fn analyse(
     let back = has_cyclic_chain(system, res);
     if has_feedback(system, res, back) {
         let reading = reading_at(alloc, old, x)?;
-        raise(system, res, back, x, trail);
+        raise(alloc, system, res, back, x, trail)?;
         Ok(reading)
     } else {
-        raise(system, res, back, x, trail);
+        raise(alloc, system, res, back, x, trail)?;
         let reading = reading_at(alloc, old, x)?;
         Ok(reading)
     }

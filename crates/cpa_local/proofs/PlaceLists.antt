@@ -6,6 +6,8 @@ use Rattle.std.proofs.lemmas.Bool.{cases_Bool}
 use Rattle.std.proofs.lemmas.List.Sums.{sum_by-cons}
 use Rattle.cpa_window.specs.declared.rivals.Rival.{Rival}
 use Rattle.cpa_window.specs.Rivals.{IsNoHeavier, AreNoHeavier}
+use Rattle.cpa_clock.specs.Rivals.{ClockedRival}
+use Rattle.cpa_clock.specs.Wider.{IsRivalWider, AreRivalsWider}
 
 -- the greatest of what f gives, from `most` on
 abbrev pub greatest_over : (ℕ → ℕ) → ℕ → List ℕ → ℕ
@@ -19,6 +21,18 @@ rivals-passing p q f g a zero more same h = tt
 rivals-passing p q f g a (suc n) more same h =
     let e : suc n + more ≡ suc (n + more) = omega arith in
     let rest = rivals-passing p q f g (a + 1) n more (λ j low high. same j (omega arith) (omega arith)) (λ j low high. h j (omega arith) (omega arith)) in
+    let here = same a (omega arith) (omega arith) in
+    elim (cases_Bool (p a)) [
+      | inl passes ↦ rw (e, ← here, passes) (h a (omega arith) (omega arith), rest)
+      | inr fails ↦ rw (e, ← here, fails) rest
+    ]
+
+pub clocked_rivals-passing : (p q : ℕ → Bool) (f g : ℕ → ClockedRival) (a n more : ℕ) → ((j : ℕ) → a ≤ j → j < a + n → p j ≡ q j)
+    → ((j : ℕ) → a ≤ j → j < a + n → IsRivalWider (f j) (g j)) → AreRivalsWider (map f (filter p (range_with_len a n))) (map g (filter q (range_with_len a (n + more))))
+clocked_rivals-passing p q f g a zero more same h = tt
+clocked_rivals-passing p q f g a (suc n) more same h =
+    let e : suc n + more ≡ suc (n + more) = omega arith in
+    let rest = clocked_rivals-passing p q f g (a + 1) n more (λ j low high. same j (omega arith) (omega arith)) (λ j low high. h j (omega arith) (omega arith)) in
     let here = same a (omega arith) (omega arith) in
     elim (cases_Bool (p a)) [
       | inl passes ↦ rw (e, ← here, passes) (h a (omega arith) (omega arith), rest)

@@ -1,27 +1,20 @@
--- A longer execution range asks for at least as much.
-use Rattle.std.proofs.Common.{◌≡◌, ℕ, ◌<◌, ◌≤◌, length, List, [], ◌∷◌, refl, sym, ap, inl, inr, subst, slice_index_or, arith, get_or-set_same, get_or-set_other}
-use Rattle.std.specs.List.{AllZip}
+-- What asks for at least as much: a longer execution range, a denser source, a task more.
+use Rattle.std.proofs.Common.{◌≡◌, ℕ, ◌<◌, ◌≤◌, length, true, List, [], ◌∷◌, set, refl, sym, ap, inl, inr, subst, arith, get_or-set_same, get_or-set_other}
 use Rattle.std.proofs.lemmas.Bool.{cases_eq}
-use Rattle.std.proofs.lemmas.List.{length-set}
-use Rattle.cpa_events.specs.Events.{IsNoDenser}
-use Rattle.cpa_events.proofs.EventLaws.{IsNoDenser_refl}
+use Rattle.std.proofs.lemmas.List.{length-set, length_push, get_or_append_left}
+use Rattle.cpa_clock.specs.Wider.{IsWiderOn}
 use Rattle.cpa_model.specs.declared.entries.Source.{Source}
 use Rattle.cpa_model.specs.declared.entries.Task.{Task}
 use Rattle.cpa_model.specs.declared.entries.Activator.{Activator}
 use Rattle.cpa_model.specs.declared.entries.Activator.TheVariants.{Source as FromSource, Task as FromTask}
-use Rattle.cpa_model.specs.SystemLists.{SystemLists, task_at, source_at, no_task, no_source}
-use Rattle.cpa_model.specs.Streams.{model_of}
-use Rattle.cpa_model.specs.Changes.{with_task_at, with_exec}
+use Rattle.cpa_model.specs.Clocks.{is_clocked}
+use Rattle.cpa_model.specs.SystemLists.{SystemLists, task_at, source_at, no_task}
+use Rattle.cpa_model.specs.Streams.{source_stream}
+use Rattle.cpa_model.specs.Changes.{with_task_at, with_exec, with_source, with_task}
+use Rattle.cpa_local.specs.OnClocks.{source_anchor}
 use Rattle.cpa_local.specs.Raising.{IsDenserActivator, IsRaisedTask, IsRaising}
-
-denser-refl : (s : SystemLists) (a : Activator) → IsDenserActivator s s a a
-denser-refl s (FromSource k) = IsNoDenser_refl (model_of (source_at s k.0))
-denser-refl s (FromTask j) = refl
-
--- what holds of each activator and itself holds of a list and itself
-pub each-itself : (R : Activator → Activator → Type 0) → ((a : Activator) → R a a) → (after : List Activator) → AllZip R after after
-each-itself R each [] = tt
-each-itself R each (a ∷ others) = (each a, each-itself R each others)
+use Rattle.cpa_local.proofs.WiderLaws.{wider_on-itself, each-itself, denser-itself}
+use Rattle.cpa_local.proofs.SourceChanges.{cycle-kept, source-wider}
 
 pub raised-same : (s t : SystemLists) (i : ℕ) → s.sources ≡ t.sources → task_at s i ≡ task_at t i → IsRaisedTask s t i
 raised-same s t i sources same =
@@ -36,7 +29,8 @@ raised-same s t i sources same =
   where
     denser-same : (a : Activator) → IsDenserActivator s t a a
     denser-same (FromSource k) =
-        subst (λ (sources : List Source). IsNoDenser (model_of (source_at s k.0)) (model_of (slice_index_or sources k.0 no_source))) sources (IsNoDenser_refl (model_of (source_at s k.0)))
+        subst (λ (sources : List Source). IsWiderOn (source_anchor s k.0) (source_anchor (record s { sources = sources }) k.0) (source_stream s k.0) (source_stream (record s { sources = sources }) k.0)) sources
+        (wider_on-itself (source_anchor s k.0) (source_stream s k.0))
     denser-same (FromTask j) = refl
 
 pub raising-exec : (s : SystemLists) (p best worst : ℕ) → best ≤ (task_at s p).best → (task_at s p).worst ≤ worst → IsRaising s (with_exec s p best worst)
@@ -44,6 +38,8 @@ unfolding with_exec
 raising-exec s p best worst low high =
     record {
       resources = refl;
+      sources = refl;
+      cycles = λ c. refl;
       more = omega (arith, length-set s.tasks p (record (task_at s p) { best = best; worst = worst }));
       tasks = λ i less. elim (cases_eq i p) [
         | inl same ↦
@@ -52,7 +48,7 @@ raising-exec s p best worst low high =
             get_or-set_same s.tasks p (record (task_at s p) { best = best; worst = worst }) no_task less_p in
             rw same (record {
               res = sym (ap (λ (v : Task). v.res.0) it);
-              after = rw it (each-itself (IsDenserActivator s (with_task_at s p (record (task_at s p) { best = best; worst = worst }))) (denser-refl s) (task_at s p).after);
+              after = rw it (each-itself (IsDenserActivator s (with_task_at s p (record (task_at s p) { best = best; worst = worst }))) (denser-itself s) (task_at s p).after);
               best = let e = ap (λ (v : Task). v.best) it in omega arith;
               worst = let e = ap (λ (v : Task). v.worst) it in omega arith;
               turn = sym (ap (λ (v : Task). v.turn) it);
@@ -61,4 +57,36 @@ raising-exec s p best worst low high =
         | inr other ↦
             raised-same s (with_task_at s p (record (task_at s p) { best = best; worst = worst })) i refl (sym (get_or-set_other s.tasks p i (record (task_at s p) { best = best; worst = worst }) no_task other))
       ];
+    }
+
+-- a source on a clock keeps its period
+pub raising-source : (s : SystemLists) (k period jitter distance : ℕ) → period ≤ (source_at s k).period → (source_at s k).jitter ≤ jitter → distance ≤ (source_at s k).distance
+    → (is_clocked (source_at s k) ≡ true → period ≡ (source_at s k).period) → IsRaising s (with_source s k period jitter distance)
+unfolding with_source
+raising-source s k period jitter distance shorter wider closer kept =
+    record {
+      resources = refl;
+      sources = omega (arith, length-set s.sources k given);
+      cycles = cycle-kept s k given refl kept;
+      more = omega arith;
+      tasks = λ i less. record { res = refl; after = each-itself (IsDenserActivator s (record s { sources = set s.sources k given })) by (task_at s i).after; best = omega arith; worst = omega arith; turn = refl; region = omega arith };
+    }
+  where
+    given : Source
+    given = record (source_at s k) { period = period; jitter = jitter; distance = distance }
+
+    by : (a : Activator) → IsDenserActivator s (record s { sources = set s.sources k given }) a a
+    by (FromSource m) = source-wider s k given refl kept shorter wider closer m.0
+    by (FromTask j) = refl
+
+-- a task more is the last
+pub raising-add : (s : SystemLists) (u : Task) → IsRaising s (with_task s u)
+unfolding with_task
+raising-add s u =
+    record {
+      resources = refl;
+      sources = refl;
+      cycles = λ c. refl;
+      more = omega (arith, length_push s.tasks u);
+      tasks = λ i less. raised-same s (with_task s u) i refl (sym (get_or_append_left s.tasks (u ∷ []) no_task i less));
     }

@@ -12,13 +12,15 @@ use Rattle.cpa_units.specs.declared.limits.TheConstants.{MAX_CHAIN}
 use Rattle.cpa_units.specs.Bounds.{IsAtMost, RespectsLimit, IsNowhereAbove, bound_of}
 use Rattle.cpa_events.specs.Events.{Model}
 use Rattle.cpa_events.specs.Streams.{IsStream}
-use Rattle.cpa_events.specs.Events.{IsModel, IsNoDenser}
-use Rattle.cpa_events.proofs.EventLaws.{IsNoDenser_refl, one-is_model, after_response-is_model, after_response-denser}
+use Rattle.cpa_events.proofs.EventLaws.{one-is_model, after_response-is_model}
 use Rattle.cpa_window.specs.Rivals.{IsInput, IsInputNoDenser, AreNoHeavier}
-use Rattle.cpa_spp.proofs.PreemptiveLaws.{preemptive_bound-mono, preemptive_bound-low, preemptive_bound-high}
 use Rattle.cpa_rr.proofs.RoundRobinLaws.{round_robin_bound-mono, round_robin_bound-low, round_robin_bound-high}
 use Rattle.cpa_tdma.proofs.TdmaLaws.{tdma_bound-mono, tdma_bound-low, tdma_bound-high}
-use Rattle.cpa_can.proofs.CanLaws.{can_bound-mono, can_bound-ge, can_bound-limit}
+use Rattle.cpa_clock.specs.Wider.{AreWider, IsInputWider, AreRivalsWider}
+use Rattle.cpa_clock.proofs.BoundLaws.{clocked_preemptive_bound-grows, clocked_can_bound-grows}
+use Rattle.cpa_clock.proofs.WiderLaws.{wide-denser}
+use Rattle.cpa_clock.proofs.RangeLaws.{OnlyReturns, clocked_preemptive_bound-low, clocked_can_bound-low, clocked_preemptive_bound-limit, clocked_can_bound-limit}
+use Rattle.cpa_model.specs.Clocks.{clock_cycle}
 use Rattle.cpa_model.specs.declared.entries.Kind.{Kind}
 use Rattle.cpa_model.specs.declared.entries.Kind.TheVariants.{Preemptive, RoundRobin, Tdma, Can}
 use Rattle.cpa_model.specs.declared.entries.Activator.{Activator}
@@ -26,11 +28,15 @@ use Rattle.cpa_model.specs.declared.entries.Activator.TheVariants.{Source as Fro
 use Rattle.cpa_model.specs.SystemLists.{SystemLists, task_at, source_at, resource_of, slot_of, higher_tasks, other_tasks, cycle_of, is_task, no_source, no_task}
 use Rattle.cpa_model.specs.Rules.{IsSystem, IsSource, IsTask}
 use Rattle.cpa_model.proofs.SystemLaws.{activated-there}
-use Rattle.cpa_model.specs.Streams.{source_stream, source_model}
+use Rattle.cpa_model.specs.Streams.{source_stream}
 use Rattle.cpa_local.specs.Blocking.{blocking_of}
 use Rattle.cpa_local.specs.Inputs.{output_of, sent_by, joined, sent_by_all, input_along, input}
+use Rattle.cpa_local.specs.OnClocks.{anchors_of, clocked_rival_of}
+use Rattle.cpa_local.specs.Raising.{IsDenserActivator}
 use Rattle.cpa_local.specs.Local.{rival_of, bound_by_kind, bound_at_input, response, responses}
 use Rattle.cpa_local.proofs.SentLaws.{is_task-itself}
+use Rattle.cpa_local.proofs.WiderLaws.{input-wider, input_wider-denser, each-itself, denser-itself}
+use Rattle.cpa_local.proofs.WholeLaws.{AreWhole, input-some, input-returns, system-whole}
 
 -- ---- inputs are models
 
@@ -92,29 +98,38 @@ module _ (s : SystemLists) (x : List Bound) (rules : IsSystem s) where
   unfolding input
   input-is_input i there = input_along-is_input MAX_CHAIN i there
 
-  bound_by_kind-ge : (i : ℕ) (own : Model) (kind : Kind) → IsModel own → IsAtMost (Within (task_at s i).worst) (bound_by_kind s x i own kind)
-  bound_by_kind-ge i own Preemptive m = preemptive_bound-low own (task_at s i).worst (blocking_of s Preemptive i) (map (rival_of s x) (higher_tasks s i)) (resource_of s i).limit
-  bound_by_kind-ge i own RoundRobin m = round_robin_bound-low own (task_at s i).worst (slot_of (task_at s i).turn) (map (rival_of s x) (other_tasks s i)) (resource_of s i).limit
-  bound_by_kind-ge i own (Tdma gap) m = tdma_bound-low own (task_at s i).worst (slot_of (task_at s i).turn) (cycle_of s (task_at s i).res.0) (resource_of s i).limit
-  bound_by_kind-ge i own (Can bit) m = can_bound-ge own (task_at s i).worst (blocking_of s (Can bit) i) (map (rival_of s x) (higher_tasks s i)) bit (resource_of s i).limit m
+module _ (t : SystemLists) (n : ℕ) (y : List Bound) (whole : AreWhole t n) where
+  bound_by_kind-ge : (i : ℕ) (own : Model) (kind : Kind) → 0 < length own → OnlyReturns (clock_cycle t) (anchors_of t i) own → IsAtMost (Within (task_at t i).worst) (bound_by_kind t y i own kind)
+  bound_by_kind-ge i own Preemptive some returns =
+      clocked_preemptive_bound-low (task_at t i).worst (blocking_of t Preemptive i) (map (clocked_rival_of t y) (higher_tasks t i)) (clock_cycle t) (length t.sources) (resource_of t i).limit own (anchors_of t i) returns
+  bound_by_kind-ge i own RoundRobin some returns = round_robin_bound-low own (task_at t i).worst (slot_of (task_at t i).turn) (map (rival_of t y) (other_tasks t i)) (resource_of t i).limit
+  bound_by_kind-ge i own (Tdma gap) some returns = tdma_bound-low own (task_at t i).worst (slot_of (task_at t i).turn) (cycle_of t (task_at t i).res.0) (resource_of t i).limit
+  bound_by_kind-ge i own (Can bit) some returns =
+      clocked_can_bound-low (task_at t i).worst (blocking_of t (Can bit) i) (map (clocked_rival_of t y) (higher_tasks t i)) (clock_cycle t) (length t.sources) (resource_of t i).limit own (anchors_of t i) bit some returns
 
-  bound_at_input-ge : (i : ℕ) (m : Option Model) → IsInput m → IsAtMost (Within (task_at s i).worst) (bound_at_input s x i m)
-  bound_at_input-ge i (Some own) m = bound_by_kind-ge i own (resource_of s i).kind m
-  bound_at_input-ge i None m = tt
-
-  -- a bound is at least the task's greatest execution
-  pub response-ge : (i : ℕ) → i < length s.tasks → IsAtMost (Within (task_at s i).worst) (response s x i)
+  -- a bound of one of the first tasks of a system is at least the task's greatest execution, where sources and these start them
+  pub response-ge_first : (i : ℕ) → i < n → IsAtMost (Within (task_at t i).worst) (response t y i)
   unfolding response
-  response-ge i there = bound_at_input-ge i (input s x i) (input-is_input i there)
+  response-ge_first i less = by (input t y i) refl
+    where
+      by : (o : Option Model) → input t y i ≡ o → IsAtMost (Within (task_at t i).worst) (bound_at_input t y i o)
+      by None e = tt
+      by (Some own) e = bound_by_kind-ge i own (resource_of t i).kind (input-some t n y whole i own less e) (input-returns t n y whole i own less e)
+
+-- a bound is at least the task's greatest execution
+pub response-ge : (s : SystemLists) (x : List Bound) → IsSystem s → (i : ℕ) → i < length s.tasks → IsAtMost (Within (task_at s i).worst) (response s x i)
+response-ge s x rules = response-ge_first s (length s.tasks) x (system-whole s rules)
 
 -- ---- within the limit
 
 module _ (s : SystemLists) (x : List Bound) where
   bound_by_kind-limit : (i : ℕ) (own : Model) (kind : Kind) → RespectsLimit (resource_of s i).limit (bound_by_kind s x i own kind)
-  bound_by_kind-limit i own Preemptive = preemptive_bound-high own (task_at s i).worst (blocking_of s Preemptive i) (map (rival_of s x) (higher_tasks s i)) (resource_of s i).limit
+  bound_by_kind-limit i own Preemptive =
+      clocked_preemptive_bound-limit (task_at s i).worst (blocking_of s Preemptive i) (map (clocked_rival_of s x) (higher_tasks s i)) (clock_cycle s) (length s.sources) (resource_of s i).limit own (anchors_of s i)
   bound_by_kind-limit i own RoundRobin = round_robin_bound-high own (task_at s i).worst (slot_of (task_at s i).turn) (map (rival_of s x) (other_tasks s i)) (resource_of s i).limit
   bound_by_kind-limit i own (Tdma gap) = tdma_bound-high own (task_at s i).worst (slot_of (task_at s i).turn) (cycle_of s (task_at s i).res.0) (resource_of s i).limit
-  bound_by_kind-limit i own (Can bit) = can_bound-limit own (task_at s i).worst (blocking_of s (Can bit) i) (map (rival_of s x) (higher_tasks s i)) bit (resource_of s i).limit
+  bound_by_kind-limit i own (Can bit) =
+      clocked_can_bound-limit (task_at s i).worst (blocking_of s (Can bit) i) (map (clocked_rival_of s x) (higher_tasks s i)) (clock_cycle s) (length s.sources) (resource_of s i).limit own (anchors_of s i) bit
 
   bound_at_input-limit : (i : ℕ) (m : Option Model) → RespectsLimit (resource_of s i).limit (bound_at_input s x i m)
   bound_at_input-limit i (Some own) = bound_by_kind-limit i own (resource_of s i).kind
@@ -127,62 +142,39 @@ module _ (s : SystemLists) (x : List Bound) where
 
 -- ---- growing with the vector
 
-output_of-mono : (best : ℕ) (a b : Bound) (m n : Option Model) → IsAtMost a b → IsInputNoDenser m n → IsInputNoDenser (output_of best a m) (output_of best b n)
-output_of-mono best a Overload m n h d = tt
-output_of-mono best a (Within b) m None h d = tt
-output_of-mono best Overload (Within b) m (Some n) h d = absurd h
-output_of-mono best (Within a) (Within b) None (Some n) h d = absurd d
-output_of-mono best (Within a) (Within b) (Some m) (Some n) h d = after_response-denser m n best best a b d (omega arith) h
-
-append-denser : (m m' n n' : Model) → IsNoDenser m m' → IsNoDenser n n' → IsNoDenser (m ++ n) (m' ++ n')
-append-denser [] [] n n' h k = k
-append-denser [] (b ∷ m') n n' h k = absurd h
-append-denser (a ∷ m) [] n n' h k = absurd h
-append-denser (a ∷ m) (b ∷ m') n n' h k = (h.0, append-denser m m' n n' h.1 k)
-
-pub joined-mono : (m m' n n' : Option Model) → IsInputNoDenser m m' → IsInputNoDenser n n' → IsInputNoDenser (joined m n) (joined m' n')
-joined-mono m None n n' h k = tt
-joined-mono m (Some m') n None h k = tt
-joined-mono None (Some m') n (Some n') h k = absurd h
-joined-mono (Some m) (Some m') None (Some n') h k = absurd k
-joined-mono (Some m) (Some m') (Some n) (Some n') h k = append-denser m m' n n' h k
-
 module _ (s : SystemLists) (x y : List Bound) (below : IsNowhereAbove x y) where
-  sent_by-mono : (f g : ℕ → Option Model) (a : Activator) → ((j : ℕ) → IsInputNoDenser (f j) (g j)) → IsInputNoDenser (sent_by s x f a) (sent_by s y g a)
-  sent_by-mono f g (FromSource k) h = IsNoDenser_refl (source_model s k.0)
-  sent_by-mono f g (FromTask j) h = output_of-mono (task_at s j.0).best (bound_of x j.0) (bound_of y j.0) (f j.0) (g j.0) (below j.0) (h j.0)
-
-  sent_all-mono : (f g : ℕ → Option Model) (after : List Activator) → ((j : ℕ) → IsInputNoDenser (f j) (g j)) → IsInputNoDenser (sent_by_all s x f after) (sent_by_all s y g after)
-  sent_all-mono f g [] h = tt
-  sent_all-mono f g (a ∷ others) h =
-      joined-mono (sent_by s x f a) (sent_by s y g a) (sent_by_all s x f others) (sent_by_all s y g others) (sent_by-mono f g a h) (sent_all-mono f g others h)
-
-  input_along-mono : (chain i : ℕ) → IsInputNoDenser (input_along s x chain i) (input_along s y chain i)
-  input_along-mono zero i = tt
-  input_along-mono (suc chain) i =
-      sent_all-mono (input_along s x chain) (input_along s y chain) (task_at s i).after (input_along-mono chain)
+  -- inputs come in wider intervals
+  pub input-wide : (i : ℕ) → IsInputWider (anchors_of s i) (anchors_of s i) (input s x i) (input s y i)
+  input-wide i =
+      input-wider s s x y (λ j. Unit {0}) (λ k j known e. tt) (λ k known. each-itself (IsDenserActivator s s) (denser-itself s) (task_at s k).after)
+      (λ j known. record { best = omega arith; bound = below j; order = inl refl }) i tt
 
   pub input-mono : (i : ℕ) → IsInputNoDenser (input s x i) (input s y i)
-  unfolding input
-  input-mono i = input_along-mono MAX_CHAIN i
+  input-mono i = input_wider-denser (anchors_of s i) (anchors_of s i) (input s x i) (input s y i) (input-wide i)
+
+  clocked_rivals-wider : (js : List ℕ) → AreRivalsWider (map (clocked_rival_of s x) js) (map (clocked_rival_of s y) js)
+  clocked_rivals-wider [] = tt
+  clocked_rivals-wider (j ∷ js) = (record { input = input-wide j; worst = omega arith }, clocked_rivals-wider js)
 
   rivals-mono : (js : List ℕ) → AreNoHeavier (map (rival_of s x) js) (map (rival_of s y) js)
   rivals-mono [] = tt
   rivals-mono (j ∷ js) =
       (record { model = input-mono j; worst = omega arith; slot = refl; bound = below j }, rivals-mono js)
 
-  bound_by_kind-mono : (i : ℕ) (m n : Model) (kind : Kind) → IsNoDenser m n → IsAtMost (bound_by_kind s x i m kind) (bound_by_kind s y i n kind)
+  bound_by_kind-mono : (i : ℕ) (m n : Model) (kind : Kind) → AreWider (anchors_of s i) (anchors_of s i) 0 m n → IsAtMost (bound_by_kind s x i m kind) (bound_by_kind s y i n kind)
   bound_by_kind-mono i m n Preemptive d =
-      preemptive_bound-mono m n (task_at s i).worst (task_at s i).worst (blocking_of s Preemptive i) (blocking_of s Preemptive i) _ _ (resource_of s i).limit d (omega arith) (omega arith) (rivals-mono (higher_tasks s i))
+      clocked_preemptive_bound-grows (task_at s i).worst (task_at s i).worst (blocking_of s Preemptive i) (blocking_of s Preemptive i) (map (clocked_rival_of s x) (higher_tasks s i)) (map (clocked_rival_of s y) (higher_tasks s i)) (clock_cycle s) (length s.sources) (resource_of s i).limit (omega arith) (omega arith)
+      (clocked_rivals-wider (higher_tasks s i)) m n (anchors_of s i) (anchors_of s i) d
   bound_by_kind-mono i m n RoundRobin d =
-      round_robin_bound-mono m n (task_at s i).worst (task_at s i).worst (slot_of (task_at s i).turn) _ _ (resource_of s i).limit d (omega arith) (rivals-mono (other_tasks s i))
+      round_robin_bound-mono m n (task_at s i).worst (task_at s i).worst (slot_of (task_at s i).turn) _ _ (resource_of s i).limit (wide-denser (anchors_of s i) (anchors_of s i) 0 m n d) (omega arith) (rivals-mono (other_tasks s i))
   bound_by_kind-mono i m n (Tdma gap) d =
       let cycle = cycle_of s (task_at s i).res.0 in
-      tdma_bound-mono m n (task_at s i).worst (task_at s i).worst (slot_of (task_at s i).turn) cycle cycle (resource_of s i).limit d (omega arith) (omega arith)
+      tdma_bound-mono m n (task_at s i).worst (task_at s i).worst (slot_of (task_at s i).turn) cycle cycle (resource_of s i).limit (wide-denser (anchors_of s i) (anchors_of s i) 0 m n d) (omega arith) (omega arith)
   bound_by_kind-mono i m n (Can bit) d =
-      can_bound-mono m n (task_at s i).worst (task_at s i).worst (blocking_of s (Can bit) i) (blocking_of s (Can bit) i) _ _ bit (resource_of s i).limit d (omega arith) (omega arith) (rivals-mono (higher_tasks s i))
+      clocked_can_bound-grows (task_at s i).worst (task_at s i).worst (blocking_of s (Can bit) i) (blocking_of s (Can bit) i) (map (clocked_rival_of s x) (higher_tasks s i)) (map (clocked_rival_of s y) (higher_tasks s i)) (clock_cycle s) (length s.sources) (resource_of s i).limit (omega arith) (omega arith)
+      (clocked_rivals-wider (higher_tasks s i)) m n (anchors_of s i) (anchors_of s i) bit d
 
-  bound_at_input-mono : (i : ℕ) (m n : Option Model) → IsInputNoDenser m n → IsAtMost (bound_at_input s x i m) (bound_at_input s y i n)
+  bound_at_input-mono : (i : ℕ) (m n : Option Model) → IsInputWider (anchors_of s i) (anchors_of s i) m n → IsAtMost (bound_at_input s x i m) (bound_at_input s y i n)
   bound_at_input-mono i m None d = tt
   bound_at_input-mono i None (Some n) d = absurd d
   bound_at_input-mono i (Some m) (Some n) d = bound_by_kind-mono i m n (resource_of s i).kind d
@@ -190,7 +182,7 @@ module _ (s : SystemLists) (x y : List Bound) (below : IsNowhereAbove x y) where
   -- a bound grows with the vector
   pub response-mono : (i : ℕ) → IsAtMost (response s x i) (response s y i)
   unfolding response
-  response-mono i = bound_at_input-mono i (input s x i) (input s y i) (input-mono i)
+  response-mono i = bound_at_input-mono i (input s x i) (input s y i) (input-wide i)
 
 -- ---- what stands in F
 

@@ -104,7 +104,7 @@ raise-task s r tasks old new k rules are within h raised =
 -- a bound on r that bears on no input of r's tasks
 pub prepared-raised : (s : SystemLists) (r i : ℕ) (x : List Bound) (b : Bound) (work : Worked) → HasInputsApart s r → (task_at s i).res.0 ≡ r → IsPrepared s r x work → IsPrepared s r (set x i b) work
 prepared-raised s r i x b work apart on prepared =
-    record { cycle = prepared.cycle; longest = prepared.longest; inputs = by (resource_at s r).kind prepared.inputs }
+    record { cycle = prepared.cycle; longest = prepared.longest; inputs = by (resource_at s r).kind prepared.inputs; clocks = prepared.clocks }
   where
     known : AreInputs s r x work.inputs → AreInputs s r (set x i b) work.inputs
     known inputs j less there =

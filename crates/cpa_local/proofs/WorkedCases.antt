@@ -1,5 +1,5 @@
 -- Worked systems: what tasks receive, and their bounds, at vectors.
-use Rattle.std.proofs.Common.{◌≡◌, ℕ, ◌+◌, ◌*◌, List, [], ◌∷◌, ◌++◌, map, replicate, false, Some, refl}
+use Rattle.std.proofs.Common.{◌≡◌, ℕ, ◌+◌, ◌*◌, List, [], ◌∷◌, ◌++◌, map, replicate, false, Some, None, refl}
 use Rattle.cpa_units.specs.declared.bound.Bound.{Bound}
 use Rattle.cpa_units.specs.declared.bound.Bound.TheVariants.{Within}
 use Rattle.cpa_units.specs.declared.limits.Size.TheVariants.{Small}
@@ -8,6 +8,7 @@ use Rattle.cpa_events.specs.Streams.{stream_delta_minus, stream_eta_plus}
 use Rattle.cpa_events.specs.Events.{Model, delta_minus, eta_plus}
 use Rattle.cpa_window.specs.Windows.{window}
 use Rattle.cpa_window.specs.BusyWindow.{jobs_in_busy_window, busy_window_bound}
+use Rattle.cpa_phase.specs.Clocks.{most_of}
 use Rattle.cpa_model.specs.declared.entries.Kind.{Kind}
 use Rattle.cpa_model.specs.declared.entries.Kind.TheVariants.{Preemptive, Can}
 use Rattle.cpa_model.specs.declared.entries.Resource.{Resource}
@@ -19,24 +20,25 @@ use Rattle.cpa_model.specs.declared.entries.Task.{Task}
 use Rattle.cpa_model.specs.SystemLists.{SystemLists}
 use Rattle.cpa_local.specs.Inputs.{input}
 use Rattle.cpa_local.specs.Local.{response, responses}
+use Rattle.cpa_local.specs.OnClocks.{anchors_within}
 
-abbrev resource : Kind → Resource
+abbrev pub resource : Kind → Resource
 resource kind = record { name = []; kind = kind; limit = 1000000 }
 
 abbrev source : ℕ → ℕ → Source
-source period jitter = record { name = []; period = period; jitter = jitter; distance = 0; sporadic = false }
+source period jitter = record { name = []; period = period; jitter = jitter; distance = 0; sporadic = false; on_clock = None }
 
-abbrev from_source : ℕ → List Activator
+abbrev pub from_source : ℕ → List Activator
 from_source k = FromSource (record { 0 = k }) ∷ []
 
-abbrev from_task : ℕ → List Activator
+abbrev pub from_task : ℕ → List Activator
 from_task j = FromTask (record { 0 = j }) ∷ []
 
-abbrev task : ℕ → List Activator → ℕ → ℕ → ℕ → Task
+abbrev pub task : ℕ → List Activator → ℕ → ℕ → ℕ → Task
 task place after best worst priority =
     record { name = []; res = record { 0 = place }; after = after; best = best; worst = worst; turn = Priority priority; region = 1 }
 
-abbrev model : ℕ → ℕ → ℕ → Model
+abbrev pub model : ℕ → ℕ → ℕ → Model
 model period jitter distance = record { period = period; jitter = jitter; distance = distance } ∷ []
 
 -- two chains that cross on two processors, where the second task of each comes before the first of the other
@@ -56,7 +58,7 @@ unfolding crossing_chains input
 crossing_chains-inputs = refl
 
 crossing_chains-fixed : responses crossing_chains crossing_bounds ≡ crossing_bounds
-unfolding crossing_chains input response busy_window_bound jobs_in_busy_window window stream_eta_plus eta_plus stream_delta_minus delta_minus least_from greatest_to
+unfolding crossing_chains input response anchors_within most_of busy_window_bound jobs_in_busy_window window stream_eta_plus eta_plus stream_delta_minus delta_minus least_from greatest_to
 crossing_chains-fixed = refl
 
 -- two chains that cross with two fixed points, where the first task has this greatest execution
@@ -79,7 +81,7 @@ unfolding two_fixed_points input
 lesser-inputs = refl
 
 lesser-fixed : responses (two_fixed_points 20) lesser_bounds ≡ lesser_bounds
-unfolding two_fixed_points input response busy_window_bound jobs_in_busy_window window stream_eta_plus eta_plus stream_delta_minus delta_minus least_from greatest_to
+unfolding two_fixed_points input response anchors_within most_of busy_window_bound jobs_in_busy_window window stream_eta_plus eta_plus stream_delta_minus delta_minus least_from greatest_to
 lesser-fixed = refl
 
 greater-inputs : map (input (two_fixed_points 20) greater_bounds) (1 ∷ 3 ∷ []) ≡ map Some (model 100 79 1 ∷ model 100 79 1 ∷ [])
@@ -87,7 +89,7 @@ unfolding two_fixed_points input
 greater-inputs = refl
 
 greater-fixed : responses (two_fixed_points 20) greater_bounds ≡ greater_bounds
-unfolding two_fixed_points input response busy_window_bound jobs_in_busy_window window stream_eta_plus eta_plus stream_delta_minus delta_minus least_from greatest_to
+unfolding two_fixed_points input response anchors_within most_of busy_window_bound jobs_in_busy_window window stream_eta_plus eta_plus stream_delta_minus delta_minus least_from greatest_to
 greater-fixed = refl
 
 later-inputs : map (input (two_fixed_points 22) later_bounds) (1 ∷ 3 ∷ []) ≡ map Some (model 100 81 1 ∷ model 100 79 1 ∷ [])
@@ -95,7 +97,7 @@ unfolding two_fixed_points input
 later-inputs = refl
 
 later-fixed : responses (two_fixed_points 22) later_bounds ≡ later_bounds
-unfolding two_fixed_points input response busy_window_bound jobs_in_busy_window window stream_eta_plus eta_plus stream_delta_minus delta_minus least_from greatest_to
+unfolding two_fixed_points input response anchors_within most_of busy_window_bound jobs_in_busy_window window stream_eta_plus eta_plus stream_delta_minus delta_minus least_from greatest_to
 later-fixed = refl
 
 -- a task that two sources start, and one that it starts
@@ -117,7 +119,7 @@ unfolding two_activators input
 two_activators-inputs = refl
 
 two_activators-fixed : responses two_activators two_activators_bounds ≡ two_activators_bounds
-unfolding two_activators input response busy_window_bound jobs_in_busy_window window stream_eta_plus eta_plus stream_delta_minus delta_minus least_from greatest_to
+unfolding two_activators input response anchors_within most_of busy_window_bound jobs_in_busy_window window stream_eta_plus eta_plus stream_delta_minus delta_minus least_from greatest_to
 two_activators-fixed = refl
 
 -- a source whose events reach a task twice
@@ -139,7 +141,7 @@ unfolding shared_source input
 shared_source-inputs = refl
 
 shared_source-fixed : responses shared_source shared_source_bounds ≡ shared_source_bounds
-unfolding shared_source input response busy_window_bound jobs_in_busy_window window stream_eta_plus eta_plus stream_delta_minus delta_minus least_from greatest_to
+unfolding shared_source input response anchors_within most_of busy_window_bound jobs_in_busy_window window stream_eta_plus eta_plus stream_delta_minus delta_minus least_from greatest_to
 shared_source-fixed = refl
 
 -- three tasks of one processor, where those of lower priority have regions
@@ -158,7 +160,7 @@ regions =
     }
 
 regions-fixed : responses regions (map Within (6 ∷ 10 ∷ 26 ∷ [])) ≡ map Within (6 ∷ 10 ∷ 26 ∷ [])
-unfolding regions input response busy_window_bound jobs_in_busy_window window stream_eta_plus eta_plus stream_delta_minus delta_minus least_from greatest_to
+unfolding regions input response anchors_within most_of busy_window_bound jobs_in_busy_window window stream_eta_plus eta_plus stream_delta_minus delta_minus least_from greatest_to
 regions-fixed = refl
 
 -- The network of a car: six processors and two CAN buses. Chain k has three tasks, which begin at place 3 * k: a sensor's
@@ -201,5 +203,5 @@ unfolding car_network car_bounds input
 car_network-inputs = refl
 
 car_network-bounds : map (response car_network car_bounds) (0 ∷ 1 ∷ 2 ∷ []) ≡ map Within (200 ∷ 540 ∷ 700 ∷ [])
-unfolding car_network car_bounds input response busy_window_bound jobs_in_busy_window window stream_eta_plus eta_plus stream_delta_minus delta_minus least_from greatest_to
+unfolding car_network car_bounds input response anchors_within most_of busy_window_bound jobs_in_busy_window window stream_eta_plus eta_plus stream_delta_minus delta_minus least_from greatest_to
 car_network-bounds = refl

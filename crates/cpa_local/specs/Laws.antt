@@ -1,14 +1,16 @@
 -- The main laws of the analysis of a system, as the public functions of the crate state them.
-use Rattle.std.specs.Prelude.{◌≡◌, ◌<◌, ℕ, List, length, map, Some}
+use Rattle.std.specs.Prelude.{◌≡◌, ◌<◌, ℕ, List, length, map, Some, false}
 use Rattle.cpa_units.specs.declared.bound.Bound.{Bound}
 use Rattle.cpa_units.specs.Bounds.{IsNowhereAbove}
 use Rattle.cpa_units.specs.declared.places.SourceId.{SourceId}
 use Rattle.cpa_events.specs.declared.stream.Stream.{Stream}
 use Rattle.cpa_events.specs.Events.{Model}
+use Rattle.cpa_model.specs.Clocks.{has_clocks}
 use Rattle.cpa_model.specs.SystemLists.{SystemLists, source_at, streams_of}
 use Rattle.cpa_model.specs.Rules.{IsSystem}
 use Rattle.cpa_local.specs.Inputs.{input}
-use Rattle.cpa_local.specs.Local.{responses}
+use Rattle.cpa_local.specs.Local.{response, responses}
+use Rattle.cpa_local.specs.Plain.{plain_response}
 use Rattle.cpa_local.specs.Raising.{IsRaising}
 use Rattle.cpa_local.specs.Solution.{IsVector, IsClosed, IsLeast, least_of}
 
@@ -22,6 +24,10 @@ InputsFollowStreams =
 abbrev pub ResponsesAreMonotone : Type 0
 ResponsesAreMonotone =
     (s : SystemLists) (x y : List Bound) → IsNowhereAbove x y → IsNowhereAbove (responses s x) (responses s y)
+
+-- where no source is on a clock, bounds are those without clocks
+abbrev pub PlainResponsesAreTheSame : Type 0
+PlainResponsesAreTheSame = (s : SystemLists) (x : List Bound) (i : ℕ) → has_clocks s ≡ false → response s x i ≡ plain_response s x i
 
 -- each system has a least solution
 abbrev pub LeastExists : Type 0

@@ -1,8 +1,10 @@
 pub mod Inputs
 pub mod Gathered
 pub mod Laws
+pub mod OnClocks
 pub mod Local
 pub mod Blocking
+pub mod Plain
 pub mod Paths
 pub mod Solution
 pub mod Trails

@@ -1,16 +1,31 @@
 -- What is worked out once for the analyses of one resource's tasks. No contract of a public call speaks of it.
-use Rattle.std.specs.Prelude.{ℕ, ◌≡◌, ◌<◌, ◌≤◌, List, length, Option}
-use Rattle.std.specs.Bool.{OnTrue}
+use Rattle.std.specs.Prelude.{ℕ, ◌≡◌, ◌<◌, ◌≤◌, Bool, List, [], length, map, Option, None, slice_index_or}
+use Rattle.std.specs.Bool.{OnTrue, OnFalse}
+use Rattle.std.specs.List.{range_with_len}
 use Rattle.cpa_units.specs.declared.bound.Bound.{Bound}
 use Rattle.cpa_events.specs.Events.{Model}
+use Rattle.cpa_clock.specs.declared.anchor.Anchor.{Anchor}
+use Rattle.cpa_clock.specs.Rivals.{ClockedRival}
+use Rattle.cpa_clock.specs.Wider.{AreOffClocks}
+use Rattle.cpa_clock.specs.Gathered.{IsInputOn, added_rival}
+use Rattle.cpa_model.specs.Clocks.{clock_cycle}
 use Rattle.cpa_model.specs.declared.entries.Kind.{Kind}
 use Rattle.cpa_model.specs.declared.entries.Kind.TheVariants.{Preemptive, RoundRobin, Tdma, Can}
 use Rattle.cpa_model.specs.SystemLists.{SystemLists, task_at, resource_at, cycle_of}
 use Rattle.cpa_model.specs.Kinds.{wants_inputs, blocking_by}
 use Rattle.cpa_local.specs.Inputs.{AreInputs}
+use Rattle.cpa_local.specs.OnClocks.{anchor_list, anchors_of}
 
--- the inputs, by the tasks' places, the cycle, and the longest blocking that were worked out last
+-- whether a stream of a task is on a clock, and then the cycles of clocks, by the places of sources, and where each task's streams
+-- are on clocks, by the tasks' places
+pub record Clocked : Type 0 where
+  pub on : Bool
+  pub cycles : List ℕ
+  pub anchors : List (List (Option Anchor))
+
+-- the inputs, by the tasks' places, the cycle, the longest blocking, and what is known of clocks, that were worked out last
 pub record Worked : Type 0 where
+  pub clocks : Clocked
   pub inputs : List (Option Model)
   pub cycle : ℕ
   pub longest : ℕ
@@ -33,8 +48,39 @@ HasLongest s r longest (Can bit) = Unit {0}
 abbrev pub HasInputs : SystemLists → ℕ → List Bound → List (Option Model) → Kind → Type 0
 HasInputs s r x inputs kind = OnTrue (wants_inputs kind) (AreInputs s r x inputs)
 
+-- no stream of a task on r is on a clock
+abbrev pub IsOffClocks : SystemLists → ℕ → Type 0
+IsOffClocks s r = (i : ℕ) → i < length s.tasks → (task_at s i).res.0 ≡ r → AreOffClocks (anchors_of s i)
+
+-- where the streams of the tasks on r are on clocks
+pub record HasAnchors (s : SystemLists) (r : ℕ) (clocks : Clocked) : Type 0 where
+  pub cycles : clocks.cycles ≡ map (clock_cycle s) (range_with_len 0 (length s.sources))
+  pub long : length s.tasks ≤ length clocks.anchors
+  pub anchors : (i : ℕ) → i < length s.tasks → (task_at s i).res.0 ≡ r → slice_index_or clocks.anchors i [] ≡ anchor_list s i
+
+-- they are on none, or it is known where
+pub record AreAnchored (s : SystemLists) (r : ℕ) (clocks : Clocked) : Type 0 where
+  pub some : OnTrue clocks.on (HasAnchors s r clocks)
+  pub none : OnFalse clocks.on (IsOffClocks s r)
+
+-- the same where bounds are by clocks
+abbrev pub HasClocks : SystemLists → ℕ → Clocked → Kind → Type 0
+HasClocks s r clocks Preemptive = AreAnchored s r clocks
+HasClocks s r clocks RoundRobin = Unit {0}
+HasClocks s r clocks (Tdma gap) = Unit {0}
+HasClocks s r clocks (Can bit) = AreAnchored s r clocks
+
+-- a task as its neighbours see it, where this list has the inputs
+abbrev pub clocked_rival_by : SystemLists → List (Option Model) → ℕ → ClockedRival
+clocked_rival_by s inputs j = added_rival (slice_index_or inputs j None) (anchor_list s j) (task_at s j).worst
+
+-- the streams of the inputs of the tasks on r are on these clocks
+abbrev pub AreInputsOn : SystemLists → ℕ → List ℕ → List (Option Model) → Type 0
+AreInputsOn s r cycles inputs = (i : ℕ) → i < length s.tasks → (task_at s i).res.0 ≡ r → IsInputOn cycles (anchor_list s i) (slice_index_or inputs i None)
+
 -- it is what the analyses of r's tasks at x share
 pub record IsPrepared (s : SystemLists) (r : ℕ) (x : List Bound) (work : Worked) : Type 0 where
   pub cycle : HasCycle s r work.cycle (resource_at s r).kind
   pub longest : HasLongest s r work.longest (resource_at s r).kind
   pub inputs : HasInputs s r x work.inputs (resource_at s r).kind
+  pub clocks : HasClocks s r work.clocks (resource_at s r).kind

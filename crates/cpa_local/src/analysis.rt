@@ -1,6 +1,6 @@
 //! The bound of one task, by the rule of its resource's kind. All times are in ticks.
 
-ghost use Rattle.std.specs.Prelude.{◌≡◌, ℕ, ◌<◌, ◌≤◌, List, length, vec_capacity};
+ghost use Rattle.std.specs.Prelude.{◌≡◌, ℕ, ◌<◌, ◌≤◌, List, Some, length, vec_capacity, IfOk};
 ghost use Rattle.cpa_units.specs.declared.bound.Bound.{Bound};
 ghost use Rattle.cpa_units.specs.Numbers.{IsExecution};
 ghost use Rattle.cpa_events.specs.Events.{IsModelInRange};
@@ -9,29 +9,41 @@ ghost use Rattle.cpa_model.specs.SystemLists.{task_at, tasks_on, resource_of, sl
 ghost use Rattle.cpa_model.specs.Rules.{IsSystem};
 ghost use Rattle.cpa_local.specs.Local.{bound_by_kind, response};
 ghost use Rattle.cpa_local.specs.Solution.{IsVector};
-ghost use Rattle.cpa_local.specs.Inputs.{AreInputs};
+ghost use Rattle.cpa_local.specs.Inputs.{AreInputs, input};
 ghost use Rattle.cpa_local.specs.Trails.{IsKept, NewMarksAre, AreMarked};
-ghost use Rattle.cpa_local.specs.Worked.{IsPrepared, HasCycle, HasLongest, HasInputs};
+ghost use Rattle.cpa_local.specs.Worked.{IsPrepared, HasCycle, HasLongest, HasInputs, HasClocks, AreAnchored};
+ghost use Rattle.cpa_local.specs.Blocking.{blocking_of};
+ghost use Rattle.cpa_units.specs.declared.limits.TheConstants.{MAX_EXECUTION};
 
+use crate::by_clocks::{can_by_clocks, preemptive_by_clocks};
+use crate::clocks::Clocks;
 use crate::neighbours::{blocking, blocking_by_region, gather_higher, gather_others};
 use crate::prepared_inputs::own_input;
 use crate::scratch::{Scratch, Shared, make_rivals};
 use crate::trail::Trail;
+use cpa_clock::{Gathered, plain_bounds_are_the_same};
 use cpa_events::Model;
 use cpa_model::{Kind, System};
-use cpa_units::{Bound, TaskId, Vector};
+use cpa_units::{Bound, NoMemory, TaskId, Vector};
 use cpa_window::Rival;
+use std::alloc::Global;
 
 /// The bound of a task at a vector, in ticks: the component of the analysis for that task, where all
 /// other tasks keep to their bounds (Richter's thesis, 2005). `Overload` where its input is unbounded,
 /// or by the rule of its resource's kind. It is computed in the trail's room, which must be enough for
-/// all tasks, and the task is marked.
+/// all tasks; where a system has clocks, more may be wanted. The task is marked.
 #[tactic(auto, unfolding(crate::specs::Local::response))]
-pub fn respond(system: &System, task: TaskId, x: &Vector, trail: &mut Trail) -> Bound
+pub fn respond(
+    alloc: Global,
+    system: &System,
+    task: TaskId,
+    x: &Vector,
+    trail: &mut Trail,
+) -> Result<Bound, NoMemory>
     requires there { task.0 < length system.now.tasks }
     requires vector { IsVector system.now x.now }
     requires room { length system.now.tasks ≤ trail.old.room }
-    ensures value { result ≡ response system.now x.now task.0 }
+    ensures value { IfOk result (λ b. b ≡ response system.now x.now task.0) }
     ensures kept { IsKept trail.old trail.new }
     ensures fresh { NewMarksAre trail.old trail.new (λ i. i ≡ task.0) }
     ensures marked { AreMarked trail.new (λ i. i ≡ task.0) }
@@ -39,24 +51,25 @@ pub fn respond(system: &System, task: TaskId, x: &Vector, trail: &mut Trail) -> 
     let tasks = system.tasks();
     prove!(tasks <= 8192);
     trail.mark(task);
-    trail.work.prepare(system, system.task(task).res, x);
-    respond_prepared(system, task, x, &mut trail.work)
+    trail.work.prepare(system, system.task(task).res, x)?;
+    respond_prepared(alloc, system, task, x, &mut trail.work)
 }
 
 /// The same, where what the analyses on the task's resource share at the vector is worked out. It stays
 /// as it is.
 #[tactic(auto, unfolding(crate::specs::Local::response))]
 pub(crate) fn respond_prepared(
+    alloc: Global,
     system: &System,
     task: TaskId,
     x: &Vector,
     work: &mut Scratch,
-) -> Bound
+) -> Result<Bound, NoMemory>
     requires there { task.0 < length system.now.tasks }
     requires vector { IsVector system.now x.now }
     requires room { length system.now.tasks ≤ length work.old.inputs }
     requires prepared { IsPrepared system.now (task_at system.now task.0).res.0 x.now work.old }
-    ensures value { result ≡ response system.now x.now task.0 }
+    ensures value { IfOk result (λ b. b ≡ response system.now x.now task.0) }
     ensures same { work.new ≡ work.old }
 {
     make_rivals(
@@ -65,9 +78,10 @@ pub(crate) fn respond_prepared(
     );
     let inputs = work.inputs.as_slice();
     let Some(own) = own_input(system, task, x, inputs, &mut work.found) else {
-        return Bound::Overload;
+        return Ok(Bound::Overload);
     };
     bound_by_kind(
+        alloc,
         system,
         task,
         x,
@@ -75,11 +89,14 @@ pub(crate) fn respond_prepared(
         work.shared,
         inputs,
         work.rivals.as_mut_slice(),
+        &work.clocks,
+        &mut work.gathered,
     )
 }
 
 /// The bound of a task with a bounded input, by the rule of the resource's kind.
 fn bound_by_kind(
+    alloc: Global,
     system: &System,
     task: TaskId,
     x: &Vector,
@@ -87,52 +104,74 @@ fn bound_by_kind(
     shared: Shared,
     inputs: &[Option<Model>],
     rivals: &mut [Rival],
-) -> Bound
+    clocks: &Clocks,
+    gathered: &mut Gathered,
+) -> Result<Bound, NoMemory>
     requires rules { IsSystem system.now }
     requires there { task.0 < length system.now.tasks }
     requires vector { IsVector system.now x.now }
     requires own { IsModelInRange own.now }
+    requires received { input system.now x.now task.0 ≡ Some own.now }
     requires long { length system.now.tasks ≤ length inputs.now }
     requires cycle { HasCycle system.now (task_at system.now task.0).res.0 shared.cycle (resource_of system.now task.0).kind }
     requires longest { HasLongest system.now (task_at system.now task.0).res.0 shared.longest (resource_of system.now task.0).kind }
     requires known { HasInputs system.now (task_at system.now task.0).res.0 x.now inputs.now (resource_of system.now task.0).kind }
+    requires clocks { HasClocks system.now (task_at system.now task.0).res.0 clocks.now (resource_of system.now task.0).kind }
     requires room { length (tasks_on system.now (task_at system.now task.0).res.0) ≤ length rivals.old }
-    ensures value { result ≡ bound_by_kind system.now x.now task.0 own.now (resource_of system.now task.0).kind }
+    ensures value { IfOk result (λ b. b ≡ bound_by_kind system.now x.now task.0 own.now (resource_of system.now task.0).kind) }
     ensures room { length rivals.new ≡ length rivals.old }
 {
     match system.resource(system.task(task).res).kind {
-        Kind::Preemptive => preemptive(system, task, x, own, shared.longest, inputs, rivals),
-        Kind::RoundRobin => round_robin(system, task, x, own, inputs, rivals),
-        Kind::Tdma { gap: _ } => tdma(system, task, own, shared.cycle),
-        Kind::Can { bit } => can(system, task, x, own, bit, inputs, rivals),
+        Kind::Preemptive => {
+            let blocking = blocking_by_region(system, task, shared.longest);
+            preemptive(
+                alloc, system, task, x, own, blocking, inputs, rivals, clocks, gathered,
+            )
+        }
+        Kind::RoundRobin => Ok(round_robin(system, task, x, own, inputs, rivals)),
+        Kind::Tdma { gap: _ } => Ok(tdma(system, task, own, shared.cycle)),
+        Kind::Can { bit } => can(
+            alloc, system, task, x, own, bit, inputs, rivals, clocks, gathered,
+        ),
     }
 }
 
-/// The bound under preemptive priority, where no task on the resource blocks others by more ticks than the longest.
+/// The bound under preemptive priority of a task that is blocked for so many ticks at most.
 fn preemptive(
+    alloc: Global,
     system: &System,
     task: TaskId,
     x: &Vector,
     own: &Model,
-    longest: u64,
+    blocking: u64,
     inputs: &[Option<Model>],
     rivals: &mut [Rival],
-) -> Bound
+    clocks: &Clocks,
+    gathered: &mut Gathered,
+) -> Result<Bound, NoMemory>
+    requires rules { IsSystem system.now }
     requires there { task.0 < length system.now.tasks }
     requires vector { IsVector system.now x.now }
     requires own { IsModelInRange own.now }
+    requires received { input system.now x.now task.0 ≡ Some own.now }
+    requires blocking { blocking ≡ blocking_of system.now Preemptive task.0 }
+    requires small { blocking ≤ MAX_EXECUTION }
     requires long { length system.now.tasks ≤ length inputs.now }
     requires known { AreInputs system.now (task_at system.now task.0).res.0 x.now inputs.now }
-    requires longest { HasLongest system.now (task_at system.now task.0).res.0 longest Preemptive }
+    requires clocks { AreAnchored system.now (task_at system.now task.0).res.0 clocks.now }
     requires room { length (tasks_on system.now (task_at system.now task.0).res.0) ≤ length rivals.old }
-    ensures value { result ≡ bound_by_kind system.now x.now task.0 own.now Preemptive }
+    ensures value { IfOk result (λ b. b ≡ bound_by_kind system.now x.now task.0 own.now Preemptive) }
     ensures room { length rivals.new ≡ length rivals.old }
 {
+    if clocks.is_on() {
+        return preemptive_by_clocks(alloc, system, task, own, blocking, inputs, clocks, gathered);
+    }
+    plain_bounds_are_the_same();
     let count = gather_higher(system, task, x, inputs, rivals);
     let entry = system.task(task);
     let limit = system.resource(entry.res).limit;
-    let blocking = blocking_by_region(system, task, longest);
-    cpa_spp::respond(own, entry.worst, blocking, &rivals[..count], limit)
+    let rivals = &rivals[..count];
+    Ok(cpa_spp::respond(own, entry.worst, blocking, rivals, limit))
 }
 
 /// The bound under slotted round robin.
@@ -176,6 +215,7 @@ fn tdma(system: &System, task: TaskId, own: &Model, cycle: u64) -> Bound
 
 /// The bound on a CAN bus whose bits take so many ticks.
 fn can(
+    alloc: Global,
     system: &System,
     task: TaskId,
     x: &Vector,
@@ -183,20 +223,32 @@ fn can(
     bit: u64,
     inputs: &[Option<Model>],
     rivals: &mut [Rival],
-) -> Bound
+    clocks: &Clocks,
+    gathered: &mut Gathered,
+) -> Result<Bound, NoMemory>
+    requires rules { IsSystem system.now }
     requires there { task.0 < length system.now.tasks }
     requires kind { (resource_of system.now task.0).kind ≡ Can bit }
     requires vector { IsVector system.now x.now }
     requires own { IsModelInRange own.now }
+    requires received { input system.now x.now task.0 ≡ Some own.now }
     requires long { length system.now.tasks ≤ length inputs.now }
     requires known { AreInputs system.now (task_at system.now task.0).res.0 x.now inputs.now }
+    requires clocks { AreAnchored system.now (task_at system.now task.0).res.0 clocks.now }
     requires room { length (tasks_on system.now (task_at system.now task.0).res.0) ≤ length rivals.old }
-    ensures value { result ≡ bound_by_kind system.now x.now task.0 own.now (Can bit) }
+    ensures value { IfOk result (λ b. b ≡ bound_by_kind system.now x.now task.0 own.now (Can bit)) }
     ensures room { length rivals.new ≡ length rivals.old }
 {
+    let longest = blocking(system, task, Kind::Can { bit });
+    if clocks.is_on() {
+        return can_by_clocks(
+            alloc, system, task, own, longest, bit, inputs, clocks, gathered,
+        );
+    }
+    plain_bounds_are_the_same();
     let count = gather_higher(system, task, x, inputs, rivals);
     let entry = system.task(task);
     let limit = system.resource(entry.res).limit;
-    let longest = blocking(system, task, Kind::Can { bit });
-    cpa_can::respond(own, entry.worst, longest, &rivals[..count], bit, limit)
+    let rivals = &rivals[..count];
+    Ok(cpa_can::respond(own, entry.worst, longest, rivals, bit, limit))
 }

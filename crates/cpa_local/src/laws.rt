@@ -1,8 +1,9 @@
 //! What holds of bounds and of least solutions, for crates that depend on this one.
 
-ghost use Rattle.cpa_local.specs.Laws.{InputsFollowStreams, ResponsesAreMonotone, LeastExists, LeastIsUnique, LeastIsFixed, ClosedBelowIsLeast, RaisingLiftsLeast};
+ghost use Rattle.cpa_local.specs.Laws.{InputsFollowStreams, ResponsesAreMonotone, PlainResponsesAreTheSame, LeastExists, LeastIsUnique, LeastIsFixed, ClosedBelowIsLeast, RaisingLiftsLeast};
 
 use crate::trail::Trail;
+use cpa_clock::plain_bounds_are_the_same;
 
 /// A bounded input has a stream for each of its task's streams, in their order, with the period of its
 /// source.
@@ -14,6 +15,13 @@ pub fn inputs_follow_streams()
 pub fn responses_are_monotone()
     ensures { ResponsesAreMonotone }
 {}
+
+/// Where no source is on a clock, bounds are those without clocks.
+pub fn plain_responses_are_the_same()
+    ensures { PlainResponsesAreTheSame }
+{
+    plain_bounds_are_the_same();
+}
 
 /// What threads may be handed and may share.
 fn crosses_threads<T: Send + Sync>(_value: &T) {}

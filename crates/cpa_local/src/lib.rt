@@ -6,7 +6,11 @@
 #![tactic(auto)]
 
 mod analysis;
+mod anchor_list;
+mod anchoring;
+mod by_clocks;
 mod chain_walks;
+mod clocks;
 mod gathering;
 mod inputs;
 mod laws;
@@ -21,7 +25,8 @@ mod trail;
 pub use analysis::respond;
 pub use inputs::input;
 pub use laws::{
-    inputs_follow_streams, least_solutions_have_laws, responses_are_monotone, trails_cross_threads,
+    inputs_follow_streams, least_solutions_have_laws, plain_responses_are_the_same,
+    responses_are_monotone, trails_cross_threads,
 };
 pub use paths::{
     DeadlineVerdict, count_missed, count_overloads, deadline_verdict, is_missed, is_overload,

@@ -2,6 +2,7 @@
 
 ghost use Rattle.std.specs.Prelude.{◌≡◌, ◌<◌, ◌≤◌, ◌-◌, length, Some, None, slice_index_or, IfSome};
 ghost use Rattle.std.specs.Option.{ForSome, option_copied};
+ghost use Rattle.std.specs.Result.{OnOk};
 ghost use Rattle.cpa_units.specs.declared.limits.TheConstants.{MAX_LIMIT};
 ghost use Rattle.cpa_units.specs.Bounds.{bound_of};
 ghost use Rattle.cpa_events.specs.declared.stream.TheConstants.{MAX_MODEL_JITTER};
@@ -9,7 +10,7 @@ ghost use Rattle.cpa_events.specs.Events.{IsModelInRange, HasJitterUpTo};
 ghost use Rattle.cpa_model.specs.SystemLists.{task_at, resource_at, resource_of};
 ghost use Rattle.cpa_local.specs.Inputs.{AreInputs, AreKnown, input, output_of, found_if};
 ghost use Rattle.cpa_local.specs.Solution.{IsVector};
-ghost use Rattle.cpa_local.specs.Worked.{IsPrepared, HasCycle, HasLongest, HasInputs};
+ghost use Rattle.cpa_local.specs.Worked.{IsPrepared, HasCycle, HasLongest, HasInputs, HasClocks};
 
 use crate::chain_walks::only_task;
 use crate::gathering::find_along;
@@ -18,17 +19,22 @@ use crate::neighbours::longest_blocking;
 use crate::scratch::Scratch;
 use cpa_events::Model;
 use cpa_model::{Kind, System};
-use cpa_units::{Bound, ResId, TaskId, Vector};
+use cpa_units::{Bound, NoMemory, ResId, TaskId, Vector};
 
 impl Scratch {
     /// Works out what the analyses of a resource's tasks at a vector share, in place of what it was
-    /// before: the cycle under TDMA, else the input of each task, and under preemptive priority by how much
-    /// one blocks others at most.
-    pub(crate) fn prepare(&mut self, system: &System, res: ResId, x: &Vector)
+    /// before: the cycle under TDMA, else the input of each task, where tasks have priorities also where their
+    /// streams are on clocks, and under preemptive priority by how much one blocks others at most.
+    pub(crate) fn prepare(
+        &mut self,
+        system: &System,
+        res: ResId,
+        x: &Vector,
+    ) -> Result<(), NoMemory>
         requires there { res.0 < length system.now.resources }
         requires vector { IsVector system.now x.now }
         requires room { length system.now.tasks ≤ length self.old.inputs }
-        ensures prepared { IsPrepared system.now res.0 x.now self.new }
+        ensures prepared { OnOk result (IsPrepared system.now res.0 x.now self.new) }
         ensures room { length self.new.inputs ≡ length self.old.inputs }
     {
         match system.resource(res).kind {
@@ -36,11 +42,17 @@ impl Scratch {
                 self.shared.cycle = system.cycle(res);
             }
             Kind::Preemptive => {
+                self.clocks.learn(system, res)?;
                 self.shared.longest = longest_blocking(system, res);
                 learn(system, res, x, &mut self.inputs, &mut self.found);
             }
-            _ => learn(system, res, x, &mut self.inputs, &mut self.found),
+            Kind::RoundRobin => learn(system, res, x, &mut self.inputs, &mut self.found),
+            Kind::Can { bit: _ } => {
+                self.clocks.learn(system, res)?;
+                learn(system, res, x, &mut self.inputs, &mut self.found);
+            }
         }
+        Ok(())
     }
 
     /// The same where it was worked out for the resource, at any vector of the system.
@@ -50,6 +62,7 @@ impl Scratch {
         requires room { length system.now.tasks ≤ length self.old.inputs }
         requires cycle { HasCycle system.now res.0 self.old.cycle (resource_at system.now res.0).kind }
         requires longest { HasLongest system.now res.0 self.old.longest (resource_at system.now res.0).kind }
+        requires clocks { HasClocks system.now res.0 self.old.clocks (resource_at system.now res.0).kind }
         ensures prepared { IsPrepared system.now res.0 x.now self.new }
         ensures room { length self.new.inputs ≡ length self.old.inputs }
     {

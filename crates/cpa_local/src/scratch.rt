@@ -2,6 +2,8 @@
 
 ghost use Rattle.std.specs.Prelude.{◌≡◌, ◌≤◌, length, vec_capacity, IfOk};
 
+use crate::clocks::Clocks;
+use cpa_clock::Gathered;
 use cpa_events::{Model as EventModel, Stream};
 use cpa_units::{Bound, NoMemory};
 use cpa_window::Rival;
@@ -20,6 +22,10 @@ pub(crate) struct Scratch {
     pub(crate) found: EventModel,
     /// What else was worked out last.
     pub(crate) shared: Shared,
+    /// What was worked out last of clocks.
+    pub(crate) clocks: Clocks,
+    /// The rivals that were gathered last by clocks.
+    pub(crate) gathered: Gathered,
 }
 
 /// What the analyses of one resource's tasks share besides the inputs.
@@ -37,7 +43,7 @@ impl Model for Scratch {
 
     ghost Value = { Worked };
 
-    ghost view = { λ w. record { inputs = w.inputs.items; cycle = w.shared.cycle; longest = w.shared.longest } };
+    ghost view = { λ w. record { clocks = w.clocks; inputs = w.inputs.items; cycle = w.shared.cycle; longest = w.shared.longest } };
 
     ghost invariant = { λ w. length w.inputs.items ≤ vec_capacity w.rivals };
 }
@@ -60,6 +66,8 @@ impl Scratch {
                 cycle: 0,
                 longest: 0,
             },
+            clocks: Clocks::none(alloc),
+            gathered: Gathered::new(alloc),
         })
     }
 }

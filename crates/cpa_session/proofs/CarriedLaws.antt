@@ -205,11 +205,12 @@ module _ (s t : SystemLists) (touched reached none : List Bool) (h : IsReach s t
 -- ---- what can be reached
 
 -- the two cones together have every resource that reads a member
-pub reach-from_cones : (s t : SystemLists) (touched before after reached : List Bool) (was : ℕ → ℕ) → IsSystem t → IsSpared s t touched was
+pub reach-from_cones : (s t : SystemLists) (touched before after reached : List Bool) (was : ℕ → ℕ) → IsSystem s → IsSystem t → IsSpared s t touched was
     → ((r : ℕ) → Members before r ↔ InCone s (Members touched) r) → ((r : ℕ) → Members after r ↔ InCone t (Members touched) r)
     → ((r : ℕ) → holds reached r ≡ (holds before r || holds after r)) → IsReach s t touched reached was
-reach-from_cones s t touched before after reached was rules spared old_cone new_cone union =
+reach-from_cones s t touched before after reached was old_rules rules spared old_cone new_cone union =
     record {
+      before = old_rules;
       rules = rules;
       spared = spared;
       wider = λ r on. from_after r ((new_cone r).1 (start on));
@@ -231,6 +232,7 @@ reach-from_cones s t touched before after reached was rules spared old_cone new_
     by_new : IsReach s t touched after was
     by_new =
         record {
+          before = old_rules;
           rules = rules;
           spared = spared;
           wider = λ r on. (new_cone r).1 (start on);

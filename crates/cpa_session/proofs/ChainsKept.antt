@@ -8,10 +8,10 @@ use Rattle.cpa_units.specs.declared.places.ResId.{ResId}
 use Rattle.cpa_model.specs.declared.entries.Task.{Task}
 use Rattle.cpa_model.specs.declared.entries.Turn.TheVariants as turn
 use Rattle.cpa_model.specs.SystemLists.{SystemLists, task_at, no_task, is_task}
-use Rattle.cpa_model.specs.Changes.{with_task_at, with_exec, with_turn, with_swapped, with_source, with_task, without_task}
+use Rattle.cpa_model.specs.Changes.{with_task_at, with_exec, with_turn, with_swapped, with_source, with_offset, with_task, without_task}
 use Rattle.cpa_depend.specs.Cone.{Activates, LeadsTo, directly, through, Reads, itself, earlier, AreReads}
 use Rattle.cpa_edit.specs.declared.edit.Edit.{Edit}
-use Rattle.cpa_edit.specs.declared.edit.Edit.TheVariants.{Exec, Priority, Swap, Slot, Source as SourceEdit, Add, Remove}
+use Rattle.cpa_edit.specs.declared.edit.Edit.TheVariants.{Exec, Priority, Swap, Slot, Source as SourceEdit, Offset, Add, Remove}
 use Rattle.cpa_edit.specs.Edited.{edited, change}
 use Rattle.cpa_edit.specs.Named.{task_place}
 use Rattle.cpa_units.specs.declared.bound.Bound.{Bound}
@@ -73,7 +73,7 @@ in_chains-trans s t u h k =
     record { resources = h.resources ∙ k.resources; res = λ i. h.res i ∙ k.res i; after = λ i. h.after i ∙ k.after i }
 
 in_chains-change : (s : SystemLists) (e : Edit) → keeps_chains e ≡ true → IsInChains s (change s e)
-unfolding change with_exec with_turn with_swapped with_source
+unfolding change with_exec with_turn with_swapped with_source with_offset
 in_chains-change s (Exec task best worst) on = in_chains-set s (task_place s task) (record (task_at s (task_place s task)) { best = best; worst = worst }) refl refl
 in_chains-change s (Priority task number) on = in_chains-set s (task_place s task) (record (task_at s (task_place s task)) { turn = turn.Priority number }) refl refl
 in_chains-change s (Slot task ticks) on = in_chains-set s (task_place s task) (record (task_at s (task_place s task)) { turn = turn.Slot ticks }) refl refl
@@ -85,6 +85,7 @@ in_chains-change s (Swap first second) on =
     let v : Task = record (task_at m j) { turn = (task_at s i).turn } in
     in_chains-trans s m (with_task_at m j v) (in_chains-set s i u refl refl) (in_chains-set m j v refl refl)
 in_chains-change s (SourceEdit name period jitter distance) on = record { resources = refl; res = λ i. refl; after = λ i. refl }
+in_chains-change s (Offset name offset) on = record { resources = refl; res = λ i. refl; after = λ i. refl }
 in_chains-change s (Add name res after best worst number) on = absurd (false≢true on)
 in_chains-change s (Remove task) on = absurd (false≢true on)
 
@@ -95,12 +96,13 @@ table-kept_by s t e table made on = table-kept s t table (subst (IsInChains s) (
 
 -- no edit brings or takes a resource
 resources-change : (s : SystemLists) (e : Edit) → (change s e).resources ≡ s.resources
-unfolding change with_exec with_turn with_swapped with_source with_task without_task
+unfolding change with_exec with_turn with_swapped with_source with_offset with_task without_task
 resources-change s (Exec task best worst) = refl
 resources-change s (Priority task number) = refl
 resources-change s (Slot task ticks) = refl
 resources-change s (Swap first second) = refl
 resources-change s (SourceEdit name period jitter distance) = refl
+resources-change s (Offset name offset) = refl
 resources-change s (Add name res after best worst number) = refl
 resources-change s (Remove task) = refl
 
@@ -108,7 +110,7 @@ pub resources-kept_by : (s t : SystemLists) (e : Edit) → edited s e ≡ Ok t �
 resources-kept_by s t e made = ap length (sym (resources-change s e) ∙ ap (λ (u : SystemLists). u.resources) (unrefused s t e made).0)
 
 tasks-change : (s : SystemLists) (e : Edit) → keeps_chains e ≡ true → length (change s e).tasks ≡ length s.tasks
-unfolding change with_exec with_turn with_swapped with_source
+unfolding change with_exec with_turn with_swapped with_source with_offset
 tasks-change s (Exec task best worst) on = length-set s.tasks (task_place s task) (record (task_at s (task_place s task)) { best = best; worst = worst })
 tasks-change s (Priority task number) on = length-set s.tasks (task_place s task) (record (task_at s (task_place s task)) { turn = turn.Priority number })
 tasks-change s (Slot task ticks) on = length-set s.tasks (task_place s task) (record (task_at s (task_place s task)) { turn = turn.Slot ticks })
@@ -119,6 +121,7 @@ tasks-change s (Swap first second) on =
     let m : SystemLists = with_task_at s i u in
     length-set m.tasks j (record (task_at m j) { turn = (task_at s i).turn }) ∙ length-set s.tasks i u
 tasks-change s (SourceEdit name period jitter distance) on = refl
+tasks-change s (Offset name offset) on = refl
 tasks-change s (Add name res after best worst number) on = absurd (false≢true on)
 tasks-change s (Remove task) on = absurd (false≢true on)
 

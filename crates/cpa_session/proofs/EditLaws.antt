@@ -1,6 +1,6 @@
 -- What each edit spares, and which can only raise bounds.
-use Rattle.std.proofs.Common.{◌≡◌, ℕ, zero, suc, ◌+◌, ◌-◌, ◌<◌, ◌≤◌, ◌&&◌, nat_lt, length, Bool, true, false, List, [], ◌∷◌, ◌++◌, map, set, Some, None, refl, sym, ap, ◌∙◌, inl, inr, slice_index_or, arith, get_or-set_same, get_or-set_other}
-use Rattle.std.specs.Prelude.{filter, if◌then◌else◌}
+use Rattle.std.proofs.Common.{◌≡◌, ℕ, zero, suc, ◌+◌, ◌-◌, ◌<◌, ◌≤◌, ◌&&◌, nat_lt, length, Bool, true, false, List, [], ◌∷◌, ◌++◌, map, set, Some, None, refl, sym, ap, ◌∙◌, inl, inr, slice_index_or, arith, get_or-set_same, get_or-set_other, Option, slice_set}
+use Rattle.std.specs.Prelude.{filter, option_map, if◌then◌else◌}
 use Rattle.std.specs.List.{AllZip, range_with_len, remove, list_any}
 use Rattle.std.proofs.lemmas.Bool.{cases_Bool, cases_lt, cases_eq, false≢true, lt-ltb, le-ltb, eq-eqb, eqb-false, and_from}
 use Rattle.std.proofs.lemmas.List.{length-set, set_past, map-id, get_or_append_left, length_push, get_or_push, get_or-map, length-map, append-nil}
@@ -10,19 +10,20 @@ use Rattle.cpa_units.specs.Sets.{holds, Members}
 use Rattle.cpa_units.specs.declared.places.TaskId.{TaskId}
 use Rattle.cpa_units.proofs.PlaceLaws.{places, places-more}
 use Rattle.cpa_units.specs.declared.places.ResId.{ResId}
-use Rattle.cpa_events.specs.Events.{IsNoDenser}
-use Rattle.cpa_events.proofs.EventLaws.{IsNoDenser_refl}
+use Rattle.cpa_clock.specs.declared.anchor.Anchor.{Anchor}
 use Rattle.cpa_model.specs.declared.entries.Source.{Source}
 use Rattle.cpa_model.specs.declared.entries.Task.{Task}
 use Rattle.cpa_model.specs.declared.entries.Activator.{Activator}
 use Rattle.cpa_model.specs.declared.entries.Activator.TheVariants.{Source as FromSource, Task as FromTask}
 use Rattle.cpa_model.specs.SystemLists.{SystemLists, task_at, source_at, task_places, tasks_on, is_on, is_source, is_task, is_fed_by, is_activated_by, no_task, no_source}
 use Rattle.cpa_model.specs.Streams.{model_of}
-use Rattle.cpa_model.specs.Changes.{with_task_at, with_source, with_task, without_task, place_without, activator_without, task_without}
+use Rattle.cpa_model.specs.Clocks.{clock_name, clock_of, offset_of, offset_on, of_sources}
+use Rattle.cpa_model.proofs.KeptClocks.{clock-stays, moved-name}
+use Rattle.cpa_model.specs.Changes.{with_task_at, with_source, with_offset, at_offset, with_task, without_task, place_without, activator_without, task_without}
 use Rattle.cpa_edit.proofs.AnyLaws.{any-filter, place-any}
-use Rattle.cpa_local.specs.Raising.{IsDenserActivator, IsRaising}
+use Rattle.cpa_local.specs.OnClocks.{source_anchor}
 use Rattle.cpa_local.proofs.PassingPlaces.{filter-agree}
-use Rattle.cpa_local.proofs.RaisingChanges.{each-itself, raised-same}
+use Rattle.cpa_local.proofs.WiderLaws.{each-itself}
 use Rattle.cpa_session.specs.Spared.{place_before, IsSameActivator, IsSpared}
 use Rattle.cpa_session.proofs.SideBySide.{beside_none, beside_made}
 
@@ -94,11 +95,23 @@ filter-skip gone p a (suc m) low high off =
           rw here (filter-shift gone p a (suc m) not_before)
     ]
 
+-- ---- sources on clocks
+
+-- where another source stands at a place, on the same clock, all others are where they were
+anchor-beside : (s : SystemLists) (k : ℕ) (r : Source) (named : clock_name r.on_clock ≡ clock_name (source_at s k).on_clock) (j : ℕ) → (j ≡ k → ⊥)
+    → source_anchor (record s { sources = slice_set s.sources k r }) j ≡ source_anchor s j
+anchor-beside s k r named j other =
+    let t : SystemLists = record s { sources = slice_set s.sources k r } in
+    let offset : offset_of t j ≡ offset_of s j = ap (λ (u : Source). offset_on u.on_clock) (get_or-set_other s.sources k j r no_source other) in
+    let at : Option ℕ → ℕ → Option Anchor = λ clock ticks. option_map (λ c. record { clock = c; offset = ticks }) clock in
+    ap (λ o. at o (offset_of t j)) (clock-stays s k r named j) ∙ ap (λ n. at (clock_of s j) n) offset
+
 -- ---- edits of entries at their places
 
 -- tasks stay where they are, on their resources, and only those on touched resources change
 pub record IsInPlace (s t : SystemLists) (touched : List Bool) : Type 0 where
   pub resources : s.resources ≡ t.resources
+  pub sources : length s.sources ≡ length t.sources
   pub count : length s.tasks ≡ length t.tasks
   pub res : (i : ℕ) → (task_at s i).res.0 ≡ (task_at t i).res.0
   pub same : (i : ℕ) → holds touched (task_at t i).res.0 ≡ false → task_at s i ≡ task_at t i
@@ -109,7 +122,7 @@ SendSame s t touched = (i : ℕ) → i < length t.tasks → holds touched (task_
     → AllZip (IsSameActivator s t (place_before None)) (task_at t i).after (task_at t i).after
 
 same-source : (s t : SystemLists) → s.sources ≡ t.sources → (a : Activator) → IsSameActivator s t (place_before None) a a
-same-source s t e (FromSource k) = ap (λ (sources : List Source). model_of (slice_index_or sources k.0 no_source)) e
+same-source s t e (FromSource k) = (ap (λ (sources : List Source). model_of (slice_index_or sources k.0 no_source)) e, ap (λ (sources : List Source). source_anchor (of_sources sources) k.0) e)
 same-source s t e (FromTask j) = refl
 
 pub same-sources : (s t : SystemLists) (them : List Activator) → s.sources ≡ t.sources → AllZip (IsSameActivator s t (place_before None)) them them
@@ -119,6 +132,7 @@ pub spared-in_place : (s t : SystemLists) (touched : List Bool) → IsInPlace s 
 spared-in_place s t touched h sent =
     record {
       resources = h.resources;
+      sources = h.sources;
       apart = λ i j e. e;
       same = λ i less off.
           let it : task_at s i ≡ task_at t i = h.same i off in
@@ -146,6 +160,7 @@ pub in_place-set : (s : SystemLists) (p : ℕ) (u : Task) (touched : List Bool) 
 in_place-set s p u touched res on =
     record {
       resources = refl;
+      sources = refl;
       count = sym (length-set s.tasks p u);
       res = λ i. sym (res_at i);
       same = λ i off. elim (cases_eq i p) [
@@ -170,6 +185,7 @@ pub in_place-trans : (s t u : SystemLists) (touched : List Bool) → IsInPlace s
 in_place-trans s t u touched first second =
     record {
       resources = first.resources ∙ second.resources;
+      sources = first.sources ∙ second.sources;
       count = first.count ∙ second.count;
       res = λ i. first.res i ∙ second.res i;
       same = λ i off. first.same i (ap (holds touched) (second.res i) ∙ off) ∙ second.same i off;
@@ -179,9 +195,15 @@ in_place-trans s t u touched first second =
 pub in_place-source : (s : SystemLists) (k period jitter distance : ℕ) (touched : List Bool) → IsInPlace s (with_source s k period jitter distance) touched
 unfolding with_source
 in_place-source s k period jitter distance touched =
-    record { resources = refl; count = refl; res = λ i. refl; same = λ i off. refl }
+    record { resources = refl; sources = sym (length-set s.sources k (record (source_at s k) { period = period; jitter = jitter; distance = distance })); count = refl; res = λ i. refl; same = λ i off. refl }
 
-module _ (s : SystemLists) (k period jitter distance : ℕ) (touched : List Bool) (feeds : (r : ℕ) → holds touched r ≡ list_any (is_fed_by s k) (tasks_on s r)) where
+-- and so where it comes at another offset of its clock
+pub in_place-offset : (s : SystemLists) (k offset : ℕ) (touched : List Bool) → IsInPlace s (with_offset s k offset) touched
+unfolding with_offset
+in_place-offset s k offset touched =
+    record { resources = refl; sources = sym (length-set s.sources k (record (source_at s k) { on_clock = at_offset offset (source_at s k).on_clock })); count = refl; res = λ i. refl; same = λ i off. refl }
+
+module _ (s : SystemLists) (k : ℕ) (touched : List Bool) (feeds : (r : ℕ) → holds touched r ≡ list_any (is_fed_by s k) (tasks_on s r)) where
   -- a task that the source feeds is on a resource that is touched
   fed-touched : (i : ℕ) → i < length s.tasks → is_fed_by s k i ≡ true → Members touched (task_at s i).res.0
   fed-touched i less fed =
@@ -190,19 +212,30 @@ module _ (s : SystemLists) (k period jitter distance : ℕ) (touched : List Bool
       ∙ sym (place-any (λ j. is_on s (task_at s i).res.0 j && is_fed_by s k j) (length s.tasks) i less
       (and_from (is_on s (task_at s i).res.0 i) (is_fed_by s k i) (eq-eqb (task_at s i).res.0 (task_at s i).res.0 refl) fed))
 
-  by_other : (a : Activator) → is_source k a ≡ false → IsSameActivator s (with_source s k period jitter distance) (place_before None) a a
-  unfolding with_source
-  by_other (FromTask j) other = refl
-  by_other (FromSource m) other =
-      ap model_of (sym (get_or-set_other s.sources k m.0 (record (source_at s k) { period = period; jitter = jitter; distance = distance }) no_source (eqb-false m.0 k other)))
+  -- another source at its place, on the same clock
+  module _ (r : Source) (named : clock_name r.on_clock ≡ clock_name (source_at s k).on_clock) where
+    abbrev changed : SystemLists
+    changed = record s { sources = slice_set s.sources k r }
 
-  pub sent-source : SendSame s (with_source s k period jitter distance) touched
+    by_other : (a : Activator) → is_source k a ≡ false → IsSameActivator s changed (place_before None) a a
+    by_other (FromTask j) other = refl
+    by_other (FromSource m) other =
+        (ap model_of (sym (get_or-set_other s.sources k m.0 r no_source (eqb-false m.0 k other))), sym (anchor-beside s k r named m.0 (eqb-false m.0 k other)))
+
+    sent-changed : SendSame s changed touched
+    sent-changed i less off =
+        elim (cases_Bool (is_fed_by s k i)) [
+          | inl fed ↦ absurd (false≢true (sym off ∙ fed-touched i less fed))
+          | inr free ↦ beside_none (IsSameActivator s changed (place_before None)) (is_source k) (task_at s i).after free by_other
+        ]
+
+  pub sent-source : (period jitter distance : ℕ) → SendSame s (with_source s k period jitter distance) touched
   unfolding with_source
-  sent-source i less off =
-      elim (cases_Bool (is_fed_by s k i)) [
-        | inl fed ↦ absurd (false≢true (sym off ∙ fed-touched i less fed))
-        | inr free ↦ beside_none (IsSameActivator s (with_source s k period jitter distance) (place_before None)) (is_source k) (task_at s i).after free by_other
-      ]
+  sent-source period jitter distance = sent-changed (record (source_at s k) { period = period; jitter = jitter; distance = distance }) refl
+
+  pub sent-offset : (offset : ℕ) → SendSame s (with_offset s k offset) touched
+  unfolding with_offset
+  sent-offset offset = sent-changed (record (source_at s k) { on_clock = at_offset offset (source_at s k).on_clock }) (moved-name offset (source_at s k).on_clock)
 
 -- ---- a task more
 
@@ -242,6 +275,7 @@ module _ (s : SystemLists) (u : Task) (touched : List Bool) (on : Members touche
   spared-with_task =
       record {
         resources = resources-with_task;
+        sources = ap length sources-with_task;
         apart = λ i j e. e;
         same = λ i less off.
             let before = old-place i less off in
@@ -317,7 +351,8 @@ module _ (s : SystemLists) (gone : TaskId) (touched : List Bool) (there : gone.0
   resources-without = refl
 
   moved-one : (a : Activator) → is_task gone.0 a ≡ false → IsSameActivator s t (place_before (Some gone)) a (activator_without gone.0 a)
-  moved-one (FromSource k) other = ap (λ (sources : List Source). model_of (slice_index_or sources k.0 no_source)) sources-without
+  moved-one (FromSource k) other =
+      (ap (λ (sources : List Source). model_of (slice_index_or sources k.0 no_source)) sources-without, ap (λ (sources : List Source). source_anchor (of_sources sources) k.0) sources-without)
   moved-one (FromTask j) other = place-back gone.0 j.0 (eqb-false j.0 gone.0 other)
 
   moved : (i : ℕ) → i < length s.tasks → AllZip (IsSameActivator s t (place_before (Some gone))) (task_at s i).after (map (activator_without gone.0) (task_at s i).after)
@@ -330,6 +365,7 @@ module _ (s : SystemLists) (gone : TaskId) (touched : List Bool) (there : gone.0
   spared-without =
       record {
         resources = resources-without;
+        sources = ap length sources-without;
         apart = λ i j e. skip-apart gone.0 i j e;
         same = λ i less off.
             let it = kept-at i less in
@@ -355,43 +391,3 @@ module _ (s : SystemLists) (gone : TaskId) (touched : List Bool) (there : gone.0
             ∙ filter-skip gone.0 old 0 (length t.tasks) (omega arith) (omega (arith, long-without)) (tests.none_old gone.0 there on)
             ∙ ap (map (skip gone.0)) (filter-agree (λ j. old (skip gone.0 j)) new 0 (length t.tasks) agree);
       }
-
--- ---- edits that can only raise bounds
-
-pub raising-source : (s : SystemLists) (k period jitter distance : ℕ) → period ≤ (source_at s k).period → (source_at s k).jitter ≤ jitter → distance ≤ (source_at s k).distance
-    → IsRaising s (with_source s k period jitter distance)
-unfolding with_source
-raising-source s k period jitter distance shorter wider closer =
-    record {
-      resources = refl;
-      more = omega arith;
-      tasks = λ i less. record { res = refl; after = each-itself (IsDenserActivator s (record s { sources = set s.sources k given })) by (task_at s i).after; best = omega arith; worst = omega arith; turn = refl; region = omega arith };
-    }
-  where
-    given : Source
-    given = record (source_at s k) { period = period; jitter = jitter; distance = distance }
-
-    at : (m : ℕ) → IsNoDenser (model_of (source_at s m)) (model_of (slice_index_or (set s.sources k given) m no_source))
-    at m =
-        elim (cases_eq m k) [
-          | inl same ↦ elim (cases_lt k (length s.sources)) [
-            | inl less ↦
-                let it : slice_index_or (set s.sources k given) k no_source ≡ given = get_or-set_same s.sources k given no_source less in
-                rw (same, it) (record { period = shorter; jitter = wider; distance = closer }, tt)
-            | inr past ↦ rw (set_past s.sources k given past) (IsNoDenser_refl (model_of (source_at s m)))
-          ]
-          | inr other ↦ rw (get_or-set_other s.sources k m given no_source other) (IsNoDenser_refl (model_of (source_at s m)))
-        ]
-
-    by : (a : Activator) → IsDenserActivator s (record s { sources = set s.sources k given }) a a
-    by (FromSource m) = at m.0
-    by (FromTask j) = refl
-
-pub raising-add : (s : SystemLists) (u : Task) → IsRaising s (with_task s u)
-unfolding with_task
-raising-add s u =
-    record {
-      resources = refl;
-      more = omega (arith, length_push s.tasks u);
-      tasks = λ i less. raised-same s (with_task s u) i refl (sym (get_or_append_left s.tasks (u ∷ []) no_task i less));
-    }

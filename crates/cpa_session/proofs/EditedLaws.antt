@@ -1,5 +1,5 @@
 -- An edit that isn't refused spares what it doesn't touch, and touches resources that are there.
-use Rattle.std.proofs.Common.{◌≡◌, ℕ, ◌<◌, ◌&&◌, ◌==◌, ◌↔◌, nat_le, length, Bool, true, false, List, [], ◌∷◌, Option, Some, None, Result, Ok, Err, refl, sym, ap, ◌∙◌, inl, inr, subst, option_map, unwrap_or, zero-add, arith}
+use Rattle.std.proofs.Common.{◌≡◌, ℕ, ◌<◌, ◌&&◌, ◌==◌, ◌↔◌, nat_le, not, length, Bool, true, false, List, [], ◌∷◌, Option, Some, None, Result, Ok, Err, refl, sym, ap, ◌∙◌, inl, inr, subst, option_map, unwrap_or, zero-add, arith}
 use Rattle.std.specs.Prelude.{is_none, position}
 use Rattle.std.specs.Str.{bytes_eq}
 use Rattle.std.specs.List.{list_any}
@@ -13,25 +13,27 @@ use Rattle.cpa_units.specs.declared.places.SourceId.{SourceId}
 use Rattle.cpa_units.specs.declared.places.TaskId.{TaskId}
 use Rattle.cpa_model.specs.declared.entries.Resource.{Resource}
 use Rattle.cpa_model.specs.declared.entries.Path.{Path}
+use Rattle.cpa_model.specs.declared.entries.Source.{Source}
+use Rattle.cpa_model.specs.Clocks.{is_clocked}
 use Rattle.cpa_model.specs.declared.entries.Task.{Task}
 use Rattle.cpa_model.specs.declared.entries.Turn.TheVariants as turn
-use Rattle.cpa_model.specs.SystemLists.{SystemLists, task_at, source_at, task_places, is_on, is_fed_by, is_activated_by, resource_named, source_named, task_named, no_task, no_resource}
+use Rattle.cpa_model.specs.SystemLists.{SystemLists, task_at, source_at, task_places, tasks_on, is_on, is_fed_by, is_activated_by, resource_named, source_named, task_named, no_task, no_resource}
 use Rattle.cpa_model.specs.Rules.{IsSystem, IsTask}
 use Rattle.cpa_edit.specs.declared.edit.Edit.{Edit}
-use Rattle.cpa_edit.specs.declared.edit.Edit.TheVariants.{Exec, Priority, Swap, Slot, Source as SourceEdit, Add, Remove}
+use Rattle.cpa_edit.specs.declared.edit.Edit.TheVariants.{Exec, Priority, Swap, Slot, Source as SourceEdit, Offset, Add, Remove}
 use Rattle.cpa_edit.specs.declared.edit.EditRefusal.{EditRefusal}
 use Rattle.cpa_edit.specs.declared.edit.EditFault.{EditFault}
 use Rattle.cpa_edit.specs.declared.edit.EditFault.TheVariants.{Refused}
 use Rattle.cpa_edit.specs.Named.{resource_place, source_place, task_place, resource_of_task}
-use Rattle.cpa_edit.specs.Refused.{names_nothing, misfits, out_of_range, takes_priority, is_crossed, leaves_gap, is_known, is_full, chain_too_long, is_needed}
-use Rattle.cpa_model.specs.Changes.{with_task_at, with_exec, with_turn, with_swapped, with_source, without_task}
+use Rattle.cpa_edit.specs.Refused.{names_nothing, misfits, out_of_range, takes_priority, is_crossed, leaves_gap, is_known, is_full, chain_too_long, is_needed, breaks_clock}
+use Rattle.cpa_model.specs.Changes.{with_task_at, with_exec, with_turn, with_swapped, with_source, with_offset, without_task}
 use Rattle.cpa_edit.specs.Edited.{added_task, change, refusal, edit_result, first_broken, edited, touches}
 use Rattle.cpa_edit.proofs.AnyLaws.{any-filter, none-place}
 use Rattle.cpa_local.specs.Raising.{IsRaising}
 use Rattle.cpa_session.specs.Spared.{place_before, IsSpared}
-use Rattle.cpa_session.specs.Editing.{widens, gets_denser, raises, gone_by}
-use Rattle.cpa_local.proofs.RaisingChanges.{raising-exec}
-use Rattle.cpa_session.proofs.EditLaws.{in_place-set, in_place-trans, in_place-source, spared-in_place, same-sources, sent-source, spared-with_task, spared-without, raising-source, raising-add}
+use Rattle.cpa_session.specs.Editing.{widens, keeps_rhythm, gets_denser, raises, gone_by}
+use Rattle.cpa_local.proofs.RaisingChanges.{raising-exec, raising-source, raising-add}
+use Rattle.cpa_session.proofs.EditLaws.{in_place-set, in_place-trans, in_place-source, in_place-offset, spared-in_place, same-sources, sent-source, sent-offset, spared-with_task, spared-without}
 
 -- ---- no rule is broken
 
@@ -68,7 +70,7 @@ allowed : (s t : SystemLists) (e : Edit) → edited s e ≡ Ok t → (names_noth
 unfolding refusal
 allowed s t e ok =
     none-of_six (1, names_nothing s e) (2, misfits s e) (3, out_of_range s e) (4, takes_priority s e) (5, is_crossed e) (6, leaves_gap s e)
-    ((7, is_known s e) ∷ (8, is_full s e) ∷ (9, chain_too_long s e) ∷ []) (unrefused s t e ok).1
+    ((7, is_known s e) ∷ (8, is_full s e) ∷ (9, chain_too_long s e) ∷ (10, breaks_clock s e) ∷ []) (unrefused s t e ok).1
 
 names-there : (s t : SystemLists) (e : Edit) → edited s e ≡ Ok t → names_nothing s e ≡ false
 names-there s t e ok = (allowed s t e ok).0
@@ -111,6 +113,18 @@ named-on s name rules there =
 same-place : (r q : ℕ) (s : SystemLists) → (r == q) ≡ true → q < length s.resources → r < length s.resources
 same-place r q s e there = let same : r ≡ q = eqb-true r q e in omega arith
 
+-- a resource with a task that a source feeds
+fed-there : (s : SystemLists) (name : List ℕ) (r : ℕ) → IsSystem s → list_any (is_fed_by s (source_place s name)) (tasks_on s r) ≡ true → r < length s.resources
+fed-there s name r rules on =
+    let fed : list_any (λ j. is_on s r j && is_fed_by s (source_place s name) j) (task_places s) ≡ true = sym (any-filter (is_fed_by s (source_place s name)) (is_on s r) (task_places s)) ∙ on in
+    let any = Any-from_list_any (λ j. is_on s r j && is_fed_by s (source_place s name) j) (task_places s) fed in
+    let less : any.0 < length s.tasks = rw length-range_with_len at any.2 in
+    let place : any.0 ≡ any.1 = sym (get_or-range_with_len 0 (length s.tasks) any.0 any.1 less ∙ zero-add any.0) ∙ any.3 in
+    let there : any.1 < length s.tasks = omega arith in
+    let entry : IsTask s (task_at s any.1) = rules.tasks any.1 no_task there in
+    let here : (task_at s any.1).res.0 ≡ r = eqb-true (task_at s any.1).res.0 r (and_parts (is_on s r any.1) (is_fed_by s (source_place s name) any.1) any.4).0 in
+    subst (λ (q : ℕ). q < length s.resources) here entry.placed
+
 pub touches-there : (s t : SystemLists) (e : Edit) (r : ℕ) → IsSystem s → edited s e ≡ Ok t → touches s e r ≡ true → r < length s.resources
 unfolding touches names_nothing
 touches-there s t (Exec task best worst) r rules ok on = same-place r (resource_of_task s task) s on (named-on s task rules (names-there s t (Exec task best worst) ok))
@@ -123,15 +137,8 @@ touches-there s t (Swap first second) r rules ok on =
       | inl at_second ↦ same-place r (resource_of_task s second) s at_second (named-on s second rules both.1)
       | inr at_first ↦ same-place r (resource_of_task s first) s at_first (named-on s first rules both.0)
     ]
-touches-there s t (SourceEdit name period jitter distance) r rules ok on =
-    let fed : list_any (λ j. is_on s r j && is_fed_by s (source_place s name) j) (task_places s) ≡ true = sym (any-filter (is_fed_by s (source_place s name)) (is_on s r) (task_places s)) ∙ on in
-    let any = Any-from_list_any (λ j. is_on s r j && is_fed_by s (source_place s name) j) (task_places s) fed in
-    let less : any.0 < length s.tasks = rw length-range_with_len at any.2 in
-    let place : any.0 ≡ any.1 = sym (get_or-range_with_len 0 (length s.tasks) any.0 any.1 less ∙ zero-add any.0) ∙ any.3 in
-    let there : any.1 < length s.tasks = omega arith in
-    let entry : IsTask s (task_at s any.1) = rules.tasks any.1 no_task there in
-    let here : (task_at s any.1).res.0 ≡ r = eqb-true (task_at s any.1).res.0 r (and_parts (is_on s r any.1) (is_fed_by s (source_place s name) any.1) any.4).0 in
-    subst (λ (q : ℕ). q < length s.resources) here entry.placed
+touches-there s t (SourceEdit name period jitter distance) r rules ok on = fed-there s name r rules on
+touches-there s t (Offset name offset) r rules ok on = fed-there s name r rules on
 touches-there s t (Add name res after best worst number) r rules ok on =
     let both = or_parts _ _ (names-there s t (Add name res after best worst number) ok) in
     let it = is_none-false (resource_named s res) both.0 in
@@ -182,7 +189,11 @@ edit-spares s t (Swap first second) touched rules ok set =
 edit-spares s t (SourceEdit name period jitter distance) touched rules ok set =
     subst (λ (t : SystemLists). IsSpared s t touched (place_before None)) (unrefused s t (SourceEdit name period jitter distance) ok).0
     (spared-in_place s (with_source s (source_place s name) period jitter distance) touched (in_place-source s (source_place s name) period jitter distance touched)
-    (sent-source s (source_place s name) period jitter distance touched set))
+    (sent-source s (source_place s name) touched set period jitter distance))
+edit-spares s t (Offset name offset) touched rules ok set =
+    subst (λ (t : SystemLists). IsSpared s t touched (place_before None)) (unrefused s t (Offset name offset) ok).0
+    (spared-in_place s (with_offset s (source_place s name) offset) touched (in_place-offset s (source_place s name) offset touched)
+    (sent-offset s (source_place s name) touched set offset))
 edit-spares s t (Add name res after best worst number) touched rules ok set =
     let u = added_task s name res after best worst number in
     subst (λ (t : SystemLists). IsSpared s t touched (place_before None)) (unrefused s t (Add name res after best worst number) ok).0
@@ -206,6 +217,7 @@ raises-none_gone s (Priority task number) on = refl
 raises-none_gone s (Swap first second) on = refl
 raises-none_gone s (Slot task ticks) on = refl
 raises-none_gone s (SourceEdit name period jitter distance) on = refl
+raises-none_gone s (Offset name offset) on = refl
 raises-none_gone s (Add name res after best worst number) on = refl
 raises-none_gone s (Remove task) on = absurd (false≢true on)
 
@@ -215,13 +227,22 @@ raises-exec s (Some task) best worst on =
     let both = and_parts (nat_le best (task_at s task.0).best) (nat_le (task_at s task.0).worst worst) on in
     raising-exec s task.0 best worst (leb-true best (task_at s task.0).best both.0) (leb-true (task_at s task.0).worst worst both.1)
 
+kept-rhythm : (r : Source) (period : ℕ) → keeps_rhythm r period ≡ true → is_clocked r ≡ true → period ≡ r.period
+kept-rhythm r period on clocked =
+    elim (or_cases (not (is_clocked r)) (period == r.period) on) [
+      | inl free ↦ absurd (false≢true (sym (ap not clocked) ∙ free))
+      | inr same ↦ eqb-true period r.period same
+    ]
+
 raises-source : (s : SystemLists) (o : Option SourceId) (period jitter distance : ℕ) → gets_denser s o period jitter distance ≡ true → IsRaising s (with_source s (unwrap_or o (record { 0 = 0 })).0 period jitter distance)
 raises-source s None period jitter distance on = absurd (false≢true on)
 raises-source s (Some source) period jitter distance on =
     let k = source.0 in
-    let last = and_parts (nat_le period (source_at s k).period && nat_le (source_at s k).jitter jitter) (nat_le distance (source_at s k).distance) on in
+    let all = and_parts (nat_le period (source_at s k).period && nat_le (source_at s k).jitter jitter && nat_le distance (source_at s k).distance) (keeps_rhythm (source_at s k) period) on in
+    let last = and_parts (nat_le period (source_at s k).period && nat_le (source_at s k).jitter jitter) (nat_le distance (source_at s k).distance) all.0 in
     let both = and_parts (nat_le period (source_at s k).period) (nat_le (source_at s k).jitter jitter) last.0 in
     raising-source s k period jitter distance (leb-true period (source_at s k).period both.0) (leb-true (source_at s k).jitter jitter both.1) (leb-true distance (source_at s k).distance last.1)
+    (kept-rhythm (source_at s k) period all.1)
 
 pub edit-raises : (s t : SystemLists) (e : Edit) → edited s e ≡ Ok t → raises s e ≡ true → IsRaising s t
 unfolding change
@@ -230,6 +251,7 @@ edit-raises s t (Priority task number) ok on = absurd (false≢true on)
 edit-raises s t (Swap first second) ok on = absurd (false≢true on)
 edit-raises s t (Slot task ticks) ok on = absurd (false≢true on)
 edit-raises s t (SourceEdit name period jitter distance) ok on = subst (IsRaising s) (unrefused s t (SourceEdit name period jitter distance) ok).0 (raises-source s (source_named s name) period jitter distance on)
+edit-raises s t (Offset name offset) ok on = absurd (false≢true on)
 edit-raises s t (Add name res after best worst number) ok on = subst (IsRaising s) (unrefused s t (Add name res after best worst number) ok).0 (raising-add s (added_task s name res after best worst number))
 edit-raises s t (Remove task) ok on = absurd (false≢true on)
 

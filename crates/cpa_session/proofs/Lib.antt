@@ -1,6 +1,7 @@
 pub mod AnewLaws
 pub mod CarriedLaws
 pub mod ChainsKept
+pub mod CycleLaws
 pub mod EditLaws
 pub mod EditedLaws
 pub mod KeepingLaws
@@ -8,3 +9,4 @@ pub mod LeastLaws
 pub mod SearchLaws
 pub mod SideBySide
 pub mod SparedLaws
+pub mod WholeInputs

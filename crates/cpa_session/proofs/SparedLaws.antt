@@ -1,13 +1,19 @@
 -- What can't be reached by an edit keeps its bounds: each task there asks what it asked before.
-use Rattle.std.proofs.Common.{◌≡◌, ℕ, zero, suc, ◌<◌, ◌==◌, length, Bool, true, false, List, [], ◌∷◌, map, Option, Some, None, refl, sym, ap, ◌∙◌, inl, inr, slice_index_or, arith}
+use Rattle.std.proofs.Common.{◌≡◌, ℕ, zero, suc, ◌+◌, ◌<◌, ◌≤◌, ◌++◌, ◌==◌, length, Bool, true, false, List, [], ◌∷◌, map, Option, Some, None, refl, sym, ap, ◌∙◌, inl, inr, slice_index_or, arith, subst}
 use Rattle.std.specs.Prelude.{filter}
-use Rattle.std.specs.List.{AllZip, list_any, sum_by}
+use Rattle.std.specs.List.{AllZip, list_any, flat_map, range_with_len, sum_by}
 use Rattle.std.proofs.lemmas.Bool.{cases_Bool, false≢true, and_parts, and_left, or_cases, or_left, or_right, eqb-true, ne_eqb, eq-eqb, cases_eq}
 use Rattle.cpa_units.specs.Sets.{holds, Members}
 use Rattle.cpa_units.specs.declared.bound.Bound.{Bound}
 use Rattle.cpa_units.specs.declared.limits.TheConstants.{MAX_CHAIN}
 use Rattle.cpa_units.specs.Bounds.{bound_of}
 use Rattle.cpa_events.specs.Events.{Model}
+use Rattle.cpa_clock.specs.declared.anchor.Anchor.{Anchor}
+use Rattle.cpa_clock.specs.Gathered.{anchors_at}
+use Rattle.cpa_clock.specs.Rivals.{ClockedRival}
+use Rattle.cpa_clock.specs.Clocked.{clocked_preemptive_bound, clocked_can_bound}
+use Rattle.cpa_model.specs.Clocks.{clock_cycle}
+use Rattle.cpa_model.proofs.ClockLaws.{clock-some}
 use Rattle.cpa_model.specs.declared.entries.Resource.{Resource}
 use Rattle.cpa_model.specs.declared.entries.Kind.{Kind}
 use Rattle.cpa_model.specs.declared.entries.Kind.TheVariants.{Preemptive, RoundRobin, Tdma, Can}
@@ -20,13 +26,21 @@ use Rattle.cpa_model.specs.Kinds.{blocking_by}
 use Rattle.cpa_local.specs.Blocking.{blocking_of}
 use Rattle.cpa_local.specs.Inputs.{sent_by, joined, sent_by_all, input_along, input}
 use Rattle.cpa_local.specs.Local.{rival_of, bound_by_kind, bound_at_input, response}
+use Rattle.cpa_local.specs.OnClocks.{anchors_step, anchors_within, anchor_list, anchors_of, clocked_rival_of}
+use Rattle.cpa_session.proofs.CycleLaws.{IsWholeInput, AreWholeFrom, AreWholeRivals, clocked_preemptive-same, clocked_can-same}
+use Rattle.cpa_session.proofs.WholeInputs.{both-whole}
 use Rattle.cpa_depend.specs.Cone.{Activates, LeadsTo, directly, through, Reads, earlier, IsClosedUnder}
 use Rattle.cpa_session.specs.Spared.{IsSameActivator, IsSameTask, AreSameTests, IsSpared, AgreeApart}
 use Rattle.cpa_local.proofs.PlaceLists.{greatest_over}
 use Rattle.cpa_local.proofs.PassingPlaces.{map-passing, map-map, sum_by-map, sum_by-passing, greatest-map, greatest-passing}
 
+-- a rival by its input, its anchors and its execution
+abbrev seen_with : Option Model → List (Option Anchor) → ℕ → ClockedRival
+seen_with m anchors worst = record { model = m; anchors = anchors_at anchors; worst = worst }
+
 -- a set of resources that has those that were touched and, in the new system, every resource that reads a member
 pub record IsReach (s t : SystemLists) (touched reached : List Bool) (was : ℕ → ℕ) : Type 0 where
+  pub before : IsSystem s
   pub rules : IsSystem t
   pub spared : IsSpared s t touched was
   pub wider : (r : ℕ) → Members touched r → Members reached r
@@ -177,13 +191,49 @@ module _ (s t : SystemLists) (touched reached : List Bool) (was : ℕ → ℕ) (
         ∙ greatest-passing (λ j. is_higher t j i) (λ j. blocking_by kind (task_at s (was j))) (λ j. blocking_by kind (task_at t j)) 0 0 (length t.tasks)
         (λ j low high passes. blocking_by_same kind j (same_task j (omega arith) (beside j (sym (eqb-true (task_at t j).res.0 (task_at t i).res.0 (and_parts _ _ passes).0)))))
 
+  -- ---- on clocks
+
+  anchors_one_same : (chain : ℕ) (a b : Activator) → IsSameActivator s t was a b → ((m : ℕ) → is_task m b ≡ true → (m < length t.tasks) × (holds reached (task_at t m).res.0 ≡ false))
+      → ((j : ℕ) → j < length t.tasks → holds reached (task_at t j).res.0 ≡ false → anchors_within s chain (was j) ≡ anchors_within t chain j)
+      → anchors_step s (anchors_within s chain) a ≡ anchors_step t (anchors_within t chain) b
+  anchors_one_same chain (FromSource k) (FromSource m) same out step = ap (λ (o : Option Anchor). o ∷ []) same.1
+  anchors_one_same chain (FromSource k) (FromTask m) same out step = absurd same
+  anchors_one_same chain (FromTask j) (FromSource m) same out step = absurd same
+  anchors_one_same chain (FromTask j) (FromTask m) same out step =
+      let there = out m.0 (eq-eqb m.0 m.0 refl) in
+      let it = same_task m.0 there.0 there.1 in
+      let list : anchors_within s chain (was m.0) ≡ anchors_within t chain m.0 = step m.0 there.0 there.1 in
+      rw (same, it.best, list) refl
+
+  anchors_all_same : (chain : ℕ) (old new : List Activator) → AllZip (IsSameActivator s t was) old new
+      → ((m : ℕ) → list_any (is_task m) new ≡ true → (m < length t.tasks) × (holds reached (task_at t m).res.0 ≡ false))
+      → ((j : ℕ) → j < length t.tasks → holds reached (task_at t j).res.0 ≡ false → anchors_within s chain (was j) ≡ anchors_within t chain j)
+      → flat_map (anchors_step s (anchors_within s chain)) old ≡ flat_map (anchors_step t (anchors_within t chain)) new
+  anchors_all_same chain [] [] same out step = refl
+  anchors_all_same chain [] (b ∷ new) same out step = absurd same
+  anchors_all_same chain (a ∷ old) [] same out step = absurd same
+  anchors_all_same chain (a ∷ old) (b ∷ new) same out step =
+      let one = anchors_one_same chain a b same.0 (λ m on. out m (or_left (is_task m b) (list_any (is_task m) new) on)) step in
+      let others = anchors_all_same chain old new same.1 (λ m on. out m (or_right (is_task m b) (list_any (is_task m) new) on)) step in
+      ap (λ os. os ++ flat_map (anchors_step s (anchors_within s chain)) old) one ∙ ap (λ os. anchors_step t (anchors_within t chain) b ++ os) others
+
+  anchors_within_same : (chain i : ℕ) → i < length t.tasks → holds reached (task_at t i).res.0 ≡ false → anchors_within s chain (was i) ≡ anchors_within t chain i
+  unfolding anchors_within
+  anchors_within_same zero i less off = refl
+  anchors_within_same (suc chain) i less off =
+      anchors_all_same chain (task_at s (was i)).after (task_at t i).after (same_task i less off).after (λ m on. let it = activated_before m i on less off in (it.0, it.1)) (anchors_within_same chain)
+
+  -- the streams of a task that can't be reached are on clocks where they were
+  anchors_same : (i : ℕ) → i < length t.tasks → holds reached (task_at t i).res.0 ≡ false → anchor_list s (was i) ≡ anchor_list t i
+  anchors_same i less off = anchors_within_same MAX_CHAIN i less off
+
   -- ---- at vectors that agree
 
   module _ (x y : List Bound) (agree : AgreeApart t reached was x y) where
     sent_same : (chain : ℕ) (a b : Activator) → IsSameActivator s t was a b → ((m : ℕ) → is_task m b ≡ true → (m < length t.tasks) × (holds reached (task_at t m).res.0 ≡ false))
         → ((j : ℕ) → j < length t.tasks → holds reached (task_at t j).res.0 ≡ false → input_along s x chain (was j) ≡ input_along t y chain j)
         → sent_by s x (input_along s x chain) a ≡ sent_by t y (input_along t y chain) b
-    sent_same chain (FromSource k) (FromSource m) same out step = ap Some same
+    sent_same chain (FromSource k) (FromSource m) same out step = ap Some same.0
     sent_same chain (FromSource k) (FromTask m) same out step = absurd same
     sent_same chain (FromTask j) (FromSource m) same out step = absurd same
     sent_same chain (FromTask j) (FromTask m) same out step =
@@ -223,7 +273,30 @@ module _ (s t : SystemLists) (touched reached : List Bool) (was : ℕ → ℕ) (
         let model : input s x (was j) ≡ input t y j = input_same j less off in
         rw (it.worst, it.turn, bound, model) refl
 
+    clocked_rival_same : (j : ℕ) → j < length t.tasks → holds reached (task_at t j).res.0 ≡ false → clocked_rival_of s x (was j) ≡ clocked_rival_of t y j
+    clocked_rival_same j less off =
+        let model : input s x (was j) ≡ input t y j = input_same j less off in
+        ap (λ m. seen_with m (anchor_list s (was j)) (task_at s (was j)).worst) model
+        ∙ ap (λ anchors. seen_with (input t y j) anchors (task_at s (was j)).worst) (anchors_same j less off)
+        ∙ ap (λ worst. seen_with (input t y j) (anchor_list t j) worst) (same_task j less off).worst
+
+    -- its streams come again in each cycle that their clocks had and have
+    whole_same : (j : ℕ) → j < length t.tasks → holds reached (task_at t j).res.0 ≡ false → IsWholeInput (clock_cycle s) (clock_cycle t) (anchors_of t j) (input t y j)
+    whole_same j less off = both-whole s t x y h.before h.rules (was j) j (same_task j less off).there less (anchors_same j less off) (input_same j less off)
+
     module _ (i : ℕ) (less : i < length t.tasks) (off : holds reached (task_at t i).res.0 ≡ false) where
+      whole_passing : (a n : ℕ) → a + n ≤ length t.tasks → AreWholeRivals (clock_cycle s) (clock_cycle t) (map (clocked_rival_of t y) (filter (is_higher t i) (range_with_len a n)))
+      whole_passing a zero few = tt
+      whole_passing a (suc n) few =
+          let rest = whole_passing (a + 1) n (omega arith) in
+          elim (cases_Bool (is_higher t i a)) [
+            | inl passes ↦ rw passes (whole_same a (omega arith) (beside i less off a (eqb-true (task_at t i).res.0 (task_at t a).res.0 (and_parts _ _ passes).0)), rest)
+            | inr fails ↦ rw fails rest
+          ]
+
+      whole_rivals : AreWholeRivals (clock_cycle s) (clock_cycle t) (map (clocked_rival_of t y) (higher_tasks t i))
+      whole_rivals = whole_passing 0 (length t.tasks) (omega arith)
+
       rivals_same : (old new : ℕ → Bool) → AreSameTests s t touched was old new → ((j : ℕ) → new j ≡ true → (task_at t i).res.0 ≡ (task_at t j).res.0)
           → map (rival_of s x) (filter old (task_places s)) ≡ map (rival_of t y) (filter new (task_places t))
       rivals_same old new tests together =
@@ -232,25 +305,39 @@ module _ (s t : SystemLists) (touched reached : List Bool) (was : ℕ → ℕ) (
           ∙ map-passing new (λ j. rival_of s x (was j)) (rival_of t y) 0 (length t.tasks)
           (λ j low high passes. rival_same j (omega arith) (beside i less off j (together j passes)))
 
-      higher_same : map (rival_of s x) (higher_tasks s (was i)) ≡ map (rival_of t y) (higher_tasks t i)
+      higher_same : map (clocked_rival_of s x) (higher_tasks s (was i)) ≡ map (clocked_rival_of t y) (higher_tasks t i)
       higher_same =
-          rivals_same (is_higher s (was i)) (is_higher t i) (higher_tests i less off) (λ j passes. eqb-true (task_at t i).res.0 (task_at t j).res.0 (and_parts _ _ passes).0)
+          ap (map (clocked_rival_of s x)) (h.spared.listed (is_higher s (was i)) (is_higher t i) (higher_tests i less off))
+          ∙ map-map (clocked_rival_of s x) was (higher_tasks t i)
+          ∙ map-passing (is_higher t i) (λ j. clocked_rival_of s x (was j)) (clocked_rival_of t y) 0 (length t.tasks)
+          (λ j low high passes. clocked_rival_same j (omega arith) (beside i less off j (eqb-true (task_at t i).res.0 (task_at t j).res.0 (and_parts _ _ passes).0)))
 
       others_same : map (rival_of s x) (other_tasks s (was i)) ≡ map (rival_of t y) (other_tasks t i)
       others_same =
           rivals_same (is_other s (was i)) (is_other t i) (other_tests i less off) (λ j passes. eqb-true (task_at t i).res.0 (task_at t j).res.0 (and_parts _ _ passes).0)
 
-      by_kind_same : (own : Model) (kind : Kind) → bound_by_kind s x (was i) own kind ≡ bound_by_kind t y i own kind
-      by_kind_same own Preemptive = rw (higher_same, blocking_same i less off Preemptive, (same_task i less off).worst, resource_same i less off) refl
-      by_kind_same own RoundRobin = rw (others_same, (same_task i less off).worst, (same_task i less off).turn, resource_same i less off) refl
-      by_kind_same own (Tdma gap) = rw (cycle_same i less off, (same_task i less off).worst, (same_task i less off).turn, resource_same i less off) refl
-      by_kind_same own (Can bit) = rw (higher_same, blocking_same i less off (Can bit), (same_task i less off).worst, resource_same i less off) refl
+      own_whole : (own : Model) → input t y i ≡ Some own → AreWholeFrom (clock_cycle s) (clock_cycle t) (anchors_of t i) 0 own
+      own_whole own is = subst (IsWholeInput (clock_cycle s) (clock_cycle t) (anchors_of t i)) is (whole_same i less off)
 
-      at_input_same : (m : Option Model) → bound_at_input s x (was i) m ≡ bound_at_input t y i m
-      at_input_same (Some own) = ap (λ (r : Resource). bound_by_kind s x (was i) own r.kind) (resource_same i less off) ∙ by_kind_same own (resource_of t i).kind
-      at_input_same None = refl
+      by_kind_same : (own : Model) (kind : Kind) → input t y i ≡ Some own → bound_by_kind s x (was i) own kind ≡ bound_by_kind t y i own kind
+      by_kind_same own Preemptive is =
+          rw (higher_same, h.spared.sources, blocking_same i less off Preemptive, (same_task i less off).worst, resource_same i less off)
+          (ap (λ os. clocked_preemptive_bound own (anchors_at os) (task_at t i).worst (blocking_of t Preemptive i) (map (clocked_rival_of t y) (higher_tasks t i)) (clock_cycle s) (length t.sources) (resource_of t i).limit) (anchors_same i less off)
+          ∙ clocked_preemptive-same (clock_cycle s) (clock_cycle t) (clock-some s) (clock-some t) (map (clocked_rival_of t y) (higher_tasks t i)) whole_rivals (length t.sources) own (anchors_of t i)
+          (task_at t i).worst (blocking_of t Preemptive i) (resource_of t i).limit (own_whole own is))
+      by_kind_same own RoundRobin is = rw (others_same, (same_task i less off).worst, (same_task i less off).turn, resource_same i less off) refl
+      by_kind_same own (Tdma gap) is = rw (cycle_same i less off, (same_task i less off).worst, (same_task i less off).turn, resource_same i less off) refl
+      by_kind_same own (Can bit) is =
+          rw (higher_same, h.spared.sources, blocking_same i less off (Can bit), (same_task i less off).worst, resource_same i less off)
+          (ap (λ os. clocked_can_bound own (anchors_at os) (task_at t i).worst (blocking_of t (Can bit) i) (map (clocked_rival_of t y) (higher_tasks t i)) (clock_cycle s) (length t.sources) bit (resource_of t i).limit) (anchors_same i less off)
+          ∙ clocked_can-same (clock_cycle s) (clock_cycle t) (clock-some s) (clock-some t) (map (clocked_rival_of t y) (higher_tasks t i)) whole_rivals (length t.sources) own (anchors_of t i)
+          (task_at t i).worst (blocking_of t (Can bit) i) bit (resource_of t i).limit (own_whole own is))
+
+      at_input_same : (m : Option Model) → input t y i ≡ m → bound_at_input s x (was i) m ≡ bound_at_input t y i m
+      at_input_same (Some own) is = ap (λ (r : Resource). bound_by_kind s x (was i) own r.kind) (resource_same i less off) ∙ by_kind_same own (resource_of t i).kind is
+      at_input_same None is = refl
 
       -- and so is the bound
       pub response_same : response s x (was i) ≡ response t y i
       unfolding response
-      response_same = ap (bound_at_input s x (was i)) (input_same i less off) ∙ at_input_same (input t y i)
+      response_same = ap (bound_at_input s x (was i)) (input_same i less off) ∙ at_input_same (input t y i) refl

@@ -10,15 +10,16 @@ use Rattle.cpa_model.specs.declared.entries.Activator.{Activator}
 use Rattle.cpa_model.specs.declared.entries.Activator.TheVariants.{Source as FromSource, Task as FromTask}
 use Rattle.cpa_model.specs.SystemLists.{SystemLists, task_at, source_at, task_places}
 use Rattle.cpa_model.specs.Streams.{model_of}
+use Rattle.cpa_local.specs.OnClocks.{source_anchor}
 
 -- the place that a task had: those behind one that was removed have moved up
 abbrev pub place_before : Option TaskId → ℕ → ℕ
 place_before None i = i
 place_before (Some gone) i = if nat_lt i gone.0 then i else i + 1
 
--- a source with the same model, or the same task, by the place that it had
+-- a source with the same model, at the same offset of the same clock if it is on one, or the same task, by the place that it had
 abbrev pub IsSameActivator : SystemLists → SystemLists → (ℕ → ℕ) → Activator → Activator → Type 0
-IsSameActivator s t was (FromSource k) (FromSource m) = model_of (source_at s k.0) ≡ model_of (source_at t m.0)
+IsSameActivator s t was (FromSource k) (FromSource m) = (model_of (source_at s k.0) ≡ model_of (source_at t m.0)) × (source_anchor s k.0 ≡ source_anchor t m.0)
 IsSameActivator s t was (FromTask j) (FromTask m) = j.0 ≡ was m.0
 IsSameActivator s t was (FromSource k) (FromTask m) = ⊥
 IsSameActivator s t was (FromTask j) (FromSource m) = ⊥
@@ -39,9 +40,10 @@ pub record AreSameTests (s t : SystemLists) (touched : List Bool) (was : ℕ →
   pub none_new : (i : ℕ) → i < length t.tasks → Members touched (task_at t i).res.0 → new i ≡ false
   pub same : (i : ℕ) → i < length t.tasks → holds touched (task_at t i).res.0 ≡ false → new i ≡ old (was i)
 
--- The new system t has the old one's resources, and on those that aren't touched its tasks, in their order
+-- The new system t has the old one's resources and as many sources, and on those resources that aren't touched its tasks, in their order
 pub record IsSpared (s t : SystemLists) (touched : List Bool) (was : ℕ → ℕ) : Type 0 where
   pub resources : s.resources ≡ t.resources
+  pub sources : length s.sources ≡ length t.sources
   pub apart : (i j : ℕ) → was i ≡ was j → i ≡ j
   pub same : (i : ℕ) → i < length t.tasks → holds touched (task_at t i).res.0 ≡ false → IsSameTask s t was i
   pub listed : (old new : ℕ → Bool) → AreSameTests s t touched was old new

@@ -13,12 +13,12 @@ loop-task-preserved c =
     let s = c.args.system.now in
     let k = c.loop-task.task-index in
     record {
-      raised = rw c.raise_task.ensures.raised
+      raised = rw c.in_ok-raise_task.ensures.raised
           (raise-task s c.args.res.0 c.tasks_on-task-items.result.now c.args.x.now c.loop-task.x k
           c.tasks_on-task-items.ensures.rules c.tasks_on-task-items.ensures.places c.loop-task-test.true (c.tasks_on-task-items.ensures.there k no_id c.loop-task-test.true)
           c.loop-task.invariant.raised);
-      prepared = c.raise_task.ensures.prepared;
-      room = c.raise_task.ensures.room ∙ c.loop-task.invariant.room;
+      prepared = c.in_ok-raise_task.ensures.prepared;
+      room = c.in_ok-raise_task.ensures.room ∙ c.loop-task.invariant.room;
     }
 
 pub returns-clause-answered : goal.returns-clause-answered
