@@ -19,14 +19,15 @@ fn turns(way: &str) -> u32 {
 }
 
 /// What becomes of a trace that is read, and judged as often as the way says.
-fn judge(system: &System, trace: &Trace, way: &str) -> &'static str
+fn judge(alloc: Global, system: &System, trace: &Trace, way: &str) -> &'static str
     requires { FitsSystem system.now trace.now }
 {
     let mut answer = "read";
     for _ in 0..turns(way) {
-        answer = match obeys(system, trace) {
-            None => "obeys",
-            Some(_) => "breach",
+        answer = match obeys(alloc, system, trace) {
+            Ok(None) => "obeys",
+            Ok(Some(_)) => "breach",
+            Err(_) => "out of memory",
         };
     }
     answer
@@ -50,7 +51,7 @@ pub fn answer<F: Files>(
         return "loaded";
     }
     match read_trace(alloc, &system, bytes.as_slice()) {
-        Ok(trace) => judge(&system, &trace, way),
+        Ok(trace) => judge(alloc, &system, &trace, way),
         Err(_) => "refused",
     }
 }

@@ -39,6 +39,7 @@ abbrev pub breach_text : SystemLists → Breach → List ℕ
 breach_text s (breach.Close k first second) = codes "source " ++ (source_at s k.0).name ++ codes " times " ++ decimal first ++ codes " " ++ decimal second
 breach_text s (breach.Exec i job) = codes "task " ++ (task_at s i.0).name ++ codes " job " ++ decimal job
 breach_text s (breach.Phase r) = codes "resource " ++ (resource_at s r.0).name
+breach_text s (breach.Clock k time) = codes "clock " ++ (source_at s k.0).name ++ codes " " ++ decimal time
 
 abbrev pub trace_disobeys : SystemLists → Breach → List ℕ
 trace_disobeys s b = codes "trace disobeys " ++ breach_text s b ++ codes "\n"

@@ -108,6 +108,11 @@ fn put_breach(text: &mut Text, system: &System, breach: Breach) -> Result<(), No
             text.put(b"resource ")?;
             text.put(system.resource(res).name.bytes())
         }
+        Breach::Clock { source, time } => {
+            text.put(b"clock ")?;
+            text.put(system.source(source).name.bytes())?;
+            text.put_count(b" ", time)
+        }
     }
 }
 

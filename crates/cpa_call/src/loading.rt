@@ -132,7 +132,7 @@ fn read_trace_file(alloc: Global, system: &System, bytes: &[u8]) -> Result<Trace
             return Err(refused_by(statuses::TRACE_REFUSED, trace_line(alloc, fault)?));
         }
     };
-    match obeys(system, &trace) {
+    match obeys(alloc, system, &trace)? {
         None => Ok(trace),
         Some(breach) => Err(refused_by(
             statuses::TRACE_BREACHES,

@@ -21,7 +21,10 @@ use Rattle.cpa_model.specs.declared.entries.Turn.TheVariants as turn
 use Rattle.cpa_model.specs.Chains.{activators, chain_steps, depth_within, streams_step, streams_within}
 use Rattle.cpa_model.specs.SystemLists.{SystemLists, is_task, no_resource, no_task, priority_of, resource_at, task_at}
 use Rattle.cpa_model.proofs.SystemLaws.{tick-fits}
-use Rattle.cpa_model.specs.Rules.{AllDiffer, HaveOwnPriorities, IsActivator, IsLinked, IsPath, IsResource, IsSized, IsSizedResource, IsSizedSource, IsSizedTask, IsSource, IsSystem, IsTask, TurnFits, activity_names}
+use Rattle.cpa_model.specs.Rules.{AllDiffer, HaveOwnPriorities, IsActivator, IsLinked, IsPath, IsResource, IsSized, IsSizedResource, IsSizedSource, IsSizedTask, IsSource, IsSystem, IsTask, HasShortClock, TurnFits, activity_names}
+use Rattle.std.proofs.lemmas.Option.{none-some}
+use Rattle.cpa_draft.specs.Refusals.{has_clock_name}
+use Rattle.cpa_model.specs.Clocks.{clock_name}
 use Rattle.cpa_gen.specs.declared.chains.Chain.{Chain}
 use Rattle.cpa_gen.specs.Chains.{IsChain, chain_at, no_chain}
 use Rattle.cpa_gen.specs.MadeSystems.{buses, chain_of, made_path, made_resource, made_source, made_system, numbered, processors, task_made, task_of_chain}
@@ -99,7 +102,7 @@ resources_differ size i j few l m e = by_kinds (cases_lt i (processors size)) (c
 source_fits : (number size k : ℕ) → 0 < size → IsSource (made_source k (chain_of number size k))
 source_fits number size k l =
     let c = chain_fits number size k l in
-    record { some_period = c.some_period; period = omega (arith, c.period); jitter = omega (arith, c.jitter); distance = omega arith }
+    record { some_period = c.some_period; period = omega (arith, c.period); jitter = omega (arith, c.jitter); distance = omega arith; offset = λ o e. absurd (none-some o e) }
 
 -- tasks
 
@@ -343,7 +346,7 @@ lists_sized number size few = record {
   tasks = omega (arith, table_length (task_made number size) (3 * size), few);
   paths = omega (arith, table_length (λ k. made_path k (chain_of number size k)) size, few);
   limits = all_table (IsSizedResource Small) (made_resource size) (processors size + buses size) (λ r l. resource_small (nat_lt r (processors size)) size r);
-  arrivals = all_table (IsSizedSource Small) (λ k. made_source k (chain_of number size k)) size (λ k l. refl);
+  arrivals = all_table (IsSizedSource Small) (λ k. made_source k (chain_of number size k)) size (λ k l. (refl, refl));
   times = all_table (IsSizedTask Small) (task_made number size) (3 * size) (λ i l. task_small number size (i % 3) (i / 3) (thirds i) (third size i l));
 }
 
@@ -367,6 +370,8 @@ lists_keep_rules number size few = record {
   resources_named = all_table (λ (r : Resource). is_name r.name ≡ true) (made_resource size) (processors size + buses size)
       (λ r l. resource_named (nat_lt r (processors size)) size r (omega (arith, l, few_processors size few, few_buses size few)));
   sources_named = all_table (λ (r : Source). is_name r.name ≡ true) (λ k. made_source k (chain_of number size k)) size (λ k l. source_named k (omega (arith, l, few)));
+  clocks_named = all_table (λ (r : Source). has_clock_name (clock_name r.on_clock) ≡ true) (λ k. made_source k (chain_of number size k)) size (λ k l. refl);
+  clocks = all_table (HasShortClock (lists number size)) (λ k. made_source k (chain_of number size k)) size (λ k l o e. absurd (none-some o e));
   tasks_named = all_table (λ (t : Task). is_name t.name ≡ true) (task_made number size) (3 * size)
       (λ i l. task_named size (i % 3) (i / 3) (chain_of number size (i / 3)) (omega (arith, third size i l, few)));
   paths_named = all_table (λ (p : Path). is_name p.name ≡ true) (λ k. made_path k (chain_of number size k)) size (λ k l. path_named k (omega (arith, l, few)));

@@ -16,13 +16,14 @@ use Rattle.cpa_local.proofs.CycleLaws.{slot-in_cycle}
 use Rattle.std.proofs.lemmas.List.Folds.{Any-from_list_any}
 use Rattle.cpa_model.specs.declared.entries.Task.{Task}
 use Rattle.cpa_trace.specs.Breaches.{has_tasks, is_tdma}
-use Rattle.cpa_trace.specs.Trace.{IsOrdered, IsTrace, Obeys, TraceLists, time_of, times_of}
+use Rattle.cpa_trace.specs.Trace.{IsOrdered, IsTrace, KeepsClock, Obeys, TraceLists, time_of, times_of}
 use Rattle.rand_pcg.specs.Lcg.{Lcg}
+use Rattle.cpa_gen.specs.declared.traces.Lateness.{Lateness}
 use Rattle.cpa_gen.specs.Draws.{draw, generator, output}
-use Rattle.cpa_gen.specs.MadeTraces.{before_resource, before_source, before_task, drawn_trace, executions_drawn, has_phase, jobs_made, late_drawn, late_first, made_trace, phase_drawn, phases_of, times_made, worst_trace, most_made}
+use Rattle.cpa_gen.specs.MadeTraces.{before_resource, before_source, before_task, begin_made, drawn_trace, events_made, executions_drawn, time_made, has_phase, jobs_made, late_by, late_drawn, lateness_made, made_trace, phase_drawn, phases_of, times_made, worst_trace, most_made}
 use Rattle.cpa_gen.proofs.ListLaws.{both, table, table_at, table_length}
-use Rattle.cpa_gen.proofs.TimeLaws.{IsLate, late_drawn-within, late_first-within}
-use Rattle.cpa_gen.proofs.ApartLaws.{listed_apart, listed_ordered}
+use Rattle.cpa_gen.proofs.TimeLaws.{IsLate, late_by-within, late_drawn-within, time-from, time-within}
+use Rattle.cpa_gen.proofs.ApartLaws.{listed_apart, listed_at, listed_ordered}
 
 module _ (s : SystemLists) (kept : IsSystem s) (lates : ℕ → ℕ → ℕ) (within : (j : ℕ) → IsLate (source_at s j) (lates j)) where
   abbrev all_times : List (List ℕ)
@@ -58,6 +59,37 @@ module _ (s : SystemLists) (kept : IsSystem s) (lates : ℕ → ℕ → ℕ) (wi
       → time_of tr k n + stream_delta_minus (source_stream s k) (gap + 1) ≤ time_of tr k (n + gap)
   times_apart tr e k = subst (λ ts. IsApart k (slice_index_or ts k [])) (sym e) (all_apart k)
 
+  -- each event comes within the jitter after its period's begin
+  abbrev IsPunctual : ℕ → List ℕ → Type 0
+  IsPunctual j times = (n : ℕ) → n < length times
+      → (begin_made (source_at s j) n ≤ slice_index_or times n 0) × (slice_index_or times n 0 ≤ begin_made (source_at s j) n + (source_at s j).jitter)
+
+  made_punctual : (j : ℕ) → j < length s.sources → IsPunctual j (times_made (most_made s) (source_at s j) (lates j))
+  made_punctual j l n m =
+      let r = source_at s j in
+      let known = kept.sources j no_source l in
+      let less : n < events_made (most_made s) r = rw (table_length (time_made r (lates j)) (events_made (most_made s) r)) at m in
+      rw (listed_at (most_made s) r known (lates j) (within j) n less)
+      (time-from r known (lates j) (within j) n, time-within r known (lates j) (within j) n)
+
+  all_punctual : (j : ℕ) → IsPunctual j (slice_index_or all_times j [])
+  all_punctual j = by_place (cases_lt j (length s.sources))
+    where
+      by_place : (j < length s.sources) ⊎ (length s.sources ≤ j) → IsPunctual j (slice_index_or all_times j [])
+      by_place (inl l) = subst (IsPunctual j) (sym (there j l)) (made_punctual j l)
+      by_place (inr l) = subst (IsPunctual j) (sym (past j l)) (λ n m. absurd (omega (arith, m)))
+
+  -- the clocks start at 0
+  pub times_punctual : (tr : TraceLists) → tr.times ≡ all_times → (c : ℕ) → KeepsClock s tr c
+  times_punctual tr e c =
+      let punctual : (k : ℕ) → IsPunctual k (times_of tr k) = λ k. subst (λ ts. IsPunctual k (slice_index_or ts k [])) (sym e) (all_punctual k) in
+      record {
+        lead = 0;
+        before = λ _. 0;
+        not_early = λ k n on m. omega (arith, (punctual k n m).0);
+        not_late = λ k n on m. omega (arith, (punctual k n m).1);
+      }
+
 -- a cycle with a task has at least its slot
 some_slot : (gap : ℕ) (t : Turn) → TurnFits (Tdma gap) t → 1 ≤ slot_of t
 some_slot gap (Slot ticks) fits = fits.0
@@ -89,23 +121,24 @@ no_phases n i = same_everywhere n i 0
 pub no_job : (n i k : ℕ) → k < length (slice_index_or (replicate n nothing) i nothing) → ⊥
 no_job n i k m = let z : length (slice_index_or (replicate n nothing) i nothing) ≡ 0 = ap length (no_executions n i) in omega (arith, m, z)
 
-abbrev pub worst_lists : SystemLists → TraceLists
-worst_lists s = record {
-  times = table (λ j. times_made (most_made s) (source_at s j) (late_first (source_at s j))) (length s.sources);
+abbrev pub worst_lists : SystemLists → Lateness → TraceLists
+worst_lists s late = record {
+  times = table (λ j. times_made (most_made s) (source_at s j) (late_by late (source_at s j))) (length s.sources);
   executions = replicate (length s.tasks) [];
   phases = replicate (length s.resources) 0;
 }
 
-pub worst_is : (s : SystemLists) → worst_trace s ≡ worst_lists s
+pub worst_is : (s : SystemLists) (late : Lateness) → worst_trace s late ≡ worst_lists s late
 unfolding worst_trace
-worst_is s = refl
+worst_is s late = refl
 
-pub worst_trace-obeys : (s : SystemLists) → IsSystem s → Obeys s (worst_trace s)
-worst_trace-obeys s kept = subst (Obeys s) (sym (worst_is s)) (record {
-  apart = times_apart s kept (λ j. late_first (source_at s j)) (λ j. late_first-within (source_at s j)) (worst_lists s) refl;
+pub worst_trace-obeys : (s : SystemLists) (late : Lateness) → IsSystem s → Obeys s (worst_trace s late)
+worst_trace-obeys s late kept = subst (Obeys s) (sym (worst_is s late)) (record {
+  apart = times_apart s kept (λ j. late_by late (source_at s j)) (λ j. late_by-within late (source_at s j)) (worst_lists s late) refl;
   least = λ i k l m. absurd (no_job (length s.tasks) i k m);
   greatest = λ i k l m. absurd (no_job (length s.tasks) i k m);
   phase = λ i gap l e. let z = no_phases (length s.resources) (task_at s i).res.0 in omega (arith, z, some_cycle s kept i gap l e);
+  clocks = λ c l. times_punctual s kept (λ j. late_by late (source_at s j)) (λ j. late_by-within late (source_at s j)) (worst_lists s late) refl c;
 })
 
 -- odd numbers
@@ -151,15 +184,16 @@ drawn_trace-obeys s g kept = subst (Obeys s) (sym (drawn_is s g)) (record {
       let r = (task_at s i).res.0 in
       let here = table_at (phase_drawn s g) (length s.resources) r 0 (kept.tasks i no_task l).placed in
       rw here (phase_below s g r (has_phase s r) (some_cycle s kept i gap l e));
+  clocks = λ c l. times_punctual s kept (λ j. late_drawn g (before_source s j) (source_at s j)) (λ j. late_drawn-within g (before_source s j) (source_at s j)) (drawn_lists s g) refl c;
 })
 
-if_even : (s : SystemLists) (g : Lcg) (b : Bool) → IsSystem s → Obeys s (if b then worst_trace s else drawn_trace s g)
-if_even s g true kept = worst_trace-obeys s kept
-if_even s g false kept = drawn_trace-obeys s g kept
+if_even : (s : SystemLists) (late : Lateness) (g : Lcg) (b : Bool) → IsSystem s → Obeys s (if b then worst_trace s late else drawn_trace s g)
+if_even s late g true kept = worst_trace-obeys s late kept
+if_even s late g false kept = drawn_trace-obeys s g kept
 
 -- each generated trace obeys its system
 pub made_traces_obey : (s : SystemLists) (number k : ℕ) → IsSystem s → Obeys s (made_trace s number k)
-made_traces_obey s number k kept = if_even s (generator number k) (k % 2 == 0) kept
+made_traces_obey s number k kept = if_even s (lateness_made s number k) (generator number k) (k % 2 == 0) kept
 
 tdma_gap : (k : Kind) → is_tdma k ≡ true → (gap : ℕ) × (k ≡ Tdma gap)
 tdma_gap (Tdma gap) e = (gap, refl)

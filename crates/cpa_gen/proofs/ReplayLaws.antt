@@ -13,11 +13,12 @@ use Rattle.cpa_trace.specs.Trace.{FitsSystem, TraceLists, executions_of, phase_o
 use Rattle.cpa_trace.specs.Reading.{jobs_of, task_jobs}
 use Rattle.cpa_sim.specs.Outcome.{CanReplay}
 use Rattle.rand_pcg.specs.Lcg.{Lcg}
+use Rattle.cpa_gen.specs.declared.traces.Lateness.{Lateness}
 use Rattle.cpa_gen.specs.Draws.{draw, generator, output}
-use Rattle.cpa_gen.specs.MadeTraces.{before_resource, before_source, before_task, drawn_trace, events_made, executions_drawn, has_phase, jobs_made, late_drawn, late_first, made_trace, phase_drawn, phases_of, time_made, times_made, worst_trace, most_made}
+use Rattle.cpa_gen.specs.MadeTraces.{before_resource, before_source, before_task, drawn_trace, events_made, executions_drawn, has_phase, jobs_made, late_by, late_drawn, lateness_made, made_trace, phase_drawn, phases_of, time_made, times_made, worst_trace, most_made}
 use Rattle.cpa_gen.proofs.ListLaws.{table, table_at, table_length}
 use Rattle.cpa_gen.proofs.MostLaws.{most_made-jobs, sums-scaled}
-use Rattle.cpa_gen.proofs.TimeLaws.{IsLate, few_made, in_time, late_drawn-within, late_first-within, time-within}
+use Rattle.cpa_gen.proofs.TimeLaws.{IsLate, few_made, in_time, late_by-within, late_drawn-within, time-within}
 use Rattle.cpa_gen.proofs.ObeyLaws.{all_executions, below, drawn_is, drawn_lists, execution_is, no_job, no_phases, nothing, phase_cycle, worst_is, worst_lists}
 
 module _ (s : SystemLists) (kept : IsSystem s) (lates : ℕ → ℕ → ℕ) (within : (j : ℕ) → IsLate (source_at s j) (lates j)) where
@@ -71,20 +72,20 @@ module _ (s : SystemLists) (kept : IsSystem s) (lates : ℕ → ℕ → ℕ) (wi
 
 -- even numbers
 
-worst_trace-fits : (s : SystemLists) → FitsSystem s (worst_lists s)
-worst_trace-fits s = record {
-  sources = table_length (λ j. times_made (most_made s) (source_at s j) (late_first (source_at s j))) (length s.sources);
+worst_trace-fits : (s : SystemLists) (late : Lateness) → FitsSystem s (worst_lists s late)
+worst_trace-fits s late = record {
+  sources = table_length (λ j. times_made (most_made s) (source_at s j) (late_by late (source_at s j))) (length s.sources);
   tasks = length-replicate (length s.tasks) nothing;
   resources = length-replicate (length s.resources) 0;
 }
 
-pub worst_trace-replays : (s : SystemLists) → IsSystem s → CanReplay s (worst_trace s)
-worst_trace-replays s kept = subst (CanReplay s) (sym (worst_is s)) (record {
-  fits = worst_trace-fits s;
-  times = in-time s kept (λ j. late_first (source_at s j)) (λ j. late_first-within (source_at s j)) (worst_lists s) refl;
+pub worst_trace-replays : (s : SystemLists) (late : Lateness) → IsSystem s → CanReplay s (worst_trace s late)
+worst_trace-replays s late kept = subst (CanReplay s) (sym (worst_is s late)) (record {
+  fits = worst_trace-fits s late;
+  times = in-time s kept (λ j. late_by late (source_at s j)) (λ j. late_by-within late (source_at s j)) (worst_lists s late) refl;
   executions = λ i k m. absurd (no_job (length s.tasks) i k m);
   phases = λ r gap e l. let z = no_phases (length s.resources) r in omega (arith, z);
-  few = few-jobs s kept (λ j. late_first (source_at s j)) (λ j. late_first-within (source_at s j)) (worst_lists s) refl;
+  few = few-jobs s kept (λ j. late_by late (source_at s j)) (λ j. late_by-within late (source_at s j)) (worst_lists s late) refl;
 })
 
 -- odd numbers
@@ -133,10 +134,10 @@ drawn_trace-replays s g kept = subst (CanReplay s) (sym (drawn_is s g)) (record 
   few = few-jobs s kept (λ j. late_drawn g (before_source s j) (source_at s j)) (λ j. late_drawn-within g (before_source s j) (source_at s j)) (drawn_lists s g) refl;
 })
 
-if_even : (s : SystemLists) (g : Lcg) (b : Bool) → IsSystem s → CanReplay s (if b then worst_trace s else drawn_trace s g)
-if_even s g true kept = worst_trace-replays s kept
-if_even s g false kept = drawn_trace-replays s g kept
+if_even : (s : SystemLists) (late : Lateness) (g : Lcg) (b : Bool) → IsSystem s → CanReplay s (if b then worst_trace s late else drawn_trace s g)
+if_even s late g true kept = worst_trace-replays s late kept
+if_even s late g false kept = drawn_trace-replays s g kept
 
 -- each generated trace can be replayed
 pub made_traces_replay : (s : SystemLists) (number k : ℕ) → IsSystem s → CanReplay s (made_trace s number k)
-made_traces_replay s number k kept = if_even s (generator number k) (k % 2 == 0) kept
+made_traces_replay s number k kept = if_even s (lateness_made s number k) (generator number k) (k % 2 == 0) kept

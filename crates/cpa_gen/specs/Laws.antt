@@ -8,7 +8,7 @@ use Rattle.cpa_model.specs.SystemLists.{SystemLists}
 use Rattle.cpa_trace.specs.Trace.{Obeys}
 use Rattle.cpa_sim.specs.Outcome.{CanReplay}
 use Rattle.cpa_gen.specs.MadeSystems.{made_system}
-use Rattle.cpa_gen.specs.MadeTraces.{events_made, most_made, streams_in, made_trace}
+use Rattle.cpa_gen.specs.MadeTraces.{begin_made, events_made, most_made, streams_in, made_trace}
 use Rattle.cpa_gen.specs.declared.traces.TheConstants.{MADE_EVENTS}
 
 -- a generated system is a system
@@ -17,7 +17,7 @@ MadeSystemsKeepRules = (number size : ℕ) → size ≤ MAX_SIZE → IsSystem (m
 
 -- a source has event m exactly where m is below the most events and its period's begin, with the jitter, isn't past the last time of a trace
 abbrev pub EventsAreInTime : Type 0
-EventsAreInTime = (most : ℕ) (r : Source) → IsSource r → (m : ℕ) → (m < events_made most r) ↔ ((m < most) × (m * r.period + r.jitter ≤ MAX_TRACE_TIME))
+EventsAreInTime = (most : ℕ) (r : Source) → IsSource r → (m : ℕ) → (m < events_made most r) ↔ ((m < most) × (begin_made r m + r.jitter ≤ MAX_TRACE_TIME))
 
 -- the most events of a source are a hundred in each small system, and so many that the jobs of all streams are no more than a trace may have
 abbrev pub EventsAreAHundred : Type 0

@@ -1,5 +1,5 @@
 -- The system that is generated from a seed and a size.
-use Rattle.std.specs.Prelude.{ℕ, zero, suc, ◌+◌, ◌*◌, ◌-◌, ◌/◌, ◌%◌, nat_lt, false, if◌then◌else◌, List, [], ◌∷◌, ◌++◌, map, codes, Some, slice_index_or}
+use Rattle.std.specs.Prelude.{ℕ, zero, suc, ◌+◌, ◌*◌, ◌-◌, ◌/◌, ◌%◌, nat_lt, false, if◌then◌else◌, List, [], ◌∷◌, ◌++◌, map, codes, Some, slice_index_or, None}
 use Rattle.std.specs.List.{range_with_len}
 use Rattle.std.specs.Fmt.{decimal}
 use Rattle.cpa_units.specs.declared.limits.TheConstants.{DEFAULT_LIMIT}
@@ -56,7 +56,7 @@ made_resource size r =
     else record { name = numbered (codes "b") (r - processors size) []; kind = kind.Can 2; limit = DEFAULT_LIMIT }
 
 abbrev pub made_source : ℕ → Chain → Source
-made_source k c = record { name = source_name k; period = c.period; jitter = c.jitter; distance = 0; sporadic = false }
+made_source k c = record { name = source_name k; period = c.period; jitter = c.jitter; distance = 0; sporadic = false; on_clock = None }
 
 -- the three tasks of chain k, which stand at the places 3k, 3k + 1 and 3k + 2
 abbrev pub first_task : ℕ → ℕ → Chain → Task

@@ -87,6 +87,7 @@ fn make_source(alloc: Global, k: u64, chain: Chain) -> Result<Source, NoMemory>
         jitter: chain.jitter,
         distance: 0,
         sporadic: false,
+        on_clock: None,
     })
 }
 

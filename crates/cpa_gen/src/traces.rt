@@ -3,13 +3,14 @@
 ghost use Rattle.std.specs.Prelude.{◌≡◌, if◌then◌else◌, ◌<◌, ◌≤◌, ◌+◌, ◌*◌, [], map, max, length, replicate, IfOk, OnOk};
 ghost use Rattle.std.specs.List.{range_with_len};
 ghost use Rattle.cpa_model.specs.Rules.{IsSource, IsSystem, IsTask};
+ghost use Rattle.cpa_model.specs.Clocks.{offset_on};
 ghost use Rattle.cpa_model.specs.SystemLists.{source_at, task_at};
 ghost use Rattle.rand_pcg.specs.Lcg.{Lcg};
 ghost use Rattle.cpa_gen.specs.Draws.{after_draws, draw};
 ghost use Rattle.cpa_trace.specs.Breaches.{has_tasks, is_tdma};
 ghost use Rattle.cpa_trace.specs.Trace.{Obeys};
 ghost use Rattle.cpa_sim.specs.Outcome.{CanReplay};
-ghost use Rattle.cpa_gen.specs.MadeTraces.{before_resource, before_source, before_task, drawn_trace, events_made, executions_drawn, has_phase, jobs_by, jobs_made, late_drawn, late_first, made_trace, most_made, phase_drawn, phases_of, streams_in, times_made, worst_trace};
+ghost use Rattle.cpa_gen.specs.MadeTraces.{before_resource, before_source, before_task, drawn_trace, events_made, executions_drawn, has_phase, jobs_by, jobs_made, late_by, late_drawn, late_first, lateness_made, made_trace, most_made, phase_drawn, phases_of, streams_in, times_made, worst_trace};
 
 use crate::draws::{draw, generator};
 use cpa_model::{Kind, Source, System, Task};
@@ -45,14 +46,27 @@ fn most_made(system: &System) -> u64
     MADE_EVENTS.min(share)
 }
 
+/// Where the first period of a source begins: at its offset, where it is on a clock.
+fn first_begin(source: &Source) -> u64
+    requires { IsSource source.now }
+    ensures value { result ≡ offset_on source.now.on_clock }
+    ensures early { result < source.now.period }
+{
+    match &source.on_clock {
+        Some(on) => on.offset,
+        None => 0,
+    }
+}
+
 /// How many events a source has in a generated trace, at the most so many.
 fn events_made(most: u64, source: &Source) -> u64
     requires { IsSource source.now }
     ensures value { result ≡ events_made most source.now }
     ensures few { result ≤ most }
 {
-    if source.jitter <= MAX_TRACE_TIME {
-        min(most, (MAX_TRACE_TIME - source.jitter) / source.period + 1)
+    let first = first_begin(source) + source.jitter;
+    if first <= MAX_TRACE_TIME {
+        min(most, (MAX_TRACE_TIME - first) / source.period + 1)
     } else {
         0
     }
@@ -64,6 +78,15 @@ fn later(time: u64, other: u64) -> u64
     if time < other { other } else { time }
 }
 
+/// How late events are that aren't drawn.
+#[derive(Clone, Copy, Debug, PartialEq, Eq)]
+pub enum Lateness {
+    /// The first one as late as may be, and no other.
+    First,
+    /// As late as may be up to a moment, and from then on not late.
+    Until(u64),
+}
+
 /// How late event `m` is where the first one is as late as may be, and no other.
 fn late_first(source: &Source, m: u64) -> u64
     ensures { result ≡ late_first source.now m }
@@ -71,17 +94,41 @@ fn late_first(source: &Source, m: u64) -> u64
     if m == 0 { source.jitter } else { 0 }
 }
 
-/// The times of a source whose first event is as late as may be, and no other.
-fn worst_times(alloc: Global, most: u64, source: &Source) -> Result<Vec<u64>, NoMemory>
+/// How late event `m` is that isn't drawn.
+fn late_by(late: Lateness, source: &Source, m: u64) -> u64
+    requires source { IsSource source.now }
+    requires few { m < 100 }
+    ensures { result ≡ late_by late source.now m }
+{
+    match late {
+        Lateness::First => late_first(source, m),
+        Lateness::Until(moment) => {
+            let begin = first_begin(source) + m * source.period;
+            min(source.jitter, moment.saturating_sub(begin))
+        }
+    }
+}
+
+/// The times of a source whose events aren't drawn.
+fn worst_times(
+    alloc: Global,
+    most: u64,
+    source: &Source,
+    late: Lateness,
+) -> Result<Vec<u64>, NoMemory>
     requires source { IsSource source.now }
     requires few { most ≤ 100 }
-    ensures { IfOk result (λ v. v.items ≡ times_made most source.now (late_first source.now)) }
+    ensures { IfOk result (λ v. v.items ≡ times_made most source.now (late_by late source.now)) }
 {
     let events = events_made(most, source);
     let mut times = Vec::with_capacity(alloc, events as usize)?;
+    let first = first_begin(source);
     let mut earliest = 0;
     for m in 0..events {
-        let time = later(earliest, m * source.period + late_first(source, m));
+        let time = later(
+            earliest,
+            first + m * source.period + late_by(late, source, m),
+        );
         times.push(time)?;
         earliest = time + source.distance;
     }
@@ -102,10 +149,11 @@ fn drawn_times(
 {
     let events = events_made(most, source);
     let mut times = Vec::with_capacity(alloc, events as usize)?;
+    let first = first_begin(source);
     let mut earliest = 0;
     for m in 0..events {
         let late = draw(rng, source.jitter + 1);
-        let time = later(earliest, m * source.period + late);
+        let time = later(earliest, first + m * source.period + late);
         times.push(time)?;
         earliest = time + source.distance;
     }
@@ -131,15 +179,19 @@ fn drawn_executions(
     Ok(executions)
 }
 
-/// The times of all sources, each of whose first events is as late as may be.
-fn all_worst_times(alloc: Global, system: &System) -> Result<Vec<Vec<u64>>, NoMemory>
-    ensures times { IfOk result (λ v. map (λ w. w.items) v.items ≡ map (λ j. times_made (most_made system.now) (source_at system.now j) (late_first (source_at system.now j))) (range_with_len 0 (length system.now.sources))) }
+/// The times of all sources, none of whose events are drawn.
+fn all_worst_times(
+    alloc: Global,
+    system: &System,
+    late: Lateness,
+) -> Result<Vec<Vec<u64>>, NoMemory>
+    ensures times { IfOk result (λ v. map (λ w. w.items) v.items ≡ map (λ j. times_made (most_made system.now) (source_at system.now j) (late_by late (source_at system.now j))) (range_with_len 0 (length system.now.sources))) }
     ensures rules { IsSystem system.now }
 {
     let most = most_made(system);
     let mut times = Vec::with_capacity(alloc, system.sources() as usize)?;
     for j in 0..system.sources() {
-        times.push(worst_times(alloc, most, system.source(SourceId(j)))?)?;
+        times.push(worst_times(alloc, most, system.source(SourceId(j)), late)?)?;
     }
     Ok(times)
 }
@@ -156,11 +208,11 @@ fn no_executions(alloc: Global, tasks: u32) -> Result<Vec<Vec<u64>>, NoMemory>
 }
 
 /// The trace of even places.
-fn worst_trace(alloc: Global, system: &System) -> Result<Trace, NoMemory>
-    ensures value { IfOk result (λ tr. tr ≡ worst_trace system.now) }
+fn worst_trace(alloc: Global, system: &System, late: Lateness) -> Result<Trace, NoMemory>
+    ensures value { IfOk result (λ tr. tr ≡ worst_trace system.now late) }
     ensures rules { IsSystem system.now }
 {
-    let times = all_worst_times(alloc, system)?;
+    let times = all_worst_times(alloc, system, late)?;
     let executions = no_executions(alloc, system.tasks())?;
     let phases = vec![in alloc; 0; system.resources() as usize]?;
     Ok(Trace::of_lists(times, executions, phases))
@@ -276,9 +328,25 @@ fn drawn_trace(alloc: Global, mut rng: Pcg32, system: &System) -> Result<Trace, 
     Ok(Trace::of_lists(times, executions, phases))
 }
 
+/// How late events are in trace `k`, which is even.
+fn how_late(system: &System, number: u64, k: u64) -> Lateness
+    ensures { result ≡ lateness_made system.now number k }
+{
+    if system.has_clocks() && k % 4 == 2 {
+        let mut rng = generator(number, k);
+        let place = draw(&mut rng, u64::from(system.sources()));
+        let source = system.source(SourceId(place as u32));
+        let event = draw(&mut rng, 10);
+        Lateness::Until(first_begin(source) + event * source.period + source.jitter)
+    } else {
+        Lateness::First
+    }
+}
+
 /// Trace `k` that is made for a system from a number. Each source has at most 100 events, and fewer where
-/// the system has more than 20,000 streams, by 10,000,000 ticks. Where `k` is even, its first event is as
-/// late as may be, and each execution is the greatest; else all is drawn by PCG32 (O'Neill 2014), from the
+/// the system has more than 20,000 streams, by 10,000,000 ticks. Clocks start at 0. Where `k` is even, its first event is as
+/// late as may be, or, in every other one where there are clocks, all are up to a moment that is drawn, and each execution is
+/// the greatest; else all is drawn by PCG32 (O'Neill 2014), from the
 /// stream `k`. The trace obeys the system, and can be replayed. The only error is out of memory.
 pub fn make_trace(alloc: Global, system: &System, number: u64, k: u64) -> Result<Trace, NoMemory>
     ensures value { IfOk result (λ tr. tr ≡ made_trace system.now number k) }
@@ -286,7 +354,7 @@ pub fn make_trace(alloc: Global, system: &System, number: u64, k: u64) -> Result
     ensures replays { IfOk result (λ tr. CanReplay system.now tr) }
 {
     if k % 2 == 0 {
-        worst_trace(alloc, system)
+        worst_trace(alloc, system, how_late(system, number, k))
     } else {
         drawn_trace(alloc, generator(number, k), system)
     }

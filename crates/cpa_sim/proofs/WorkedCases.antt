@@ -1,5 +1,5 @@
 -- A run with regions, worked.
-use Rattle.std.proofs.Common.{◌≡◌, ℕ, [], ◌∷◌, false, Some, refl}
+use Rattle.std.proofs.Common.{◌≡◌, ℕ, [], ◌∷◌, false, Some, None, refl}
 use Rattle.cpa_units.specs.declared.limits.Size.TheVariants.{Large}
 use Rattle.cpa_model.specs.declared.entries.Kind.TheVariants.{Preemptive}
 use Rattle.cpa_model.specs.declared.entries.Source.{Source}
@@ -12,7 +12,7 @@ use Rattle.cpa_sched.specs.Steps.{step}
 use Rattle.cpa_sim.specs.Run.{Progress, choice_at, runs_in, served, ends_in, ended_in, advance, run}
 
 abbrev source : Source
-source = record { name = []; period = 100; jitter = 0; distance = 0; sporadic = false }
+source = record { name = []; period = 100; jitter = 0; distance = 0; sporadic = false; on_clock = None }
 
 abbrev task : ℕ → ℕ → ℕ → ℕ → Task
 task place best worst region =

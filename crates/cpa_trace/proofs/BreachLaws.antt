@@ -12,14 +12,16 @@ use Rattle.cpa_events.specs.Streams.{stream_delta_minus}
 use Rattle.cpa_model.specs.declared.entries.Kind.{Kind}
 use Rattle.cpa_model.specs.declared.entries.Kind.TheVariants.{Preemptive, RoundRobin, Tdma, Can}
 use Rattle.cpa_model.specs.declared.entries.Task.{Task}
+use Rattle.cpa_model.specs.Rules.{IsSystem}
 use Rattle.cpa_model.specs.SystemLists.{SystemLists, resource_at, resource_of, task_at, cycle_of, no_task, no_resource}
 use Rattle.cpa_trace.specs.declared.breach.Breach.{Breach}
 use Rattle.cpa_trace.specs.declared.breach.Breach.TheVariants.{Phase}
 use Rattle.cpa_model.specs.Streams.{source_stream}
 use Rattle.cpa_trace.specs.Trace.{TraceLists, times_of, time_of, executions_of, phase_of, need, FitsSystem, Obeys}
-use Rattle.cpa_trace.specs.Breaches.{first_some, is_too_soon, first_before, first_too_soon, close_at, close_by, close_breach, is_out_of_range, execution_breach, is_tdma, has_tasks, phase_breach, or_else, first_breach}
+use Rattle.cpa_trace.specs.Breaches.{first_some, is_too_soon, first_before, first_too_soon, close_at, close_by, close_breach, is_out_of_range, execution_breach, is_tdma, has_tasks, phase_breach, clock_breach, or_else, first_breach}
 use Rattle.cpa_trace.proofs.SearchLaws.{FailsBelow, first_below-none, first_below-fails, first_below-is, is_some-none, none-is_some, first_some-none, first_some-fails}
 use Rattle.cpa_trace.proofs.CloseLaws.{delta-gaps}
+use Rattle.cpa_trace.proofs.KeepsLaws.{clocks-is}
 
 -- any two of some times are as far apart as a stream says
 abbrev AreApart : Stream → List ℕ → Type 0
@@ -91,7 +93,7 @@ tdma-gap RoundRobin e = absurd (false≢true e)
 tdma-gap (Tdma gap) e = (gap, refl)
 tdma-gap (Can bit) e = absurd (false≢true e)
 
-module _ (s : SystemLists) (tr : TraceLists) (fits : FitsSystem s tr) where
+module _ (s : SystemLists) (kept : IsSystem s) (tr : TraceLists) (fits : FitsSystem s tr) where
   apart : first_some (close_breach s tr) (length s.sources) ≡ None → (k n gap : ℕ) → n + gap < length (times_of tr k) → time_of tr k n + stream_delta_minus (source_stream s k) (gap + 1) ≤ time_of tr k (n + gap)
   apart none k =
       let split : (k < length s.sources) ⊎ (length s.sources ≤ k) = grind arith in
@@ -144,11 +146,13 @@ module _ (s : SystemLists) (tr : TraceLists) (fits : FitsSystem s tr) where
   obeys-from none =
       let sources = or_else-none _ _ none in
       let tasks = or_else-none _ _ sources.1 in
+      let resources = or_else-none _ _ tasks.1 in
       record {
         apart = apart sources.0;
         least = λ i k h l. (in_range-from tasks.0 i k h l).0;
         greatest = λ i k h l. (in_range-from tasks.0 i k h l).1;
-        phase = below_cycle tasks.1;
+        phase = below_cycle resources.0;
+        clocks = (clocks-is s kept tr).0 resources.1;
       }
 
   no_close : Obeys s tr → FailsBelow (λ k. is_some (close_breach s tr k)) (length s.sources)
@@ -180,9 +184,10 @@ module _ (s : SystemLists) (tr : TraceLists) (fits : FitsSystem s tr) where
       let close = first_some-none (close_breach s tr) (length s.sources) (no_close obeys) in
       let execution = first_some-none (execution_breach s tr) (length s.tasks) (no_execution obeys) in
       let phase = first_some-none (phase_breach s tr) (length s.resources) (no_phase obeys) in
-      ap (λ o. or_else o (or_else (first_some (execution_breach s tr) (length s.tasks)) (first_some (phase_breach s tr) (length s.resources)))) close
-      ∙ ap (λ o. or_else o (first_some (phase_breach s tr) (length s.resources))) execution
-      ∙ phase
+      let clock = (clocks-is s kept tr).1 obeys.clocks in
+      ap (λ o. or_else o (or_else (first_some (execution_breach s tr) (length s.tasks)) (or_else (first_some (phase_breach s tr) (length s.resources)) (first_some (clock_breach s tr) (length s.sources))))) close
+      ∙ ap (λ o. or_else o (or_else (first_some (phase_breach s tr) (length s.resources)) (first_some (clock_breach s tr) (length s.sources)))) execution
+      ∙ ap (λ o. or_else o (first_some (clock_breach s tr) (length s.sources))) phase ∙ clock
 
   pub obeys-is : (first_breach s tr ≡ None) ↔ Obeys s tr
   obeys-is = (obeys-from, obeys-none)

@@ -1,14 +1,15 @@
 -- What a breach says of is there.
-use Rattle.std.proofs.Common.{◌≡◌, ℕ, ◌+◌, ◌<◌, Bool, true, false, if◌then◌else◌, length, List, Option, Some, None, refl}
+use Rattle.std.proofs.Common.{◌≡◌, ℕ, ◌+◌, ◌<◌, Bool, true, false, not, if◌then◌else◌, length, List, Option, Some, None, refl}
 use Rattle.std.specs.Prelude.{option_map, IfSome}
 use Rattle.std.specs.Option.{is_some, option_and_then}
 use Rattle.cpa_events.specs.declared.stream.Stream.{Stream}
+use Rattle.cpa_model.specs.Clocks.{clock_of}
 use Rattle.cpa_model.specs.Streams.{source_stream}
 use Rattle.cpa_model.specs.SystemLists.{SystemLists}
 use Rattle.cpa_trace.specs.declared.breach.Breach.{Breach}
-use Rattle.cpa_trace.specs.declared.breach.Breach.TheVariants.{Exec, Phase}
-use Rattle.cpa_trace.specs.Trace.{TraceLists, times_of}
-use Rattle.cpa_trace.specs.Breaches.{first_below, first_some, first_too_soon, first_before, close_at, close_by, close_breach, execution_breach, phase_breach, or_else, first_breach, IsBreachOf}
+use Rattle.cpa_trace.specs.declared.breach.Breach.TheVariants.{Exec, Phase, Clock}
+use Rattle.cpa_trace.specs.Trace.{TraceLists, times_of, time_of}
+use Rattle.cpa_trace.specs.Breaches.{first_below, first_some, first_too_soon, first_before, close_at, close_by, close_breach, execution_breach, phase_breach, leaves_lead, events_to, clock_breach_on, clock_breach, or_else, first_breach, IsBreachOf}
 use Rattle.cpa_trace.proofs.SearchLaws.{first_below-is}
 
 module _ (s : SystemLists) where
@@ -37,10 +38,26 @@ module _ (s : SystemLists) where
   placed-or_else None p a b = b
   placed-or_else (Some x) p a b = a
 
-  pub placed-first : (tr : TraceLists) → IfSome (first_breach s tr) (IsBreachOf s)
-  placed-first tr =
-      placed-or_else (first_some (close_breach s tr) (length s.sources)) (or_else (first_some (execution_breach s tr) (length s.tasks)) (first_some (phase_breach s tr) (length s.resources)))
-      (placed-some (close_breach s tr) (length s.sources) (λ k there. placed-close_by k (source_stream s k) (times_of tr k) (first_too_soon (source_stream s k) (times_of tr k)) there) (first_below (λ k. is_some (close_breach s tr k)) (length s.sources)) refl)
-      (placed-or_else (first_some (execution_breach s tr) (length s.tasks)) (first_some (phase_breach s tr) (length s.resources))
-      (placed-some (execution_breach s tr) (length s.tasks) (λ i there. placed-exec i _ there) (first_below (λ k. is_some (execution_breach s tr k)) (length s.tasks)) refl)
-      (placed-some (phase_breach s tr) (length s.resources) (λ r there. placed-phase r _ there) (first_below (λ k. is_some (phase_breach s tr k)) (length s.resources)) refl))
+  placed-clock : (k : ℕ) (time : ℕ → ℕ) (o : Option ℕ) → k < length s.sources → IfSome (option_map (λ n. Clock (record { 0 = k }) (time n)) o) (IsBreachOf s)
+  placed-clock k time None there = tt
+  placed-clock k time (Some n) there = there
+
+  placed-clock_on : (tr : TraceLists) (k : ℕ) (clock : Option ℕ) → k < length s.sources → IfSome (clock_breach_on s tr k clock) (IsBreachOf s)
+  placed-clock_on tr k None there = tt
+  placed-clock_on tr k (Some c) there = placed-clock k (time_of tr k) (first_below (λ n. not (leaves_lead s tr (events_to tr k (n + 1)) c)) (length (times_of tr k))) there
+
+  module _ (tr : TraceLists) where
+    close : IfSome (first_some (close_breach s tr) (length s.sources)) (IsBreachOf s)
+    close = placed-some (close_breach s tr) (length s.sources) (λ k there. placed-close_by k (source_stream s k) (times_of tr k) (first_too_soon (source_stream s k) (times_of tr k)) there) (first_below (λ k. is_some (close_breach s tr k)) (length s.sources)) refl
+
+    execution : IfSome (first_some (execution_breach s tr) (length s.tasks)) (IsBreachOf s)
+    execution = placed-some (execution_breach s tr) (length s.tasks) (λ i there. placed-exec i _ there) (first_below (λ k. is_some (execution_breach s tr k)) (length s.tasks)) refl
+
+    phase : IfSome (first_some (phase_breach s tr) (length s.resources)) (IsBreachOf s)
+    phase = placed-some (phase_breach s tr) (length s.resources) (λ r there. placed-phase r _ there) (first_below (λ k. is_some (phase_breach s tr k)) (length s.resources)) refl
+
+    clock : IfSome (first_some (clock_breach s tr) (length s.sources)) (IsBreachOf s)
+    clock = placed-some (clock_breach s tr) (length s.sources) (λ k there. placed-clock_on tr k (clock_of s k) there) (first_below (λ k. is_some (clock_breach s tr k)) (length s.sources)) refl
+
+    pub placed-first : IfSome (first_breach s tr) (IsBreachOf s)
+    placed-first = placed-or_else _ _ close (placed-or_else _ _ execution (placed-or_else _ _ phase clock))

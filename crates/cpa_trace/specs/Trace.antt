@@ -1,11 +1,12 @@
 -- Traces, and when a trace obeys a system.
-use Rattle.std.specs.Prelude.{◌≡◌, ℕ, ◌+◌, ◌-◌, ◌<◌, ◌≤◌, List, [], ◌∷◌, ◌++◌, length, replicate, slice_set, slice_index_or}
+use Rattle.std.specs.Prelude.{◌≡◌, ℕ, ◌+◌, ◌-◌, ◌*◌, ◌<◌, ◌≤◌, Some, List, [], ◌∷◌, ◌++◌, length, replicate, slice_set, slice_index_or}
 use Rattle.cpa_units.specs.declared.limits.TheConstants.{MAX_TRACE_TIME, MAX_PHASE}
 use Rattle.cpa_units.specs.Numbers.{IsExecution}
 use Rattle.cpa_events.specs.Streams.{stream_delta_minus}
 use Rattle.cpa_model.specs.declared.entries.Kind.TheVariants.{Tdma}
 use Rattle.cpa_model.specs.Streams.{source_stream}
-use Rattle.cpa_model.specs.SystemLists.{SystemLists, task_at, resource_of, cycle_of}
+use Rattle.cpa_model.specs.Clocks.{clock_of, offset_of}
+use Rattle.cpa_model.specs.SystemLists.{SystemLists, source_at, task_at, resource_of, cycle_of}
 
 -- per source the times of its events, per task the executions of its jobs, per resource a phase
 pub record TraceLists : Type 0 where
@@ -57,6 +58,15 @@ pub record IsInRange (tr : TraceLists) : Type 0 where
   pub executions : (i k : ℕ) → k < length (executions_of tr i) → IsExecution (slice_index_or (executions_of tr i) k 0)
   pub phases : (r : ℕ) → phase_of tr r ≤ MAX_PHASE
 
+-- When the trace begins, clock c has run for so long, and of each source on it so many events came before. From then on event number n
+-- of each comes from offset + n * period after the clock's start to that and its jitter. No event is left out.
+pub record KeepsClock (s : SystemLists) (tr : TraceLists) (c : ℕ) : Type 0 where
+  pub lead : ℕ
+  pub before : ℕ → ℕ
+  pub not_early : (k n : ℕ) → clock_of s k ≡ Some c → n < length (times_of tr k) → offset_of s k + (before k + n) * (source_at s k).period ≤ time_of tr k n + lead
+  pub not_late : (k n : ℕ) → clock_of s k ≡ Some c → n < length (times_of tr k)
+      → time_of tr k n + lead ≤ offset_of s k + (before k + n) * (source_at s k).period + (source_at s k).jitter
+
 -- a trace obeys a system
 pub record Obeys (s : SystemLists) (tr : TraceLists) : Type 0 where
   -- any two events of a source are as far apart as its stream says (Richter): n + gap comes gap events after n
@@ -66,6 +76,8 @@ pub record Obeys (s : SystemLists) (tr : TraceLists) : Type 0 where
   pub greatest : (i k : ℕ) → i < length s.tasks → k < length (executions_of tr i) → need s tr i k ≤ (task_at s i).worst
   -- the phase of each TDMA resource that has a task is below its cycle
   pub phase : (i gap : ℕ) → i < length s.tasks → (resource_of s i).kind ≡ Tdma gap → phase_of tr (task_at s i).res.0 < cycle_of s (task_at s i).res.0
+  -- the events of the sources on a clock come by it
+  pub clocks : (c : ℕ) → c < length s.sources → KeepsClock s tr c
 
 -- the trace with no rows
 abbrev pub empty_trace : SystemLists → TraceLists

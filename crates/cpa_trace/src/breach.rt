@@ -1,16 +1,19 @@
 //! Whether a trace obeys a system, and its first breach where it doesn't.
 
-ghost use Rattle.std.specs.Prelude.{◌≡◌, ℕ, ◌+◌, ◌-◌, ◌<◌, ◌≤◌, ◌↔◌, length, None, true, Some, IfSome, is_some, nat_lt};
+ghost use Rattle.std.specs.Prelude.{◌≡◌, ℕ, ◌+◌, ◌-◌, ◌<◌, ◌≤◌, ◌↔◌, length, None, true, Some, false, IfSome, IfOk, IsOk, is_some, nat_lt};
 ghost use Rattle.cpa_events.specs.Streams.{stream_delta_minus, IsStreamInRange};
+ghost use Rattle.cpa_model.specs.Clocks.{has_clocks};
 ghost use Rattle.cpa_model.specs.SystemLists.{task_at};
 ghost use Rattle.cpa_model.specs.Streams.{source_stream};
 ghost use Rattle.cpa_trace.specs.Trace.{times_of, executions_of, IsOrdered, FitsSystem, Obeys};
 ghost use Rattle.cpa_trace.specs.Breaches.{first_some, has_tasks, is_tdma, first_before, first_too_soon, close_breach, execution_breach, phase_breach, first_breach, first_below, is_out_of_range, IsBreachOf};
 
+use crate::clocks::first_clock_breach;
 use crate::trace::Trace;
 use cpa_events::Stream;
 use cpa_model::{Kind, System, Task};
-use cpa_units::{ResId, SourceId, TaskId};
+use cpa_units::{NoMemory, ResId, SourceId, TaskId};
+use std::alloc::Global;
 
 /// Why a trace doesn't obey a system.
 #[derive(Clone, Copy, Debug, PartialEq, Eq)]
@@ -29,6 +32,12 @@ pub enum Breach {
     /// The phase of a TDMA resource that has a task isn't below its cycle.
     Phase {
         res: ResId,
+    },
+    /// An event of a source on a clock, with which its events, and those of the sources before it on the clock, can't come
+    /// by one clock; its time in ticks.
+    Clock {
+        source: SourceId,
+        time: u64,
     },
 }
 
@@ -188,30 +197,38 @@ fn first_phase_breach(system: &System, trace: &Trace) -> Option<Breach>
     None
 }
 
-/// The first breach: of the sources, else of the tasks, else of the resources.
-fn first_breach(system: &System, trace: &Trace) -> Option<Breach>
+/// The first breach: of the sources, else of the tasks, else of the resources, else of the sources on clocks.
+fn first_breach(alloc: Global, system: &System, trace: &Trace) -> Result<Option<Breach>, NoMemory>
     requires { FitsSystem system.now trace.now }
-    ensures { result ≡ first_breach system.now trace.now }
+    ensures first { IfOk result (λ b. b ≡ first_breach system.now trace.now) }
+    ensures plain { has_clocks system.now ≡ false → IsOk result }
 {
     let close = first_close_breach(system, trace);
     if close.is_some() {
-        return close;
+        return Ok(close);
     }
     let execution = first_execution_breach(system, trace);
     if execution.is_some() {
-        return execution;
+        return Ok(execution);
     }
-    first_phase_breach(system, trace)
+    let phase = first_phase_breach(system, trace);
+    if phase.is_some() {
+        return Ok(phase);
+    }
+    first_clock_breach(alloc, system, trace)
 }
 
 /// None where a trace obeys a system; else the first breach. Sources come first in their order, with
 /// the least event that is too close to an earlier one, and the least such earlier one; then tasks
-/// with the first job that is out of range; then resources.
-pub fn obeys(system: &System, trace: &Trace) -> Option<Breach>
+/// with the first job that is out of range; then resources; then sources on clocks, with the first event that can't come
+/// by the clock of the events before it. The only error is out of memory; a system without clocks needs none.
+pub fn obeys(alloc: Global, system: &System, trace: &Trace) -> Result<Option<Breach>, NoMemory>
     requires { FitsSystem system.now trace.now }
-    ensures first { result ≡ first_breach system.now trace.now }
-    ensures obeys { (result ≡ None) ↔ Obeys system.now trace.now }
-    ensures there { IfSome result (IsBreachOf system.now) }
+    ensures first { IfOk result (λ b. b ≡ first_breach system.now trace.now) }
+    ensures obeys { IfOk result (λ b. (b ≡ None) ↔ Obeys system.now trace.now) }
+    ensures there { IfOk result (λ b. IfSome b (IsBreachOf system.now)) }
+    ensures plain { has_clocks system.now ≡ false → IsOk result }
 {
-    first_breach(system, trace)
+    system.has_rules();
+    first_breach(alloc, system, trace)
 }
