@@ -1,5 +1,5 @@
 -- What started the jobs of a run: those of one activator come in the order of its events or completions, each of them once.
-use Rattle.std.proofs.Common.{◌≡◌, ℕ, zero, suc, ◌+◌, ◌-◌, ◌<◌, ◌≤◌, ◌++◌, length, List, [], ◌∷◌, map, take, Bool, true, false, eqb, refl, sym, ◌∙◌, ap, inl, inr, arith, get_or, length-append}
+use Rattle.std.proofs.Common.{◌≡◌, ℕ, zero, suc, ◌+◌, ◌-◌, ◌*◌, ◌<◌, ◌≤◌, ◌++◌, length, List, [], ◌∷◌, map, take, Bool, true, false, eqb, refl, sym, ◌∙◌, ap, inl, inr, arith, get_or, length-append}
 use Rattle.std.specs.Prelude.{filter}
 use Rattle.std.specs.List.{range_with_len}
 use Rattle.std.proofs.lemmas.Bool.{cases_Bool, eq-eqb, ne_eqb}
@@ -30,6 +30,7 @@ use Rattle.cpa_sound.proofs.CauseStreams.{is-same, activator-there}
 use Rattle.cpa_sound.proofs.CauseNumbers.{is_by, numbers_by, numbers-append, part_of, number-at, jobs-taken, arriving-task, arriving-source, AllStart, start-append, start-at, start-arriving}
 use Rattle.cpa_sim.proofs.EventCounts.{events_before, before-none, before-suc, before-le}
 use Rattle.cpa_sound.proofs.ArrivalLaws.{ends_in-is, in_order-from, is_before, is_from}
+use Rattle.cpa_sound.proofs.Timed.{PartKeepsTime}
 use Rattle.cpa_sound.proofs.CourseLaws.{arrives-order}
 use Rattle.cpa_sound.proofs.RunLaws.{served-runs, served-idle, arrived-zero, arrived-one}
 use Rattle.cpa_sound.proofs.FieldLaws.{tick-cause}
@@ -281,6 +282,15 @@ module _ (s : SystemLists) (tr : TraceLists) where
             let inside : jobs_in from l + two.0 < length times = omega (arith, two.1, second.there) in
             let close = rw two.1 at (near k (jobs_in from l) two.0 steady inside) in
             rw two.2 (omega (arith, close, first.is_by, second.is_after))
+
+        -- what a source starts comes within the intervals of its events
+        pub source-timed : (lead start : ℕ)
+            → ((n : ℕ) → n < length times → (start + n * (source_stream s k).period ≤ time_of tr k n + lead) × (time_of tr k n + lead ≤ start + n * (source_stream s k).period + (source_stream s k).jitter))
+            → PartKeepsTime (course_of s tr i) from lead start (source_stream s k) (last + 1)
+        source-timed lead start on_time l a own arrival soon =
+            let e = event l a soon own arrival in
+            let when = on_time (jobs_in from l) e.there in
+            (omega (arith, when.0, e.is_by), omega (arith, when.1, e.is_after))
 
       -- the laws of causes hold in every run
       pub keeps-causes : ((i : ℕ) → i < length s.tasks → IsInOrder (course_of s tr i) (task_at s i).best (task_at s i).worst) → KeepsCauses s (course_of s tr) (causes_at s tr last) last

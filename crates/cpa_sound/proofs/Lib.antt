@@ -20,8 +20,14 @@ pub mod KeepsCauses
 pub mod CauseStreams
 pub mod SteadyLaws
 pub mod SentLaws
+pub mod Timed
+pub mod TimedLaws
+pub mod OwnWindows
+pub mod MomentLaws
+pub mod AnchorLaws
 pub mod LocalBounds
 pub mod CausalLaws
+pub mod TimedCausal
 pub mod RuleLaws
 pub mod JobLaws
 pub mod RunLaws
@@ -35,7 +41,9 @@ pub mod KindRuns
 pub mod SlotRuns
 pub mod FieldLaws
 pub mod PathLaws
+pub mod ClockRuns
 pub mod Soundness
 mod CauseInstants
 pub mod BeyondLaws
 mod WorkedCases
+mod WorkedClocks

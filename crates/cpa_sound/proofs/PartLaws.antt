@@ -156,7 +156,7 @@ module _ (part : ℕ → Bool) where
 -- ---- two parts of the same jobs
 
 module _ (c : Course) (best worst : ℕ) (o : IsInOrder c best worst) (part other : ℕ → Bool) (until : ℕ) (same : (k : ℕ) → k ≤ c.arrived until → jobs_in part k ≡ jobs_in other k) where
-  in_other : (k : ℕ) → k < c.arrived until → part k ≡ true → other k ≡ true
+  pub in_other : (k : ℕ) → k < c.arrived until → part k ≡ true → other k ≡ true
   in_other k here e =
       elim (cases_Bool (other k)) [
         | inl own ↦ own

@@ -5,7 +5,6 @@ use Rattle.cpa_units.specs.declared.bound.Bound.{Bound}
 use Rattle.cpa_model.specs.declared.entries.Kind.{Kind}
 use Rattle.cpa_model.specs.declared.entries.Kind.TheVariants.{Preemptive, RoundRobin, Tdma, Can}
 use Rattle.cpa_model.specs.SystemLists.{SystemLists, task_at, resource_of, streams_of, stream_at}
-use Rattle.cpa_local.specs.Inputs.{input}
 use Rattle.cpa_local.specs.Solution.{IsClosed}
 use Rattle.cpa_sound.proofs.Serving.{work, EndsAfter}
 use Rattle.cpa_trace.specs.Trace.{TraceLists, need, Obeys}
@@ -31,13 +30,14 @@ use Rattle.cpa_sound.proofs.KindRuns.{order, open-by, preemptive-runs, can-runs,
 use Rattle.cpa_sound.proofs.SlotRuns.{slots-run}
 use Rattle.cpa_sound.proofs.FieldLaws.{serve-end, old-job, end-zero, end-new, arrival-is}
 use Rattle.cpa_sound.specs.Laws.{LocalBounds, ClosedVectorsBoundEveryRun, LeastSolutionsBoundEveryRun, EachJobHasAStream, ACauseStartsOneJob}
-use Rattle.cpa_local.proofs.ResponseLaws.{input-is_input}
-use Rattle.cpa_sound.proofs.DistanceLaws.{within_from_apart}
-use Rattle.cpa_sound.proofs.LocalBounds.{IsKnownBefore, local_bound}
+use Rattle.cpa_sound.proofs.LocalBounds.{local_bound}
 use Rattle.cpa_units.specs.declared.limits.TheConstants.{MAX_CHAIN}
 use Rattle.cpa_sound.proofs.KeepsCauses.{KeepsCauses}
 use Rattle.cpa_sound.proofs.CauseStreams.{belongs, stream-origin, one-job}
-use Rattle.cpa_sound.proofs.CausalLaws.{courses_hold, chain_in_range}
+use Rattle.cpa_sound.proofs.CausalLaws.{as_before, chain_in_range, courses_hold_by}
+use Rattle.cpa_sound.proofs.ClockRuns.{clock_lead, came_before, sourced_on_time}
+use Rattle.cpa_sound.proofs.TimedCausal.{Timed, timed_first, timed_next, inputs_known}
+use Rattle.cpa_sound.specs.JobStreams.{stream_within}
 use Rattle.cpa_sched.proofs.OptionLaws.{some-injective}
 
 -- ---- the laws of a run hold in every run
@@ -161,7 +161,17 @@ module _ (s : SystemLists) (tr : TraceLists) (rules : IsSystem s) (obeys : Obeys
 
   module _ (x : List Bound) (closed : IsClosed s x) where
     hold : (t : ℕ) → CoursesHold s x (course_of s tr) (causes_at s tr t) t
-    hold t = courses_hold s x (course_of s tr) (causes_at s tr t) t steps (keeps-causes s tr obeys rules t steps.order) rules closed
+    hold t =
+        let causes = causes_at s tr t in
+        let kept = keeps-causes s tr obeys rules t steps.order in
+        let lead = clock_lead s tr obeys rules in
+        let first = came_before s tr obeys rules in
+        let sourced = sourced_on_time s tr obeys rules steps.order t in
+        courses_hold_by s x (course_of s tr) causes t steps kept rules (Timed s x (course_of s tr) causes t steps kept rules lead first sourced)
+        (timed_first s x (course_of s tr) causes t steps kept rules lead first sourced) (timed_next s x (course_of s tr) causes t steps kept rules lead first sourced)
+        (λ i k a r h number arrival le known also.
+        local_bound s x (course_of s tr) (stream_within s causes MAX_CHAIN) lead steps rules closed i h k a r number arrival (as_before s x (course_of s tr) causes t steps kept rules (a + r) (omega arith) known)
+        (inputs_known s x (course_of s tr) causes t steps kept rules lead first sourced (a + r) (omega arith) known also))
 
     sources-near : (t : ℕ) → SourcesStayNear s tr → SourcesAreNear s (course_of s tr) (causes_at s tr t) t
     sources-near t near i k h starts steady = source-near s tr obeys rules t i k h starts (steps.order i h) steady near
@@ -171,7 +181,7 @@ module _ (s : SystemLists) (tr : TraceLists) (rules : IsSystem s) (obeys : Obeys
     passage-holds : (t due : ℕ) → due ≤ t → (i : TaskId) (further : List TaskId) (k : ℕ) → IsChain s i.0 (places_of further) → HasJob s tr t i.0 k → Passes (course_of s tr) (causes_at s tr t) i.0 k (places_of further) due → HasPassedBy s tr t i k further due
     passage-holds t due le i [] k chain has done = complete-by i.0 k due t chain has le done
     passage-holds t due le i (j ∷ further) k chain has passes =
-        let hj = chain_in_range s x (course_of s tr) (causes_at s tr t) t steps (keeps-causes s tr obeys rules t steps.order) rules closed j.0 (places_of further) chain.2 in
+        let hj = chain_in_range s j.0 (places_of further) chain.2 in
         let soon = arrived-mono (course_of s tr j.0) (task_at s j.0).best (task_at s j.0).worst (steps.order j.0 hj) (due + 1) (t + 1) (omega arith) in
         let there : HasJob s tr t j.0 passes.0 = omega (arith, passes.1, soon, arrived-one s tr t j.0) in
         (passes.0, (there, passes.2), passage-holds t due le j further passes.0 chain.2 there passes.3)
@@ -213,17 +223,10 @@ module _ (s : SystemLists) (tr : TraceLists) (rules : IsSystem s) (obeys : Obeys
               rw (count-is t i q n gap has) at (close _ _ _ _ (arrivals-are t i q n gap has) (arrival-by t i q n gap has));
         }
 
--- a job keeps its bound where all before did
+-- so each job keeps its bound, where all before did
 pub local_bounds : LocalBounds
 local_bounds s x tr rules closed obeys t kept apart i r k a h number arrival now =
-    let l = steps s tr rules obeys in
-    let known : IsKnownBefore s x (course_of s tr) t =
-    record {
-      comes = λ j below. within_from_apart (course_of s tr j) (task_at s j).best (task_at s j).worst (l.order j below) (input s x j) (input-is_input s x rules j below) t (apart j below);
-      bound = kept;
-    } in
-    let known' : IsKnownBefore s x (course_of s tr) (a + r) = rw now known in
-    let done = local_bound s x (course_of s tr) l rules closed i h k a r number arrival known' in
+    let done = (hold s tr rules obeys x closed t).in_time i r h number k a arrival (omega (arith, now)) in
     rw now at done
 
 -- closed vectors bound every run

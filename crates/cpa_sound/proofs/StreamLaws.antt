@@ -38,7 +38,7 @@ module _ (P : ℕ → Stream → Type 0) where
 -- ---- all streams together
 
 -- the jobs of some streams, numbered from `first` on, among the first k
-jobs_of_all : (ℕ → ℕ) → ℕ → Model → ℕ → ℕ
+unfoldable pub jobs_of_all : (ℕ → ℕ) → ℕ → Model → ℕ → ℕ
 jobs_of_all stream first [] k = 0
 jobs_of_all stream first (st ∷ sts) k = jobs_in (of_stream stream first) k + jobs_of_all stream (first + 1) sts k
 
@@ -69,7 +69,7 @@ module _ (stream : ℕ → ℕ) where
   all-zero first (st ∷ sts) = omega (arith, jobs_in-zero (of_stream stream first), all-zero (first + 1) sts)
 
   -- where each job has a stream, all streams have all jobs
-  all-jobs : (sts : Model) (k : ℕ) → ((l : ℕ) → l < k → stream l < length sts) → jobs_of_all stream 0 sts k ≡ k
+  pub all-jobs : (sts : Model) (k : ℕ) → ((l : ℕ) → l < k → stream l < length sts) → jobs_of_all stream 0 sts k ≡ k
   all-jobs sts zero h = all-zero 0 sts
   all-jobs sts (suc k) h =
       let e : suc k ≡ k + 1 = omega arith in

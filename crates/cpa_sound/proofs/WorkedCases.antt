@@ -18,6 +18,9 @@ use Rattle.cpa_model.specs.declared.entries.Activator.TheVariants.{Source as Fro
 use Rattle.cpa_model.specs.declared.entries.Turn.{Turn}
 use Rattle.cpa_model.specs.declared.entries.Turn.TheVariants.{Priority, Slot}
 use Rattle.cpa_model.specs.declared.entries.Task.{Task}
+use Rattle.cpa_model.specs.Clocks.{clock_of}
+use Rattle.cpa_phase.specs.Clocks.{most_of}
+use Rattle.cpa_local.specs.OnClocks.{anchors_within}
 use Rattle.cpa_model.specs.SystemLists.{SystemLists, task_at, resource_of, cycle_of}
 use Rattle.cpa_local.specs.Inputs.{input}
 use Rattle.cpa_local.specs.Local.{response, responses}
@@ -33,7 +36,7 @@ abbrev resource : Kind → Resource
 resource kind = record { name = []; kind = kind; limit = 1000000 }
 
 abbrev source : ℕ → Source
-source period = record { name = []; period = period; jitter = 0; distance = 0; sporadic = false }
+source period = record { name = []; period = period; jitter = 0; distance = 0; sporadic = false; on_clock = None }
 
 abbrev from_source : ℕ → Activator
 from_source k = FromSource (record { 0 = k })
@@ -121,7 +124,7 @@ unfolding joining input
 both_sent = refl
 
 both_closed : responses joining (Within 6 ∷ Within 4 ∷ []) ≡ Within 6 ∷ Within 4 ∷ []
-unfolding joining input response busy_window_bound jobs_in_busy_window window stream_eta_plus eta_plus stream_delta_minus delta_minus least_from greatest_to
+unfolding joining input response anchors_within most_of busy_window_bound jobs_in_busy_window window stream_eta_plus eta_plus stream_delta_minus delta_minus least_from greatest_to
 both_closed = refl
 
 -- 5 ticks don't bound the first task
@@ -150,7 +153,7 @@ two_tasks : SystemLists
 two_tasks = system (Preemptive ∷ []) (10 ∷ 20 ∷ []) (task 0 (from_source 0 ∷ []) 1 3 (Priority 1) ∷ task 0 (from_source 1 ∷ []) 2 7 (Priority 2) ∷ [])
 
 ten_is_closed : responses two_tasks (Within 3 ∷ Within 10 ∷ []) ≡ Within 3 ∷ Within 10 ∷ []
-unfolding two_tasks input response busy_window_bound jobs_in_busy_window window stream_eta_plus eta_plus stream_delta_minus delta_minus least_from greatest_to
+unfolding two_tasks input response anchors_within most_of busy_window_bound jobs_in_busy_window window stream_eta_plus eta_plus stream_delta_minus delta_minus least_from greatest_to
 ten_is_closed = refl
 
 at_9 : (run two_tasks (both_at (0 ∷ [])) 9).jobs 1 ≡ record { arrival = 0; left = 1; end = None; cause = record { by = from_source 1; number = 0 } } ∷ []
@@ -172,7 +175,7 @@ one_event m n gap h =
 
 both_obey : Obeys two_tasks (both_at (0 ∷ []))
 unfolding two_tasks
-both_obey = record { apart = apart; least = λ i k h past. absurd (omega arith); greatest = λ i k h past. absurd (omega arith); phase = phase }
+both_obey = record { apart = apart; least = λ i k h past. absurd (omega arith); greatest = λ i k h past. absurd (omega arith); phase = phase; clocks = λ c h. record { lead = 0; before = λ k. 0; not_early = λ k n on has. absurd (no_clock k c on); not_late = λ k n on has. absurd (no_clock k c on) } }
   where
     apart : (k n gap : ℕ) → n + gap < length (times_of (both_at (0 ∷ [])) k) → time_of (both_at (0 ∷ [])) k n + stream_delta_minus (source_stream two_tasks k) (gap + 1) ≤ time_of (both_at (0 ∷ [])) k (n + gap)
     apart zero n gap h = one_event (source_stream two_tasks 0) n gap h
@@ -183,6 +186,11 @@ both_obey = record { apart = apart; least = λ i k h past. absurd (omega arith);
     phase zero gap h e = cc
     phase (suc zero) gap h e = cc
     phase (suc (suc i)) gap h e = absurd (omega arith)
+
+    no_clock : (k c : ℕ) → clock_of two_tasks k ≡ Some c → ⊥
+    no_clock zero c on = cc
+    no_clock (suc zero) c on = cc
+    no_clock (suc (suc k)) c on = cc
 
 nine_is_too_few : ¬ BoundsHold two_tasks (Within 3 ∷ Within 9 ∷ [])
 nine_is_too_few holds =
