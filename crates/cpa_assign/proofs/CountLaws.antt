@@ -122,6 +122,9 @@ count-failing p k fails = ap length (failing-more p k fails)
 pub few-found : (found i n : ℕ) → n ≢ i → found + cond (nat_lt i n) 1 0 ≤ n → found + 1 + cond (nat_lt i (n + 1)) 1 0 ≤ n + 1
 few-found found i n other few = grind (arith, nat_tests)
 
+pub few-begin : (found i : ℕ) → found ≡ 0 → found + cond (nat_lt i 0) 1 0 ≤ 0
+few-begin found i none = grind (arith, nat_tests)
+
 pub few-left : (found i n : ℕ) → found + cond (nat_lt i n) 1 0 ≤ n → found + cond (nat_lt i (n + 1)) 1 0 ≤ n + 1
 few-left found i n few = grind (arith, nat_tests)
 

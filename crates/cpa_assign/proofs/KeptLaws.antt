@@ -160,6 +160,8 @@ module _ (s : SystemLists) (r : ℕ) (o : List ℕ) (rules : IsSystem s) (kind :
         streams = λ i less. rw (map_same (λ (v : Task). v.after) (λ v turn. refl)) (rules.streams i (omega (arith, less, long)));
         resources_named = rules.resources_named;
         sources_named = rules.sources_named;
+        clocks_named = rules.clocks_named;
+        clocks = rules.clocks;
         tasks_named = λ j d less.
             let less_s : j < length s.tasks = omega (arith, less, long) in
             rw (ordered-at s r o j d less_s) (ap is_name (seen_same (λ (v : Task). v.name) (λ v turn. refl) j) ∙ rules.tasks_named j no_task less_s);

@@ -1,5 +1,7 @@
 pub mod AbleLaws
 pub mod TradeLaws
+pub mod ClockTradeLaws
+pub mod ClockedSources
 pub mod OrderLaws
 pub mod AudsleyLaws
 pub mod PriorityLaws

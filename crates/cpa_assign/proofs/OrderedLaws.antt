@@ -1,8 +1,8 @@
 -- The bound of a task of the resource under an order depends on the set of tasks before it alone.
-use Rattle.std.proofs.Common.{◌≡◌, ℕ, ◌<◌, ◌==◌, ◌||◌, nat_lt, max, not, slice_index_or, Bool, true, false, List, [], ◌∷◌, Option, Some, map, length, refl, ap, sym, ◌∙◌, inl, inr, arith}
+use Rattle.std.proofs.Common.{◌≡◌, ℕ, ◌<◌, ◌==◌, ◌||◌, nat_lt, max, not, slice_index_or, Bool, true, false, List, [], ◌∷◌, Option, Some, None, is_some, map, length, refl, ap, sym, ◌∙◌, subst, inl, inr, arith}
 use Rattle.std.specs.Prelude.{filter, fold}
-use Rattle.std.specs.List.{range_with_len, flat_map}
-use Rattle.std.proofs.lemmas.Bool.{cases_Bool, cases_order, false≢true, eqb-true, lt-ltb, le-ltb}
+use Rattle.std.specs.List.{range_with_len, flat_map, list_any, AllByRecursion}
+use Rattle.std.proofs.lemmas.Bool.{cases_Bool, cases_order, and_parts, or_parts, false≢true, eqb-true, lt-ltb, le-ltb}
 use Rattle.std.proofs.lemmas.List.{get_or-map}
 use Rattle.cpa_units.specs.declared.bound.Bound.{Bound}
 use Rattle.cpa_units.specs.declared.places.SourceId.{SourceId}
@@ -10,6 +10,13 @@ use Rattle.cpa_events.specs.Events.{Model}
 use Rattle.cpa_window.proofs.RivalLaws.{load_of, work_in-same}
 use Rattle.cpa_spp.proofs.PreemptiveLaws.{preemptive_bound-same}
 use Rattle.cpa_can.proofs.CanLaws.{can_bound-same}
+use Rattle.cpa_clock.specs.declared.anchor.Anchor.{Anchor}
+use Rattle.cpa_clock.specs.Anchors.{Anchors}
+use Rattle.cpa_clock.specs.Gathered.{anchors_at, added_rival}
+use Rattle.cpa_clock.specs.Rivals.{ClockedRival}
+use Rattle.cpa_clock.specs.Clocked.{clocked_preemptive_bound}
+use Rattle.cpa_clock.specs.Wider.{AreOffClocks}
+use Rattle.cpa_model.specs.declared.entries.OnClock.{OnClock}
 use Rattle.cpa_model.specs.declared.entries.Kind.{Kind}
 use Rattle.cpa_model.specs.declared.entries.Kind.TheVariants.{Preemptive, RoundRobin, Tdma, Can}
 use Rattle.cpa_model.specs.declared.entries.Turn.TheVariants.{Priority}
@@ -17,18 +24,24 @@ use Rattle.cpa_model.specs.declared.entries.Task.{Task}
 use Rattle.cpa_model.specs.declared.entries.Activator.{Activator}
 use Rattle.cpa_model.specs.declared.entries.Activator.TheVariants.{Source as FromSource, Task as FromTask}
 use Rattle.cpa_model.specs.Chains.{activators, streams_step, streams_within}
-use Rattle.cpa_model.specs.SystemLists.{SystemLists, task_at, resource_at, resource_of, task_places, is_higher, higher_tasks, no_task, is_on}
+use Rattle.cpa_model.specs.Clocks.{is_clocked, first_on, clock_cycle}
+use Rattle.cpa_model.specs.declared.entries.Resource.{Resource}
+use Rattle.cpa_model.specs.SystemLists.{SystemLists, task_at, resource_at, resource_of, source_at, streams_of, task_places, is_higher, higher_tasks, no_task, is_on}
 use Rattle.cpa_model.specs.Rules.{IsSystem}
 use Rattle.cpa_model.specs.Streams.{source_model, source_stream}
 use Rattle.cpa_model.specs.Kinds.{blocking_by}
 use Rattle.cpa_local.specs.Blocking.{blocking_of, greatest_blocking}
 use Rattle.cpa_local.specs.Inputs.{joined, sent_by_all, input_along, input}
 use Rattle.cpa_local.specs.Local.{rival_of, bound_by_kind, response}
+use Rattle.cpa_local.specs.OnClocks.{source_anchor, anchors_step, anchors_within, anchor_list, anchors_of, clocked_rival_of}
+use Rattle.cpa_local.specs.Plain.{plain_by_kind}
+use Rattle.cpa_local.proofs.PlainLaws.{AreNone, none-at, plain-bounds, by_kind-plain}
 use Rattle.cpa_model.specs.Kinds.{HasPriorities}
-use Rattle.cpa_assign.specs.Orders.{are_sources, is_member, place_in, kth_priority, ordered_task, with_order, IsOrder, IsOrderable}
-use Rattle.cpa_assign.specs.Placing.{sources_model, rival_at, rivals_at, is_below, tasks_below, placed_by_kind, placed_bound}
-use Rattle.cpa_assign.proofs.AbleLaws.{fed-source}
+use Rattle.cpa_assign.specs.Orders.{are_sources, is_member, is_task_on, is_off_clocks, is_unblocked, is_preemptive, place_in, kth_priority, ordered_task, with_order, IsOrder, IsOrderable}
+use Rattle.cpa_assign.specs.Placing.{sources_model, rival_at, rivals_at, is_below, tasks_below, placed_by_kind, source_anchors, clocked_rival_at, clocked_rivals_at, placed_by_clocks, placed_bound}
+use Rattle.cpa_assign.proofs.AbleLaws.{fed-source, off-clock, unblocked-each, compared}
 use Rattle.cpa_assign.proofs.OrderLaws.{is_before, same_place, flip-no, before-place, before-member, place-less, place-own}
+use Rattle.cpa_local.proofs.BlockingLaws.{greatest-none}
 use Rattle.cpa_local.proofs.PassingPlaces.{filter-agree, map-passing, map-map, greatest-passing}
 use Rattle.cpa_assign.proofs.PriorityLaws.{kth-order}
 use Rattle.cpa_assign.proofs.PlacingLaws.{there-on, order-long, ordered-long, ordered-at}
@@ -48,6 +61,27 @@ opposite a b i j own back =
         | inr more ↦ rw (lt-ltb b a more, le-ltb a b (omega arith)) refl
       ]
     ]
+
+-- what holds of each that passes holds of all that pass
+each-passing : (P : ℕ → Type 0) (p : ℕ → Bool) (js : List ℕ) → ((j : ℕ) → p j ≡ true → P j) → AllByRecursion P (filter p js)
+each-passing P p [] each = tt
+each-passing P p (j ∷ js) each =
+    elim (cases_Bool (p j)) [
+      | inl passes ↦ rw passes (each j passes, each-passing P p js each)
+      | inr fails ↦ rw fails (each-passing P p js each)
+    ]
+
+-- sources that are on no clock
+unclocked : (s : SystemLists) (on : Option OnClock) → is_some on ≡ false → first_on s on ≡ None
+unclocked s None off = refl
+unclocked s (Some o) off = absurd (false≢true (sym off))
+
+none-listed : (s : SystemLists) (ks : List SourceId) → list_any (λ (k : SourceId). is_clocked (source_at s k.0)) ks ≡ false → AreNone (map (λ (k : SourceId). source_anchor s k.0) ks)
+none-listed s [] none = tt
+none-listed s (k ∷ ks) none =
+    let both = or_parts (is_clocked (source_at s k.0)) (list_any (λ (m : SourceId). is_clocked (source_at s m.0)) ks) none in
+    let off : first_on s (source_at s k.0).on_clock ≡ None = unclocked s (source_at s k.0).on_clock both.0 in
+    (rw off refl, none-listed s ks both.1)
 
 module _ (s : SystemLists) (r : ℕ) (o : List ℕ) (rules : IsSystem s) (able : IsOrderable s r) (order : IsOrder s r o) where
   abbrev t : SystemLists
@@ -147,6 +181,27 @@ module _ (s : SystemLists) (r : ℕ) (o : List ℕ) (rules : IsSystem s) (able :
         ∙ sent-sources (input_along t x 31) (streams_within (activators s.tasks) 31) x (task_at s i).after (fed-source s r able.fed i own.0 own.1)
         ∙ ap (λ (them : List Activator). Some (map (λ (k : SourceId). source_stream s k.0) (flat_map (λ (a : Activator). streams_step a (streams_within (activators s.tasks) 31)) them))) (sym link-own)
 
+    -- where sources alone are on clocks: their places there
+    anchored-sources : (f : ℕ → List (Option Anchor)) (g : ℕ → List SourceId) (them : List Activator) → are_sources them ≡ true
+        → flat_map (anchors_step t f) them ≡ map (λ (k : SourceId). source_anchor s k.0) (flat_map (λ (a : Activator). streams_step a g) them)
+    unfolding with_order
+    anchored-sources f g [] told = refl
+    anchored-sources f g (FromSource k ∷ them) told = ap (λ (rest : List (Option Anchor)). source_anchor s k.0 ∷ rest) (anchored-sources f g them told)
+    anchored-sources f g (FromTask j ∷ them) told = absurd (false≢true told)
+
+    anchors-own : anchor_list t i ≡ map (λ (k : SourceId). source_anchor s k.0) (streams_of s i)
+    unfolding anchors_within streams_within
+    anchors-own =
+        ap (λ (it : Task). flat_map (anchors_step t (anchors_within t 31)) it.after) own-task
+        ∙ anchored-sources (anchors_within t 31) (streams_within (activators s.tasks) 31) (task_at s i).after (fed-source s r able.fed i own.0 own.1)
+        ∙ ap (λ (them : List Activator). map (λ (k : SourceId). source_anchor s k.0) (flat_map (λ (a : Activator). streams_step a (streams_within (activators s.tasks) 31)) them)) (sym link-own)
+
+    -- none of its streams is on a clock, where no task's is
+    off-own : is_off_clocks s r ≡ true → AreOffClocks (anchors_of t i)
+    off-own off =
+        let none = none-listed s (streams_of s i) (off-clock s r off i own.0 own.1) in
+        λ q. ap (λ (es : List (Option Anchor)). slice_index_or es q None) anchors-own ∙ none-at (map (λ (k : SourceId). source_anchor s k.0) (streams_of s i)) none q
+
   -- ---- the tasks before one of the resource as its rivals
 
   input-member : (x : List Bound) (j : ℕ) → is_member o j ≡ true → input t x j ≡ Some (sources_model s j)
@@ -195,20 +250,66 @@ module _ (s : SystemLists) (r : ℕ) (o : List ℕ) (rules : IsSystem s) (able :
         ∙ ap (fold (λ most j. max most (blocking_by kind (task_at t j))) 0) (filter-agree (λ j. is_higher t j i) (is_below s r (is_before o i) i) 0 (length s.tasks) (λ j low high. lower-after i mi j (omega arith)))
         ∙ greatest-passing (is_below s r (is_before o i) i) (λ j. blocking_by kind (task_at t j)) (λ j. blocking_by kind (task_at s j)) 0 0 (length s.tasks) (λ j low high passes. blocking_by-same kind j (omega arith))
 
-    by_kind-same : (kind : Kind) → HasPriorities kind → bound_by_kind t x i (sources_model s i) kind ≡ placed_by_kind s r (is_before o i) i kind
-    by_kind-same Preemptive h =
+    higher-off : is_off_clocks s r ≡ true → AllByRecursion (λ j. AreOffClocks (anchors_of t j)) (higher_tasks t i)
+    higher-off off =
+        subst (λ (js : List ℕ). AllByRecursion (λ j. AreOffClocks (anchors_of t j)) js) (sym higher-same)
+        (each-passing (λ j. AreOffClocks (anchors_of t j)) (is_before o i) (task_places s) (λ j before. off-own j (before-member o i j before) off))
+
+    by_kind-plainly : (kind : Kind) → HasPriorities kind → plain_by_kind t x i (sources_model s i) kind ≡ placed_by_kind s r (is_before o i) i kind
+    by_kind-plainly Preemptive h =
         rw (worst-same i (own i mi).0, resource-own i mi, blocking-same Preemptive)
         (preemptive_bound-same (sources_model s i) (task_at s i).worst (greatest_blocking s Preemptive (tasks_below s r (is_before o i) i)) (map (rival_of t x) (higher_tasks t i)) (rivals_at s (is_before o i)) (resource_at s r).limit
         (λ w. work_in-same (map (rival_of t x) (higher_tasks t i)) (rivals_at s (is_before o i)) w loads-same))
-    by_kind-same (Can bit) h =
+    by_kind-plainly (Can bit) h =
         rw (worst-same i (own i mi).0, resource-own i mi, blocking-same (Can bit))
         (can_bound-same (sources_model s i) (task_at s i).worst (greatest_blocking s (Can bit) (tasks_below s r (is_before o i) i)) (map (rival_of t x) (higher_tasks t i)) (rivals_at s (is_before o i)) bit (resource_at s r).limit
         (λ w. work_in-same (map (rival_of t x) (higher_tasks t i)) (rivals_at s (is_before o i)) w loads-same))
-    by_kind-same RoundRobin h = absurd (false≢true h)
-    by_kind-same (Tdma gap) h = absurd (false≢true h)
+    by_kind-plainly RoundRobin h = absurd (false≢true h)
+    by_kind-plainly (Tdma gap) h = absurd (false≢true h)
+
+    by_kind-same : is_off_clocks s r ≡ true → (kind : Kind) → HasPriorities kind → bound_by_kind t x i (sources_model s i) kind ≡ placed_by_kind s r (is_before o i) i kind
+    by_kind-same off kind h = by_kind-plain plain-bounds t x i (off-own i mi off) (higher-off off) (sources_model s i) kind ∙ by_kind-plainly kind h
+
+    -- ---- where tasks are on clocks
+
+    clocked-rival : (j : ℕ) → j < length s.tasks → is_member o j ≡ true → clocked_rival_of t x j ≡ clocked_rival_at s j
+    clocked-rival j less mj =
+        ap (λ (m : Option Model). added_rival m (anchor_list t j) (task_at t j).worst) (input-member x j mj)
+        ∙ ap (λ (es : List (Option Anchor)). added_rival (Some (sources_model s j)) es (task_at t j).worst) (anchors-own j mj)
+        ∙ ap (added_rival (Some (sources_model s j)) (source_anchors s j)) (worst-same j less)
+
+    clocked_rivals-same : map (clocked_rival_of t x) (higher_tasks t i) ≡ clocked_rivals_at s (is_before o i)
+    clocked_rivals-same =
+        ap (map (clocked_rival_of t x)) higher-same
+        ∙ map-passing (is_before o i) (clocked_rival_of t x) (clocked_rival_at s) 0 (length s.tasks) (λ j low high before. clocked-rival j (omega arith) (before-member o i j before))
+
+    blocking-none : is_unblocked s r ≡ true → blocking_of t Preemptive i ≡ 0
+    blocking-none none =
+        blocking-same Preemptive
+        ∙ greatest-none (λ j. blocking_by Preemptive (task_at s j)) (is_below s r (is_before o i) i) (length s.tasks) (λ j less below.
+        let on = there-on s r j (and_parts (is_task_on s r j) (not (is_before o i j || j == i)) below).0 in
+        unblocked-each s r none j less on.1)
+
+    by_clocks-same : is_unblocked s r ≡ true → (kind : Kind) → is_preemptive kind ≡ true → bound_by_kind t x i (sources_model s i) kind ≡ placed_by_clocks s r (is_before o i) i kind
+    unfolding with_order
+    by_clocks-same none Preemptive p =
+        let bound : Anchors → ℕ → ℕ → List ClockedRival → ℕ → Bound = λ anchors worst blocking rivals limit. clocked_preemptive_bound (sources_model s i) anchors worst blocking rivals (clock_cycle s) (length s.sources) limit in
+        ap (λ (es : List (Option Anchor)). bound (anchors_at es) (task_at t i).worst (blocking_of t Preemptive i) (map (clocked_rival_of t x) (higher_tasks t i)) (resource_of t i).limit) (anchors-own i mi)
+        ∙ ap (λ (worst : ℕ). bound (anchors_at (source_anchors s i)) worst (blocking_of t Preemptive i) (map (clocked_rival_of t x) (higher_tasks t i)) (resource_of t i).limit) (worst-same i (own i mi).0)
+        ∙ ap (λ (blocking : ℕ). bound (anchors_at (source_anchors s i)) (task_at s i).worst blocking (map (clocked_rival_of t x) (higher_tasks t i)) (resource_of t i).limit) (blocking-none none)
+        ∙ ap (λ (rivals : List ClockedRival). bound (anchors_at (source_anchors s i)) (task_at s i).worst 0 rivals (resource_of t i).limit) clocked_rivals-same
+        ∙ ap (λ (it : Resource). bound (anchors_at (source_anchors s i)) (task_at s i).worst 0 (clocked_rivals_at s (is_before o i)) it.limit) (resource-own i mi)
+    by_clocks-same none RoundRobin p = absurd (false≢true p)
+    by_clocks-same none (Tdma gap) p = absurd (false≢true p)
+    by_clocks-same none (Can bit) p = absurd (false≢true p)
 
     -- the bound of a member is that of its place, at any vector
     pub response-placed : response t x i ≡ placed_bound s r (is_before o i) i
     unfolding response placed_bound
     response-placed =
-        rw (input-own i mi x, resource-own i mi) (by_kind-same (resource_at s r).kind able.kind)
+        elim (cases_Bool (is_off_clocks s r)) [
+          | inl off ↦ rw (input-own i mi x, resource-own i mi, off) (by_kind-same off (resource_at s r).kind able.kind)
+          | inr on ↦
+              let clear = compared s r able.clocks on in
+              rw (input-own i mi x, resource-own i mi, on) (by_clocks-same clear.1 (resource_at s r).kind clear.0)
+        ]

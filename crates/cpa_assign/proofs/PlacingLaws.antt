@@ -1,6 +1,6 @@
 -- What the search for a place knows.
 use Rattle.std.proofs.Common.{slice_index_or, ◌≡◌, ◌≢◌, ℕ, zero, suc, ◌+◌, ◌<◌, ◌≤◌, ◌==◌, ◌&&◌, not, ◌↔◌, nat_lt, Bool, true, false, Option, None, min, List, [], ◌∷◌, ◌++◌, Some, map, set, take, length, slice_get, refl, ap, sym, ◌∙◌, subst, inl, inr, arith}
-use Rattle.std.specs.Prelude.{filter}
+use Rattle.std.specs.Prelude.{filter, Result, Ok, Err, IfOk}
 use Rattle.std.proofs.lemmas.Bool.{and_parts, not-true, cases_Bool, cases_lt, false≢true, eq-eqb, eqb-true, ltb-true, lt-ltb, le-ltb}
 use Rattle.std.proofs.Math.Dec.{eqb-suc-zero, eqb-zero-suc}
 use Rattle.std.proofs.lemmas.List.{get_or_past, length-map, map_push, take_more}
@@ -21,7 +21,7 @@ use Rattle.cpa_model.specs.SystemLists.{SystemLists, path_at, task_places, is_on
 use Rattle.cpa_assign.specs.Orders.{is_member, is_task_on, IsWithinDeadline, IsPathInTime, IsInTime, IsOrder, ordered_task, with_order}
 use Rattle.cpa_assign.proofs.OrderLaws.{once-from, and-true}
 use Rattle.cpa_assign.proofs.CountLaws.{once-long}
-use Rattle.cpa_assign.specs.Placing.{without}
+use Rattle.cpa_assign.specs.Placing.{without, Fits}
 use Rattle.cpa_local.proofs.PassingPlaces.{filter-agree}
 
 pub without-other : (free : ℕ → Bool) (i k : ℕ) → without free i k ≡ true → k ≢ i
@@ -182,3 +182,17 @@ sources-more s i k so_far one all less found is e =
     e ∙ ap (λ m. m ++ one) found ∙ ap (λ m. map (λ (k : SourceId). source_stream s k.0) (take k (streams_of s i)) ++ m) is
     ∙ sym (map_push (λ (k : SourceId). source_stream s k.0) (take k (streams_of s i)) (stream_at s i k))
     ∙ ap (map (λ (k : SourceId). source_stream s k.0)) (sym (take_more (streams_of s i) k (record { 0 = 0 }) less))
+
+-- what is so of an answer says as much of it otherwise
+pub ok-maps : {A E : Type 0} (P Q : A → Type 0) (answer : Result A E) → ((a : A) → P a → Q a) → IfOk answer P → IfOk answer Q
+ok-maps P Q (Ok a) f h = f a h
+ok-maps P Q (Err e) f h = h
+
+-- one free task more that isn't in time
+pub none-more : (s : SystemLists) (r : ℕ) (free : ℕ → Bool) (k : ℕ) → ((j : ℕ) → j < k → free j ≡ true → ¬ Fits s r (without free j) j) → (free k ≡ true → ¬ Fits s r (without free k) k)
+    → (j : ℕ) → j < k + 1 → free j ≡ true → ¬ Fits s r (without free j) j
+none-more s r free k before here j less is_free =
+    elim (cases_lt j k) [
+      | inl early ↦ before j early is_free
+      | inr now ↦ let same : j ≡ k = omega arith in (subst (λ (i : ℕ). free i ≡ true → ¬ Fits s r (without free i) i) (sym same) here) is_free
+    ]

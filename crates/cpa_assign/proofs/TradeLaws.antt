@@ -32,12 +32,15 @@ use Rattle.cpa_model.specs.SystemLists.{SystemLists, task_at, resource_at, task_
 use Rattle.cpa_model.specs.Rules.{IsSystem, IsResource, IsTask, KindFits}
 use Rattle.cpa_model.specs.Kinds.{blocking_by}
 use Rattle.cpa_local.specs.Blocking.{greatest_blocking}
-use Rattle.cpa_assign.specs.Orders.{is_task_on}
+use Rattle.cpa_clock.specs.Gathered.{anchors_at}
+use Rattle.cpa_model.specs.Clocks.{clock_cycle}
+use Rattle.cpa_assign.specs.Orders.{is_task_on, is_off_clocks}
 use Rattle.cpa_events.specs.Streams.{IsStream}
 use Rattle.cpa_model.proofs.SystemLaws.{streams_of-some}
 use Rattle.cpa_model.specs.Streams.{source_stream}
 use Rattle.cpa_local.proofs.ResponseLaws.{source-is_stream}
-use Rattle.cpa_assign.specs.Placing.{sources_model, rival_at, rivals_at, is_below, tasks_below, placed_by_kind, placed_bound}
+use Rattle.cpa_assign.specs.Placing.{sources_model, rival_at, rivals_at, is_below, tasks_below, placed_by_kind, source_anchors, clocked_rival_at, placed_by_clocks, placed_bound}
+use Rattle.cpa_assign.proofs.ClockTradeLaws.{clocked-fewer}
 
 -- ---- windows of demands that are compared from their first length on
 
@@ -272,6 +275,13 @@ module _ (s : SystemLists) (r i : ℕ) (fewer above : ℕ → Bool) (rules : IsS
   placed_by_kind-fewer RoundRobin fit = tt
   placed_by_kind-fewer (Tdma gap) fit = tt
 
+  placed_by_clocks-fewer : (kind : Kind) → IsAtMost (placed_by_clocks s r fewer i kind) (placed_by_clocks s r above i kind)
+  placed_by_clocks-fewer Preemptive =
+      clocked-fewer fewer above moved (clocked_rival_at s) (task_at s i).worst 0 (clock_cycle s) (length s.sources) (resource_at s r).limit (task_places s) (sources_model s i) (anchors_at (source_anchors s i))
+  placed_by_clocks-fewer RoundRobin = tt
+  placed_by_clocks-fewer (Tdma gap) = tt
+  placed_by_clocks-fewer (Can bit) = tt
+
   kind_fits : KindFits (resource_at s r).kind
   kind_fits =
       elim (cases_lt r (length s.resources)) [
@@ -282,4 +292,8 @@ module _ (s : SystemLists) (r i : ℕ) (fewer above : ℕ → Bool) (rules : IsS
   -- where tasks move from above to below, the bound doesn't rise
   pub fewer_above : IsAtMost (placed_bound s r fewer i) (placed_bound s r above i)
   unfolding placed_bound
-  fewer_above = placed_by_kind-fewer (resource_at s r).kind kind_fits
+  fewer_above =
+      elim (cases_Bool (is_off_clocks s r)) [
+        | inl off ↦ rw off (placed_by_kind-fewer (resource_at s r).kind kind_fits)
+        | inr on ↦ rw on (placed_by_clocks-fewer (resource_at s r).kind)
+      ]

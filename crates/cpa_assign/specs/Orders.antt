@@ -1,11 +1,12 @@
 -- Priority orders of a resource, as in Audsley's optimal priority assignment ("Optimal priority assignment and feasibility of
 -- static priority tasks with arbitrary start times", 1991).
-use Rattle.std.specs.Prelude.{ℕ, ◌<◌, ◌≡◌, ◌≢◌, ◌⊎◌, ◌==◌, ◌&&◌, nat_lt, nat_le, Bool, IsTrue, true, false, if◌then◌else◌, Option, Some, None, List, [], ◌∷◌, filter, map, length, reverse}
+use Rattle.std.specs.Prelude.{ℕ, ◌<◌, ◌≡◌, ◌≢◌, ◌⊎◌, ◌==◌, ◌&&◌, ◌||◌, not, nat_lt, nat_le, Bool, IsTrue, true, false, if◌then◌else◌, Option, Some, None, List, [], ◌∷◌, filter, map, length, reverse}
 use Rattle.std.specs.List.{AllPairs, list_all, list_any, position_or_len}
 use Rattle.std.specs.Option.{ForSome}
 use Rattle.cpa_units.specs.declared.bound.Bound.{Bound}
 use Rattle.cpa_units.specs.declared.bound.Bound.TheVariants.{Within}
 use Rattle.cpa_units.specs.declared.limits.TheConstants.{MAX_PRIORITY}
+use Rattle.cpa_units.specs.declared.places.SourceId.{SourceId}
 use Rattle.cpa_units.specs.declared.places.TaskId.{TaskId}
 use Rattle.cpa_units.specs.Bounds.{IsAtMost}
 use Rattle.cpa_units.specs.Search.{least_from}
@@ -14,8 +15,11 @@ use Rattle.cpa_model.specs.declared.entries.Path.{Path}
 use Rattle.cpa_model.specs.declared.entries.Activator.{Activator}
 use Rattle.cpa_model.specs.declared.entries.Activator.TheVariants.{Source as FromSource, Task as FromTask}
 use Rattle.cpa_model.specs.declared.entries.Turn.TheVariants.{Priority}
-use Rattle.cpa_model.specs.Kinds.{HasPriorities}
-use Rattle.cpa_model.specs.SystemLists.{SystemLists, task_at, path_at, resource_at, task_places, tasks_on, priority_of, is_on, places_of}
+use Rattle.cpa_model.specs.declared.entries.Kind.{Kind}
+use Rattle.cpa_model.specs.declared.entries.Kind.TheVariants.{Preemptive, RoundRobin, Tdma, Can}
+use Rattle.cpa_model.specs.Kinds.{HasPriorities, blocking_by}
+use Rattle.cpa_model.specs.Clocks.{is_clocked}
+use Rattle.cpa_model.specs.SystemLists.{SystemLists, task_at, source_at, path_at, resource_at, task_places, tasks_on, streams_of, priority_of, is_on, places_of}
 use Rattle.cpa_local.specs.Solution.{least_of}
 use Rattle.cpa_local.specs.Paths.{path_worst}
 
@@ -108,8 +112,32 @@ is_fed_by_sources s r = list_all (λ i. are_sources (task_at s i).after) (tasks_
 abbrev pub IsFedBySources : SystemLists → ℕ → Type 0
 IsFedBySources s r = IsTrue (is_fed_by_sources s r)
 
+-- whether a stream of a task comes from a source on a clock
+abbrev pub is_clocked_task : SystemLists → ℕ → Bool
+is_clocked_task s i = list_any (λ (k : SourceId). is_clocked (source_at s k.0)) (streams_of s i)
+
+-- whether none of a task on the resource does
+abbrev pub is_off_clocks : SystemLists → ℕ → Bool
+is_off_clocks s r = list_all (λ i. not (is_clocked_task s i)) (tasks_on s r)
+
+-- whether no task on the resource keeps a more urgent one waiting, under preemptive priority
+abbrev pub is_unblocked : SystemLists → ℕ → Bool
+is_unblocked s r = list_all (λ i. blocking_by Preemptive (task_at s i) == 0) (tasks_on s r)
+
+abbrev pub is_preemptive : Kind → Bool
+is_preemptive Preemptive = true
+is_preemptive RoundRobin = false
+is_preemptive (Tdma gap) = false
+is_preemptive (Can bit) = false
+
+-- Whether a task on the resource is never worse off where another moves from above it to below: none is on a clock, or none keeps
+-- another waiting. Of two tasks on one clock that never meet, the lower may keep the higher waiting all the same.
+abbrev pub can_compare : SystemLists → ℕ → Bool
+can_compare s r = is_off_clocks s r || (is_preemptive (resource_at s r).kind && is_unblocked s r)
+
 -- a resource that can be given an order
 pub record IsOrderable (s : SystemLists) (r : ℕ) : Type 0 where
   pub there : r < length s.resources
   pub kind : HasPriorities (resource_at s r).kind
   pub fed : IsFedBySources s r
+  pub clocks : can_compare s r ≡ true

@@ -1,9 +1,9 @@
 //! Which resources can be given an order.
 
-ghost use Rattle.std.specs.Prelude.{◌≡◌};
-ghost use Rattle.cpa_assign.specs.Orders.{is_some_source, are_sources, is_fed_by_sources};
+ghost use Rattle.std.specs.Prelude.{◌≡◌, ◌<◌, length};
+ghost use Rattle.cpa_assign.specs.Orders.{is_some_source, are_sources, is_fed_by_sources, is_clocked_task, is_off_clocks, is_preemptive, is_unblocked, can_compare};
 
-use cpa_model::{Activator, Activators, System};
+use cpa_model::{Activator, Activators, Kind, System};
 use cpa_units::{ResId, TaskId};
 
 /// Whether the tasks on a resource are activated by sources alone.
@@ -38,4 +38,63 @@ fn are_sources(after: &Activators) -> bool
         }
     }
     true
+}
+
+/// Whether no task of a resource is ever worse off where another moves from above it to below, which a search for an order
+/// leans on: none is on a clock, or none keeps another waiting, by a region or on a bus. Of two tasks on one clock that never
+/// meet the lower may keep the higher waiting all the same, so that the search may miss an order there.
+pub fn can_compare(system: &System, res: ResId) -> bool
+    requires { res.0 < length system.now.resources }
+    ensures { result ≡ can_compare system.now res.0 }
+{
+    is_off_clocks(system, res)
+        || is_preemptive(system.resource(res).kind) && is_unblocked(system, res)
+}
+
+fn is_preemptive(kind: Kind) -> bool
+    ensures { result ≡ is_preemptive kind }
+{
+    match kind {
+        Kind::Preemptive => true,
+        Kind::RoundRobin | Kind::Tdma { gap: _ } | Kind::Can { bit: _ } => false,
+    }
+}
+
+/// Whether no task on a resource keeps a more urgent one waiting, under preemptive priority.
+fn is_unblocked(system: &System, res: ResId) -> bool
+    ensures { result ≡ is_unblocked system.now res.0 }
+{
+    for k in 0..system.tasks() {
+        let entry = system.task(TaskId(k));
+        if entry.res.0 == res.0 && Kind::Preemptive.blocking_by(entry) > 0 {
+            return false;
+        }
+    }
+    true
+}
+
+/// Whether no stream of a task on a resource comes from a source on a clock.
+pub(crate) fn is_off_clocks(system: &System, res: ResId) -> bool
+    ensures { result ≡ is_off_clocks system.now res.0 }
+{
+    for k in 0..system.tasks() {
+        let task = TaskId(k);
+        if system.task(task).res.0 == res.0 && is_clocked(system, task) {
+            return false;
+        }
+    }
+    true
+}
+
+/// Whether a stream of a task comes from a source on a clock.
+fn is_clocked(system: &System, task: TaskId) -> bool
+    requires { task.0 < length system.now.tasks }
+    ensures { result ≡ is_clocked_task system.now task.0 }
+{
+    for k in 0..system.streams(task) {
+        if system.source(system.stream(task, k)).on_clock.is_some() {
+            return true;
+        }
+    }
+    false
 }

@@ -7,13 +7,14 @@
 #![tactic(auto)]
 
 mod able;
+mod by_clocks;
 mod laws;
 mod numbers;
 mod order;
 mod placing;
 mod text;
 
-pub use able::is_fed_by_sources;
+pub use able::{can_compare, is_fed_by_sources};
 pub use laws::orders_have_laws;
 pub use order::{Order, assign};
 pub use text::assign_text;

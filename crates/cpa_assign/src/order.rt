@@ -4,7 +4,10 @@ ghost use Rattle.std.specs.Prelude.{◌≡◌, ◌<◌, length, map, slice_get, 
 ghost use Rattle.cpa_model.specs.SystemLists.{task_places, is_on};
 ghost use Rattle.cpa_assign.specs.Orders.{IsOrderOf, IsOrderable};
 
-use crate::placing::lowest;
+use crate::able::is_off_clocks;
+use crate::by_clocks::list_cycles;
+use crate::placing::{Room, lowest};
+use cpa_clock::Gathered;
 use cpa_model::System;
 use cpa_units::{NoMemory, ResId, TaskId};
 use std::alloc::Global;
@@ -57,17 +60,28 @@ fn marks_of(alloc: Global, system: &System, res: ResId) -> Result<Vec<bool>, NoM
 
 /// The order of a resource's tasks that meets the deadlines of all paths of one of them alone; of
 /// several it is the one whose tasks, from the lowest place up, come first by place. None where no
-/// order meets. The resource is preemptive or a CAN bus, and its tasks are activated by sources alone.
+/// order meets. The resource is preemptive or a CAN bus, and its tasks are activated by sources alone. None of
+/// these is on a clock, or it is preemptive and no task has a region.
 pub fn assign(alloc: Global, system: &System, res: ResId) -> Result<Option<Order>, NoMemory>
     requires { IsOrderable system.now res.0 }
     ensures { IfOk result (IsOrderOf system.now res.0) }
 {
-    let mut rivals = Vec::with_capacity(alloc, system.tasks() as usize)?;
+    let off = is_off_clocks(system, res);
+    let cycles = list_cycles(alloc, system)?;
+    let rivals = Vec::with_capacity(alloc, system.tasks() as usize)?;
+    let gathered = Gathered::new(alloc);
+    let mut room = Room {
+        off,
+        cycles,
+        rivals,
+        gathered,
+    };
     let mut free = marks_of(alloc, system, res)?;
     let mut tasks = Vec::new(alloc);
     let count = system.tasks_on(res).len();
     for placed in 0..count {
-        let Some(task) = lowest(system, res, free.as_slice(), &mut rivals) else {
+        let found = lowest(alloc, system, res, free.as_slice(), &mut room)?;
+        let Some(task) = found else {
             return Ok(None);
         };
         free[task.0 as usize] = false;

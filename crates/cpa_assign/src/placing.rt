@@ -1,22 +1,25 @@
 //! The bound of a task below a set of others.
 
-ghost use Rattle.std.specs.Prelude.{◌≡◌, ◌<◌, ◌≤◌, ◌↔◌, IsTrue, length, vec_capacity, IfSome, IfNone, true};
+ghost use Rattle.std.specs.Prelude.{◌≡◌, ◌<◌, ◌≤◌, ◌↔◌, IsTrue, length, vec_capacity, IfOk, IfSome, IfNone, true};
 ghost use Rattle.cpa_units.specs.declared.limits.TheConstants.{MAX_EXECUTION};
 ghost use Rattle.cpa_units.specs.Sets.{holds};
 ghost use Rattle.cpa_events.specs.Events.{IsModelInRange};
 ghost use Rattle.cpa_window.specs.Rivals.{IsRival, AreRivals};
 ghost use Rattle.cpa_events.specs.Streams.{IsStreamInRange};
-ghost use Rattle.cpa_model.specs.SystemLists.{path_at, stream_at, streams_of};
+ghost use Rattle.cpa_model.specs.SystemLists.{path_at, resource_at, stream_at, streams_of};
 ghost use Rattle.cpa_model.specs.Streams.{source_stream};
 ghost use Rattle.cpa_units.specs.Bounds.{IsAtMost};
 ghost use Rattle.cpa_assign.specs.Orders.{IsInTime, IsPathInTime, IsWithinDeadline};
 ghost use Rattle.cpa_local.specs.Blocking.{greatest_blocking};
-ghost use Rattle.cpa_assign.specs.Placing.{sources_model, rival_at, rivals_at, is_below, tasks_below, placed_bound, without, Fits, IsLowestOf, NoneIsLowest};
+ghost use Rattle.cpa_assign.specs.Placing.{sources_model, rival_at, rivals_at, is_below, tasks_below, placed_by_kind, placed_bound, IsRoom, without, Fits, IsLowestOf, NoneIsLowest};
 
+use crate::by_clocks::is_lowest_by_clocks;
+use cpa_clock::Gathered;
 use cpa_events::{Model, Stream};
 use cpa_model::{Kind, System};
-use cpa_units::{Bound, PathId, ResId, TaskId};
+use cpa_units::{Bound, NoMemory, PathId, ResId, TaskId};
 use cpa_window::Rival;
+use std::alloc::Global;
 
 /// How the events of one of a task's streams come from their source.
 fn source_stream(system: &System, task: TaskId, k: u32) -> Stream
@@ -29,7 +32,7 @@ fn source_stream(system: &System, task: TaskId, k: u32) -> Stream
 }
 
 /// The event model of a task that sources alone activate.
-fn sources_model(system: &System, task: TaskId) -> Model
+pub(crate) fn sources_model(system: &System, task: TaskId) -> Model
     requires { task.0 < length system.now.tasks }
     ensures value { result ≡ sources_model system.now task.0 }
     ensures in_range { IsModelInRange result }
@@ -57,7 +60,7 @@ fn rival(system: &System, task: TaskId) -> Rival
 }
 
 /// Whether another task is free, and so above this one at the lowest free place.
-fn stands_above(free: &[bool], task: TaskId, other: TaskId) -> bool
+pub(crate) fn stands_above(free: &[bool], task: TaskId, other: TaskId) -> bool
     requires { other.0 < length free.now }
     ensures { result ≡ without (holds free.now) task.0 other.0 }
 {
@@ -105,10 +108,9 @@ fn blocking(system: &System, res: ResId, kind: Kind, task: TaskId, free: &[bool]
     most
 }
 
-/// Whether the bound of a task at the lowest free place, below all others that are free, is at most so many ticks. Walks
-/// end where it is more.
-#[tactic(auto, unfolding(crate::specs::Placing::placed_bound))]
-fn is_lowest_within(
+/// Whether the bound of a task at the lowest free place, below all others that are free, is at most so many ticks, where
+/// none is on a clock. Walks end where it is more.
+fn is_lowest_apart(
     system: &System,
     res: ResId,
     task: TaskId,
@@ -120,7 +122,7 @@ fn is_lowest_within(
     requires res { res.0 < length system.now.resources }
     requires marks { length free.now ≡ length system.now.tasks }
     requires room { length system.now.tasks ≤ vec_capacity rivals.old }
-    ensures value { IsTrue result ↔ IsAtMost (placed_bound system.now res.0 (without (holds free.now) task.0) task.0) (Bound.Within most) }
+    ensures value { IsTrue result ↔ IsAtMost (placed_by_kind system.now res.0 (without (holds free.now) task.0) task.0 (resource_at system.now res.0).kind) (Bound.Within most) }
     ensures room { vec_capacity rivals.new ≡ vec_capacity rivals.old }
 {
     gather_above(system, task, free, rivals);
@@ -139,6 +141,52 @@ fn is_lowest_within(
         }
         Kind::RoundRobin | Kind::Tdma { gap: _ } => false,
     }
+}
+
+/// What the search for a place has at hand.
+#[derive(Drop)]
+pub(crate) struct Room {
+    /// Whether no task of the resource is on a clock.
+    pub(crate) off: bool,
+    /// The cycles of clocks, by the places of sources.
+    pub(crate) cycles: Vec<u64>,
+    /// Room for all tasks.
+    pub(crate) rivals: Vec<Rival>,
+    pub(crate) gathered: Gathered,
+}
+
+/// Whether the bound of a task at the lowest free place, below all others that are free, is at most so many ticks.
+#[tactic(auto, unfolding(crate::specs::Placing::placed_bound))]
+fn is_lowest_within(
+    alloc: Global,
+    system: &System,
+    res: ResId,
+    task: TaskId,
+    free: &[bool],
+    room: &mut Room,
+    most: u64,
+) -> Result<bool, NoMemory>
+    requires there { task.0 < length system.now.tasks }
+    requires res { res.0 < length system.now.resources }
+    requires marks { length free.now ≡ length system.now.tasks }
+    requires room { IsRoom system.now res.0 room.old }
+    ensures value { IfOk result (λ b. IsTrue b ↔ IsAtMost (placed_bound system.now res.0 (without (holds free.now) task.0) task.0) (Bound.Within most)) }
+    ensures room { IsRoom system.now res.0 room.new }
+{
+    if room.off {
+        return Ok(is_lowest_apart(system, res, task, free, &mut room.rivals, most));
+    }
+    let cycles = room.cycles.as_slice();
+    is_lowest_by_clocks(
+        alloc,
+        system,
+        res,
+        task,
+        free,
+        cycles,
+        &mut room.gathered,
+        most,
+    )
 }
 
 /// The deadline of a path, if the path is of this task alone.
@@ -177,45 +225,47 @@ fn least_deadline(system: &System, task: TaskId) -> Option<u64>
 
 /// Whether a task at the lowest free place, below all others that are free, is in time.
 fn is_lowest_in_time(
+    alloc: Global,
     system: &System,
     res: ResId,
     task: TaskId,
     free: &[bool],
-    rivals: &mut Vec<Rival>,
-) -> bool
+    room: &mut Room,
+) -> Result<bool, NoMemory>
     requires there { task.0 < length system.now.tasks }
     requires res { res.0 < length system.now.resources }
     requires marks { length free.now ≡ length system.now.tasks }
-    requires room { length system.now.tasks ≤ vec_capacity rivals.old }
-    ensures value { IsTrue result ↔ Fits system.now res.0 (without (holds free.now) task.0) task.0 }
-    ensures room { vec_capacity rivals.new ≡ vec_capacity rivals.old }
+    requires room { IsRoom system.now res.0 room.old }
+    ensures value { IfOk result (λ b. IsTrue b ↔ Fits system.now res.0 (without (holds free.now) task.0) task.0) }
+    ensures room { IsRoom system.now res.0 room.new }
 {
     match least_deadline(system, task) {
-        None => true,
-        Some(deadline) => is_lowest_within(system, res, task, free, rivals, deadline),
+        None => Ok(true),
+        Some(deadline) => is_lowest_within(alloc, system, res, task, free, room, deadline),
     }
 }
 
 /// The first of the free tasks that is in time at the lowest free place, below all others of them.
 pub(crate) fn lowest(
+    alloc: Global,
     system: &System,
     res: ResId,
     free: &[bool],
-    rivals: &mut Vec<Rival>,
-) -> Option<TaskId>
+    room: &mut Room,
+) -> Result<Option<TaskId>, NoMemory>
     requires res { res.0 < length system.now.resources }
     requires marks { length free.now ≡ length system.now.tasks }
-    requires room { length system.now.tasks ≤ vec_capacity rivals.old }
-    ensures found { IfSome result (λ i. IsLowestOf system.now res.0 (holds free.now) i.0) }
-    ensures there { IfSome result (λ i. i.0 < length system.now.tasks) }
-    ensures none { IfNone result (NoneIsLowest system.now res.0 (holds free.now)) }
-    ensures room { vec_capacity rivals.new ≡ vec_capacity rivals.old }
+    requires room { IsRoom system.now res.0 room.old }
+    ensures found { IfOk result (λ it. IfSome it (λ i. IsLowestOf system.now res.0 (holds free.now) i.0)) }
+    ensures there { IfOk result (λ it. IfSome it (λ i. i.0 < length system.now.tasks)) }
+    ensures none { IfOk result (λ it. IfNone it (NoneIsLowest system.now res.0 (holds free.now))) }
+    ensures room { IsRoom system.now res.0 room.new }
 {
     for k in 0..system.tasks() {
         let task = TaskId(k);
-        if free[k as usize] && is_lowest_in_time(system, res, task, free, rivals) {
-            return Some(task);
+        if free[k as usize] && is_lowest_in_time(alloc, system, res, task, free, room)? {
+            return Ok(Some(task));
         }
     }
-    None
+    Ok(None)
 }

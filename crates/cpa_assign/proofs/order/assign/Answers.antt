@@ -21,7 +21,7 @@ loop-placed-init c =
       placed = rw c.new-tasks.ensures.items refl;
       left = omega (arith, marks-count s r marks told, nobody);
       marks = marks-long s r marks told;
-      room = omega (arith, c.tasks.ensures.count, c.in_ok-rivals.ensures.capacity);
+      room = record { off = c.is_off_clocks-off.ensures; cycles = c.in_ok-cycles.ensures; rivals = omega (arith, c.tasks.ensures.count, c.in_ok-rivals.ensures.capacity) };
     }
 
 pub returns-in_default : goal.returns-in_default
@@ -31,23 +31,24 @@ returns-in_default c =
     let some = some-passes free 0 (length s.tasks) (omega (arith, c.loop-placed.invariant.placed, c.loop-placed.invariant.left, c.loop-placed-test.true, c.loop-placed.auto.placed-end, task_list-long s c.args.res.0 c.tasks_on-count.result.now c.tasks_on-count.ensures.places)) in
     λ o order meets.
     none_meets s c.args.res.0 c.tasks.ensures.rules c.requires free (places_of c.loop-placed.tasks.items) some.0 (c.loop-placed.invariant.part c.tasks.ensures.rules c.requires) some.1
-    (subst (λ (marks : List Bool). NoneIsLowest s c.args.res.0 (holds marks)) c.as_slice.ensures.value c.in_default.ensures.none) o order meets
+    (subst (λ (marks : List Bool). NoneIsLowest s c.args.res.0 (holds marks)) c.as_slice.ensures.value (rw c.in_default.is at c.in_ok-found.ensures.none)) o order meets
 
 pub loop-placed-preserved : goal.loop-placed-preserved
 loop-placed-preserved c =
     let s : SystemLists = c.args.system.now in
     let free : List Bool = c.loop-placed.free.items in
     let i : ℕ = c.in-Some.task.0 in
-    let there : i < length free = omega (arith, c.loop-placed.invariant.marks, c.in-Some.ensures.there) in
+    let within : i < length s.tasks = rw c.in-Some.is at c.in_ok-found.ensures.there in
+    let there : i < length free = omega (arith, c.loop-placed.invariant.marks, within) in
     let fewer = set-tells free i there in
-    let lowest : IsLowestOf s c.args.res.0 (holds free) i = subst (λ (marks : List Bool). IsLowestOf s c.args.res.0 (holds marks) i) c.as_slice.ensures.value c.in-Some.ensures.found in
-    let one = count-without (holds free) (holds (slice_set free i false)) i 0 (length s.tasks) fewer lowest.unplaced (omega arith) (omega (arith, c.in-Some.ensures.there)) in
+    let lowest : IsLowestOf s c.args.res.0 (holds free) i = subst (λ (marks : List Bool). IsLowestOf s c.args.res.0 (holds marks) i) c.as_slice.ensures.value (rw c.in-Some.is at c.in_ok-found.ensures.found) in
+    let one = count-without (holds free) (holds (slice_set free i false)) i 0 (length s.tasks) fewer lowest.unplaced (omega arith) (omega (arith, within)) in
     record {
       part = λ rules able. rw c.in_ok-insert.ensures.items (next s c.args.res.0 rules able (holds free) (holds (slice_set free i false)) (places_of c.loop-placed.tasks.items) i (c.loop-placed.invariant.part rules able) lowest fewer);
       placed = omega (arith, c.in_ok-insert.ensures.len, c.loop-placed.invariant.placed);
       left = omega (arith, c.in_ok-insert.ensures.len, c.loop-placed.invariant.left, one);
       marks = length-set free i false ∙ c.loop-placed.invariant.marks;
-      room = omega (arith, c.loop-placed.invariant.room, c.in-Some.ensures.room);
+      room = c.in_ok-found.ensures.room;
     }
 
 pub returns : goal.returns
