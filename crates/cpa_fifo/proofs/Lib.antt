@@ -1,0 +1,3 @@
+pub mod FifoBoundLaws
+pub mod QueueWalk
+mod WorkedCases

@@ -1,0 +1,3 @@
+pub mod Fifo
+pub mod FifoWork
+pub mod Laws
