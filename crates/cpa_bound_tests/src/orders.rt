@@ -1,4 +1,4 @@
-use cpa_assign::{Order, assign, assign_text, is_fed_by_sources};
+use cpa_assign::{Order, assign, assign_text, can_compare, is_fed_by_sources};
 use cpa_file::read_system;
 use cpa_units::ResId;
 use std::alloc::Global;
@@ -96,6 +96,9 @@ fn is_met(alloc: Global, case: &Case) -> Result<bool, Fail> {
     }
     if !is_fed_by_sources(&system, res) {
         return Ok(case.text == "fed by a task\n");
+    }
+    if !can_compare(&system, res) {
+        return Ok(case.text == "on clocks\n");
     }
     let order = assign(alloc, &system, res)?;
     let text = assign_text(alloc, &system, res, &order)?;

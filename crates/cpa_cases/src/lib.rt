@@ -102,3 +102,20 @@ pub const LATE_TRACE: &str =
 
 pub const LATE_RUN: &str =
     "t,10000000,10999999\nt,10999999,11999998\nt,11999998,12999997\nt,12999997,13999996\nt,13999996,14999995\nt,14999995,15999994\nt,15999994,16999993\nt,16999993,17999992\nt,17999992,18999991\nt,18999991,19999990\nt,19999990,20000000\n";
+
+/// Two tasks whose sources share a clock: `low` comes 5 ticks after `high` at the earliest, which is done by then. The third
+/// source is on a clock of its own.
+pub const ON_A_CLOCK: &str = r#"format = 4
+resource = [{ name = "cpu", kind = "preemptive", limit = 1000 }]
+source = [
+  { name = "sa", period = 10, clock = "timer" },
+  { name = "sb", period = 20, jitter = 1, clock = "timer", offset = 5 },
+  { name = "sc", period = 40, clock = "other", offset = 39 },
+  { name = "sd", period = 40 },
+]
+task = [
+  { name = "high", on = "cpu", after = "sa", best = 1, worst = 4, priority = 1 },
+  { name = "low", on = "cpu", after = "sb", best = 2, worst = 3, priority = 2 },
+]
+path = [{ name = "p", tasks = ["low"] }]
+"#;

@@ -49,6 +49,13 @@ fn region(line: &str) -> Option<i64> {
     field(line, 0).strip_prefix("task ")?.parse().ok()
 }
 
+fn clock(alloc: Global, line: &str) -> Result<Option<Raw>, AllocError> {
+    match field(line, 5) {
+        "" => Ok(None),
+        name => Ok(Some(raw(alloc, name)?)),
+    }
+}
+
 fn task(alloc: Global, line: &str) -> Result<DraftTask, AllocError> {
     Ok(DraftTask {
         name: raw(alloc, field(line, 1))?,
@@ -80,6 +87,8 @@ fn add(alloc: Global, draft: &mut Draft, line: &str) -> Result<(), AllocError> {
             jitter: number(line, 3),
             distance: number(line, 4),
             sporadic: false,
+            clock: clock(alloc, line)?,
+            offset: number(line, 6),
         })?,
         "path" => draft.paths.push(DraftPath {
             name: raw(alloc, field(line, 1))?,

@@ -1,5 +1,6 @@
 pub(crate) mod systems;
 
+use cpa_cases::ON_A_CLOCK;
 use cpa_edit::{EditFault, EditRefusal, ScriptFault, Step, apply, read_script};
 use cpa_file::read_system;
 use cpa_model::{Activator, System, Turn};
@@ -31,11 +32,11 @@ const TEXTS: [Text; 8] = [
     ),
     (
         Ok(&[1, 2, 3, 5]),
-        "source s 1 2 3\nadd a b c 1 2 3\nremove a\n\nreport\n",
+        "source s 1 2 3\nadd a b c 1 2 3\nremove a\n\nreport\n|source s 1 2 3\noffset s 9\nremove a\n\nreport\n",
     ),
     (
         Err(ScriptFault::BadLine(1)),
-        "exec report 1 2 # no comment|exec a 1 12345678901|exec a 00000000001 2|exec a 1 2 3|priority a 1 2|swap a b c|slot a|source s 1 2 3 4|add a b c 1 2|remove a b|exec a 1 -2|exec a 1 2,|remove a!|Exec a 1 2|stop|report\r\r\n",
+        "exec report 1 2 # no comment|exec a 1 12345678901|exec a 00000000001 2|exec a 1 2 3|priority a 1 2|swap a b c|slot a|source s 1 2 3 4|offset s|offset s 1 2|offset s -1|add a b c 1 2|remove a b|exec a 1 -2|exec a 1 2,|remove a!|Exec a 1 2|stop|report\r\r\n",
     ),
     (
         Ok(&[3, 4, 6, 7, 8, 9, 10, 12]),
@@ -213,6 +214,23 @@ const LADDER_OUTCOMES: [Row; 5] = [
 /// And over the system with two fixed points.
 const CROSSING_OUTCOMES: &[Row] = &[(Ok(CPU), "exec a1 1 22|exec a1 1 22\nexec a1 1 20")];
 
+/// And over the system whose sources are on clocks.
+const CLOCK_OUTCOMES: [Row; 6] = [
+    (
+        Ok(CPU),
+        "offset sa 9|offset sb 0|offset sb 19|source sb 6 0 0|source sa 4096 0 0\nsource sb 4096 9 9",
+    ),
+    (Ok(NONE), "offset sc 0|source sd 7 0 0"),
+    (Err(1), "offset zz 1|offset low 1"),
+    (Err(2), "offset sd 1|offset sd 1000000000"),
+    (Err(3), "offset sa 1000000000"),
+    // An offset that isn't below its period, a cycle that is too long, and one that has too many events.
+    (
+        Err(10),
+        "offset sa 10|source sb 5 0 0|source sa 40000 0 0\nsource sb 39999 0 0|source sa 1 0 0\nsource sb 4096 0 0",
+    ),
+];
+
 /// The first of these scripts over copies of a system of which something else comes than is wanted.
 fn wrongly_judged(alloc: Global, system: &System, row: &Row) -> Result<Option<&'static str>, Fail> {
     for text in row.1.split('|') {
@@ -227,11 +245,12 @@ fn wrongly_judged(alloc: Global, system: &System, row: &Row) -> Result<Option<&'
 #[test]
 fn accepts_and_refuses(rt: HostRuntime) -> Result<(), Fail> {
     let alloc = rt.alloc();
-    let tables: [(&str, &[Row]); 4] = [
+    let tables: [(&str, &[Row]); 5] = [
         (WORKS, &OUTCOMES),
         (JOINED, &JOINED_OUTCOMES),
         (LADDER, &LADDER_OUTCOMES),
         (CROSSING_CHAINS, CROSSING_OUTCOMES),
+        (ON_A_CLOCK, &CLOCK_OUTCOMES),
     ];
     for (file, rows) in tables {
         let system = read_system(alloc, file.as_bytes())?;

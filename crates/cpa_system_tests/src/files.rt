@@ -1,5 +1,6 @@
 pub(crate) mod systems;
 
+use cpa_cases::ON_A_CLOCK;
 use cpa_file::{FileRefusal, print_system, read_system};
 use cpa_model::{Part, Refusal, System};
 use cpa_units::TaskId;
@@ -403,7 +404,7 @@ fn refuses_other_bytes(rt: HostRuntime) -> Result<(), Fail> {
 
 /// Files, the format in which their systems are printed, which is 4 where they were read from it and else the least that can say
 /// them, and how many tasks and paths these have.
-const READ_BACK: [(&str, &str, u32, u32); 17] = [
+const READ_BACK: [(&str, &str, u32, u32); 18] = [
     ("format = 1", "format = 1\n", 0, 0),
     ("format = 2", "format = 1\n", 0, 0),
     ("format = 4", "format = 4\n", 0, 0),
@@ -412,6 +413,7 @@ const READ_BACK: [(&str, &str, u32, u32); 17] = [
     (TWO_ACTIVATORS, "format = 2\n", 2, 1),
     (SHARED_SOURCE, "format = 2\n", 3, 0),
     (COOPERATIVE, "format = 4\n", 3, 0),
+    (ON_A_CLOCK, "format = 4\n", 2, 1),
     (LONG_WINDOW, "format = 1\n", 2, 0),
     (DAVIS_BUS, "format = 1\n", 3, 1),
     (FRAME_LENGTHS, "format = 1\n", 2, 0),
@@ -468,6 +470,40 @@ fn refuses_other_regions(rt: HostRuntime) -> Result<(), Fail> {
         }
     }
     assert!(rt; wrong.is_none(), "{wrong:?}");
+    Ok(())
+}
+
+/// Clocks are read in format 4 alone; an offset stands beside one.
+const CLOCKS: [(&str, Refused); 7] = [
+    ("format = 4", ("format = 2", 1, Part::Source, 1)),
+    ("clock = \"other\"", ("clock = 3", 1, Part::Source, 3)),
+    (", clock = \"other\"", ("", 1, Part::Source, 3)),
+    ("offset = 5", ("offset = \"5\"", 1, Part::Source, 2)),
+    ("offset = 5", ("offset = 20", 2, Part::Source, 2)),
+    ("\"other\"", ("\"o r\"", 3, Part::Source, 3)),
+    ("period = 20", ("period = 999999", 15, Part::Source, 2)),
+];
+
+/// What is printed of two of its sources: no offset of 0.
+const PRINTED: &str =
+    "name = \"sa\"\nperiod = 10\n\n[[source]]\nclock = \"timer\"\ndistance = 0\njitter = 1\nname = \"sb\"\noffset = 5\nperiod = 20\n";
+
+#[test]
+fn reads_and_prints_clocks(rt: HostRuntime) -> Result<(), Fail> {
+    let alloc = rt.alloc();
+    let mut wrong = None;
+    for (old, other) in &CLOCKS {
+        if !is_refused(alloc, ON_A_CLOCK, old, other)? {
+            wrong = Some(other.0);
+        }
+    }
+    let system = read_system(alloc, ON_A_CLOCK.as_bytes())?;
+    let bytes = print_system(alloc, &system)?;
+    let text = std::str::from_utf8(bytes.as_slice()).unwrap_or("");
+    assert!(rt;
+        wrong.is_none() && text.contains(PRINTED),
+        "{wrong:?} {text}"
+    );
     Ok(())
 }
 

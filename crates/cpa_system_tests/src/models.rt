@@ -232,6 +232,8 @@ fn refuses_the_first_place(rt: HostRuntime) -> Result<(), Fail> {
             jitter: None,
             distance: None,
             sporadic: false,
+            clock: None,
+            offset: None,
         })?;
     }
     let draft = Draft {

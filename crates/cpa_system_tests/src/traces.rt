@@ -4,6 +4,7 @@ ghost use Rattle.cpa_trace.specs.Trace.{FitsSystem};
 
 use crate::edits::needs_shared;
 use crate::edits::systems::LADDER;
+use cpa_cases::ON_A_CLOCK;
 use cpa_file::read_system;
 use cpa_model::System;
 use cpa_trace::{Breach, Trace, TraceFault, obeys, read_trace};
@@ -351,7 +352,7 @@ fn is_seen(alloc: Global, bytes: &[u8], seen: &Seen) -> Result<bool, Fail> {
     let trace = read_trace(alloc, &system, bytes)?;
     match seen {
         Seen::Numbers(numbers) => { Ok(numbers_of(alloc, &system, &trace)?.as_slice() == *numbers) }
-        Seen::First(breach) => Ok(obeys(&system, &trace) == *breach),
+        Seen::First(breach) => Ok(obeys(alloc, &system, &trace)? == *breach),
     }
 }
 
@@ -361,6 +362,91 @@ fn reads_a_trace(rt: HostRuntime) -> Result<(), Fail> {
     let mut wrong = None;
     for (bytes, seen) in &TRACES {
         if !is_seen(alloc, bytes, seen)? {
+            wrong = Some(*bytes);
+        }
+    }
+    assert!(rt; wrong.is_none(), "{wrong:?}");
+    Ok(())
+}
+
+/// Traces of the system whose sources are on clocks, and the first breach.
+const CLOCKED: [(&[u8], Option<Breach>); 10] = [
+    // The clock starts at 3, and an event may be a tick late.
+    (
+        b"event,sa,3\nevent,sa,13\nevent,sb,8\nevent,sb,29\nevent,sc,0\nevent,sd,5",
+        None,
+    ),
+    // It started before the trace did: the second event of `sa` is the first that is seen.
+    (b"event,sa,3\nevent,sb,19", None),
+    (b"event,sc,7\nevent,sc,47\nevent,sb,0", None),
+    (
+        b"event,sa,3\nevent,sb,7",
+        Some(Breach::Clock {
+            source: SourceId(1),
+            time: 7,
+        }),
+    ),
+    (
+        b"event,sa,3\nevent,sb,10",
+        Some(Breach::Clock {
+            source: SourceId(1),
+            time: 10,
+        }),
+    ),
+    // An event is left out.
+    (
+        b"event,sa,0\nevent,sa,10\nevent,sa,30\nevent,sa,40",
+        Some(Breach::Clock {
+            source: SourceId(0),
+            time: 30,
+        }),
+    ),
+    // The first is on time at the latest, and then the third is late by 2.
+    (
+        b"event,sb,0\nevent,sb,20\nevent,sb,42",
+        Some(Breach::Clock {
+            source: SourceId(1),
+            time: 42,
+        }),
+    ),
+    (
+        b"event,sa,0\nevent,sb,5\nevent,sc,0\nevent,sc,41",
+        Some(Breach::Clock {
+            source: SourceId(2),
+            time: 41,
+        }),
+    ),
+    // All else comes before what clocks say.
+    (
+        b"event,sa,0\nevent,sa,30\nexec,low,1",
+        Some(Breach::Exec {
+            task: TaskId(1),
+            job: 1,
+        }),
+    ),
+    (
+        b"event,sa,0\nevent,sa,30\nevent,sb,0\nevent,sb,1",
+        Some(Breach::Close {
+            source: SourceId(1),
+            first: 0,
+            second: 1,
+        }),
+    ),
+];
+
+/// Whether this is the first breach of the trace of a file.
+fn is_first(alloc: Global, bytes: &[u8], breach: Option<Breach>) -> Result<bool, Fail> {
+    let system = read_system(alloc, ON_A_CLOCK.as_bytes())?;
+    let trace = read_trace(alloc, &system, bytes)?;
+    Ok(obeys(alloc, &system, &trace)? == breach)
+}
+
+#[test]
+fn judges_clocks(rt: HostRuntime) -> Result<(), Fail> {
+    let alloc = rt.alloc();
+    let mut wrong = None;
+    for (bytes, breach) in &CLOCKED {
+        if !is_first(alloc, bytes, *breach)? {
             wrong = Some(*bytes);
         }
     }
@@ -382,7 +468,7 @@ fn builds_a_trace(rt: HostRuntime) -> Result<(), Fail> {
     let numbers = numbers_of(alloc, &system, &trace)?;
     assert!(rt;
         numbers.as_slice() == [1, 5, 0, 1, 7, 0, 0, 0, 0, 99].as_slice()
-            && obeys(&system, &trace).is_none()
+            && obeys(alloc, &system, &trace)?.is_none()
     );
     Ok(())
 }

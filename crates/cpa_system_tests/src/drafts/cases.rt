@@ -1,7 +1,7 @@
 //! Drafts, and why they are refused.
 //!
 //! An entry is a line of fields, with a bar between each two; an empty one stands for a key that is absent. After the name these are:
-//! of a resource its kind, its limit, its gap and its bit time; of a source its period, its jitter and its distance; of a task its
+//! of a resource its kind, its limit, its gap and its bit time; of a source its period, its jitter, its distance, its clock and its offset; of a task its
 //! resource, its executions, its payload, its priority and its slot, and then its activators; of a path its deadline, and then its
 //! tasks. A region stands behind the word `task`. The line `large`, or a region, makes a draft one of a large system.
 

@@ -4,7 +4,7 @@ use crate::drafts::cases::{BASE, Case};
 use cpa_draft::Part;
 
 /// Drafts with more than one fault, and faults of several entries.
-pub(crate) const WHOLES: [Case; 9] = [
+pub(crate) const WHOLES: [Case; 18] = [
     (&BASE, None),
     (&[], None),
     // The greatest numbers of a large system.
@@ -30,6 +30,50 @@ pub(crate) const WHOLES: [Case; 9] = [
     (
         &["large", "task|a|cpu|1|10000001||1||s"],
         Some((2, Part::Task, 1)),
+    ),
+    // Sources on clocks: a cycle of as many ticks, and one of as many events, as there may be.
+    (
+        &[
+            "large",
+            "source|s|1000000000|||c|999999999",
+            "source|t|4095|||d",
+            "source|u|1|||d|0",
+            "source|v|7",
+        ],
+        None,
+    ),
+    (
+        &["large", "source|s|40000|||c", "source|t|39999|||c"],
+        Some((15, Part::Source, 2)),
+    ),
+    (
+        &[
+            "large",
+            "source|s|4096|||c",
+            "source|t|7|||d",
+            "source|u|1|||c",
+            "source|v|1|||c",
+        ],
+        Some((15, Part::Source, 3)),
+    ),
+    (&["large", "source|s|10|||c|10"], Some((2, Part::Source, 1))),
+    (&["large", "source|s|10|||c|-1"], Some((2, Part::Source, 1))),
+    (&["large", "source|s|10||||3"], Some((2, Part::Source, 1))),
+    (&["source|s|10|||c|3"], Some((2, Part::Source, 1))),
+    (
+        &["large", "source|s|10|||c", "source|t|10|||c c"],
+        Some((3, Part::Source, 2)),
+    ),
+    // What a clock has comes after all else.
+    (
+        &[
+            "large",
+            "source|s|40000|||c",
+            "source|t|39999|||c",
+            "resource|cpu|preemptive",
+            "task|a|cpu|1|1||1|",
+        ],
+        Some((14, Part::Task, 1)),
     ),
     // A resource comes before a source, whatever the place.
     (
