@@ -30,8 +30,9 @@ import shutil
 import subprocess
 import sys
 import tempfile
+import traceback
 from collections import Counter
-from collections.abc import Iterator
+from collections.abc import Callable, Iterator
 from concurrent.futures import ThreadPoolExecutor
 from dataclasses import dataclass, field
 
@@ -199,6 +200,16 @@ class Room:
         self.systems += ["\n".join(wrote("generate", str(number), str(number % 5))) + "\n" for number in range(8)]
         self.systems += [with_regions(self.draw, it) for it in self.systems]
 
+    def attempt(self, sort: str, trial: Callable[[], None]) -> None:
+        """A trial. Whatever it raises is told, with the files that it looked at, as what differs is."""
+        try:
+            trial()
+        except Exception as fault:
+            self.wrong += 1
+            kept = shutil.copytree(self.folder, tempfile.mkdtemp(prefix="lokwurmi-raises-"), dirs_exist_ok=True)
+            where = traceback.extract_tb(fault.__traceback__)[-1]
+            print(f"{sort}: {type(fault).__name__}: {fault}; {where.filename}:{where.lineno}; {kept}")
+
     def write(self, name: str, text: str) -> str:
         path = os.path.join(self.folder, name)
         with open(path, "w", encoding="utf-8", errors="surrogateescape", newline="") as it:
@@ -300,12 +311,12 @@ def check_random(count: int, seed: int) -> int:
     with tempfile.TemporaryDirectory() as folder:
         room = Room(folder, seed)
         for number in range(count):
-            room.system()
+            room.attempt("system", room.system)
             if number % 2 == 0:
-                room.script()
-                room.trace()
+                room.attempt("script", room.script)
+                room.attempt("trace", room.trace)
             if number % 5 == 0:
-                room.schedule()
+                room.attempt("schedule", room.schedule)
             if number % 200 == 199:
                 print(f"{number + 1} of {count} damaged systems, {room.wrong} differ", flush=True)
     for (sort, what), times in sorted(room.seen.items()):

@@ -3,52 +3,10 @@
 They stand in docs/DEFINITIONS.md; here they are followed word for word, one analysis of every task in each round, with
 no thought of speed. Times are ticks.
 """
-import math
 import tomllib
 
-OVERLOAD = math.inf
-
-
-def ceiling(number, divisor):
-    return -(-number // divisor)
-
-
-def most_events(model, window):
-    """The most events of the streams of a model in a window whose end doesn't count; none means an unbounded input."""
-    if window == 0:
-        return 0
-    if model is None:
-        return OVERLOAD
-    most = 0
-    for period, jitter, distance in model:
-        by_period = ceiling(window + jitter, period)
-        most += min(by_period, ceiling(window, distance)) if distance else by_period
-    return most
-
-
-def least_time(model, events):
-    """The least time from the first to the last of so many events."""
-    if events < 2:
-        return 0
-    # the least window that has room for them once it is a tick longer, by halving: most_events rises with the window
-    low, high = 0, max(
-        max((events - 1) * distance, (events - 1) * period - jitter, 0) for period, jitter, distance in model
-    )
-    while low < high:
-        middle = (low + high) // 2
-        low, high = (low, middle) if most_events(model, middle + 1) >= events else (middle + 1, high)
-    return low
-
-
-def least_window(demand, first, limit):
-    """The least window from `first` on that has room for its demand; overload past the limit."""
-    window = first
-    while window <= limit:
-        asked = demand(window)
-        if asked <= window:
-            return window
-        window = max(window + 1, asked)
-    return OVERLOAD
+from tests.rules.clocks import OnClocks, clocks_of
+from tests.rules.curves import OVERLOAD, ceiling, least_time, least_window, most_events
 
 
 def activators_of(task):
@@ -78,6 +36,8 @@ class System:
         self.sources = {
             s["name"]: (s["period"], s.get("jitter", 0), s.get("distance", 0)) for s in read.get("source", [])
         }
+        self.clocks = {s["name"]: (s["clock"], s.get("offset", 0)) for s in read.get("source", []) if "clock" in s}
+        self.cycles = clocks_of(read.get("source", []))
         self.tasks = {t["name"]: t for t in read.get("task", [])}
         self.paths = read.get("path", [])
         for task in self.tasks.values():
@@ -93,6 +53,21 @@ class System:
 
     def activators_of(self, name):
         return activators_of(self.tasks[name])
+
+    def anchors_of(self, name):
+        """Of each of the task's streams the clock and the offset on it; none of a stream on no clock. What a task sends
+        on is later by its least execution."""
+        found = []
+        for after in self.activators_of(name):
+            if after in self.sources:
+                found.append(self.clocks.get(after))
+            else:
+                best = self.tasks[after]["best"]
+                found += [it and (it[0], it[1] + best) for it in self.anchors_of(after)]
+        return found
+
+    def limit_of(self, name):
+        return self.resources[self.tasks[name]["on"]].get("limit", 1000000)
 
     def sent_by(self, after, bounds):
         """The streams that a source or a task sends; none where one is unbounded."""
@@ -139,6 +114,8 @@ class System:
         lower = [n for n in mates if self.tasks[n]["priority"] > task["priority"]]
         # of a region that has begun before a tick has gone by
         blocking = max((stretch_of(self.tasks[n]) - 1 for n in lower), default=0)
+        if self.clocks:
+            return OnClocks(self, name, higher, bounds).preemptive(blocking)
         return self.busy_window(
             model,
             resource.get("limit", 1000000),
@@ -174,6 +151,8 @@ class System:
         blocking = max(
             (self.tasks[n]["worst"] for n in mates if self.tasks[n]["priority"] > task["priority"]), default=0
         )
+        if self.clocks:
+            return OnClocks(self, name, higher, bounds).can(blocking, bit)
         busy = least_window(lambda w: blocking + self.work(higher + [name], bounds, w), 1, limit)
         if busy == OVERLOAD:
             return OVERLOAD

@@ -58,18 +58,33 @@ def generated_system(number, size):
     return {"format": 1, "resource": resources, "source": sources, "task": tasks, "path": paths}
 
 
+def drawn_moment(sources, numbers, place):
+    """Up to when events are as late as may be, where this place has such a moment."""
+    if place % 4 != 2 or not any("clock" in it for it in sources):
+        return None
+    source, event = sources[numbers.draw(len(sources))], numbers.draw(10)
+    return source.get("offset", 0) + event * source["period"] + source.get("jitter", 0)
+
+
 def generated_trace(system, number, place):
     """The rows of the generated trace at this place."""
     numbers, is_drawn = Generator(number, place), place % 2 == 1
     rows, events = [], {}
+    moment = drawn_moment(system["source"], numbers, place)
     for source in system["source"]:
         period, jitter, distance = source["period"], source.get("jitter", 0), source.get("distance", 0)
         times = []
         for m in range(100):
-            if m * period + jitter > 10000000:
+            begin = source.get("offset", 0) + m * period
+            if begin + jitter > 10000000:
                 break
-            late = numbers.draw(jitter + 1) if is_drawn else jitter if m == 0 else 0
-            times.append(max(m * period + late, times[-1] + distance if times else 0))
+            if is_drawn:
+                late = numbers.draw(jitter + 1)
+            elif moment is None:
+                late = jitter if m == 0 else 0
+            else:
+                late = min(jitter, max(0, moment - begin))
+            times.append(max(begin + late, times[-1] + distance if times else 0))
         events[source["name"]] = times
         rows += [f"event,{source['name']},{time}" for time in times]
     tasks = {it["name"]: it for it in system["task"]}

@@ -22,6 +22,7 @@ PROGRESS = re.compile(
     r"lokwurmi (?:"
     rf"sensitivity: \d+ of \d+ numbers, \d+ reports{LEFT}"
     r"|optimise: \d+ orders?, .*; the best so far: .*"
+    r"|offsets: \d+ of \d+ tries, .*; the best so far: .*"
     rf"|worst: (?:\d+ of \d+, (?:task|path) \S+|\w+): seen \d+ of (?:\d+|overload), \d+ of \d+ tries{LEFT}"
     r"|import log: (?:frame \d+ of \d+|.*: \d+ frames are read)"
     r")"

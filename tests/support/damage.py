@@ -1,13 +1,17 @@
 """Damages system files, scripts, traces and schedules at random, for tests/launcher/check_messages.py."""
 from __future__ import annotations
 
+import math
 import random
 import re
-import tomllib
+from collections.abc import Sequence
+from typing import Any
+
+from lokwurmi.files.documents import Document
 
 KEYS = (
     "name kind limit gap bit period jitter distance on after best worst payload extended"
-    " priority slot region sporadic tasks deadline wcet format nane"
+    " priority slot region sporadic clock offset tasks deadline wcet format nane"
 ).split()
 VALUES = [
     *"0 1 2 -1 3 7 10 1000001 1000000 536870912 2_000 0x10 1.5 10.0 99999999999 1979-05-27 true false [] {}".split(),
@@ -16,30 +20,68 @@ VALUES = [
 ]
 
 
-def with_sporadic(draw: random.Random, found: re.Match[str]) -> str:
-    """A period, and behind it in one of four places that its source is sporadic, or that it isn't."""
+def with_keys(text: str, added: Sequence[tuple[str, int, str, Sequence[str]]]) -> str:
+    """A system file in which keys with their values stand behind a key of some entries. Each is told by its part, its
+    place, the key that they follow, and what is added. Where those stand is read, not looked for: a number may be
+    `5_000`, and a line end within an inline table is none of a section."""
+    document = Document(text)
+    puts = []
+    for part, at, key, pairs in added:
+        place = document.place(part, at)
+        mark = "\n" if text.startswith("[", place.start) else ", "
+        puts.append((place.values[key].end, "".join(mark + it for it in pairs)))
+    for end, what in sorted(puts, reverse=True):
+        text = text[:end] + what + text[end:]
+    return text
+
+
+def sporadic_told(draw: random.Random, source: dict[str, Any]) -> list[str]:
+    """In one of four cases that a source is sporadic, or that it isn't; nothing where the file tells it."""
     told = draw.choice(["", "", "", "sporadic = " + draw.choice(["true", "false"])])
-    return found[1] + (("\n" if found[2] == "\n" else ", ") + told if told else "") + found[2]
+    return [] if "sporadic" in source or not told else [told]
+
+
+def clocks_told(draw: random.Random, sources: list[dict[str, Any]]) -> list[list[str]]:
+    """Of each source its clock, in one of two files and for three of four sources, with or without an offset. A clock
+    whose cycle would be too long takes no more sources."""
+    told: list[list[str]] = []
+    periods: dict[str, list[int]] = {}
+    for it in sources:
+        if "clock" in it:
+            periods.setdefault(it["clock"], []).append(it["period"])
+    has_clocks = draw.random() < 0.5
+    for it in sources:
+        clock = draw.choice(["c1", "c1", "c1", "c2"])
+        several = [*periods.get(clock, []), it["period"]]
+        cycle = math.lcm(*several)
+        is_long = cycle > 1_000_000_000 or sum(cycle // one for one in several) > 4096
+        if not has_clocks or is_long or "clock" in it or draw.random() < 0.25:
+            told.append([])
+            continue
+        periods[clock] = several
+        offset = draw.choice([None, 0, draw.randrange(it["period"])])
+        told.append([f'clock = "{clock}"', *([] if offset is None else [f"offset = {offset}"])])
+    return told
+
+
+def region_told(draw: random.Random, task: dict[str, Any], kinds: dict[str, str]) -> list[str]:
+    """The region of a task on a preemptive resource that has none yet."""
+    if "priority" not in task or "region" in task or kinds[task["on"]] != "preemptive":
+        return []
+    return [f"region = {draw.choice([1, 2, 3, draw.randint(1, 50), task['worst'], 1_000_000])}"]
 
 
 def with_regions(draw: random.Random, text: str) -> str:
     """A system file whose tasks on preemptive resources have regions, most small, and some as long as any job; some of
-    its sources are sporadic."""
-    read = tomllib.loads(text)
-    kinds = {it["name"]: it["kind"] for it in read.get("resource", [])}
-    tasks = iter([it for it in read.get("task", []) if "priority" in it])
-
-    def longer(found: re.Match[str]) -> str:
-        task = next(tasks)
-        if kinds[task["on"]] != "preemptive" or "region" in task:
-            return found[0]
-        is_inline = found[2] != "\n"
-        region = draw.choice([1, 2, 3, draw.randint(1, 50), task["worst"], 1_000_000])
-        return found[1] + (f", region = {region}" if is_inline else f"\nregion = {region}") + found[2]
-
+    its sources are sporadic, and some are on clocks."""
     text = re.sub(r"^format = [12]$", "format = 4", text, count=1, flags=re.M)
-    text = re.sub(r"(\bperiod *= *\d+)(\D)", lambda it: with_sporadic(draw, it), text)
-    return re.sub(r"(\bpriority *= *[\dx_A-Fa-f]+)(\D)", longer, text)
+    entries = Document(text).entries
+    kinds = {it["name"]: it["kind"] for it in entries["resource"]}
+    sources, tasks = (list(enumerate(entries[part])) for part in ("source", "task"))
+    clocks = clocks_told(draw, entries["source"])
+    added = [("source", at, "period", sporadic_told(draw, it) + clocks[at]) for at, it in sources]
+    added += [("task", at, "priority", told) for at, it in tasks if (told := region_told(draw, it, kinds))]
+    return with_keys(text, added)
 
 
 def words_of(text: str) -> list[tuple[int, int]]:
@@ -179,6 +221,7 @@ def damaged_script(draw: random.Random, names: list[str]) -> str:
                     f"swap {one} {other}",
                     f"slot {one} {few[0]}",
                     f"source {one} {few[0]} {few[1]} {few[2]}",
+                    f"offset {one} {few[0]}",
                     f"add {draw.choice(['n1', 'n2', one])} {other} {third} {few[0]} {few[1]} {few[2]}",
                     f"remove {draw.choice([one, 'n1', 'n2'])}",
                     "report",

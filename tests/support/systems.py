@@ -200,18 +200,18 @@ def quoted(names):
 def file_of(system):
     kinds = {it["name"]: it["kind"] for it in system["resource"]}
     has_region = {it["name"] for it in system["task"] if kinds[it["on"]] == "preemptive" and it["region"] > 1}
-    is_newest = has_region or any(it.get("sporadic") for it in system["source"])
+    is_newest = has_region or any(it.get("sporadic") or it.get("clock") for it in system["source"])
     rows = [f"format = {4 if is_newest else 1 if all(len(it['after']) == 1 for it in system['task']) else 2}"]
     for it in system["resource"]:
-        rows += ["[[resource]]", f"name = \"{it['name']}\"", f"kind = \"{it['kind']}\"", "limit = 2000"] + (
-            [f"gap = {it['gap']}"] if it["kind"] == "tdma" else []
-        )
+        rows += ["[[resource]]", f"name = \"{it['name']}\"", f"kind = \"{it['kind']}\""]
+        rows += [f"limit = {it.get('limit', 2000)}", *([f"gap = {it['gap']}"] if it["kind"] == "tdma" else [])]
     for it in system["source"]:
         rows += [
             "[[source]]",
             f"name = \"{it['name']}\"",
             *(f"{key} = {it[key]}" for key in ("period", "jitter", "distance")),
             *(["sporadic = true"] if it.get("sporadic") else []),
+            *([f"clock = \"{it['clock']}\"", f"offset = {it['offset']}"] if it.get("clock") else []),
         ]
     for it in system["task"]:
         turn = "priority" if kinds[it["on"]] in ("preemptive", "can") else "slot"

@@ -80,7 +80,9 @@ WHOLE = {
         {"name": "c", "kind": "can", "bit": 1, "limit": 1},
         {"name": "p", "kind": "preemptive"},
     ],
-    "source": [{"name": "s", "period": 1000000000, "jitter": 1, "distance": 1, "sporadic": True}],
+    "source": [
+        {"name": "s", "period": 1000000000, "jitter": 1, "distance": 1, "sporadic": True, "clock": "c", "offset": 1}
+    ],
     "task": [
         {"name": "t", "on": "r", "after": "s", "best": 1, "worst": 1, "slot": 1},
         {"name": "f", "on": "c", "after": "s", "payload": 1, "extended": True, "priority": 1},
@@ -96,18 +98,28 @@ def accepts(part, place, key, value, form=4):
     return validator.is_valid(file)
 
 
+# the keys of a source that format 4 has alone
+OF_SOURCES = ("sporadic", "clock", "offset")
+
+
 def in_format(number):
     """A file with all keys that a format has."""
     file = {"format": number, **copy.deepcopy(WHOLE)}
     if number < 3:
-        del file["task"][2]["region"], file["source"][0]["sporadic"]
+        del file["task"][2]["region"]
+        for key in OF_SOURCES:
+            del file["source"][0][key]
     return file
 
 
 for number in (1, 2, 4):
     hold(validator.is_valid(in_format(number)), f"format {number}: a file with all keys isn't accepted")
-    for part, key in (("task", "region"), ("source", "sporadic")):
-        later = in_format(number) | {part: WHOLE[part]}
+    for part, key in (("task", "region"), *(("source", it) for it in OF_SOURCES)):
+        later = in_format(number)
+        later[part][-1][key] = WHOLE[part][-1][key]
+        if key == "offset":
+            hold(not validator.is_valid(later) or number == 4, f"format {number}: an offset without a clock")
+            later[part][-1]["clock"] = "c"
         hold(validator.is_valid(later) == (number == 4), f"format {number}: the key {key} of a {part}")
 for place in (0, 1):
     hold(not accepts("task", place, "region", 1), f"a region beside {'slot' if place == 0 else 'payload'} is accepted")
@@ -145,8 +157,9 @@ for part, keys in told.items():
             r"([\d,]+) to ([\d,]*\d|the period)(?:, with `format = 4` to ([\d,]*\d))?", within
         ).groups()
         low, high = int(low.replace(",", "")), 1000000000 if high == "the period" else int(high.replace(",", ""))
-        # the greatest in each format; the key of regions is of the newest alone
-        most = {4: int(larger.replace(",", "")) if larger else high} | ({} if key == "region" else {1: high, 2: high})
+        # the greatest in each format; the keys of regions and clocks are of the newest alone
+        is_new = key in ("region", "offset")
+        most = {4: int(larger.replace(",", "")) if larger else high} | ({} if is_new else {1: high, 2: high})
         hold(
             (said[key]["minimum"], said[key]["maximum"]) == (low, most[4]),
             f"{part}.{key}: its range isn't {low} to {most[4]}",
@@ -163,6 +176,9 @@ for part, keys in told.items():
             f"{part}.{key}: its default isn't {absent}",
         )
     hold(not accepts(part, 0, "unknown", 1), f"{part}: a key that isn't known is accepted")
+file = in_format(4)
+del file["source"][0]["clock"]
+hold(not validator.is_valid(file), "an offset without a clock is accepted")
 for name, is_in in (("a-b_c.Dx", True), ("", False), ("left wheel", False), ("n" * 64, True), ("n" * 65, False)):
     hold(accepts("resource", 0, "name", name) == is_in, f"the name {name!r}")
 
@@ -171,7 +187,7 @@ UNITS_FILE = os.path.join("docs", "lokwurmi.units.schema.json")
 UNITS_LINE = "#:schema ../../docs/lokwurmi.units.schema.json\n"
 TIMES = {
     "resource": ("limit", "gap", "bit"),
-    "source": ("period", "jitter", "distance"),
+    "source": ("period", "jitter", "distance", "offset"),
     "task": ("best", "worst", "slot", "region"),
     "path": ("deadline",),
 }
