@@ -99,7 +99,7 @@ class Calls(unittest.TestCase):
         need_engine("schedule")
         with warnings.catch_warnings():
             warnings.simplefilter("ignore", RoundingWarning)
-            for page in ("docs/LIBRARY.md", "python/README.md", "docs/PYTHON.md"):
+            for page in ("docs/LIBRARY.md", "python/README.md", "docs/PYTHON.md", "examples/README.md"):
                 with self.subTest(page):
                     seen = self.follow(page)
         self.assertEqual(seen["s"], System.from_file(EXAMPLES / "pycpa_first.toml"))
@@ -306,7 +306,7 @@ class Words(unittest.TestCase):
         headings = {int(number): words for number, words in re.findall(r"^### (\d+): (.+)$", text, re.M)}
         self.assertEqual(headings, {number: it.heading for number, it in SYSTEM_REASONS.items()})
         section = text[text.index("### Edits that are refused") :].split("\n## ")[0]
-        rules = re.findall(r"^\| (\d) \| ", section, re.M)
+        rules = re.findall(r"^\| (\d+) \| ", section, re.M)
         self.assertEqual([int(it) for it in rules], list(EDIT_RULES))
 
     def test_not_toml(self) -> None:

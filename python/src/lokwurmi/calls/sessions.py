@@ -6,7 +6,7 @@ from typing import TYPE_CHECKING, Any
 
 from lokwurmi.calls.engines import Engine, KeptSession, default_engine
 from lokwurmi.calls.library import Library
-from lokwurmi.errors import CallFailed, EditRefused, ScriptRefused, SessionClosed
+from lokwurmi.errors import CallFailed, EditRefused, ScriptRefused, SessionClosed, UnitsRefused
 from lokwurmi.files.report_lines import REFUSED
 from lokwurmi.model.conversion import Rounding, warn
 from lokwurmi.model.entries import Resource, Source, Task, Ticks
@@ -109,7 +109,7 @@ class Session:
         why = edit_words(line, rule, self._system._file()[0])
         return EditRefused(shown or line.strip(), rule, why)
 
-    def _ticks(self, kind: str, name: str, **given: Ticks | None) -> dict[str, Any]:
+    def _ticks(self, kind: str, name: str, **given: Ticks | str | None) -> dict[str, Any]:
         """Times of an entry in ticks, rounded and reported as those of a system."""
         entry: dict[str, Any] = {"name": name} | {key: it for key, it in given.items() if it is not None}
         if kind == "task" and "on" not in entry and name in self._system.tasks:
@@ -130,7 +130,7 @@ class Session:
         self._open()
         name = _named(it)
         if name not in part:
-            numbers = {"exec": "1 1", "source": "1 0 0"}[form]
+            numbers = {"exec": "1 1", "source": "1 0 0", "offset": "0"}[form]
             raise self._refused(f"{form} {name} {numbers}", 1, f"{form} {name}")
         return name
 
@@ -163,13 +163,30 @@ class Session:
         jitter: Ticks | None = None,
         distance: Ticks | None = None,
     ) -> None:
-        """Sets the period, the jitter and the distance of a source, in ticks or with units; what isn't given stays."""
+        """Sets the period, the jitter and the distance of a source, in ticks or with units; what isn't given stays, and
+        so do its clock and its offset."""
         with self._lock:
             name = self._known("source", source, self._system.sources)
             there, stays = self._system.sources[name], {"period": 1, "jitter": 0, "distance": 0}
             stays |= {key: it for key in stays if (it := self._system.ticks(there, key)) is not None}
-            found = stays | self._ticks("source", name, period=period, jitter=jitter, distance=distance)
+            # a jitter has what the offset was rounded down by in it
+            on = {"clock": there.clock, "offset": None if jitter is None else there.offset}
+            found = stays | self._ticks("source", name, period=period, jitter=jitter, distance=distance, **on)
             self._edit(f"source {name} {found['period']} {found['jitter']} {found['distance']}")
+
+    def offset(self, source: str | Source, offset: Ticks) -> None:
+        """Sets how long after the start of its clock the first event of a source comes, in ticks or as a time that is
+        whole ticks."""
+        with self._lock:
+            name = self._known("offset", source, self._system.sources)
+            found: dict[str, Any] = {"name": name, "clock": "it", "offset": offset}
+            self._system._convert("source", found)
+            if "jitter" in found:
+                raise UnitsRefused(
+                    f"source {name}: an offset of {offset} is no whole number of ticks, and its jitter would have to"
+                    " grow with it: give a whole one"
+                )
+            self._edit(f"offset {name} {found['offset']}")
 
     def add(
         self,
@@ -246,7 +263,7 @@ def _named(it: "str | Task | Source | Resource") -> str:
 def _apply(system: "System", words: list[str]) -> None:
     """Makes an edit that was accepted in a system, whose numbers are those of the program, in ticks."""
     form, name, *rest = words
-    system._expect_ticks("source" if form == "source" else "task", name)
+    system._expect_ticks("source" if form in ("source", "offset") else "task", name)
     numbers = [int(it) for it in rest if it.isdigit()]
     if form == "exec":
         it = system.tasks[name]
@@ -261,6 +278,8 @@ def _apply(system: "System", words: list[str]) -> None:
     elif form == "source":
         source = system.sources[name]
         source.period, source.jitter, source.distance = numbers
+    elif form == "offset":
+        system.sources[name].offset = numbers[0]
     elif form == "add":
         on, after, best, worst, number = rest
         several: dict[str, Any] = {"best": int(best), "worst": int(worst)}

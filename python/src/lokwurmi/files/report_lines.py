@@ -16,7 +16,7 @@ PATH = re.compile(
 )
 SUMMARY = re.compile(r"summary tasks (\d+) overload (\d+) missed (\d+)")
 LINE = re.compile(r"line (\d+)")
-REFUSED = re.compile(r"line (\d+) refused (\d)")
+REFUSED = re.compile(r"line (\d+) refused (\d+)")
 SEEN_TASK = re.compile(r"task (\S+) jobs (\d+) done (\d+) worst (\d+|none)")
 SEEN_PATH = re.compile(r"path (\S+) passages (\d+) worst (\d+|none)")
 SEEN_SUMMARY = re.compile(r"summary jobs (\d+) done (\d+) end (\d+)")

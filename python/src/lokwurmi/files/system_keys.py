@@ -37,8 +37,11 @@ def keys_of(form: int) -> dict[str, dict[str, Key]]:
     task |= {key: times["task"][key] for key in ("best", "worst")}
     task |= {"payload": Key("integer", 0, MOST_CLASSICAL), "extended": Key("truth")}
     task |= {"priority": Key("integer", 0, MOST_PRIORITY), "slot": times["task"]["slot"]}
-    later = times["task"] | {"sporadic": Key("truth")}
-    added = {part: {key: later[key] for key, since in it.items() if form >= since} for part, it in KEYS_SINCE.items()}
+    later = {"task": times["task"], "source": {"sporadic": Key("truth"), "clock": Key("text"), **times["source"]}}
+    added = {
+        part: {key: later[part][key] for key, since in it.items() if form >= since} for part, it in KEYS_SINCE.items()
+    }
+    source = {key: it for key, it in times["source"].items() if key not in KEYS_SINCE["source"]}
     return {
         "resource": {
             **name,
@@ -46,7 +49,7 @@ def keys_of(form: int) -> dict[str, dict[str, Key]]:
             **times["resource"],
             "bit": Key("integer", 1, MOST_BIT),
         },
-        "source": name | times["source"] | added["source"],
+        "source": name | source | added["source"],
         "task": name | task | added["task"],
         "path": {**name, "tasks": Key("texts", is_required=True), **times["path"]},
     }
@@ -79,6 +82,8 @@ OTHER_KEYS = by_word(
         "jitter": "j",
         "distance": "d dmin mindistance minimumdistance",
         "sporadic": "aperiodic issporadic eventtriggered onevent",
+        "clock": "timebase timer counter scheduletable oscounter",
+        "offset": "offsets phase phases start startoffset startdelay releaseoffset initialoffset",
         "bit": "bittime",
         "kind": "scheduler scheduling policy type",
         "tasks": "chain",
@@ -106,8 +111,7 @@ OTHER_KINDS = by_word(
 # of those kinds the ones of tasks that give way at some places alone, and the ones of tasks that never do
 WITH_REGIONS = ("cooperative", "fpds", "limitedpreemptive")
 WITHOUT_PREEMPTION = ("spnp", "fpnp", "npfp", "nonpreemptive")
-# what others call the time at which a source or a task begins, and CAN FD
-OFFSETS = ("offset", "offsets", "phase", "phases", "start", "startoffset", "startdelay", "releaseoffset")
+# what others call CAN FD
 FLEXIBLE = ("canfd", "fd", "canflexibledatarate", "isocanfd")
 # what others call a lock of a task, or its ceiling
 LOCKS = ("lock", "locks", "ceiling", "threshold")

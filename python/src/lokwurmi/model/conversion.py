@@ -3,8 +3,9 @@
 A system counts in whole ticks, so a time that isn't a whole number of them is rounded to the side that is safe for its
 key, and each rounding is reported, and each tick more. Greatest executions, regions, jitters and gaps are rounded up;
 least executions, periods, distances and deadlines down. A slot has no safe side and must be whole. A region has a tick
-more. The proof of the bounds is about ticks. That they hold for the times that were rounded so is argued in
-docs/NETWORKS.md, "Times with units", and not proved.
+more. On a clock the period must be whole, and an offset is rounded down with the jitter as much greater, so that each
+interval in which an event may come has both its ends. The proof of the bounds is about ticks. That they hold for the
+times that were rounded so is argued in docs/NETWORKS.md, "Times with units", and not proved.
 """
 import math
 import re
@@ -19,6 +20,11 @@ from lokwurmi.frames import frame_bits
 from lokwurmi.model.limits import DOWN, MOST_BIT, NEITHER, TIMES, UP, TimeRanges, limits_of, times_of
 from lokwurmi.model.units import UNITS, Time, bit_of, common, text_of
 
+# why a time has to be whole, by its key
+WHOLE = {
+    "slot": "a longer slot helps its task and delays the others",
+    "period": "on a clock events keep their distances, and by another period they would drift",
+}
 _AMOUNT = re.compile(r"(\d+(?:\.\d+)?) ?(ns|us|ms|s|bits?|bytes?)", re.ASCII)
 
 
@@ -51,6 +57,8 @@ class Rounding:
     """Whether it is a limit or a region, and above the most that there is."""
     has_more: bool = False
     """Whether a tick more is in it: it is a region, or an execution that is no longer than its region."""
+    is_widened: bool = False
+    """Whether it is a jitter that is greater by what its source's offset was rounded down."""
 
     def __str__(self) -> str:
         told = f"{self.what}: {self.key} of {text_of(self.time.nanoseconds)} is"
@@ -59,7 +67,8 @@ class Rounding:
         if self.is_capped:
             return f"{told} {self.ticks}, the most; bounds that need more are overload"
         rounded = "" if self.side == NEITHER else f" rounded {self.side} to"
-        return f"{told}{rounded} {self.ticks}{', with a tick more' if self.has_more else ''}"
+        widened = ", with what the offset is rounded down by" if self.is_widened else ""
+        return f"{told}{rounded} {self.ticks}{', with a tick more' if self.has_more else ''}{widened}"
 
 
 def warn(told: Iterable[object], kind: type[Warning] = RoundingWarning) -> None:
@@ -135,8 +144,8 @@ class Converter:
             return int(number) + more
         if side == NEITHER:
             raise UnitsRefused(
-                f"{what}: {key} of {text_of(time)} is {float(number):.12g} ticks, and has no safe side: a longer slot"
-                f" helps its task and delays the others. With a tick of {text_of(common(self.tick, time))} it is whole"
+                f"{what}: {key} of {text_of(time)} is {float(number):.12g} ticks, and has no safe side: {WHOLE[key]}."
+                f" With a tick of {text_of(common(self.tick, time))} it is whole"
             )
         rounded = (math.ceil(number) if side == UP else math.floor(number)) + more
         self.told.append(Rounding(what, key, Time(time), side, rounded, has_more=more > 0))
@@ -159,6 +168,8 @@ class Converter:
                 self.bare.append((key, kind, item.get("name", "?")))
             return
         what, (side, least, most) = f"{kind} {item.get('name', '?')}", self.times[kind][key]
+        if key == "period" and "clock" in item:
+            side = NEITHER
         time = self.nanoseconds(what, key, word, bit)
         given = Time(time)
         if key == "region":
@@ -231,9 +242,34 @@ class Converter:
     def set_times(self, kind: str, item: WrittenEntry) -> None:
         """Replaces the times of an entry."""
         bit = self.bits.get(str(item.get("on", item.get("name", "")))) if kind in ("resource", "task") else None
+        lost = self.lost_by_offset(item) if kind == "source" and "clock" in item else Fraction(0)
         for key in self.times[kind]:
-            if key in item:
+            if key == "jitter" and lost:
+                self.widen(item, lost)
+            elif key in item:
                 self.set_time(kind, item, key, bit)
+
+    def lost_by_offset(self, item: WrittenEntry) -> Fraction:
+        """By how much of a tick the offset of a source is rounded down."""
+        word = item.get("offset", 0)
+        if not isinstance(word, (str, Time)):
+            return Fraction(0)
+        return self.nanoseconds(f"source {item.get('name', '?')}", "offset", word, None) / self.tick % 1
+
+    def widen(self, item: WrittenEntry, lost: Fraction) -> None:
+        """Sets the jitter of a source whose offset is rounded down by so much of a tick: event n comes at the latest as
+        it does by the file."""
+        what, word = f"source {item.get('name', '?')}", item.get("jitter", 0)
+        if isinstance(word, (str, Time)):
+            time = self.nanoseconds(what, "jitter", word, None)
+        else:
+            time = Fraction(word) * self.tick
+        number, most = math.ceil(time / self.tick + lost), self.times["source"]["jitter"][2]
+        self.exact.append((time, most))
+        self.told.append(Rounding(what, "jitter", Time(time), UP, number, is_widened=True))
+        if number > most:
+            raise UnitsRefused(f"{what}: jitter is {number} ticks, and {most} are the most: take a longer tick")
+        item["jitter"] = number
 
     def convert(self, document: Any) -> None:
         """Turns all times of a system file into ticks."""

@@ -48,6 +48,11 @@ class Source:
     """In ticks or as a time, rounded down, at most the period. None: 0."""
     sporadic: bool | None = None
     """Whether it may fall silent, so that nothing bounds how long an effect chain waits for it. None: it may not."""
+    clock: str | None = None
+    """The name of a clock: sources that name one keep their distances, as those of one timer do. None: it has none."""
+    offset: Ticks | None = None
+    """How long after the clock's start its first event comes, in ticks or as a time below the period, which is rounded
+    down, with the jitter as much greater. Only beside `clock`. None: 0."""
 
 
 @dataclass(slots=True)

@@ -75,6 +75,8 @@ MOST_STREAMS = 32
 """How many streams may start a task."""
 MOST_IN_NAME = 64
 """How many letters a name may have."""
+MOST_STARTS = 4_096
+"""How many events the sources on a clock may have in a cycle of it."""
 
 MOST_TICKS = 1_000_000_000
 """The longest period, jitter, distance and deadline, and the greatest phase of a trace."""
@@ -121,7 +123,12 @@ def times_of(limits: Limits) -> TimeRanges:
     execution = {key: (side, 1, limits.execution) for key, side in (("region", UP), ("best", DOWN), ("worst", UP))}
     return {
         "resource": {"limit": (UP, 1, limits.window), "gap": (UP, 0, limits.execution)},
-        "source": {"period": (DOWN, 1, MOST_TICKS), "jitter": (UP, 0, MOST_TICKS), "distance": (DOWN, 0, MOST_TICKS)},
+        "source": {
+            "period": (DOWN, 1, MOST_TICKS),
+            "jitter": (UP, 0, MOST_TICKS),
+            "distance": (DOWN, 0, MOST_TICKS),
+            "offset": (DOWN, 0, MOST_TICKS - 1),
+        },
         "task": {**execution, "slot": (NEITHER, 1, limits.execution)},
         "path": {"deadline": (DOWN, 1, MOST_TICKS)},
         "chain": {key: (DOWN, 1, MOST_TICKS) for key in ("reaction", "age", "held")},

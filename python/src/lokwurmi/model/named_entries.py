@@ -149,9 +149,24 @@ class NamedEntries:
         jitter: Ticks | None = None,
         distance: Ticks | None = None,
         sporadic: bool | None = None,
+        clock: str | None = None,
+        offset: Ticks | None = None,
     ) -> Source:
-        """Adds a source of events; times are in ticks, or have a unit. One that is `sporadic` may fall silent."""
-        return self._add(Source(name, period, jitter, distance, sporadic))
+        """Adds a source of events; times are in ticks, or have a unit. One that is `sporadic` may fall silent. Those
+        that name one `clock` keep their distances: event n of each comes at its `offset` and n periods after the
+        clock's start, by up to its jitter late, and none is left out.
+
+        >>> from lokwurmi import System
+        >>> system = System()
+        >>> cpu = system.preemptive("cpu")
+        >>> first = system.source("first", period=10, clock="timer")
+        >>> second = system.source("second", period=10, clock="timer", offset=5)
+        >>> a = system.task("a", on=cpu, after=first, best=4, worst=4, priority=1)
+        >>> b = system.task("b", on=cpu, after=second, best=3, worst=3, priority=2)
+        >>> system.analyse().tasks["b"].worst
+        3
+        """
+        return self._add(Source(name, period, jitter, distance, sporadic, clock, offset))
 
     def task(
         self,

@@ -4,11 +4,12 @@ A view is made of a system that the program accepts, and presumes that: each nam
 itself, and each has what its kind of resource wants. What a file leaves out has the value that stands for it, and a
 frame has the executions that its payload tells. A view doesn't change; `with_keys` gives another.
 """
+import math
 from collections.abc import Iterable, Mapping
 from dataclasses import dataclass
 from fractions import Fraction
 from functools import cached_property
-from typing import Any
+from typing import Any, NamedTuple
 
 from lokwurmi.files.documents import PARTS, activators
 from lokwurmi.frames import execution
@@ -53,6 +54,18 @@ class SourceRow:
     distance: int = 0
     sporadic: bool = False
     """Whether it may fall silent."""
+    clock: str | None = None
+    """The clock that it is on; None where it is on none."""
+    offset: int = 0
+    """How long after the start of its clock its first event comes."""
+
+
+class Anchor(NamedTuple):
+    """Where a stream is on a clock: event number n comes from offset + n periods after the clock's start to that and
+    the jitter."""
+
+    clock: str
+    offset: int
 
 
 @dataclass(frozen=True, slots=True)
@@ -294,6 +307,39 @@ class SystemView:
         """The sporadic ones among the sources of a task's streams, each once: where there is one, nothing bounds the
         wait for the next job of the task."""
         return [it for it in dict.fromkeys(self.sources_of(task)) if self.sources[it].sporadic]
+
+    # ---- clocks
+
+    @cached_property
+    def clocks(self) -> dict[str, tuple[str, ...]]:
+        """The clocks in the order of their first sources, each with the sources on it in the order of the file."""
+        found: dict[str, list[str]] = {}
+        for name, it in self.sources.items():
+            if it.clock is not None:
+                found.setdefault(it.clock, []).append(name)
+        return {clock: tuple(several) for clock, several in found.items()}
+
+    def clock_cycle(self, clock: str) -> int:
+        """After how many ticks all sources of a clock come as before: the least common multiple of their periods."""
+        return math.lcm(*(self.sources[it].period for it in self.clocks[clock]))
+
+    def anchors_of(self, task: str) -> tuple[Anchor | None, ...]:
+        """Of each stream that starts a task where it is on a clock: each task on its way moves it on by its least
+        execution."""
+        return tuple(self._anchor_by(way) for way in self.ways_to(task))
+
+    def _anchor_by(self, way: Way) -> Anchor | None:
+        source, *tasks = way
+        it = self.sources[source]
+        return None if it.clock is None else Anchor(it.clock, it.offset + sum(self.tasks[name].best for name in tasks))
+
+    def clocks_at(self, task: str) -> list[str]:
+        """The clocks that two streams of a task and of those that may go before it share: by these its bound may be
+        below that without clocks. Each once, on resources with priorities alone."""
+        if not self.clocks or not self.resource(task).has_priorities:
+            return []
+        several = [it.clock for name in (task, *self.rivals(task)) for it in self.anchors_of(name) if it]
+        return [it for it in dict.fromkeys(several) if several.count(it) > 1]
 
     def streams_from(self, name: str) -> int:
         """How many streams come out of a source, or out of a task."""

@@ -1,15 +1,16 @@
-"""Edits of a session in words: why one is refused, by the nine rules in their order (docs/FILES.md, "Edits that are
+"""Edits of a session in words: why one is refused, by the ten rules in their order (docs/FILES.md, "Edits that are
 refused")."""
 from __future__ import annotations
 
+import math
 from collections.abc import Callable, Iterator
 from dataclasses import dataclass
 
-from lokwurmi.files.documents import Document, activators
-from lokwurmi.files.system_keys import keys_of
+from lokwurmi.files.documents import Document, Table, activators
+from lokwurmi.files.system_keys import KEYS, keys_of
 from lokwurmi.files.text_files import File
 from lokwurmi.frames import execution
-from lokwurmi.model.limits import MOST_IN_CHAIN, WITH_PRIORITIES, limits_of
+from lokwurmi.model.limits import MOST_IN_CHAIN, MOST_STARTS, MOST_TICKS, WITH_PRIORITIES, limits_of
 from lokwurmi.refusals.names import Names
 from lokwurmi.refusals.remark import Remark, mean
 from lokwurmi.refusals.script import FORMS as SORTS
@@ -71,8 +72,42 @@ class Bench:
         if name not in self.names.tasks:
             yield 1, word, says, helps
 
+    def source(self, name: str) -> Table:
+        """The source with a name that one has."""
+        return next(it for it in self.entries["source"] if it["name"] == name)
+
+    def no_source(self, name: str) -> Broken:
+        if name in self.names.tasks:
+            helps = "the input of a task follows from its activators, and can't be edited"
+            yield 1, 1, f'"{name}" is a task, and a source is wanted', helps
+        elif name not in self.names.sources:
+            near = mean(name, sorted(self.names.sources))
+            yield 1, 1, f'no source is called "{name}"{near}', "names are as in the file"
+
+    def off_clock(self, source: Table, word: int, helps: str) -> Broken:
+        """Why a source can't stay on its clock once it is edited so, if it is on one."""
+        clock, period, offset = source.get("clock"), source["period"], source.get("offset", 0)
+        if clock is None:
+            return
+        if offset >= period:
+            yield 10, word, f"the offset {offset} isn't below the period {period}", helps
+        several = [period, *(it["period"] for it in self.entries["source"] if self.is_beside(it, source))]
+        cycle = math.lcm(*several)
+        starts = sum(cycle // it for it in several)
+        if cycle > MOST_TICKS or starts > MOST_STARTS:
+            is_long = cycle > MOST_TICKS
+            what = f"be {cycle} ticks long" if is_long else f"have {starts} events"
+            most = f"{MOST_TICKS} ticks" if is_long else str(MOST_STARTS)
+            says = f'the cycle of clock "{clock}" would {what}, and {most} are the most'
+            yield 10, word, says, "take a period that divides the others, or that they divide"
+
+    def is_beside(self, other: Table, source: Table) -> bool:
+        """Whether another source is on the clock of one."""
+        return bool(other.get("clock") == source["clock"] and other["name"] != source["name"])
+
     def out_of_range(self, key: str, number: int, word: int, part: str = "task") -> Broken:
-        rule, what = self.keys[part][key], "" if part == "task" else f"the {key} "
+        # an edit has its form in each format, also where the file knows no such key
+        rule, what = self.keys[part].get(key) or KEYS[part][key], "" if part == "task" else f"the {key} "
         if not rule.least <= number <= rule.most:
             says = f"{what}{number} isn't {rule.least} to {rule.most}"
             yield 3, word, says, f"the range is that of `{key}` in a system file"
@@ -142,22 +177,35 @@ def do_swap(bench: Bench, first: str, second: str) -> None:
 
 
 def break_source(bench: Bench, name: str, period: int, jitter: int, distance: int) -> Broken:
-    if name in bench.names.tasks:
-        helps = "the input of a task follows from its activators, and can't be edited"
-        yield 1, 1, f'"{name}" is a task, and a source is wanted', helps
-    elif name not in bench.names.sources:
-        near = mean(name, sorted(bench.names.sources))
-        yield 1, 1, f'no source is called "{name}"{near}', "names are as in the file"
+    yield from bench.no_source(name)
     yield from bench.out_of_range("period", period, 2, "source")
     yield from bench.out_of_range("jitter", jitter, 3, "source")
     if distance > period:
         helps = "the form is: source NAME P J D, period, jitter and distance"
         yield 3, 4, f"the distance {distance} is above the period {period}", helps
+    if name in bench.names.sources and 0 < period:
+        helps = f"give it another offset first, by: offset {name} N"
+        yield from bench.off_clock(bench.source(name) | {"period": period}, 2, helps)
 
 
 def do_source(bench: Bench, name: str, period: int, jitter: int, distance: int) -> None:
-    source = next(it for it in bench.entries["source"] if it["name"] == name)
-    source.update(period=period, jitter=jitter, distance=distance)
+    bench.source(name).update(period=period, jitter=jitter, distance=distance)
+
+
+def break_offset(bench: Bench, name: str, offset: int) -> Broken:
+    yield from bench.no_source(name)
+    yield from bench.out_of_range("offset", offset, 2, "source")
+    if name in bench.names.sources:
+        if "clock" not in bench.source(name):
+            helps = "a source has an offset on a clock alone, which the file names: clock = NAME"
+            yield 2, 0, f'"{name}" is on no clock', helps
+        else:
+            source = bench.source(name)
+            yield from bench.off_clock(source | {"offset": offset}, 2, f"it is 0 to {source['period'] - 1}")
+
+
+def do_offset(bench: Bench, name: str, offset: int) -> None:
+    bench.source(name)["offset"] = offset
 
 
 def break_add(bench: Bench, name: str, on: str, after: str, best: int, worst: int, number: int) -> Broken:
@@ -221,6 +269,7 @@ FORMS = {
     "swap": Form(break_swap, do_swap),
     "slot": by_turn("slot"),
     "source": Form(break_source, do_source),
+    "offset": Form(break_offset, do_offset),
     "add": Form(break_add, do_add),
     "remove": Form(break_remove, do_remove),
 }

@@ -10,7 +10,6 @@ from lokwurmi.files.system_keys import (
     KEYS,
     KINDS,
     LOCKS,
-    OFFSETS,
     OTHER_KEYS,
     OTHER_KINDS,
     TOP_KEYS,
@@ -26,8 +25,15 @@ from lokwurmi.model.limits import DOWN, MOST_TICKS, TIMES
 from lokwurmi.refusals.remark import Note, Remark, listed, nearest, page
 from lokwurmi.refusals.spots import Spot, spots_in
 
-# the key of tasks, and that of sources, that format 4 has alone
-REGION, SPORADIC = "region", "sporadic"
+# the key of tasks, and those of sources, that format 4 has alone
+REGION, SPORADIC, CLOCK, OFFSET = "region", "sporadic", "clock", "offset"
+OF_SOURCES = {
+    SPORADIC: (
+        "`sporadic = true` says that the source may fall silent; its period is its least distance in the long run"
+    ),
+    CLOCK: "sources that name one clock keep their distances, as those of one timer do; each has its `offset` on it",
+    OFFSET: "`offset` says how long after the start of its `clock` the first event of the source comes",
+}
 # the keys whose safe side is below
 ROUNDED_DOWN = {key for keys in TIMES.values() for key, (side, _, _) in keys.items() if side == DOWN}
 # the keys that may have a unit in a file for `lokwurmi ticks`, and such a time
@@ -53,9 +59,9 @@ LONG_FRAME = (
     "frames of CAN FD stand on can, with the best and worst that lokwurmi lengths tells, as lengths fd 64 --bitrate"
     " 500000 --data-bitrate 2000000, in place of payload"
 )
-NO_OFFSETS = (
-    "offsets aren't modelled: the bounds hold however the events of two sources lie to each other, so that they hold"
-    " with offsets too; leave it out"
+OF_NO_TASK = (
+    "clocks and offsets belong to sources: those whose events keep their distances name one `clock`, and each has its"
+    " `offset`, with `format = 4`"
 )
 NO_PREEMPTION = (
     "; can, with best and worst, is a whole processor without preemption; single tasks that aren't preempted stand on"
@@ -82,7 +88,7 @@ def other_format(document: Document) -> Remark | None:
         return None
     helps = (
         "write `format = 1`, `format = 2` so that a task's `after` may be a list, or `format = 4` so that a task may"
-        " have a `region` and a source be `sporadic` too"
+        " have a `region`, and a source be `sporadic` or on a `clock`, too"
     )
     return Remark(f"the format {value} isn't known: it is 1, 2 or 4", format_span(document), helps)
 
@@ -145,7 +151,9 @@ def entry(spot: Spot) -> Remark | None:
             return wrong_type(spot, key)
     if spot.part == "resource" and value.get("kind", "can") not in KINDS:
         return unknown_kind(spot)
-    return missing(spot) or (executions(spot) if spot.part == "task" else None)
+    if remark := missing(spot):
+        return remark
+    return executions(spot) if spot.part == "task" else without_clock(spot) if spot.part == "source" else None
 
 
 def shape(spot: Spot, others: Sequence[str]) -> Remark | None:
@@ -209,13 +217,11 @@ def way_of(spot: Spot, key: str) -> tuple[str | None, str]:
     if part == "task" and OTHER_KEYS.get(bare(key)) == REGION and REGION not in spot.entry:
         helps = "for so many ticks a job isn't preempted; one with a region of at least `worst` never is"
         return REGION, helps + ("" if REGION in known else "; it needs `format = 4`")
-    if part == "source" and OTHER_KEYS.get(bare(key)) == SPORADIC and SPORADIC not in spot.entry:
-        helps = (
-            "`sporadic = true` says that the source may fall silent; its period is its least distance in the long run"
-        )
-        return SPORADIC, helps + ("" if SPORADIC in known else "; it needs `format = 4`")
-    if part in ("source", "task") and bare(key) in OFFSETS:
-        return None, NO_OFFSETS
+    meant = OTHER_KEYS.get(bare(key), key)
+    if part == "source" and meant in OF_SOURCES and meant not in spot.entry:
+        return meant, OF_SOURCES[meant] + ("" if meant in known else "; it needs `format = 4`")
+    if part == "task" and meant in (CLOCK, OFFSET):
+        return None, OF_NO_TASK
     if part == "resource" and bare(key) == "bitrate":
         ways = "lokwurmi ticks FILE --tick 1us; or write bit = N, the time of a bit in ticks"
         return None, f"it is for files with units: {ways}"
@@ -305,6 +311,14 @@ def unknown_kind(spot: Spot) -> Remark:
         near, helps = "can", LONG_FRAME
     guess = f'; did you mean "{near}"?' if near else ""
     return spot.remark(f'the kind "{value}" isn\'t known{guess}', spot.value("kind"), helps)
+
+
+def without_clock(spot: Spot) -> Remark | None:
+    """Of a source with an offset on no clock."""
+    if OFFSET not in spot.entry or CLOCK in spot.entry:
+        return None
+    helps = 'write clock = ".." beside it, the same at all sources that keep their distances; or leave it out'
+    return spot.remark("`offset` stands without `clock`", spot.key(OFFSET), helps)
 
 
 def executions(spot: Spot) -> Remark | None:

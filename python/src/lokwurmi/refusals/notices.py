@@ -6,16 +6,19 @@ from dataclasses import replace
 
 from lokwurmi.files.documents import Document, activators
 from lokwurmi.model.limits import LOW_BITS, MOST_SHORT
-from lokwurmi.refusals.remark import Note, Remark, listed
+from lokwurmi.model.view import SystemView
+from lokwurmi.refusals.remark import Note, Remark, listed, nearest
 from lokwurmi.refusals.spots import Spot, spots_in
 
 MOST = 5
-IDENTIFIERS, ORDERS = "CAN identifiers", "Priority orders and slack"
+IDENTIFIERS, ORDERS, CLOCKS = "CAN identifiers", "Priority orders and slack", "Clocks"
 
 
 def of_system(document: Document) -> list[Remark]:
     found = [*long_identifiers(document), *mixed_identifiers(document)]
+    clocks = [*sporadic_on_clock(document), *lonely_clocks(document)]
     remarks = [*unused_sources(document), *(replace(it, more=IDENTIFIERS) for it in found)]
+    remarks += [replace(it, more=CLOCKS) for it in clocks]
     return [replace(it, is_notice=True) for it in remarks]
 
 
@@ -31,6 +34,36 @@ def unused_sources(document: Document) -> Iterator[Remark]:
         more = f"; {len(found) - MOST} more start nobody" if place == MOST < len(found) else ""
         helps = f"no task has it in `after`: name it there, or leave it out{more}"
         yield Remark(f"{spot.called} starts nobody", spot.value("name"), helps)
+
+
+def sporadic_on_clock(document: Document) -> Iterator[Remark]:
+    """Sources that may fall silent, and by whose clocks no event is left out."""
+    found = [it for it in spots_in(document, "source") if it.entry.get("sporadic") and "clock" in it.entry]
+    for spot in found[:MOST]:
+        helps = (
+            "it may end, and not begin again: of what is sent on events leave `clock` out, else leave `sporadic` out;"
+            " as it stands bounds may be too low for the real system"
+        )
+        says = f'{spot.called} is sporadic, and by its clock "{spot.entry["clock"]}" no event is left out'
+        yield Remark(says, spot.value("clock"), helps)
+
+
+def lonely_clocks(document: Document) -> Iterator[Remark]:
+    """Clocks with one source, by which no bound changes: perhaps a name is another than was meant."""
+    on: dict[str, list[Spot]] = {}
+    for spot in spots_in(document, "source"):
+        if "clock" in spot.entry:
+            on.setdefault(spot.entry["clock"], []).append(spot)
+    alone = [several[0] for several in on.values() if len(several) == 1]
+    if not alone:
+        return
+    view = SystemView.of(document.values)
+    at = {clock for name in view.tasks for clock in view.clocks_at(name)}
+    for spot in [it for it in alone if it.entry["clock"] not in at][:MOST]:
+        clock = spot.entry["clock"]
+        guess = f"; did you mean \"{near}\"?" if (near := nearest(clock, [it for it in on if it != clock])) else ""
+        helps = f"a clock says how the events of several sources lie to each other{guess}"
+        yield Remark(f'{spot.called} is alone on clock "{clock}", which changes no bound', spot.value("clock"), helps)
 
 
 def buses_in(document: Document) -> list[str]:

@@ -26,7 +26,7 @@ _ENTRY = re.compile(r"(system|chains) refused reason (\d+) (\w+) (\d+)")
 _SCRIPT = re.compile(r"script refused (?:line (\d+)|too many lines|no edit)")
 _ROW = re.compile(r"(trace|schedule) refused (?:row (\d+) (\w+)|(too many))")
 _NAME = re.compile(r"(assign|slack|chain) refused (\d+)")
-_DISOBEYS = re.compile(r"trace disobeys (source \S+|task \S+ job \d+|resource \S+).*")
+_DISOBEYS = re.compile(r"trace disobeys (source \S+|task \S+ job \d+|resource \S+|clock \S+ \d+).*")
 
 
 def told(line: str) -> tuple[str, str] | None:
@@ -43,7 +43,10 @@ def told(line: str) -> tuple[str, str] | None:
         status = Status.TRACE_REFUSED if found[1] == "trace" else Status.SCHEDULE_REFUSED
         return f"row {found[2]}: {ROW_FAULTS[found[3]]}", f"Status {status}: the {found[1]} is refused"
     if found := _DISOBEYS.fullmatch(line):
-        return f"{found[1]} does what the system rules out", "Status 17: the trace doesn't obey the system"
+        part, name, *rest = found[1].split()
+        says = f"{found[1]} does what the system rules out"
+        says = f"the event of {name} at {rest[0]} doesn't come by its clock" if part == "clock" else says
+        return says, "Status 17: the trace doesn't obey the system"
     return None
 
 

@@ -3,7 +3,16 @@ are)."""
 from typing import NamedTuple
 
 from lokwurmi.model.formats import FORMATS
-from lokwurmi.model.limits import LIMITS, MOST_CHAINS, MOST_IN_CHAIN, MOST_IN_NAME, MOST_STREAMS, MOST_TICKS, NEWEST
+from lokwurmi.model.limits import (
+    LIMITS,
+    MOST_CHAINS,
+    MOST_IN_CHAIN,
+    MOST_IN_NAME,
+    MOST_STARTS,
+    MOST_STREAMS,
+    MOST_TICKS,
+    NEWEST,
+)
 
 
 class Reason(NamedTuple):
@@ -42,6 +51,10 @@ SYSTEM_REASONS = {
     11: Reason("a path that isn't linked", "it has no task, or one that doesn't come after the one before it"),
     12: Reason("too many entries", f"there are at most {_counts(FORMATS[0])}{_LARGER}"),
     14: Reason("no activator, or too many", f"it has no activator, one twice, or more than {MOST_STREAMS} streams"),
+    15: Reason(
+        "a clock that repeats too seldom",
+        f"with it the cycle of its clock is above {MOST_TICKS:,} ticks, or has more than {MOST_STARTS:,} events",
+    ),
 }
 """Why a system file is refused, by the reason of status 14."""
 CHAIN_REASONS = {
@@ -65,12 +78,14 @@ EDIT_RULES = {
     7: "a source or a task has the name already",
     8: "there are as many tasks as its format has room for",
     9: f"the chain would have more than {MOST_IN_CHAIN} tasks",
+    10: "the offset isn't below the period, or the clock's cycle or its events are too many",
 }
 """The rules that an edit may break."""
 WORD_REASONS = {
     ("assign", 1): "no resource has the name",
     ("assign", 2): "its tasks have slots, and no priorities",
     ("assign", 3): "a task on it has a task among its activators",
+    ("assign", 4): "a task on it comes after a source on a clock, and it is a bus, or a task on it has a region",
     ("slack", 1): "no task has the name",
 }
 """Why the resource of `assign` or the task of `slack` is refused."""

@@ -2,6 +2,7 @@
 the program tells, found by the same rules in the same order (docs/FILES.md, "Refusals")."""
 from __future__ import annotations
 
+import math
 from collections.abc import Callable, Iterator, Sequence
 from dataclasses import dataclass, replace
 
@@ -13,7 +14,9 @@ from lokwurmi.model.limits import (
     MOST_IN_CHAIN,
     MOST_IN_NAME,
     MOST_PRIORITY,
+    MOST_STARTS,
     MOST_STREAMS,
+    MOST_TICKS,
     NEWEST,
     WITH_PRIORITIES,
     limits_of,
@@ -30,6 +33,7 @@ NO_REGION = {
     "round-robin": "how long a job goes on is told by its `slot`",
     "tdma": "how long a job goes on is told by its `slot`",
 }
+OF_NAMES = f"a name has 1 to {MOST_IN_NAME} of the letters A to Z and a to z, digits, _, - and ."
 # what is told of keys that aren't times, or whose range surprises
 MEANINGS = {
     "priority": "; the smaller number goes first, and 0x1fffffff is the greatest identifier of 29 bits",
@@ -39,6 +43,7 @@ MEANINGS = {
     ),
     "bit": " ticks: it is the time of a bit, as 2 at 500 kbit/s where a tick is a microsecond",
     "limit": " ticks: the longest busy window that is looked at",
+    "offset": " ticks, and below the period",
     "region": " ticks: 1 is as without it, and a job with one of at least `worst` is never preempted",
 }
 
@@ -104,6 +109,20 @@ def out_of_range(document: Document) -> Found:
             notes = [Note(f"its period is {entry['period']}", spot.value("period"))]
             says = f"the distance {entry['distance']} is above the period"
             yield spot, spot.remark(says, spot.value("distance"), helps, notes)
+        if spot.part == "source" and "offset" in entry and (remark := wrong_offset(spot)):
+            yield spot, remark
+
+
+def wrong_offset(spot: Spot) -> Remark | None:
+    """Of a source with an offset that isn't below the period."""
+    offset, period = spot.entry["offset"], spot.entry["period"]
+    if offset < period:
+        return None
+    helps = f"the first event comes before the first period is over: 0 to {period - 1} here"
+    if 0 < period:
+        helps += f"; {offset} is {offset % period} after whole periods"
+    notes = [Note(f"its period is {period}", spot.value("period"))]
+    return spot.remark(f"the offset {offset} isn't below the period", spot.value("offset"), helps, notes)
 
 
 def beyond(spot: Spot, key: str, least: int, most: int) -> Remark:
@@ -134,8 +153,12 @@ def no_name(document: Document) -> Found:
     for spot in spots_in(document):
         if not is_name(spot.entry["name"]):
             fault, way = name_fault(spot.entry["name"])
-            helps = f"a name has 1 to {MOST_IN_NAME} of the letters A to Z and a to z, digits, _, - and .{way}"
+            helps = f"{OF_NAMES}{way}"
             yield spot, Remark(f"{spot.placed}: its name {fault}", spot.value("name"), helps)
+        if spot.part == "source" and not is_name(clock := spot.entry.get("clock", "none")):
+            fault, way = name_fault(clock)
+            helps = f"{OF_NAMES}{way}"
+            yield spot, spot.remark(f"the name of its clock {fault}", spot.value("clock"), helps)
 
 
 def known_name(document: Document) -> Found:
@@ -403,6 +426,38 @@ def misfed(document: Document) -> Found:
             yield spot, spot.remark(says, spot.value("after"), helps)
 
 
+def too_long_clock(document: Document) -> Found:
+    """The first source with which the cycle of its clock, or the number of its events in a cycle, is too long."""
+    cycles: dict[str, int] = {}
+    periods: dict[str, list[int]] = {}
+    for spot in spots_in(document, "source"):
+        if (clock := spot.entry.get("clock")) is None:
+            continue
+        before, period = cycles.get(clock, 1), spot.entry["period"]
+        cycle = cycles[clock] = math.lcm(before, period)
+        several = periods.setdefault(clock, [])
+        several.append(period)
+        starts = sum(cycle // it for it in several)
+        if cycle > MOST_TICKS or starts > MOST_STARTS:
+            yield spot, overlong(spot, before, cycle, starts)
+            return
+
+
+def overlong(spot: Spot, before: int, cycle: int, starts: int) -> Remark:
+    """Of a source with which the cycle of a clock, which was shorter before, is too long or has too many events."""
+    clock, period = spot.entry["clock"], spot.entry["period"]
+    is_long = cycle > MOST_TICKS
+    what = f"is {cycle} ticks long" if is_long else f"has {starts} events"
+    most = f"{MOST_TICKS} ticks" if is_long else f"{MOST_STARTS} events"
+    says = f'with it the cycle of clock "{clock}" {what}, and {most} are the most'
+    helps = (
+        "a cycle is the least common multiple of the periods on a clock: take periods that divide each other, a clock"
+        " of its own for this source, or leave `clock` out, as a source of which nothing more is known"
+    )
+    notes = [Note(f"without it the cycle is {before}, and its period is {period}", spot.value("period"))]
+    return spot.remark(says, spot.value("clock"), helps, notes)
+
+
 RULES: dict[int, Callable[[Document], Found]] = {
     1: of_form,
     2: out_of_range,
@@ -417,4 +472,5 @@ RULES: dict[int, Callable[[Document], Found]] = {
     11: unlinked,
     12: too_many,
     14: misfed,
+    15: too_long_clock,
 }

@@ -20,6 +20,7 @@ FORMS = {
     "swap": ("TASK", "TASK"),
     "slot": ("TASK", "n"),
     "source": ("NAME", "p", "j", "d"),
+    "offset": ("NAME", "n"),
     "add": ("NAME", "RES", "AFTER", "min", "max", "n"),
     "remove": ("TASK",),
     "report": (),
@@ -34,6 +35,8 @@ OTHER_WORDS = {
     "print": "report",
     "period": "source",
     "jitter": "source",
+    "phase": "offset",
+    "start": "offset",
     "rm": "remove",
     "del": "remove",
     "payload": "exec",
@@ -125,6 +128,9 @@ def unknown_word(line: Line) -> Remark:
             "no edit changes a region: write a file for each, or ask lokwurmi sensitivity FILE --only region how far"
             " one may grow"
         )
+        return Remark(f"`{word}` begins no edit", line.spans[0], helps)
+    if word.lower() == "clock":
+        helps = "no edit puts a source on a clock, or takes it off: write a file for each; `offset NAME N` moves it"
         return Remark(f"`{word}` begins no edit", line.spans[0], helps)
     near = OTHER_WORDS.get(word.lower()) or nearest(word, list(FORMS))
     guess = f"; did you mean `{near}`?" if near else ""

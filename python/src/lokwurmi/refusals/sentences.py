@@ -30,7 +30,7 @@ def may_deserve_notice(parts: Mapping[str, Mapping[str, Any]]) -> bool:
     used: set[str] = set()
     for it in parts["task"].values():
         used |= {it.after} if isinstance(it.after, str) else set(it.after)
-    if set(parts["source"]) - used:
+    if set(parts["source"]) - used or any(it.clock is not None for it in parts["source"].values()):
         return True
     buses = {it.name for it in parts["resource"].values() if it.kind == "can"}
     return any(

@@ -8,6 +8,7 @@ from lokwurmi.files.documents import Document, activators
 from lokwurmi.files.text_files import File
 from lokwurmi.frames import execution
 from lokwurmi.model.limits import MOST_JOBS, MOST_ROWS, MOST_TICKS, MOST_TIME, limits_of
+from lokwurmi.refusals.clock_starts import first_off, have_start, leads_by
 from lokwurmi.refusals.names import Names
 from lokwurmi.refusals.remark import Note, Remark, listed, mean, nearest
 from lokwurmi.refusals.rows import Fault, Row, is_number, no_number, rows_in
@@ -122,6 +123,8 @@ class TraceOfSystem:
         part, name = words[0], words[1]
         if part == "source":
             found = self.too_close(name, int(words[3]), int(words[4]))
+        elif part == "clock":
+            found = self.off_clock(name, int(words[2]))
         else:
             found = self.other_execution(name, int(words[3])) if part == "task" else self.wrong_phase(name)
         return found and replace(found, more=DISOBEYS)
@@ -149,6 +152,32 @@ class TraceOfSystem:
         ways += [f"distance {gap // (n - i)}"] if (n - i) * distance > gap else []
         helps = f"if that may happen, the source is denser than the file says: {listed(ways)} would allow it"
         return rows[n].remark(says, helps, None, [Note("the earlier one", rows[i].span)])
+
+    def off_clock(self, name: str, time: int) -> Remark | None:
+        sources = [it for it in self.names.entries["source"] if "clock" in it]
+        times = {it: [int(row.fields[2]) for row in rows] for it, rows in self.rows.events.items()}
+        found = first_off(sources, times)
+        if not found or sources[found[0]]["name"] != name or times[name][found[1]] != time:
+            return None
+        source, event = sources[found[0]], found[1]
+        period, jitter, offset = source["period"], source.get("jitter", 0), source.get("offset", 0)
+        says = (
+            f"the event of {name} at {time} doesn't come by clock \"{source['clock']}\": wherever that began, an event"
+            f" up to here isn't its source's offset and n periods later, by up to its jitter late ({name} has period"
+            f" {period}, jitter {jitter}, offset {offset})"
+        )
+        helps = (
+            "by a clock no event is left out: what is sent on events, a node that restarts and a clock that drifts"
+            " against others have none"
+        )
+        begins = [it - n * period for n, it in enumerate(times[name][: event + 1])]
+        if (needed := max(begins) - min(begins)) > jitter:
+            helps += f"; jitter {needed} would allow the events of {name} up to here"
+        own = leads_by(source, times[name][: event + 1])
+        others = [it for it in sources[: found[0]] if it["clock"] == source["clock"] and it["name"] in times]
+        beside = [it["name"] for it in others if not have_start([leads_by(it, times[it["name"]]), own])]
+        notes = [Note(f"beside the events of {it}", self.rows.events[it][0].span) for it in beside[:1]]
+        return self.rows.events[name][event].remark(says, helps, 2, [] if needed > jitter else notes)
 
     def other_execution(self, name: str, job: int) -> Remark | None:
         rows = self.rows.executions.get(name, [])

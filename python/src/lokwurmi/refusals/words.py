@@ -31,6 +31,8 @@ def remark_on(document: Document, line: str, words: Sequence[str]) -> Remark | N
         return Remark(says, spot.value("kind"), helps, more=MORE)
     if line == "assign refused 3" and word in resources:
         return behind_tasks(document, word, set(names["task"]))
+    if line == "assign refused 4" and word in resources:
+        return on_clocks(document, word)
     return None
 
 
@@ -52,6 +54,27 @@ def no_task(names: dict[str, list[str]], word: str) -> Remark:
         helps = "resources have no slack: name a task on it"
     guess = f"; did you mean {near}?" if (near := nearest(word, tasks)) else ""
     return Remark(f'no task is called "{printable(word)}"{guess}', None, helps, more=MORE)
+
+
+def on_clocks(document: Document, resource: str) -> Remark | None:
+    """Of a resource with tasks on clocks, one of whose tasks can keep a more urgent one waiting."""
+    clocks = {it["name"]: it["clock"] for it in document.entries["source"] if "clock" in it}
+    on = [it for it in spots_in(document, "task") if it.entry["on"] == resource]
+    found = [it for it in on if clocks.keys() & activators(it.entry)]
+    if not found:
+        return None
+    spot, count = found[0], len(found) - 1
+    place, source = next((at, it) for at, it in enumerate(activators(spot.entry)) if it in clocks)
+    others = f"; so {'does one' if count == 1 else f'do {count}'} more" if count else ""
+    says = (
+        f'task "{spot.entry["name"]}" of {resource} comes by the clock "{clocks[source]}", by which a task may be'
+        f" better off below another than above it{others}"
+    )
+    helps = (
+        "with clocks assign takes preemptive resources without regions: leave the clocks out in a copy of the file, and"
+        " look at the order that comes out with them; or ask lokwurmi optimise, or try orders by a script (swap)"
+    )
+    return Remark(says, spot.item("after", place), helps, more=MORE)
 
 
 def behind_tasks(document: Document, resource: str, tasks: set[str]) -> Remark | None:

@@ -7,7 +7,7 @@ from typing import TYPE_CHECKING, Any
 from lokwurmi.model.units import Time
 
 if TYPE_CHECKING:
-    from lokwurmi.model.entries import Resource, Task
+    from lokwurmi.model.entries import Resource, Source, Task
     from lokwurmi.model.named_entries import NamedEntries
     from lokwurmi.results import effect_chains as chain_results
     from lokwurmi.results import reports
@@ -108,6 +108,11 @@ def execution_text(it: "Task") -> str:
     return f"{it.best} to {it.worst}"
 
 
+def clock_cells(it: "Source") -> tuple[Any, Any]:
+    """The clock of a source and its offset; nothing where it is on none."""
+    return ("", "") if it.clock is None else (it.clock, it.offset or 0)
+
+
 def bit_text(it: "Resource") -> Any:
     """The time of a bit, or the bit rate."""
     return it.bit if it.bitrate is None else f"{it.bitrate} bit/s"
@@ -117,9 +122,12 @@ def system(it: "NamedEntries") -> str:
     """The entries of a system."""
     resources = [(one.name, one.kind, one.limit, one.gap, bit_text(one)) for one in it.resources.values()]
     is_sporadic = any(one.sporadic for one in it.sources.values())
+    has_clocks = any(one.clock is not None for one in it.sources.values())
+    of_source = ("source", "period", "jitter", "distance", *(["silence"] if is_sporadic else []))
     sources = [
         (one.name, one.period, one.jitter or 0, one.distance or 0)
         + (("sporadic" if one.sporadic else "",) if is_sporadic else ())
+        + (clock_cells(one) if has_clocks else ())
         for one in it.sources.values()
     ]
     has_regions = any(one.region is not None for one in it.tasks.values())
@@ -133,7 +141,7 @@ def system(it: "NamedEntries") -> str:
     note = f"{unit_note(it.tick)} Numbers without a unit are ticks." if it.tick else unit_note(None)
     parts: list[tuple[str, Sequence[str], list[Any]]] = [
         ("Resources", ("resource", "kind", "limit", "gap", "bit"), resources),
-        ("Sources", ("source", "period", "jitter", "distance", *(["silence"] if is_sporadic else [])), sources),
+        ("Sources", of_source + (("clock", "offset") if has_clocks else ()), sources),
         ("Tasks", of_task, tasks),
         ("Paths", ("path", "tasks", "deadline"), paths),
     ]

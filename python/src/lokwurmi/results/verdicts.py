@@ -27,6 +27,12 @@ PREMISE_WORDS = (
     f"bounds and verdicts of chains hold {PREMISE}: a source that falls silent, or whose events come farther apart than"
     " its period and jitter say, voids them, unless it is sporadic"
 )
+CLOCK_PREMISE = "if sources on a clock keep their distances"
+"""What the bounds of tasks whose streams share a clock presume."""
+CLOCK_WORDS = (
+    f"bounds of tasks whose streams share a clock hold {CLOCK_PREMISE}: a node that restarts, a clock that drifts"
+    " against others and frames that are sent on events void them"
+)
 KINDS = ("task", "path", "chain")
 OF_CHAINS = ("reaction", "age", "held")
 STATUSES = {Verdict.MET: 0, Verdict.MISSED: 1, Verdict.OVERLOAD: 2}

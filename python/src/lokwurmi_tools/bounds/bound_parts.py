@@ -6,11 +6,21 @@ before it, and what goes before them. This is worked out here once more by the r
 bounds of a report, which are those of the least solution; so it must come to the very bound that the report has. It is
 no part of what is proved."""
 from collections.abc import Iterator
-from typing import NamedTuple, TypedDict
+from typing import NamedTuple, NotRequired, TypedDict
 
-from lokwurmi.model.event_models import Bounds, Stream, inputs_of, least_time, most_events
+from lokwurmi.model.event_models import Bounds, Stream, inputs_of, least_time
 from lokwurmi.model.limits import Kind
-from lokwurmi.model.view import SystemView
+from lokwurmi.model.view import Anchor, SystemView
+from lokwurmi_tools.bounds.starts import (
+    Moments,
+    PlacedStream,
+    Start,
+    arrivals,
+    earliest,
+    latest_moments,
+    phase_on,
+    work_from,
+)
 
 
 class Tired(Exception):
@@ -41,23 +51,32 @@ class Part(NamedTuple):
 
 class Rival(NamedTuple):
     """Who may go before a task: its greatest execution, its streams, None where they have no bound, by how much its
-    window is longer, and its slot where it takes turns."""
+    window is longer, its slot where it takes turns, and where its streams are on clocks."""
 
     name: str
     worst: int
     streams: list[Stream] | None
     ahead: int = 0
     slot: int | None = None
+    anchors: tuple[Anchor | None, ...] = ()
 
-    def events(self, window: int) -> int:
-        """How many jobs it has in a window of the task at most."""
-        return sum(most_events(it, window + self.ahead) for it in self.streams or [])
-
-    def steady(self, window: int) -> int:
-        """How many these would be if its streams had no jitter."""
+    def events(self, window: int, moments: Moments) -> int:
+        """How many jobs it has in a window of the task at most, with which clocks stand so."""
         return sum(
-            most_events((period, 0, distance), window + self.ahead) for period, _, distance in self.streams or []
+            arrivals(stream, phase_on(stream, anchor, moments), window + self.ahead) for stream, anchor in self.placed()
         )
+
+    def steady(self, window: int, moments: Moments) -> int:
+        """How many these would be if its streams had no jitter."""
+        steady = [((period, 0, distance), anchor) for (period, _, distance), anchor in self.placed()]
+        return sum(
+            arrivals(stream, phase_on(stream, anchor, moments), window + self.ahead) for stream, anchor in steady
+        )
+
+    def placed(self) -> list[tuple[Stream, Anchor | None]]:
+        """Its streams, each with where it is on a clock."""
+        streams = self.streams or []
+        return list(zip(streams, self.anchors or (None,) * len(streams)))
 
 
 class JobInWindow(NamedTuple):
@@ -82,10 +101,20 @@ class LatestJob(NamedTuple):
     came: int
     done: int
     parts: list[Part]
+    start: Start | None = None
+    """Where its clock stands as the window begins, where its one stream is on one."""
 
     @property
     def response(self) -> int:
         return self.done - self.came
+
+
+class Scene(NamedTuple):
+    """The rivals of a busy window, and where the task's own clock stands as that begins, if its one stream is on
+    one."""
+
+    rivals: list[Rival]
+    start: Start | None = None
 
 
 class SettledStep(NamedTuple):
@@ -106,6 +135,8 @@ class StreamTold(TypedDict):
     jitter: int
     distance: int
     of: list[tuple[str, int]]
+    clock: NotRequired[str]
+    offset: NotRequired[int]
 
 
 class BoundParts:
@@ -113,6 +144,8 @@ class BoundParts:
 
     def __init__(self, view: SystemView, bounds: Bounds):
         self.view, self.bounds, self.inputs = view, bounds, inputs_of(view, bounds)
+        # where other clocks stand, by who goes before and the window
+        self.worst_moments: dict[tuple[str, tuple[str, ...], int], int] = {}
         # how many looks at the work of a task were taken, and with how many it ends
         self.looks = 0
         self.until: int | None = None
@@ -125,7 +158,11 @@ class BoundParts:
         # what comes within a bit time after the start of a frame goes first
         ahead = resource.bit if resource.is_bus else 0
         found.sort(key=lambda it: self.view.tasks[it].rank)
-        return [Rival(it, self.view.tasks[it].worst, self.inputs[it], ahead) for it in found]
+        view = self.view
+        return [
+            Rival(it, view.tasks[it].worst, self.inputs[it], ahead, anchors=view.anchors_of(it) if view.clocks else ())
+            for it in found
+        ]
 
     def in_turn(self, name: str) -> Rival:
         """A rival that takes turns; of one without a bound these alone count."""
@@ -164,62 +201,125 @@ class BoundParts:
         found = [blocked] if blocked else []
         return found + [Part(kind, it, rounds, ticks) for kind, it, ticks in self.cycle(name)]
 
-    def shared(self, rival: Rival, rounds: int, window: int) -> Part:
+    def moments(self, scene: Scene, window: int) -> Moments:
+        """Where clocks stand as a window begins: the task's own where it does, and each other as its streams ask for
+        most."""
+        if not self.view.clocks or not scene.rivals or scene.rivals[0].slot is not None:
+            return {}
+        placed: dict[str, list[PlacedStream]] = {}
+        for rival in scene.rivals:
+            for stream, anchor in rival.placed():
+                if anchor is not None:
+                    placed.setdefault(anchor.clock, []).append(PlacedStream(stream, anchor, rival.worst))
+        found = {scene.start.clock: scene.start.moment} if scene.start else {}
+        names, whole = tuple(it.name for it in scene.rivals), window + scene.rivals[0].ahead
+        for clock, several in placed.items():
+            if clock not in found:
+                found[clock] = self.worst_moment(clock, several, names, whole)
+        return found
+
+    def worst_moment(self, clock: str, several: list[PlacedStream], names: tuple[str, ...], window: int) -> int:
+        """Where a clock stands as a window begins, so that its streams ask for most in it."""
+        key = (clock, names, window)
+        if key not in self.worst_moments:
+            moments = latest_moments(several, self.view.clock_cycle(clock))
+            self.looks += len(moments) * len(several)
+            self.worst_moments[key] = max(moments, key=lambda it: work_from(several, it, window))
+        return self.worst_moments[key]
+
+    def shared(self, rival: Rival, rounds: int, window: int, moments: Moments) -> Part:
         """What a rival takes in a window."""
         turns = None if rival.slot is None else Part("turns", rival.name, rounds, rival.slot)
         if rival.streams is None and turns:
             return turns
-        count = rival.events(window)
+        count = rival.events(window, moments)
         if turns and turns.ticks < count * rival.worst:
             return turns
-        return Part("rival", rival.name, count, rival.worst, count - rival.steady(window))
+        return Part("rival", rival.name, count, rival.worst, count - rival.steady(window, moments))
 
-    def taken(self, rivals: list[Rival], rounds: int, window: int) -> int:
+    def taken(self, scene: Scene, rounds: int, window: int) -> int:
         """The ticks that rivals take in a window."""
-        self.looks += 1 + len(rivals)
+        self.looks += 1 + len(scene.rivals)
         if self.until is not None and self.looks > self.until:
             raise Tired
-        ticks = 0
-        for it in rivals:
-            work = None if it.streams is None else it.worst * it.events(window)
+        ticks, moments = 0, self.moments(scene, window)
+        for it in scene.rivals:
+            work = None if it.streams is None else it.worst * it.events(window, moments)
             turns = None if it.slot is None else rounds * it.slot
             ticks += min(amount for amount in (work, turns) if amount is not None)
         return ticks
 
-    def window(self, name: str, rivals: list[Rival], jobs: int, first: int) -> int:
+    def window(self, name: str, scene: Scene, jobs: int, first: int) -> int:
         """The least window, from `first` on, that has room for so many jobs and what goes before them."""
-        if any(it.streams is None and it.slot is None for it in rivals):
+        if any(it.streams is None and it.slot is None for it in scene.rivals):
             raise Endless
         rounds, limit, window = self.rounds(name, jobs), self.view.limit(name), first
         fixed = jobs * self.view.tasks[name].worst + sum(it.ticks for it in self.fixed(name, jobs))
         while window <= limit:
-            asked = fixed + self.taken(rivals, rounds, window)
+            asked = fixed + self.taken(scene, rounds, window)
             if asked <= window:
                 return window
             window = asked
         raise Endless
 
-    def frames(self, name: str, rivals: list[Rival]) -> int:
+    def frames(self, name: str, scene: Scene) -> int:
         """On a bus how many frames of a task come up to the end of the busy period, which begins with one of lower
         priority."""
         own = Rival(name, self.view.tasks[name].worst, self.inputs[name])
-        busy = self.window(name, [*(it._replace(ahead=0) for it in rivals), own], 0, 1)
-        return own.events(busy)
+        if scene.start:
+            own = own._replace(anchors=self.view.anchors_of(name))
+        several = [*(it._replace(ahead=0) for it in scene.rivals), own]
+        busy = self.window(name, scene._replace(rivals=several), 0, 1)
+        return own.events(busy, {scene.start.clock: scene.start.moment} if scene.start else {})
 
-    def places(self, name: str, rivals: list[Rival]) -> Iterator[JobInWindow]:
+    def comes(self, name: str, scene: Scene, number: int) -> int:
+        """How long after the busy window began a job of a task can have come at the earliest."""
+        streams = self.inputs[name] or []
+        if scene.start is None:
+            return least_time(streams, number)
+        moments = {scene.start.clock: scene.start.moment}
+        return earliest(streams[0], phase_on(streams[0], self.view.anchors_of(name)[0], moments), number)
+
+    def starts(self, name: str, rivals: list[Rival]) -> list[Start | None]:
+        """From where the busy window of a task is looked at."""
+        if not self.view.clocks or not self.view.resource(name).has_priorities:
+            return [None]
+        anchors, streams = self.view.anchors_of(name), self.inputs[name] or []
+        own = anchors[0]
+        if len(anchors) > 1 or own is None:
+            return [None]
+        several = [PlacedStream(streams[0], own, 0)]
+        for it in rivals:
+            several += [PlacedStream(stream, at, 0) for stream, at in it.placed() if at and at.clock == own.clock]
+        moments = latest_moments(several, self.view.clock_cycle(own.clock))
+        return [Start(own.clock, it) for it in moments]
+
+    def is_done_before(self, name: str, scene: Scene) -> bool:
+        """Whether all that goes before is done before the first job of a task comes."""
+        if scene.start is None or self.view.resource(name).is_bus:
+            return False
+        first = self.comes(name, scene, 1)
+        try:
+            return first > 0 and self.window(name, scene, 0, 1) <= first
+        except Endless:
+            return False
+
+    def places(self, name: str, scene: Scene) -> Iterator[JobInWindow]:
         """The jobs of the busy window, one after the other."""
-        own, worst, limit = self.inputs[name], self.view.tasks[name].worst, self.view.limit(name)
-        frames = self.frames(name, rivals) if self.view.resource(name).is_bus else None
+        worst, limit = self.view.tasks[name].worst, self.view.limit(name)
+        frames = self.frames(name, scene) if self.view.resource(name).is_bus else None
+        if frames == 0 or self.is_done_before(name, scene):
+            return
         # a frame isn't interrupted: its own length comes after its start
         rest = 0 if frames is None else worst
         number, window = 0, -worst
         while True:
             number += 1
-            window = self.window(name, rivals, number if frames is None else number - 1, window + worst)
+            window = self.window(name, scene, number if frames is None else number - 1, window + worst)
             if window + rest > limit:
                 raise Endless
-            yield JobInWindow(number, least_time(own or [], number), window, window + rest)
-            if number == frames if frames is not None else window <= least_time(own or [], number + 1):
+            yield JobInWindow(number, self.comes(name, scene, number), window, window + rest)
+            if number == frames if frames is not None else window <= self.comes(name, scene, number + 1):
                 return
 
     def latest(self, name: str, rivals: list[Rival] | None = None, most: int | None = None) -> LatestJob | None:
@@ -228,20 +328,33 @@ class BoundParts:
         if self.inputs[name] is None:
             return None
         self.until = None if most is None else self.looks + most
-        rivals, of = self.before(name) if rivals is None else rivals, 0
-        late: JobInWindow | None = None
+        rivals = self.before(name) if rivals is None else rivals
+        latest: LatestJob | None = None
         try:
-            for it in self.places(name, rivals):
-                late, of = it if late is None or it.response > late.response else late, it.number
+            for start in self.starts(name, rivals):
+                found = self.latest_from(name, Scene(rivals, start))
+                latest = found if found and (latest is None or found.response > latest.response) else latest
         except Endless:
             return None
+        return latest
+
+    def latest_from(self, name: str, scene: Scene) -> LatestJob | None:
+        """The same of the busy windows that begin so; None where none of the task's jobs waits in one."""
+        late: JobInWindow | None = None
+        of = 0
+        for it in self.places(name, scene):
+            late, of = it if late is None or it.response > late.response else late, it.number
         if late is None:
             return None
         # the window of a frame is up to its start, in which there are those before it
         jobs = late.number - 1 if self.view.resource(name).is_bus else late.number
         own = Part("own", name, late.number, self.view.tasks[name].worst)
-        waits = [self.shared(it, self.rounds(name, jobs), late.window) for it in rivals]
-        return LatestJob(late.number, of, late.came, late.done, [own, *self.fixed(name, jobs), *waits])
+        moments = self.moments(scene, late.window)
+        waits = [self.shared(it, self.rounds(name, jobs), late.window, moments) for it in scene.rivals]
+        if self.view.clocks:
+            # by its clock a rival may not come at all
+            waits = [it for it in waits if it.count]
+        return LatestJob(late.number, of, late.came, late.done, [own, *self.fixed(name, jobs), *waits], scene.start)
 
     def streams(self, name: str) -> list[StreamTold] | None:
         """The streams that start a task: of each its source, its numbers, and from where its jitter comes."""
@@ -249,7 +362,8 @@ class BoundParts:
         if streams is None:
             return None
         found: list[StreamTold] = []
-        for (source, *way), (period, jitter, distance) in zip(self.view.ways_to(name), streams):
+        anchors = self.view.anchors_of(name)
+        for (source, *way), (period, jitter, distance), anchor in zip(self.view.ways_to(name), streams, anchors):
             varies = [(it, (self.bounds[it] or 0) - self.view.tasks[it].best) for it in way]
             found.append(
                 {
@@ -261,6 +375,8 @@ class BoundParts:
                     "of": [(source, self.view.sources[source].jitter), *varies],
                 }
             )
+            if anchor is not None:
+                found[-1]["clock"], found[-1]["offset"] = anchor.clock, anchor.offset
         return found
 
     def settles(self, name: str, most: int | None = None) -> list[SettledStep]:

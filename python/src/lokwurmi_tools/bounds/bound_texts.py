@@ -62,7 +62,23 @@ def stream_text(stream: Values, scale: Scale = TICKS) -> str:
         words.append(jitter_text(stream, scale))
     if stream["distance"]:
         words.append(f"distance {scale.text(stream['distance'])}")
+    if "clock" in stream:
+        words.append(f"clock {stream['clock']} + {scale.text(stream['offset'])}")
     return " → ".join([stream["source"], *stream["way"]]) + ": " + ", ".join(words)
+
+
+def lines_of_clocks(told: Values, scale: Scale = TICKS) -> list[str]:
+    """Which clocks the streams of a task share with those that may go before it, and where its own stands as the
+    busy window of its latest job begins."""
+    lines = []
+    for it in told.get("clocks", []):
+        others = [name for name in it["tasks"] if name != told["task"]]
+        shared = "shared with" if told["task"] in it["tasks"] and others else "of"
+        names = ", ".join(others[:FEW] or [told["task"]])
+        more = f" and {len(others) - FEW} more" if len(others) > FEW else ""
+        at = "" if it["start"] is None else f"; the busy window begins {scale.text(it['start'])} into one"
+        lines.append(f"clock {it['clock']}, {shared} {names}{more}: cycle {scale.text(it['cycle'])}{at}")
+    return lines
 
 
 def text_for(part: Values, texts: dict[str, str]) -> str:
@@ -102,6 +118,7 @@ def lines_of_task(told: Values, scale: Scale = TICKS) -> list[str]:
         return [head + "no bound" + deadline, *lines_of_overload(told, scale)]
     lines = [head + scale.length(told["bound"]) + deadline]
     lines += [f"  started by {stream_text(stream, scale)}" for stream in told["streams"]]
+    lines += [f"  {it}" for it in lines_of_clocks(told, scale)]
     if not told["job"]:
         return lines
     return [*lines, f"  {which_of(told['job'], scale)}", *lines_of_parts(told, scale)]

@@ -70,7 +70,18 @@ class Explained:
         if job is None:
             return {"job": None, "parts": []}
         parts = [it._asdict() | {"ticks": it.ticks} for it in job.parts]
-        return {"job": {"number": job.number, "of": job.of, "came": job.came, "done": job.done}, "parts": parts}
+        told = {"number": job.number, "of": job.of, "came": job.came, "done": job.done}
+        return {"job": told, "parts": parts, **self.clocks_of(name, job)}
+
+    def clocks_of(self, name: str, job: LatestJob) -> Values:
+        """The clocks that streams of a task and of those that may go before it share; nothing where there are none."""
+        found, view = [], self.view
+        for clock in view.clocks_at(name):
+            several = (name, *view.rivals(name))
+            on = [it for it in several if any(at and at.clock == clock for at in view.anchors_of(it))]
+            start = job.start.moment % view.clock_cycle(clock) if job.start and job.start.clock == clock else None
+            found.append({"clock": clock, "cycle": view.clock_cycle(clock), "tasks": on, "start": start})
+        return {"clocks": found} if found else {}
 
     def compare(self, name: str, job: LatestJob | None) -> None:
         """Holds a job against the bound of its task."""

@@ -12,7 +12,10 @@ from lokwurmi.model.view import SystemView
 from lokwurmi.results.reports import reports
 from lokwurmi_tools.campaigns.campaign_faults import Wrong
 
-KEYS = {"task": ("best", "worst", "execution", "priority", "slot"), "source": ("period", "jitter", "distance")}
+KEYS = {
+    "task": ("best", "worst", "execution", "priority", "slot"),
+    "source": ("period", "jitter", "distance", "offset"),
+}
 # the columns that each table has
 OWN = ("variant", "verdict", "refused", "cost", "front")
 
@@ -79,7 +82,7 @@ class Entry:
         self.hold(
             kind and len(keys) == 1 and keys[0] in KEYS[kind],
             "is scripts, or a task with one of best, worst, execution, priority, slot,"
-            " or a source with one of period, jitter, distance; besides, costs and label",
+            " or a source with one of period, jitter, distance, offset; besides, costs and label",
         )
         self.who, self.key, self.values = (kind, entry[kind]), keys[0], entry[keys[0]]
         self.hold(entry[kind] in names[kind], f"no {kind} of the system has the name {entry[kind]}")
@@ -140,6 +143,7 @@ def script_of(grid: list[Entry], chosen: Sequence[int], view: SystemView, spare:
     executions: dict[str, list[int]] = {}
     turns: list[tuple[str, str, int]] = []
     events: dict[str, dict[str, int]] = {}
+    offsets: list[str] = []
     scripts = []
     for entry, place in zip(grid, chosen):
         value = entry.values[place]
@@ -147,7 +151,9 @@ def script_of(grid: list[Entry], chosen: Sequence[int], view: SystemView, spare:
             scripts.append(value if value.endswith("\n") or not value else value + "\n")
             continue
         kind, name = entry.who
-        if kind == "source":
+        if entry.key == "offset":
+            offsets.append(f"offset {name} {value}")
+        elif kind == "source":
             it = view.sources[name]
             given = {"period": it.period, "jitter": it.jitter, "distance": it.distance}
             events.setdefault(name, given)[entry.key] = value
@@ -160,7 +166,7 @@ def script_of(grid: list[Entry], chosen: Sequence[int], view: SystemView, spare:
             else:
                 now[entry.key == "worst"] = value
     lines = [f"exec {name} {least} {greatest}" for name, (least, greatest) in executions.items()]
-    lines += [f"source {name} {it['period']} {it['jitter']} {it['distance']}" for name, it in events.items()]
+    lines += [f"source {name} {it['period']} {it['jitter']} {it['distance']}" for name, it in events.items()] + offsets
     many = [name for key, name, _ in turns if key == "priority"]
     if len(many) > 1:
         lines += [f"priority {name} {it}" for name, it in zip(many, spare)]

@@ -80,6 +80,12 @@ COMMANDS = (
         "optimise examples/overload.toml --script better.script.txt",
     ),
     ToolCommand(
+        "offsets",
+        "commands.offsets",
+        "chooses offsets of sources on clocks",
+        "offsets examples/offsets.toml --grid 50 --output spread.script.txt",
+    ),
+    ToolCommand(
         "worst",
         "commands.worst",
         "looks for runs that come near the bounds",

@@ -1,6 +1,7 @@
 # Writes a line where a system file that is accepted may deserve a notice: a source that no `after` names, a frame on a CAN
-# resource whose priority is above that of 11 bits without `extended`, or with it where other frames have 11 bits; and, where
-# `unbounded` tells of a chain without a bound, a sporadic source. Where the layout is uncommon it may miss one.
+# resource whose priority is above that of 11 bits without `extended`, or with it where other frames have 11 bits; a clock that
+# one source names, or any clock beside a sporadic source; and, where `unbounded` tells of a chain without a bound, a sporadic
+# source. Where the layout is uncommon it may miss one.
 { sub(/(^|[ \t])#.*$/, "") }
 /^[ \t]*\[\[/ { part = $0; gsub(/[][ \t\r]/, "", part); end_frame(); next }
 /^[ \t]*[a-z]+[ \t]*=[ \t]*\[/ && !/^[ \t]*(tasks|after)[ \t]*=/ { part = $0; sub(/[ \t]*=.*$/, "", part); sub(/^[ \t]*/, "", part) }
@@ -12,6 +13,14 @@ part == "source" {
     name = substr(rest, RSTART, RLENGTH - 1)
     sub(/^.*["']/, "", name)
     sources[name] = 1
+    rest = substr(rest, RSTART + RLENGTH)
+  }
+  rest = $0
+  while (match(rest, /(^|[{, \t])clock[ \t]*=[ \t]*["'][^"']*["']/)) {
+    name = substr(rest, RSTART, RLENGTH - 1)
+    sub(/^.*["']/, "", name)
+    on_clock[name]++
+    clocked = 1
     rest = substr(rest, RSTART + RLENGTH)
   }
 }
@@ -30,6 +39,8 @@ part == "source" {
 END {
   end_frame()
   for (name in sources) if (!(name in named)) { print "source"; exit }
+  for (name in on_clock) if (on_clock[name] == 1) { print "clock"; exit }
+  if (clocked && sporadic) { print "clock"; exit }
   if (can && (some_long || (some_extended && some_short))) { print "priority"; exit }
   if (unbounded && sporadic) print "sporadic"
 }

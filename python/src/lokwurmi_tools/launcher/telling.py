@@ -48,8 +48,8 @@ HINTS = {
         (
             "the file is TOML but no system: the line has the number of the reason, and the list and place of the"
             ' entry, from 1, or file 0 for the file as a whole. Where a task\'s "after" is a list, the file has format'
-            " = 2; where a task has a region, or a source is sporadic, it has format = 4. Each reason, and what to"
-            " change: "
+            " = 2; where a task has a region, or a source is sporadic or on a clock, it has format = 4. Each reason,"
+            " and what to change: "
         ),
         "Refusals",
     ),

@@ -9,6 +9,7 @@ from lokwurmi.model.limits import MOST_SHORT, Kind
 from lokwurmi.model.view import PathRow
 from lokwurmi.results.reports import PathReport, Run, TaskReport, Verdict
 from lokwurmi_tools.bounds.bound_texts import (
+    lines_of_clocks,
     lines_of_overload,
     lines_of_waits,
     note_of,
@@ -163,12 +164,14 @@ class PageSystem:
             return None
         parts = [[it["of"], it["count"], it["each"], it["kind"], note_of(it)] for it in told["parts"]]
         streams = [stream_text(it, self.scale) for it in told["streams"]]
+        clocks = lines_of_clocks(told, self.scale)
         return {
             "job": which_of(told["job"], self.scale),
             "came": told["job"]["came"],
             "bound": told["bound"],
             "by": streams,
             "parts": parts,
+            **({"clocks": clocks} if clocks else {}),
         }
 
     def made_of_path(self, name: str) -> Values:

@@ -129,6 +129,7 @@ class Drawing:
         """What stands at a source."""
         keys = {"period": source.period, "jitter": source.jitter, "distance": source.distance}
         lines = [f"{key} {self.scale.text(ticks)}" for key, ticks in keys.items() if ticks]
+        lines += [f"clock {source.clock} + {self.scale.text(source.offset)}"] if source.clock is not None else []
         return "\n".join([source.name, *lines, *(["sporadic"] if source.sporadic else [])])
 
     def arrows(self) -> list[str]:

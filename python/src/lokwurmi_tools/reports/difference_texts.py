@@ -15,6 +15,7 @@ from lokwurmi_tools.reports.judging import (
     TickTexts,
     chains_of,
     distinct,
+    premises_on,
     put,
     report_of,
     room,
@@ -95,6 +96,10 @@ class ComparedSystem:
         if any(it is None or is_report(self.text(it)) for it in several):
             return []
         return silences(self.file, self.chains_file)
+
+    def notices(self) -> list[str]:
+        """These, and what its bounds presume where it is a system with clocks."""
+        return [*self.silences(), *([] if is_report(self.text(self.file)) else premises_on(self.file))]
 
 
 def groups_of(found: Changes, limit: Limit | None, is_all: bool) -> list[tuple[str, list[Change]]]:
@@ -186,7 +191,7 @@ def json_of(found: Changes, sides: list[ComparedSystem], options: DifferenceOpti
     """What changed as JSON, with the names of what was compared."""
     told = found.to_dict(options.all, options.worse)
     names = {
-        it.side: {"file": it.file.name, "chains_file": it.chains_file and it.chains_file.name, "notices": it.silences()}
+        it.side: {"file": it.file.name, "chains_file": it.chains_file and it.chains_file.name, "notices": it.notices()}
         for it in sides
     }
     return json.dumps({"format": told.pop("format"), **names, **told}, indent=1) + "\n"
@@ -205,5 +210,5 @@ def tell_difference(options: DifferenceOptions) -> int:
         else:
             put(shown(text_of(found, TickTexts(options.tick), options.worse, options.all)))
         for it in () if options.json else sides:
-            tell(it.file, it.silences())
+            tell(it.file, it.notices())
     return found.status(options.worse)

@@ -20,7 +20,7 @@ from lokwurmi.results.reports import Report, reports
 from lokwurmi_tools.shared.chain_files import read_chains
 from lokwurmi_tools.shared.faults import Fault, Told
 from lokwurmi_tools.shared.program import call, end_refused
-from lokwurmi_tools.shared.system_file import noticed_in
+from lokwurmi_tools.shared.system_file import clock_words_on, noticed_in
 from lokwurmi_tools.shared.times import Scale
 
 # statuses of the program: where it doesn't take words, where an output can't be written, and out of memory; and that of
@@ -116,6 +116,11 @@ def distinct() -> Iterator[None]:
 def silences(file: Given, chains: Given | None) -> list[str]:
     """The waits for sporadic sources that leave bounds of chains open, a sentence each."""
     return [] if chains is None else sentences_on(file.text(), asked_in(chains.text()))
+
+
+def premises_on(file: Given) -> list[str]:
+    """What the bounds of a system file presume that was accepted, where it has clocks."""
+    return clock_words_on(file.text())
 
 
 def tell(file: Given, notices: Iterable[str]) -> None:

@@ -115,9 +115,11 @@ class ModelChanges:
             self.put("worst", name, for_task, worst, then, [edit], [back])
 
     def periods(self, for_task: str, rival: str) -> None:
-        """The period of each source of a rival is longer."""
+        """The period of each source of a rival is longer, but on a clock, where all would lie otherwise."""
         for source in dict.fromkeys(self.view.sources_of(rival)):
             it = self.view.sources[source]
+            if it.clock is not None:
+                continue
             then, others = it.period + tenth(it.period), f"{it.jitter} {it.distance}"
             if then <= MOST_TICKS:
                 edit, back = f"source {source} {then} {others}", f"source {source} {it.period} {others}"

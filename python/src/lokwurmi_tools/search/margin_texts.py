@@ -5,7 +5,7 @@ import sys
 import time
 from dataclasses import dataclass
 
-from lokwurmi.results.verdicts import PREMISE
+from lokwurmi.results.verdicts import CLOCK_PREMISE, CLOCK_WORDS, PREMISE
 from lokwurmi_tools.bounds.bound_texts import shown
 from lokwurmi_tools.search.chain_goals import PREMISE_WORDS, ChainGoals
 from lokwurmi_tools.search.margins import LAWS, MOST_TRIES, PARTS, MarginQuestion, rows_of
@@ -23,6 +23,8 @@ PERIODS = (
     "a period has two rows where a chain waits for it: shorter, so that bounds rise, and longer, so that it waits"
     " longer"
 )
+# what has to be said of periods where there are clocks
+CLOCKS = "periods of sources on a clock aren't moved: with another one all that comes by the clock would lie otherwise"
 # what has to be said beside what doesn't hold already, where there are regions
 REGIONS = (
     "regions can't be shorter than now in this search: leave the key region out, "
@@ -108,6 +110,8 @@ def json_text(options: MarginOptions, question: MarginQuestion, rows: list[Value
     """All that is told, as JSON."""
     asked = {"file": options.file, "goals": options.goals, "deadlines": options.deadlines}
     asked |= {"chains_file": options.chains, "premise": PREMISE if options.chains else None}
+    if question.view.clocks:
+        asked["clock_premise"] = CLOCK_PREMISE
     cost = {"calls": question.calls, "reports": question.probes, "seconds": round(seconds, 3)}
     laws = LAWS if options.chains is None else LAWS | {"period": f"{LAWS['period']}; what chains allow is argued"}
     return json.dumps({**asked, "numbers": rows, "laws": laws, **cost}, indent=1)
@@ -116,6 +120,11 @@ def json_text(options: MarginOptions, question: MarginQuestion, rows: list[Value
 def lines_of_chains(question: MarginQuestion) -> list[str]:
     """What has to be said where chains count."""
     return [PERIODS, PREMISE_WORDS] if question.chains else []
+
+
+def lines_of_clocks(question: MarginQuestion) -> list[str]:
+    """What has to be said where sources are on clocks."""
+    return [CLOCKS, CLOCK_WORDS] if question.view.clocks else []
 
 
 def tell_nothing(question: MarginQuestion) -> int:
@@ -151,7 +160,7 @@ def tell_margins(options: MarginOptions) -> int:
     if options.json:
         print(json_text(options, question, rows, time.monotonic() - start))
     else:
-        notes = [NOTE, *lines_of_shares(rows), *lines_of_chains(question)]
+        notes = [NOTE, *lines_of_shares(rows), *lines_of_chains(question), *lines_of_clocks(question)]
         print(shown("\n".join([*lines_of(rows), "", *notes])))
     if options.to:
         from lokwurmi_tools.pictures.margin_bars import draw_margins

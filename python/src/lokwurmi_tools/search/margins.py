@@ -123,10 +123,12 @@ class MarginQuestion:
         """What may move, but for deadlines."""
         found = [self.number_of_task(name) for name in self.view.tasks]
         for name, it in self.view.sources.items():
-            found.append(Number("period", name, it.period, it.period - 1, it.period // 4))
+            if it.clock is None:
+                # with another period the cycle of a clock is another, and bounds may move to both sides
+                found.append(Number("period", name, it.period, it.period - 1, it.period // 4))
             most = MOST_TICKS - it.jitter
             found.append(Number("jitter", name, it.jitter, most, min(most, it.period // 2)))
-        for name in sorted(self.chains.sources()) if self.chains else ():
+        for name in self.steady_sources():
             period, most = self.view.sources[name].period, MOST_TICKS - self.view.sources[name].period
             found.append(Number("longer-period", name, period, most, min(most, period // 4)))
         for name in self.view.resources:
@@ -138,6 +140,10 @@ class MarginQuestion:
         least = 2 if kinds == KINDS else 1
         found += [self.number_of_region(name) for name in self.view.tasks if self.has_region(name, least)]
         return [it for it in found if it.kind in kinds]
+
+    def steady_sources(self) -> list[str]:
+        """The sources for which a chain waits, whose period may be longer: those on no clock."""
+        return [it for it in sorted(self.chains.sources()) if not self.view.sources[it].clock] if self.chains else []
 
     def has_regions(self) -> bool:
         """Whether the file names a region."""

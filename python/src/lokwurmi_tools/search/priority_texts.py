@@ -4,7 +4,7 @@ import sys
 import tempfile
 from fractions import Fraction
 
-from lokwurmi.results.verdicts import PREMISE, Bound
+from lokwurmi.results.verdicts import CLOCK_PREMISE, CLOCK_WORDS, PREMISE, Bound
 from lokwurmi_tools.search.chain_goals import PREMISE_WORDS, ChainGoals
 from lokwurmi_tools.search.priorities import OrderVerdict, PriorityOptions, PrioritySearch
 from lokwurmi_tools.shared.analysed import analysed
@@ -49,6 +49,8 @@ def json_text(search: PrioritySearch, verdict: OrderVerdict) -> str:
     loads = {on: float(share) for on, share in search.overloaded().items()}
     late = {"late": verdict.late, "overload": verdict.over, "overloaded": loads}
     chains = {"chains": chains_told(search, verdict), "premise": PREMISE if search.chains else None}
+    if search.view.clocks:
+        chains["clock_premise"] = CLOCK_PREMISE
     return json.dumps({**found, **late, "order": search.changed(), "edits": search.script(), **chains}, indent=1)
 
 
@@ -66,7 +68,7 @@ def lines_of(search: PrioritySearch, verdict: OrderVerdict) -> list[str]:
         lines.append("there may be an order still: the search proves nothing about what it didn't try")
         if any("region" in it for it in search.view.values["task"]):
             lines.append("regions stay as they are: lokwurmi explain says whether a late path waits for one")
-    return lines + lines_of_chains(search, verdict)
+    return lines + lines_of_chains(search, verdict) + ([CLOCK_WORDS] if search.view.clocks else [])
 
 
 def searched_until(search: PrioritySearch) -> bool:

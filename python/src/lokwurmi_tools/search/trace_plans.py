@@ -68,14 +68,30 @@ def lateness_of(view: SystemView, plan: TracePlan, source: str) -> Lateness:
     return turn, min(ticks, jitter)
 
 
+def steady_starts(view: SystemView, plan: TracePlan) -> dict[str, int]:
+    """When the first event of each source came if it weren't late. On a clock the first source of the plan says where
+    that stands, and each other begins with that of its events which is nearest to its start."""
+    first, found = min(plan.start.values(), default=0), dict[str, int]()
+    begun: dict[str, int] = {}
+    for name, start in plan.start.items():
+        source, (turn, late) = view.sources[name], lateness_of(view, plan, name)
+        lateness = late * turn.has(0)
+        steady = start - first - lateness
+        if source.clock is not None:
+            begin = begun.setdefault(source.clock, steady - source.offset)
+            later = (begin + source.offset - steady) % source.period
+            may_be_sooner = steady + later - source.period + lateness >= 0
+            steady += later - (source.period if 2 * later > source.period and may_be_sooner else 0)
+        found[name] = steady
+    return found
+
+
 def events_of(view: SystemView, plan: TracePlan, span: int) -> Times:
     """The times of each source: as dense as it may be from its start on, for so many ticks."""
-    first, found = min(plan.start.values(), default=0), dict[str, list[int]]()
-    for name, start in plan.start.items():
+    found = dict[str, list[int]]()
+    for name, steady in steady_starts(view, plan).items():
         source, times = view.sources[name], list[int]()
         turn, late = lateness_of(view, plan, name)
-        # when the first event came if it weren't late
-        steady = start - first - late * turn.has(0)
         while len(times) < MOST_ROWS // len(plan.start):
             at = steady + len(times) * source.period + late * turn.has(len(times))
             at = max(at, times[-1] + source.distance) if times else at

@@ -1,6 +1,7 @@
 """Reads a system file. One that the program refuses ends the command as the program would, with what `lokwurmi` says of
 it."""
 import sys
+import tomllib
 from collections.abc import Sequence
 from typing import NoReturn
 
@@ -14,6 +15,7 @@ from lokwurmi.refusals.rules import first_refusal
 from lokwurmi.refusals.sentences import notices_of
 from lokwurmi.refusals.silence import AskedChain, sentences_on
 from lokwurmi.refusals.toml_faults import fault_in
+from lokwurmi.results.verdicts import CLOCK_WORDS
 from lokwurmi_tools.shared.faults import Fault, Told
 from lokwurmi_tools.shared.program import LAUNCHER, call, is_built
 
@@ -43,9 +45,22 @@ def read_system(name: str) -> SystemView:
 
 
 def noticed_in(name: str) -> list[str]:
-    """The notices on a system file that is accepted, a sentence each."""
+    """The notices on a system file that is accepted, and what its bounds presume where it has clocks, a sentence
+    each."""
     with open(name, "rb") as it:
-        return notices_of(decoded(it.read()).replace("\r\n", "\n"))
+        text = decoded(it.read()).replace("\r\n", "\n")
+    return [*notices_of(text), *clock_words_on(text)]
+
+
+def clock_words_on(text: str) -> list[str]:
+    """What bounds presume of a system file that is accepted, where it has clocks."""
+    if "clock" not in text:
+        return []
+    try:
+        sources = Document(text).entries["source"]
+    except (tomllib.TOMLDecodeError, RecursionError):
+        return []
+    return [CLOCK_WORDS] if any(isinstance(it, dict) and "clock" in it for it in sources) else []
 
 
 def silences_in(name: str, chains: Sequence[AskedChain], while_running: bool = False) -> list[str]:

@@ -80,6 +80,7 @@ function partsOfTask(told) {
     return room;
   }
   for (const it of told.by) room.append(element("p", "small", `started by ${it}`));
+  for (const it of told.clocks || []) room.append(element("p", "small", it));
   room.append(element("p", "", told.job));
   const whole = told.bound + told.came, bar = room.appendChild(element("div", "stack")), list = room.appendChild(element("dl"));
   bar.setAttribute("role", "img");

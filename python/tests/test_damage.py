@@ -1,0 +1,65 @@
+"""Damage that checks do to files: what is put into a system file leaves it readable, however its numbers and tables are
+written."""
+import random
+import unittest
+
+from lokwurmi.files.documents import Document
+from lokwurmi.refusals.rules import first_refusal
+from tests.support.damage import with_keys, with_regions
+
+WRITTEN = """format = 1
+resource = [{ name = "cpu", kind = "preemptive" }]
+source = [
+  { name = "a", period = 5_000 },
+  { name = "b", period = 0x10, jitter = 0 },
+  { name = "c",
+    period = 7 # each week
+  },
+  { name = "d", period = 8, sporadic = false },
+]
+
+[[task]]
+name = "t"
+on = "cpu"
+after = "a"
+best = 1
+worst = 1_000
+priority = 0x1f # the lowest
+
+[[task]]
+name = "u"
+on = "cpu"
+after = "b"
+best = 1
+worst = 3
+priority = 7_0"""
+
+
+class Damage(unittest.TestCase):
+    def test_keys(self) -> None:
+        """A key is put behind the whole value of another."""
+        text = with_keys(WRITTEN, [("source", at, "period", ["jitter = 1_0"]) for at in (0, 2, 3)])
+        sources = Document(text).entries["source"]
+        self.assertEqual([it.get("jitter") for it in sources], [10, 0, 10, 10])
+        self.assertEqual([it["period"] for it in sources], [5000, 16, 7, 8])
+        text = with_keys(WRITTEN, [("task", at, "priority", ["region = 2", "extended = true"]) for at in (0, 1)])
+        self.assertEqual([it["region"] for it in Document(text).entries["task"]], [2, 2])
+        self.assertEqual([it["priority"] for it in Document(text).entries["task"]], [31, 70])
+
+    def test_regions(self) -> None:
+        """Regions and sporadic sources can be put into any file, again and again, and it stays a system."""
+        some = set()
+        for seed in range(200):
+            draw = random.Random(seed)
+            once = with_regions(draw, WRITTEN)
+            for text in (once, with_regions(draw, once)):
+                document = Document(text)
+                self.assertIsNone(first_refusal(document), text)
+                self.assertEqual([it["period"] for it in document.entries["source"]], [5000, 16, 7, 8])
+                some |= {(it["name"], it.get("sporadic"), it.get("clock")) for it in document.entries["source"]}
+        # three of them may be sporadic or not, or not tell it, and all may be on one of two clocks, or on none
+        self.assertEqual(len(some), 3 * 10)
+
+
+if __name__ == "__main__":
+    unittest.main()
