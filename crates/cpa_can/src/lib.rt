@@ -6,12 +6,13 @@
 //! All times are in ticks.
 #![tactic(auto)]
 
-ghost use Rattle.std.specs.Prelude.{◌≡◌, ℕ, ◌+◌, ◌*◌, ◌≤◌, ◌↔◌, IsTrue, false};
-ghost use Rattle.cpa_units.specs.declared.limits.TheConstants.{MAX_BIT, MAX_EXECUTION};
+ghost use Rattle.std.specs.Prelude.{◌≡◌, ℕ, ◌+◌, ◌*◌, ◌≤◌, ◌↔◌, IsTrue, IfSome, IfNone, false};
+ghost use Rattle.cpa_units.specs.declared.limits.TheConstants.{MAX_BIT, MAX_EXECUTION, MAX_LIMIT};
 ghost use Rattle.cpa_units.specs.Bounds.{IsAtMost, greatest_of};
 ghost use Rattle.cpa_units.specs.Numbers.{IsExecution};
 ghost use Rattle.cpa_events.specs.Events.{IsModelInRange};
 ghost use Rattle.cpa_window.specs.Rivals.{AreRivals, some_unbounded};
+ghost use Rattle.cpa_window.specs.Windows.{IsWindow};
 ghost use Rattle.cpa_can.specs.Can.{can_bound, can_response};
 ghost use Rattle.cpa_can.specs.CanWork.{busy_work, busy_work-mono, start_work, start_work-mono, start_work-more, IsCrowdedBelow};
 ghost use Rattle.cpa_can.specs.Laws.{CanBoundsGrow, CanBoundsAreInRange, CanBoundsGoByWork};
@@ -115,16 +116,21 @@ pub fn respond(
         bit,
         rivals,
     };
-    bounded_response(own, &starts, 0, limit)
+    let Some(first) = next_window(&starts, 0, 0, 0, limit) else {
+        return Bound::Overload;
+    };
+    bounded_response(own, &starts, first.end, limit)
 }
 
-/// The bound where all rivals are bounded. No window below `first` has room for what comes before the first frame.
-fn bounded_response(own: &Model, starts: &FrameStarts, first: u64, limit: u64) -> Bound
+/// The busy window. The bus isn't idle before the first frame is through, where that takes as long as a bit, so no shorter
+/// window is looked at then.
+fn busy_window(own: &Model, starts: &FrameStarts, first: u64, limit: u64) -> Option<u64>
     requires own { IsModelInRange own.now }
-    requires bounded { some_unbounded starts.now.rivals.now ≡ false }
     requires first { IsCrowdedBelow (start_work starts.now.worst starts.now.blocking starts.now.bit starts.now.rivals.now 0) first }
+    requires small { first ≤ MAX_LIMIT }
     requires limit { limit ≤ MAX_LIMIT }
-    ensures { result ≡ can_bound own.now starts.now.worst starts.now.blocking starts.now.rivals.now starts.now.bit limit }
+    ensures found { IfSome result (λ w. IsWindow (λ v. Bound.Within (busy_work own.now starts.now.worst starts.now.blocking starts.now.rivals.now v)) 1 limit (Bound.Within w)) }
+    ensures none { IfNone result (IsWindow (λ v. Bound.Within (busy_work own.now starts.now.worst starts.now.blocking starts.now.rivals.now v)) 1 limit Bound.Overload) }
 {
     let bus = BusyBus {
         own,
@@ -132,7 +138,23 @@ fn bounded_response(own: &Model, starts: &FrameStarts, first: u64, limit: u64) -
         blocking: starts.blocking,
         rivals: starts.rivals,
     };
-    match least_window(&bus, 1, limit) {
+    if starts.bit <= starts.worst {
+        least_window(&bus, first + starts.worst, limit)
+    } else {
+        least_window(&bus, 1, limit)
+    }
+}
+
+/// The bound where all rivals are bounded. No window below `first` has room for what comes before the first frame.
+fn bounded_response(own: &Model, starts: &FrameStarts, first: u64, limit: u64) -> Bound
+    requires own { IsModelInRange own.now }
+    requires bounded { some_unbounded starts.now.rivals.now ≡ false }
+    requires first { IsCrowdedBelow (start_work starts.now.worst starts.now.blocking starts.now.bit starts.now.rivals.now 0) first }
+    requires small { first ≤ MAX_LIMIT }
+    requires limit { limit ≤ MAX_LIMIT }
+    ensures { result ≡ can_bound own.now starts.now.worst starts.now.blocking starts.now.rivals.now starts.now.bit limit }
+{
+    match busy_window(own, starts, first, limit) {
         Some(busy) => greatest_response(own, starts, first, own.eta_plus(busy), limit),
         None => Bound::Overload,
     }
