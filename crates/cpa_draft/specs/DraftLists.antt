@@ -17,7 +17,7 @@ pub record DraftLists : Type 0 where
 
 -- what stands outside the lists, where no rule speaks of it
 abbrev pub no_resource : DraftResource
-no_resource = record { name = []; kind = word.Preemptive; limit = None; gap = None; bit = None }
+no_resource = record { name = []; kind = word.Preemptive; limit = None; gap = None; bit = None; rate = None }
 
 abbrev pub no_task : DraftTask
 no_task = record { name = []; on = []; after = []; best = None; worst = None; payload = None; extended = None; priority = None; slot = None; region = None }

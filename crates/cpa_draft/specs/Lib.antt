@@ -5,6 +5,7 @@ pub mod DraftLists
 pub mod Names
 pub mod Chains
 pub mod Clocks
+pub mod Ports
 pub mod Search
 pub mod Refusals
 pub mod Validated

@@ -13,6 +13,7 @@ use Rattle.cpa_draft.specs.DraftLists.{DraftLists}
 use Rattle.cpa_draft.specs.Names.{resource_names, source_names, place_of, kind_of, link_of, links_of, is_nothing, is_task, is_after}
 use Rattle.cpa_draft.specs.Chains.{first_longer, stream_count_within}
 use Rattle.cpa_draft.specs.Clocks.{is_overlong}
+use Rattle.cpa_draft.specs.declared.ports.TheConstants.{MAX_RATE, MAX_PORT_PAYLOAD}
 use Rattle.cpa_draft.specs.declared.draft.DraftResource.{DraftResource}
 use Rattle.cpa_draft.specs.declared.draft.DraftSource.{DraftSource}
 use Rattle.cpa_draft.specs.declared.draft.DraftTask.{DraftTask}
@@ -42,9 +43,20 @@ first_marked reason part marks xs = refusal_at reason part (first_place marks xs
 abbrev pub first_with : {X : Type 0} → ℕ → Part → (X → Bool) → List X → Option Refusal
 first_with reason part marks xs = first_marked reason part (λ k x. marks x) xs
 
+abbrev pub is_fifo : KindWord → Bool
+is_fifo word.Fifo = true
+is_fifo _ = false
+
+-- no resource of a small system is a queue
+abbrev pub queue_fits : Size → Bool → Bool
+queue_fits Small queue = not queue
+queue_fits Large queue = true
+
 -- the numbers of an entry are in their ranges, and its distance is at most its period
 abbrev pub resource_fits : Size → DraftResource → Bool
-resource_fits z r = may_be_within 1 (most_limit z) r.limit && may_be_within 0 (most_gap z) r.gap && may_be_within 1 MAX_BIT r.bit
+resource_fits z r =
+    may_be_within 1 (most_limit z) r.limit && may_be_within 0 (most_gap z) r.gap && may_be_within 1 MAX_BIT r.bit
+    && may_be_within 1 MAX_RATE r.rate && queue_fits z (is_fifo r.kind)
 
 -- no source of a small system is sporadic
 abbrev pub sporadic_fits : Size → Bool → Bool
@@ -66,10 +78,15 @@ source_fits z r =
     is_within 1 MAX_PERIOD r.period && may_be_within 0 MAX_JITTER r.jitter && may_be_within 0 (nat_of r.period) r.distance
     && sporadic_fits z r.sporadic && clock_fits z (is_some r.clock) && offset_fits (is_some r.clock) r.period r.offset
 
+-- a frame on a port has more room than one on a CAN bus
+abbrev pub most_payload : Size → ℕ
+most_payload Small = MAX_PAYLOAD
+most_payload Large = MAX_PORT_PAYLOAD
+
 abbrev pub task_fits : Size → DraftTask → Bool
 task_fits z t =
     (may_be_within 1 (most_execution z) t.best && may_be_within 1 (most_execution z) t.worst)
-    && may_be_within 0 MAX_PAYLOAD t.payload && may_be_within 0 MAX_PRIORITY t.priority
+    && may_be_within 0 (most_payload z) t.payload && may_be_within 0 MAX_PRIORITY t.priority
     && may_be_within 1 (most_execution z) t.slot && may_be_within 1 (most_region z) t.region
 
 abbrev pub path_fits : Size → DraftPath → Bool
@@ -160,20 +177,30 @@ abbrev pub is_can : KindWord → Bool
 is_can word.Can = true
 is_can _ = false
 
--- a gap where the kind isn't tdma, or a bit time where it isn't can
+-- a gap where the kind isn't tdma, a bit time where it isn't can, or a rate where it isn't fifo
 abbrev pub resource_misfits : DraftResource → Bool
-resource_misfits r = (is_some r.gap && not (is_tdma r.kind)) || (is_some r.bit && not (is_can r.kind))
+resource_misfits r =
+    (is_some r.gap && not (is_tdma r.kind)) || (is_some r.bit && not (is_can r.kind)) || (is_some r.rate && not (is_fifo r.kind))
 
--- the priority or the slot is missing, or it isn't what the kind wants
-abbrev pub turn_misfits : Bool → DraftTask → Bool
-turn_misfits true t = is_none t.priority || is_some t.slot
-turn_misfits false t = is_some t.priority || is_none t.slot
+-- the priority or the slot is missing, or it isn't what the kind wants; a queue wants neither
+abbrev pub turn_misfits : Option KindWord → DraftTask → Bool
+turn_misfits (Some word.Preemptive) t = is_none t.priority || is_some t.slot
+turn_misfits (Some word.Can) t = is_none t.priority || is_some t.slot
+turn_misfits (Some word.Fifo) t = is_some t.priority || is_some t.slot
+turn_misfits _ t = is_some t.priority || is_none t.slot
 
--- that, or a payload where the kind isn't can, or a region where it isn't preemptive
+-- a payload where there are no frames, or a longer one than a frame of the kind has room for
+abbrev pub payload_misfits : KindWord → Option ℤ → Bool
+payload_misfits word.Can payload = not (may_be_within 0 MAX_PAYLOAD payload)
+payload_misfits word.Fifo payload = false
+payload_misfits _ payload = is_some payload
+
+-- that, or a sort of frame where the kind isn't can, or a region where it isn't preemptive
 abbrev pub task_misfits : Option KindWord → DraftTask → Bool
 task_misfits kind t =
-    turn_misfits (by_priority kind) t
-    || (is_some t.payload && not (is_can (unwrap_or kind word.Preemptive)))
+    turn_misfits kind t
+    || payload_misfits (unwrap_or kind word.Preemptive) t.payload
+    || (is_some t.extended && not (is_can (unwrap_or kind word.Preemptive)))
     || (is_some t.region && not (is_preemptive (unwrap_or kind word.Preemptive)))
 
 -- 9: what an entry has doesn't fit the kind

@@ -102,6 +102,7 @@ pub enum KindWord {
     RoundRobin,
     Tdma,
     Can,
+    Fifo,
 }
 
 /// A resource as it was read: a field is `None` where the file lacks the key.
@@ -112,6 +113,8 @@ pub struct DraftResource {
     pub limit: Option<i64>,
     pub gap: Option<i64>,
     pub bit: Option<i64>,
+    /// Bits in a tick on a port.
+    pub rate: Option<i64>,
 }
 
 /// A source as it was read.
@@ -232,6 +235,16 @@ impl Draft {
     {
         match self.resources.get(place) {
             Some(resource) => natural_or(1, resource.bit),
+            None => 1,
+        }
+    }
+
+    /// The rate of the resource at a place in bits in a tick, 1 where none is given.
+    pub fn rate_at(&self, place: usize) -> u64
+        ensures { result ≡ nat_or 1 (resource_at self.now place).rate }
+    {
+        match self.resources.get(place) {
+            Some(resource) => natural_or(1, resource.rate),
             None => 1,
         }
     }

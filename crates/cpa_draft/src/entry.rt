@@ -3,10 +3,11 @@
 ghost use Rattle.std.specs.Prelude.{◌≡◌, ◌<◌, ◌-◌, ◌^◌, ◌&&◌, nat_le, not, IfSome};
 ghost use Rattle.cpa_units.specs.Name.{is_name};
 ghost use Rattle.cpa_draft.specs.First.{first_place};
-ghost use Rattle.cpa_draft.specs.Refusals.{resource_fits, sporadic_fits, clock_fits, offset_fits, has_clock_name, source_fits, task_fits, path_fits};
+ghost use Rattle.cpa_draft.specs.Refusals.{resource_fits, is_fifo, queue_fits, most_payload, sporadic_fits, clock_fits, offset_fits, has_clock_name, source_fits, task_fits, path_fits};
 
-use crate::draft::{DraftPath, DraftResource, DraftSource, DraftTask, Raw};
+use crate::draft::{DraftPath, DraftResource, DraftSource, DraftTask, KindWord, Raw};
 use crate::numbers::{is_within, may_be_within, natural};
+use crate::ports::{MAX_PORT_PAYLOAD, MAX_RATE};
 use cpa_units::is_name;
 use cpa_units::limits::{MAX_BIT, MAX_JITTER, MAX_PAYLOAD, MAX_PERIOD, MAX_PRIORITY, Size};
 
@@ -55,6 +56,37 @@ impl Entry for DraftResource {
         may_be_within(1, size.most_limit(), self.limit)
             && may_be_within(0, size.most_gap(), self.gap)
             && may_be_within(1, MAX_BIT, self.bit)
+            && may_be_within(1, MAX_RATE, self.rate)
+            && queue_fits(size, is_fifo(self.kind))
+    }
+}
+
+pub(crate) fn is_fifo(kind: KindWord) -> bool
+    ensures { result ≡ is_fifo kind }
+{
+    match kind {
+        KindWord::Fifo => true,
+        _ => false,
+    }
+}
+
+/// No resource of a small system is a queue.
+fn queue_fits(size: Size, queue: bool) -> bool
+    ensures { result ≡ queue_fits size queue }
+{
+    match size {
+        Size::Small => !queue,
+        Size::Large => true,
+    }
+}
+
+/// The greatest payload of a frame in bytes: one on a port has more room than one on a CAN bus.
+fn most_payload(size: Size) -> u64
+    ensures { result ≡ most_payload size }
+{
+    match size {
+        Size::Small => MAX_PAYLOAD,
+        Size::Large => MAX_PORT_PAYLOAD,
     }
 }
 
@@ -134,7 +166,7 @@ impl Entry for DraftTask {
     fn fits(&self, size: Size) -> bool {
         may_be_within(1, size.most_execution(), self.best)
             && may_be_within(1, size.most_execution(), self.worst)
-            && may_be_within(0, MAX_PAYLOAD, self.payload)
+            && may_be_within(0, most_payload(size), self.payload)
             && may_be_within(0, MAX_PRIORITY, self.priority)
             && may_be_within(1, size.most_execution(), self.slot)
             && may_be_within(1, size.most_region(), self.region)

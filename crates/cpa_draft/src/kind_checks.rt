@@ -3,14 +3,15 @@
 ghost use Rattle.std.specs.Prelude.{◌≡◌, ◌<◌, ◌-◌, ◌^◌, IfSome};
 ghost use Rattle.cpa_draft.specs.First.{first_place};
 ghost use Rattle.cpa_draft.specs.Names.{AreTables, kind_of};
-ghost use Rattle.cpa_draft.specs.Refusals.{◌or_else◌, is_preemptive, is_tdma, is_can, resource_misfits, turn_misfits, task_misfits, is_crossed, misfit, crossed};
+ghost use Rattle.cpa_draft.specs.Refusals.{◌or_else◌, is_preemptive, is_tdma, is_can, is_fifo, resource_misfits, turn_misfits, payload_misfits, task_misfits, is_crossed, misfit, crossed};
 
 use crate::draft::{Draft, DraftResource, DraftTask, KindWord};
+use crate::entry::is_fifo;
 use crate::entry_checks::{refuse, refuse_at};
-use crate::numbers::natural_or;
-use crate::ranks::is_by_priority;
+use crate::numbers::{may_be_within, natural_or};
 use crate::refusal::{Part, Refusal};
 use crate::tables::Tables;
+use cpa_units::limits::MAX_PAYLOAD;
 
 fn is_preemptive(kind: KindWord) -> bool
     ensures { result ≡ is_preemptive kind }
@@ -42,7 +43,9 @@ fn is_can(kind: KindWord) -> bool
 fn misfits_resource(entry: &DraftResource) -> bool
     ensures { result ≡ resource_misfits entry.now }
 {
-    (entry.gap.is_some() && !is_tdma(entry.kind)) || (entry.bit.is_some() && !is_can(entry.kind))
+    (entry.gap.is_some() && !is_tdma(entry.kind))
+        || (entry.bit.is_some() && !is_can(entry.kind))
+        || (entry.rate.is_some() && !is_fifo(entry.kind))
 }
 
 fn first_misfit_resource(entries: &[DraftResource]) -> Option<usize>
@@ -55,13 +58,24 @@ fn first_misfit_resource(entries: &[DraftResource]) -> Option<usize>
         .position(|(_, entry)| misfits_resource(entry))
 }
 
-fn has_wrong_turn(by_priority: bool, task: &DraftTask) -> bool
-    ensures { result ≡ turn_misfits by_priority task.now }
+fn has_wrong_turn(kind: Option<KindWord>, task: &DraftTask) -> bool
+    ensures { result ≡ turn_misfits kind task.now }
 {
-    if by_priority {
-        task.priority.is_none() || task.slot.is_some()
-    } else {
-        task.priority.is_some() || task.slot.is_none()
+    match kind {
+        Some(KindWord::Preemptive | KindWord::Can) => task.priority.is_none()
+            || task.slot.is_some(),
+        Some(KindWord::Fifo) => task.priority.is_some() || task.slot.is_some(),
+        _ => task.priority.is_some() || task.slot.is_none(),
+    }
+}
+
+fn has_wrong_payload(kind: KindWord, payload: Option<i64>) -> bool
+    ensures { result ≡ payload_misfits kind payload }
+{
+    match kind {
+        KindWord::Can => !may_be_within(0, MAX_PAYLOAD, payload),
+        KindWord::Fifo => false,
+        _ => payload.is_some(),
     }
 }
 
@@ -69,8 +83,9 @@ fn misfits_kind(kind: Option<KindWord>, task: &DraftTask) -> bool
     ensures { result ≡ task_misfits kind task.now }
 {
     let word = kind.unwrap_or(KindWord::Preemptive);
-    has_wrong_turn(is_by_priority(kind), task)
-        || (task.payload.is_some() && !is_can(word))
+    has_wrong_turn(kind, task)
+        || has_wrong_payload(word, task.payload)
+        || (task.extended.is_some() && !is_can(word))
         || (task.region.is_some() && !is_preemptive(word))
 }
 

@@ -63,7 +63,7 @@ impl Ranks {
 }
 
 /// Whether tasks have priorities on a resource of this kind.
-pub fn is_by_priority(kind: Option<KindWord>) -> bool
+fn is_by_priority(kind: Option<KindWord>) -> bool
     ensures { result ≡ by_priority kind }
 {
     match kind {

@@ -23,11 +23,12 @@ use Rattle.cpa_draft.specs.Numbers.{nat_of, nat_or, may_be_within}
 use Rattle.cpa_draft.specs.DraftLists.{DraftLists, resource_at as draft_resource_at, task_at as draft_task_at, no_resource as no_draft_resource, no_task as no_draft_task}
 use Rattle.cpa_draft.specs.Names.{resource_names, source_names, task_names, activity_names as draft_names, place_of, kind_of, link_at, link_of, links_of, is_nothing, is_task, is_after}
 use Rattle.cpa_draft.specs.Chains.{link_step, longer, links_step, chain_within, first_longer, count_step, stream_count_within}
-use Rattle.cpa_draft.specs.Refusals.{by_priority, is_preemptive, turn_misfits, task_misfits, rank_of, same_rank, is_taken, is_linked, task_fits, is_misfed, has_double}
+use Rattle.cpa_draft.specs.Refusals.{by_priority, is_preemptive, turn_misfits, payload_misfits, task_misfits, rank_of, same_rank, is_taken, is_linked, task_fits, is_misfed, has_double}
 use Rattle.cpa_draft.specs.declared.draft.DraftResource.{DraftResource}
 use Rattle.cpa_draft.specs.declared.draft.DraftSource.{DraftSource}
 use Rattle.cpa_draft.specs.declared.draft.DraftTask.{DraftTask}
 use Rattle.cpa_draft.specs.declared.draft.DraftPath.{DraftPath}
+use Rattle.cpa_draft.specs.declared.draft.KindWord.{KindWord}
 use Rattle.cpa_draft.specs.declared.draft.KindWord.TheVariants as word
 use Rattle.cpa_draft.specs.declared.links.Link.{Link}
 use Rattle.cpa_draft.specs.declared.links.Link.TheVariants as link
@@ -46,10 +47,10 @@ use Rattle.cpa_model.specs.declared.entries.Activator.TheVariants as activator
 use Rattle.cpa_model.specs.Chains.{chain_step, depth_within, activators, streams_step, streams_within}
 use Rattle.cpa_model.specs.SystemLists.{SystemLists, task_at, streams_of, is_task as is_the_task, no_resource, no_task}
 use Rattle.cpa_model.specs.Rules.{IsSized, IsSizedResource, IsSizedSource, IsSizedTask, IsSystem, IsResource, IsSource, IsTask, IsActivator, IsPath, IsLinked, AllDiffer, HaveOwnPriorities, TurnFits, RegionFits, activity_names}
-use Rattle.cpa_model.specs.Built.{built_kind, built_resource, built_source, built_task, built_path, built_turn, built_activator, activator_at, resource_place, activity_place, bit_time, task_named, has_executions, TaskFitsTypes, PathFitsTypes, system_of}
+use Rattle.cpa_model.specs.Built.{built_kind, built_resource, built_source, built_task, built_path, built_turn, built_activator, activator_at, resource_place, activity_place, bit_time, rate_of, most_frame, task_named, has_executions, TaskFitsTypes, PathFitsTypes, system_of}
 use Rattle.cpa_model.proofs.SystemLaws.{path-short, activators-few}
 use Rattle.cpa_model.proofs.DraftClocks.{built-named, built-clocks}
-use Rattle.cpa_model.proofs.EntryLaws.{may-range, range, resource-kept, source-kept, place-kept, nothing-none, link-kept, task-kept, turn-kept, region-kept, executions-kept}
+use Rattle.cpa_model.proofs.EntryLaws.{may-range, range, resource-kept, source-kept, place-kept, nothing-none, link-kept, task-kept, turn-kept, region-kept, payload-kept, executions-kept}
 
 -- chains
 
@@ -176,8 +177,14 @@ kind-some d name h = by (place_of (resource_names d) name) h
 bit-kept : (d : DraftLists) → IsUnrefused d → (name : List ℕ) → is_none (place_of (resource_names d) name) ≡ false → (1 ≤ bit_time d name) × (bit_time d name ≤ 1000)
 bit-kept d u name h =
     let below : resource_place d name < length d.resources = omega (arith, place-kept (resource_names d) name h, length-map d.resources (λ (r : DraftResource). r.name)) in
-    may-range 1 1000 1 (draft_resource_at d (resource_place d name)).bit (lit≤ tt, lit≤ tt)
-    (and_parts _ _ (larger-resource d.size (draft_resource_at d (resource_place d name)) (u.resources_fit (resource_place d name) no_draft_resource below))).1
+    let fit = larger-resource d.size (draft_resource_at d (resource_place d name)) (u.resources_fit (resource_place d name) no_draft_resource below) in
+    may-range 1 1000 1 (draft_resource_at d (resource_place d name)).bit (lit≤ tt, lit≤ tt) (and_parts _ _ (and_parts _ _ (and_parts _ _ fit).0).0).1
+
+rate-kept : (d : DraftLists) → IsUnrefused d → (name : List ℕ) → is_none (place_of (resource_names d) name) ≡ false → (1 ≤ rate_of d name) × (rate_of d name ≤ 672)
+rate-kept d u name h =
+    let below : resource_place d name < length d.resources = omega (arith, place-kept (resource_names d) name h, length-map d.resources (λ (r : DraftResource). r.name)) in
+    let fit = larger-resource d.size (draft_resource_at d (resource_place d name)) (u.resources_fit (resource_place d name) no_draft_resource below) in
+    may-range 1 672 1 (draft_resource_at d (resource_place d name)).rate (lit≤ tt, lit≤ tt) (and_parts _ _ (and_parts _ _ fit).0).1
 
 activator-kept : (s : SystemLists) (sources k : ℕ) → sources ≡ length s.sources → k < sources + length s.tasks → IsActivator s (activator_at sources k)
 activator-kept s sources k count less = elim (cases_Bool (nat_lt k sources)) [
@@ -232,8 +239,16 @@ activators-differ d names differ know =
     (at-same (length d.sources) (activity_place d (get_or names i e)) (activity_place d (get_or names j e)) same)))
 
 -- a task that suits the kind of its resource has a turn of the right sort
-turn-suits : (d : DraftLists) (t : DraftTask) → task_misfits (kind_of d t.on) t ≡ false → turn_misfits (by_priority (kind_of d t.on)) t ≡ false
-turn-suits d t suit = (or_parts _ _ (or_parts _ _ suit).0).0
+turn-suits : (d : DraftLists) (t : DraftTask) → task_misfits (kind_of d t.on) t ≡ false → turn_misfits (kind_of d t.on) t ≡ false
+turn-suits d t suit = (or_parts _ _ (or_parts _ _ (or_parts _ _ suit).0).0).0
+
+-- and a payload for which the frame of the kind has room
+payload-suits : (d : DraftLists) (t : DraftTask) → task_fits d.size t ≡ true → task_misfits (kind_of d t.on) t ≡ false → nat_or 0 t.payload ≤ most_frame (kind_of d t.on)
+payload-suits d t fit suit =
+    let fit-region = and_parts _ _ (larger-task d.size t fit) in
+    let fit-slot = and_parts _ _ fit-region.0 in
+    let fit-priority = and_parts _ _ fit-slot.0 in
+    payload-kept (kind_of d t.on) t.payload (or_parts _ _ (or_parts _ _ (or_parts _ _ suit).0).0).1 (and_parts _ _ fit-priority.0).1
 
 task-kept-at : (d : DraftLists) → IsUnrefused d → All (λ t. has_executions t ≡ true) d.tasks → (i : ℕ) (t : DraftTask) → i < length d.tasks → IsTask (system_of d) (built_task d (get_or d.tasks i t))
 unfolding system_of built_task
@@ -246,12 +261,13 @@ task-kept-at d u given i e less =
     let fit-priority = and_parts _ _ fit.0 in
     let fit-payload = and_parts _ _ fit-priority.0 in
     let fit-executions = and_parts _ _ fit-payload.0 in
-    let run = executions-kept t.best t.worst t.payload t.extended (bit_time d t.on) (given i e less) fit-executions.0 fit-executions.1 fit-payload.1 (u.ordered i e less) (bit-kept d u t.on know.0) in
+    let run = executions-kept (kind_of d t.on) t.best t.worst t.payload t.extended (bit_time d t.on) (rate_of d t.on) (given i e less) fit-executions.0 fit-executions.1
+    (payload-suits d t (u.tasks_fit i e less) (u.tasks_suit i e less)) (u.ordered i e less) (bit-kept d u t.on know.0) (rate-kept d u t.on know.0) in
     let suit = turn-suits d t (u.tasks_suit i e less) in
     let suit-region : (is_some t.region && not (is_preemptive (unwrap_or (kind_of d t.on) word.Preemptive))) ≡ false = (or_parts _ _ (u.tasks_suit i e less)).1 in
     let is_kind = kind-some d t.on know.0 in
     let r = draft_resource_at d (resource_place d t.on) in
-    let turn : TurnFits (built_kind r.kind r.gap r.bit) (built_turn (by_priority (kind_of d t.on)) t) =
+    let turn : TurnFits (built_kind r.kind r.gap r.bit) (built_turn (kind_of d t.on) t) =
     rw is_kind (turn-kept r.kind r.gap r.bit t (rw is_kind at suit) fit-priority.1 fit.1) in
     let region : RegionFits (built_kind r.kind r.gap r.bit) (nat_or 1 t.region) = region-kept r.kind r.gap r.bit t.region (rw is_kind at suit-region) fit-region.1 in
     record {
@@ -270,14 +286,18 @@ task-kept-at d u given i e less =
 
 -- priorities
 
-rank-from : (b : Bool) (place number : ℕ) (t : DraftTask) → turn_misfits b t ≡ false → built_turn b t ≡ turn.Priority number
-    → cond b (option_map {U = ℕ × ℕ} (λ (z : ℤ). (place, nat_of z)) t.priority) None ≡ Some (place, number)
-rank-from true place number t h e = by t.priority (or_parts _ _ h).0 e
-  where
-    by : (o : Option ℤ) → is_none o ≡ false → turn.Priority (nat_or 0 o) ≡ turn.Priority number → option_map {U = ℕ × ℕ} (λ (z : ℤ). (place, nat_of z)) o ≡ Some (place, number)
-    by None some e = absurd (true≢false some)
-    by (Some z) some e = let same : nat_of z ≡ number = cc in rw same refl
-rank-from false place number t h e = cc
+rank-of : (number place : ℕ) (o : Option ℤ) → is_none o ≡ false → turn.Priority (nat_or 0 o) ≡ turn.Priority number → option_map {U = ℕ × ℕ} (λ (z : ℤ). (place, nat_of z)) o ≡ Some (place, number)
+rank-of number place None some e = absurd (true≢false some)
+rank-of number place (Some z) some e = let same : nat_of z ≡ number = cc in rw same refl
+
+rank-from : (k : Option KindWord) (place number : ℕ) (t : DraftTask) → turn_misfits k t ≡ false → built_turn k t ≡ turn.Priority number
+    → cond (by_priority k) (option_map {U = ℕ × ℕ} (λ (z : ℤ). (place, nat_of z)) t.priority) None ≡ Some (place, number)
+rank-from (Some word.Preemptive) place number t h e = rank-of number place t.priority (or_parts _ _ h).0 e
+rank-from (Some word.Can) place number t h e = rank-of number place t.priority (or_parts _ _ h).0 e
+rank-from (Some word.Fifo) place number t h e = cc
+rank-from (Some word.RoundRobin) place number t h e = cc
+rank-from (Some word.Tdma) place number t h e = cc
+rank-from None place number t h e = cc
 
 same-rank : (place number : ℕ) → same_rank (place, number) (place, number) ≡ true
 same-rank place number = and_from _ _ (eq-eqb place place refl) (eq-eqb number number refl)
@@ -296,8 +316,8 @@ unfolding built_task
 own-priorities d u i j e before less same number turn-i turn-j =
     let t = get_or d.tasks i e in
     let v = get_or d.tasks j e in
-    let rank-t : rank_of d t ≡ Some (resource_place d t.on, number) = rank-from (by_priority (kind_of d t.on)) (resource_place d t.on) number t (turn-suits d t (u.tasks_suit i e (omega arith))) turn-i in
-    let rank-v : rank_of d v ≡ Some (resource_place d v.on, number) = rank-from (by_priority (kind_of d v.on)) (resource_place d v.on) number v (turn-suits d v (u.tasks_suit j e less)) turn-j in
+    let rank-t : rank_of d t ≡ Some (resource_place d t.on, number) = rank-from (kind_of d t.on) (resource_place d t.on) number t (turn-suits d t (u.tasks_suit i e (omega arith))) turn-i in
+    let rank-v : rank_of d v ≡ Some (resource_place d v.on, number) = rank-from (kind_of d v.on) (resource_place d v.on) number v (turn-suits d v (u.tasks_suit j e less)) turn-j in
     let place : resource_place d t.on ≡ resource_place d v.on = ap (λ (r : ResId). r.0) same in
     let there : rank_of d (get_or (take j d.tasks) i e) ≡ Some (resource_place d v.on, number) = rw (get_or-take j d.tasks i e before) (rank-t ∙ ap (λ k. Some (k, number)) place) in
     let taken : is_taken (Some (resource_place d v.on, number)) (filter_map (rank_of d) (take j d.tasks)) ≡ true =
@@ -417,8 +437,9 @@ task-sized d u i e less =
     let payload = and_parts _ _ priority.0 in
     let run = and_parts _ _ payload.0 in
     record {
-      worst = worst-sized d.size t.payload t.worst (unwrap_or t.extended false) (bit_time d t.on) payload.1 run.1 (bit-kept d u t.on know.0).1;
-      slot = slot-sized d.size (by_priority (kind_of d t.on)) t slot.1;
+      worst = worst-sized d.size (kind_of d t.on) t.payload t.worst (unwrap_or t.extended false) (bit_time d t.on) (rate_of d t.on) (payload-suits d t (u.tasks_fit i e less) (u.tasks_suit i e less)) run.1
+          (bit-kept d u t.on know.0) (rate-kept d u t.on know.0);
+      slot = slot-sized d.size (kind_of d t.on) t slot.1;
       region = region-sized d.size t.region region.1;
     }
 
@@ -462,27 +483,19 @@ system-kept d u given = record {
 
 -- numbers that fit their types
 
-record FitParts (t : DraftTask) : Type 0 where
-  pub priority : nat_or 0 t.priority ≤ 536870911
-  pub payload : nat_or 0 t.payload ≤ 8
-
-fit-parts : (t : DraftTask) → task_fits Large t ≡ true → FitParts t
-fit-parts t h =
+priority-small : (t : DraftTask) → task_fits Large t ≡ true → nat_or 0 t.priority ≤ 536870911
+priority-small t h =
     let fit-region = and_parts _ _ h in
-    let fit = and_parts _ _ fit-region.0 in
-    let fit-priority = and_parts _ _ fit.0 in
-    let fit-payload = and_parts _ _ fit-priority.0 in
-    record {
-      priority = (may-range 0 536870911 0 t.priority (lit≤ tt, lit≤ tt) fit-priority.1).1;
-      payload = (may-range 0 8 0 t.payload (lit≤ tt, lit≤ tt) fit-payload.1).1;
-    }
+    let fit-slot = and_parts _ _ fit-region.0 in
+    (may-range 0 536870911 0 t.priority (lit≤ tt, lit≤ tt) (and_parts _ _ fit-slot.0).1).1
 
 pub tasks-fit-types : (d : DraftLists) → IsUnrefused d → All (λ t. has_executions t ≡ true) d.tasks → All (TaskFitsTypes d) d.tasks
 unfolding system_of built_task
 tasks-fit-types d u given i e less =
     let t = get_or d.tasks i e in
     let know : (is_none (place_of (resource_names d) t.on) ≡ false) × (list_any (λ name. is_nothing (link_of d name)) t.after ≡ false) = or_parts _ _ (u.tasks_know i e less) in
-    let numbers = fit-parts t (larger-task d.size (get_or d.tasks i e) (u.tasks_fit i e less)) in
+    let number = priority-small t (larger-task d.size (get_or d.tasks i e) (u.tasks_fit i e less)) in
+    let rate = rate-kept d u t.on know.0 in
     let within : i < length (system_of d).tasks = rw (length-map d.tasks (built_task d)) less in
     let entry : (task_at (system_of d) i).after ≡ map (built_activator d) t.after = ap (λ (t : Task). t.after) (get_or-map (built_task d) d.tasks i e no_task less) in
     let few = activators-few (system_of d) (system-kept d u given) i within in
@@ -492,8 +505,10 @@ tasks-fit-types d u given i e less =
       few = omega (arith, ap length entry, length-map t.after (built_activator d), few, streams-kept d u i within);
       activities = λ k name below. omega (arith, active-below d (get_or t.after k name) (know-after d u i k e name less below), u.few_sources, u.few_tasks, sources-most d.size, tasks-most d.size);
       priority = omega arith;
-      payload = numbers.payload;
+      payload = payload-suits d t (u.tasks_fit i e less) (u.tasks_suit i e less);
       bit = (bit-kept d u t.on know.0).1;
+      some_rate = rate.0;
+      rate = rate.1;
     }
 
 pub paths-fit-types : (d : DraftLists) → IsUnrefused d → All (λ t. has_executions t ≡ true) d.tasks → All (PathFitsTypes d) d.paths

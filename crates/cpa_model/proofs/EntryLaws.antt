@@ -1,25 +1,30 @@
 -- The rules of an entry, from what a draft has to which no reason applies.
-use Rattle.std.proofs.Common.{◌≡◌, ℕ, ℤ, pos, negsuc, ◌-◌, ◌*◌, ◌<◌, ◌≤◌, Bool, true, false, not, ◌&&◌, ◌||◌, nat_lt, List, length, Option, Some, None, is_some, is_none, unwrap_or, refl, arith, inl, inr, lit≤, ap}
+use Rattle.std.proofs.Common.{◌≡◌, ℕ, ℤ, pos, negsuc, ◌+◌, ◌-◌, ◌*◌, ◌/◌, max, ◌<◌, ◌≤◌, Bool, true, false, not, ◌&&◌, ◌||◌, nat_lt, List, length, Option, Some, None, is_some, is_none, unwrap_or, refl, arith, inl, inr, lit≤, ap}
 use Rattle.std.specs.Option.{ForSome}
 use Rattle.std.proofs.lemmas.Option.{none-some, same_Some}
-use Rattle.std.proofs.Math.Nat.{mul-le-mul_right}
+use Rattle.std.specs.Int.{div_ceil}
+use Rattle.std.proofs.Math.Nat.{mul-le-mul_right, le_trans}
+use Rattle.std.proofs.lemmas.Nat.{le-div}
 use Rattle.std.proofs.lemmas.Bool.{and_parts, or_parts, false≢true, true≢false, leb-true, ltb-false, cases_Bool}
 use Rattle.cpa_units.specs.declared.limits.Size.{Size}
 use Rattle.cpa_units.specs.declared.limits.Size.TheVariants.{Large}
 use Rattle.cpa_units.specs.Frames.{least_frame_bits, greatest_frame_bits}
+use Rattle.cpa_units.proofs.NumberLaws.{div_ceil-le_self}
+use Rattle.cpa_draft.specs.Ports.{port_frame_bits, least_port_ticks, greatest_port_ticks}
 use Rattle.cpa_draft.specs.Numbers.{nat_of, nat_or, is_within, may_be_within}
 use Rattle.cpa_draft.specs.Names.{place_of, link_at, is_nothing, is_task}
-use Rattle.cpa_draft.specs.Refusals.{resource_fits, source_fits, offset_fits, by_priority, is_preemptive, turn_misfits}
+use Rattle.cpa_draft.specs.Refusals.{resource_fits, source_fits, offset_fits, is_preemptive, turn_misfits, payload_misfits}
 use Rattle.cpa_draft.specs.declared.draft.DraftResource.{DraftResource}
 use Rattle.cpa_draft.specs.declared.draft.DraftSource.{DraftSource}
 use Rattle.cpa_draft.specs.declared.draft.DraftTask.{DraftTask}
 use Rattle.cpa_draft.specs.declared.draft.KindWord.{KindWord}
 use Rattle.cpa_draft.specs.declared.draft.KindWord.TheVariants as word
 use Rattle.cpa_draft.specs.declared.links.Link.TheVariants as link
+use Rattle.cpa_draft.proofs.ListLaws.{not-false}
 use Rattle.cpa_draft.proofs.NameLaws.{place_below}
 use Rattle.cpa_model.specs.declared.entries.OnClock.{OnClock}
 use Rattle.cpa_model.specs.Rules.{IsResource, IsSource, KindFits, TurnFits, RegionFits}
-use Rattle.cpa_model.specs.Built.{built_kind, built_resource, built_on_clock, built_source, built_turn, least_execution, greatest_execution}
+use Rattle.cpa_model.specs.Built.{built_kind, built_resource, built_on_clock, built_source, built_turn, least_frame, greatest_frame, most_frame, least_execution, greatest_execution}
 
 -- numbers in their ranges
 
@@ -44,10 +49,13 @@ kind-kept word.Preemptive gap bit g b = tt
 kind-kept word.RoundRobin gap bit g b = tt
 kind-kept word.Tdma gap bit g b = (may-range 0 10000000 0 gap (lit≤ tt, lit≤ tt) g).1
 kind-kept word.Can gap bit g b = may-range 1 1000 1 bit (lit≤ tt, lit≤ tt) b
+kind-kept word.Fifo gap bit g b = tt
 
 pub resource-kept : (r : DraftResource) → resource_fits Large r ≡ true → IsResource (built_resource r)
 resource-kept r h =
-    let a = and_parts _ _ h in
+    let queue = and_parts _ _ h in
+    let rate = and_parts _ _ queue.0 in
+    let a = and_parts _ _ rate.0 in
     let b = and_parts _ _ a.0 in
     let limit = may-range 1 100000000 1000000 r.limit (lit≤ tt, lit≤ tt) b.0 in
     record { some_limit = limit.0; limit = limit.1; kind_fits = kind-kept r.kind r.gap r.bit b.1 a.1 }
@@ -107,12 +115,13 @@ task-kept sources names name h = task-place sources (place_of names name) h
 
 -- turns
 
-pub turn-kept : (w : KindWord) (gap bit : Option ℤ) (t : DraftTask) → turn_misfits (by_priority (Some w)) t ≡ false
-    → may_be_within 0 536870911 t.priority ≡ true → may_be_within 1 10000000 t.slot ≡ true → TurnFits (built_kind w gap bit) (built_turn (by_priority (Some w)) t)
+pub turn-kept : (w : KindWord) (gap bit : Option ℤ) (t : DraftTask) → turn_misfits (Some w) t ≡ false
+    → may_be_within 0 536870911 t.priority ≡ true → may_be_within 1 10000000 t.slot ≡ true → TurnFits (built_kind w gap bit) (built_turn (Some w) t)
 turn-kept word.Preemptive gap bit t h p s = (may-range 0 536870911 0 t.priority (lit≤ tt, lit≤ tt) p).1
 turn-kept word.Can gap bit t h p s = (may-range 0 536870911 0 t.priority (lit≤ tt, lit≤ tt) p).1
 turn-kept word.RoundRobin gap bit t h p s = there-range 1 10000000 t.slot (or_parts _ _ h).1 s
 turn-kept word.Tdma gap bit t h p s = there-range 1 10000000 t.slot (or_parts _ _ h).1 s
+turn-kept word.Fifo gap bit t h p s = tt
 
 -- regions
 
@@ -122,15 +131,17 @@ region-kept word.RoundRobin gap bit None h r = refl
 region-kept word.RoundRobin gap bit (Some z) h r = absurd (true≢false h)
 region-kept word.Tdma gap bit None h r = refl
 region-kept word.Tdma gap bit (Some z) h r = absurd (true≢false h)
+region-kept word.Fifo gap bit None h r = refl
+region-kept word.Fifo gap bit (Some z) h r = absurd (true≢false h)
 region-kept word.Can gap bit None h r = refl
 region-kept word.Can gap bit (Some z) h r = absurd (true≢false h)
 
 -- executions
 
-pub record AreExecutions (best worst : ℕ) : Type 0 where
+pub record AreExecutions (best worst most : ℕ) : Type 0 where
   pub some : 1 ≤ best
   pub ordered : best ≤ worst
-  pub small : worst ≤ 10000000
+  pub small : worst ≤ most
 
 least-greatest : (s : ℕ) (extended : Bool) → least_frame_bits s extended ≤ greatest_frame_bits s extended
 least-greatest s true = omega arith
@@ -144,22 +155,55 @@ least-some : (s : ℕ) (extended : Bool) → 1 ≤ least_frame_bits s extended
 least-some s true = omega arith
 least-some s false = omega arith
 
-frames-kept : (s bit : ℕ) (extended : Bool) → s ≤ 8 → (1 ≤ bit) × (bit ≤ 1000) → AreExecutions (least_frame_bits s extended * bit) (greatest_frame_bits s extended * bit)
+frames-kept : (s bit : ℕ) (extended : Bool) → s ≤ 8 → (1 ≤ bit) × (bit ≤ 1000) → AreExecutions (least_frame_bits s extended * bit) (greatest_frame_bits s extended * bit) 160000
 frames-kept s bit extended h b =
     let least : 1 * bit ≤ least_frame_bits s extended * bit = mul-le-mul_right bit (least-some s extended) in
     let ordered : least_frame_bits s extended * bit ≤ greatest_frame_bits s extended * bit = mul-le-mul_right bit (least-greatest s extended) in
     let most : greatest_frame_bits s extended * bit ≤ 160 * bit = mul-le-mul_right bit (greatest-most s extended h) in
     record { some = omega arith; ordered = ordered; small = omega arith }
 
-pub executions-kept : (best worst payload : Option ℤ) (extended : Option Bool) (bit : ℕ)
+-- a frame on a port takes from a tick to its bits
+ports-kept : (s rate : ℕ) → s ≤ 1500 → (1 ≤ rate) × (rate ≤ 672) → AreExecutions (least_port_ticks s rate) (greatest_port_ticks s rate) 160000
+ports-kept s rate h r =
+    let bits : 672 ≤ port_frame_bits s = omega arith in
+    let most : port_frame_bits s ≤ 12304 = omega arith in
+    let few : div_ceil (port_frame_bits s) rate ≤ port_frame_bits s = div_ceil-le_self (port_frame_bits s) rate r.0 in
+    record { some = le-div 1 (port_frame_bits s) rate r.0 (omega arith); ordered = omega arith; small = le_trans few (omega arith) }
+
+-- the frames of a kind
+pub kind_frames-kept : (k : Option KindWord) (bit rate s : ℕ) (extended : Bool) → s ≤ most_frame k → (1 ≤ bit) × (bit ≤ 1000) → (1 ≤ rate) × (rate ≤ 672)
+    → AreExecutions (least_frame k bit rate s extended) (greatest_frame k bit rate s extended) 160000
+kind_frames-kept None bit rate s extended h b r = frames-kept s bit extended h b
+kind_frames-kept (Some word.Preemptive) bit rate s extended h b r = frames-kept s bit extended h b
+kind_frames-kept (Some word.RoundRobin) bit rate s extended h b r = frames-kept s bit extended h b
+kind_frames-kept (Some word.Tdma) bit rate s extended h b r = frames-kept s bit extended h b
+kind_frames-kept (Some word.Can) bit rate s extended h b r = frames-kept s bit extended h b
+kind_frames-kept (Some word.Fifo) bit rate s extended h b r = ports-kept s rate h r
+
+none-zero : (payload : Option ℤ) → is_some payload ≡ false → nat_or 0 payload ≤ 8
+none-zero None h = omega arith
+none-zero (Some z) h = absurd (true≢false h)
+
+-- a payload for which the frame of the kind has room
+pub payload-kept : (k : Option KindWord) (payload : Option ℤ) → payload_misfits (unwrap_or k word.Preemptive) payload ≡ false → may_be_within 0 1500 payload ≡ true → nat_or 0 payload ≤ most_frame k
+payload-kept None payload h p = none-zero payload h
+payload-kept (Some word.Preemptive) payload h p = none-zero payload h
+payload-kept (Some word.RoundRobin) payload h p = none-zero payload h
+payload-kept (Some word.Tdma) payload h p = none-zero payload h
+payload-kept (Some word.Can) payload h p = (may-range 0 8 0 payload (lit≤ tt, lit≤ tt) (not-false _ h)).1
+payload-kept (Some word.Fifo) payload h p = (may-range 0 1500 0 payload (lit≤ tt, lit≤ tt) p).1
+
+pub executions-kept : (k : Option KindWord) (best worst payload : Option ℤ) (extended : Option Bool) (bit rate : ℕ)
     → ((is_some best && is_some worst && is_none payload && is_none extended) || (is_some payload && is_none best && is_none worst)) ≡ true
-    → may_be_within 1 10000000 best ≡ true → may_be_within 1 10000000 worst ≡ true → may_be_within 0 8 payload ≡ true
-    → ((is_some best && is_some worst) && nat_lt (nat_or 0 worst) (nat_or 0 best)) ≡ false → (1 ≤ bit) × (bit ≤ 1000)
-    → AreExecutions (least_execution payload (unwrap_or extended false) bit (nat_or 0 best)) (greatest_execution payload (unwrap_or extended false) bit (nat_or 0 worst))
-executions-kept None worst None extended bit h b w p c i = absurd (false≢true h)
-executions-kept (Some x) None None extended bit h b w p c i = absurd (false≢true h)
-executions-kept (Some x) (Some y) None extended bit h b w p c i =
+    → may_be_within 1 10000000 best ≡ true → may_be_within 1 10000000 worst ≡ true → nat_or 0 payload ≤ most_frame k
+    → ((is_some best && is_some worst) && nat_lt (nat_or 0 worst) (nat_or 0 best)) ≡ false → (1 ≤ bit) × (bit ≤ 1000) → (1 ≤ rate) × (rate ≤ 672)
+    → AreExecutions (least_execution k payload (unwrap_or extended false) bit rate (nat_or 0 best)) (greatest_execution k payload (unwrap_or extended false) bit rate (nat_or 0 worst)) 10000000
+executions-kept k None worst None extended bit rate h b w p c i r = absurd (false≢true h)
+executions-kept k (Some x) None None extended bit rate h b w p c i r = absurd (false≢true h)
+executions-kept k (Some x) (Some y) None extended bit rate h b w p c i r =
     let best = range 1 10000000 x b in
     let worst = range 1 10000000 y w in
     record { some = best.0; ordered = ltb-false _ _ c; small = worst.1 }
-executions-kept best worst (Some s) extended bit h b w p c i = frames-kept (nat_of s) bit (unwrap_or extended false) (range 0 8 s p).1 i
+executions-kept k best worst (Some s) extended bit rate h b w p c i r =
+    let frame = kind_frames-kept k bit rate (nat_of s) (unwrap_or extended false) p i r in
+    record { some = frame.some; ordered = frame.ordered; small = le_trans frame.small (lit≤ tt) }

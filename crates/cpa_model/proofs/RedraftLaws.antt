@@ -5,7 +5,7 @@ use Rattle.std.proofs.lemmas.List.Folds.{map_fixed}
 use Rattle.cpa_units.specs.declared.places.TaskId.{TaskId}
 use Rattle.cpa_draft.specs.Numbers.{nat_of, nat_or}
 use Rattle.cpa_draft.specs.Names.{kind_of}
-use Rattle.cpa_draft.specs.Refusals.{by_priority, first_refusal}
+use Rattle.cpa_draft.specs.Refusals.{first_refusal}
 use Rattle.cpa_draft.proofs.ListLaws.{map-map}
 use Rattle.cpa_draft.proofs.UnrefusedLaws.{not_refused}
 use Rattle.cpa_model.specs.declared.entries.Resource.{Resource}
@@ -31,6 +31,7 @@ kind-back kind.Preemptive = refl
 kind-back kind.RoundRobin = refl
 kind-back (kind.Tdma gap) = refl
 kind-back (kind.Can bit) = refl
+kind-back kind.Fifo = refl
 
 -- and so does a resource
 resource-back : (r : Resource) → built_resource (redraft_resource r) ≡ r
@@ -52,7 +53,7 @@ source-back : (r : Source) → built_source (redraft_source r) ≡ r
 source-back r = rw (on_clock-back r.on_clock) refl
 
 -- a turn comes back where it fits the kind
-turn-back : (s : SystemLists) (t : Task) (k : Kind) (u : Turn) → t.turn ≡ u → TurnFits k u → built_turn (by_priority (Some (word_of k))) (redraft_task s t) ≡ u
+turn-back : (s : SystemLists) (t : Task) (k : Kind) (u : Turn) → t.turn ≡ u → TurnFits k u → built_turn (Some (word_of k)) (redraft_task s t) ≡ u
 turn-back s t kind.Preemptive (turn.Priority number) is fits = rw is refl
 turn-back s t kind.Preemptive (turn.Slot ticks) is fits = absurd fits
 turn-back s t kind.RoundRobin (turn.Priority number) is fits = absurd fits
@@ -61,6 +62,13 @@ turn-back s t (kind.Tdma gap) (turn.Priority number) is fits = absurd fits
 turn-back s t (kind.Tdma gap) (turn.Slot ticks) is fits = rw is refl
 turn-back s t (kind.Can bit) (turn.Priority number) is fits = rw is refl
 turn-back s t (kind.Can bit) (turn.Slot ticks) is fits = absurd fits
+turn-back s t kind.Preemptive turn.Queued is fits = absurd fits
+turn-back s t kind.RoundRobin turn.Queued is fits = absurd fits
+turn-back s t (kind.Tdma gap) turn.Queued is fits = absurd fits
+turn-back s t (kind.Can bit) turn.Queued is fits = absurd fits
+turn-back s t kind.Fifo (turn.Priority number) is fits = absurd fits
+turn-back s t kind.Fifo (turn.Slot ticks) is fits = absurd fits
+turn-back s t kind.Fifo turn.Queued is fits = refl
 
 -- a region comes back
 region-back : (ticks : ℕ) → nat_or 1 (region_at ticks) ≡ ticks
@@ -73,8 +81,8 @@ region-back ticks = elim (cases_eq ticks 1) [
 task_entry-back : (s : SystemLists) → IsSystem s → (t : Task) → IsTask s t → built_task (redraft s) (redraft_task s t) ≡ t
 unfolding built_task
 task_entry-back s rules t fits =
-    let is_turn : built_turn (by_priority (kind_of (redraft s) (resource_at s t.res.0).name)) (redraft_task s t) ≡ t.turn =
-    ap (λ o. built_turn (by_priority o) (redraft_task s t)) (kind_of-redraft s rules t.res.0 fits.placed)
+    let is_turn : built_turn (kind_of (redraft s) (resource_at s t.res.0).name) (redraft_task s t) ≡ t.turn =
+    ap (λ o. built_turn o (redraft_task s t)) (kind_of-redraft s rules t.res.0 fits.placed)
     ∙ turn-back s t (resource_at s t.res.0).kind t.turn refl fits.turn_fits in
     rw (is_turn, place_of-resource s rules t.res.0 fits.placed, activators-back s rules t.after fits.activated, region-back t.region) refl
 

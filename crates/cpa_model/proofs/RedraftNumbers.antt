@@ -4,7 +4,9 @@ use Rattle.std.specs.Option.{ForSome}
 use Rattle.std.proofs.lemmas.Bool.{and_from, or_from, cases_eq, eq-eqb, ne_eqb, le-leb, le-ltb}
 use Rattle.std.proofs.Math.Bool.{and-false}
 use Rattle.cpa_draft.specs.Numbers.{is_within, may_be_within}
-use Rattle.cpa_draft.specs.Refusals.{resource_fits, source_fits, clock_fits, offset_fits, task_fits, path_fits, by_priority, is_preemptive, turn_misfits, task_misfits, resource_misfits, is_crossed}
+use Rattle.cpa_draft.specs.Refusals.{resource_fits, is_fifo, queue_fits, source_fits, clock_fits, offset_fits, task_fits, path_fits, is_preemptive, turn_misfits, payload_misfits, task_misfits, resource_misfits, is_crossed}
+use Rattle.cpa_draft.specs.declared.draft.KindWord.{KindWord}
+use Rattle.cpa_draft.specs.declared.draft.KindWord.TheVariants as word
 use Rattle.cpa_model.specs.declared.entries.Resource.{Resource}
 use Rattle.cpa_model.specs.declared.entries.Source.{Source}
 use Rattle.cpa_model.specs.declared.entries.OnClock.{OnClock}
@@ -19,6 +21,7 @@ use Rattle.std.proofs.Math.Nat.{le_trans}
 use Rattle.cpa_units.specs.declared.limits.Size.{Size}
 use Rattle.cpa_units.specs.Sizes.{most_execution, most_region, most_gap, most_limit}
 use Rattle.cpa_model.specs.SystemLists.{SystemLists, resource_at, gap_of, slot_of}
+use Rattle.cpa_model.specs.Kinds.{is_queue}
 use Rattle.cpa_model.specs.Rules.{IsSizedResource, IsSizedSource, IsSizedTask, IsResource, IsSource, IsTask, IsPath, KindFits, TurnFits, RegionFits}
 use Rattle.cpa_model.proofs.SystemLaws.{region-range}
 use Rattle.cpa_model.specs.Redraft.{word_of, gap_at, bit_at, priority_at, slot_at, region_at, offset_at, redraft_resource, redraft_source, redraft_task, redraft_path}
@@ -33,6 +36,7 @@ gap-within z kind.Preemptive fits = refl
 gap-within z kind.RoundRobin fits = refl
 gap-within z (kind.Tdma gap) fits = number-within 0 (most_gap z) gap (omega arith) fits
 gap-within z (kind.Can bit) fits = refl
+gap-within z kind.Fifo fits = refl
 
 -- the bit time of a kind
 bit-within : (k : Kind) → KindFits k → may_be_within 1 1000 (bit_at k) ≡ true
@@ -40,13 +44,26 @@ bit-within kind.Preemptive fits = refl
 bit-within kind.RoundRobin fits = refl
 bit-within (kind.Tdma gap) fits = refl
 bit-within (kind.Can bit) fits = number-within 1 1000 bit fits.0 fits.1
+bit-within kind.Fifo fits = refl
+
+-- the word of a queue is that of a queue
+queue-within : (z : Size) (k : Kind) → queue_fits z (is_queue k) ≡ true → queue_fits z (is_fifo (word_of k)) ≡ true
+queue-within z kind.Preemptive fits = fits
+queue-within z kind.RoundRobin fits = fits
+queue-within z (kind.Tdma gap) fits = fits
+queue-within z (kind.Can bit) fits = fits
+queue-within z kind.Fifo fits = fits
 
 -- the numbers of a resource
 pub resource-fits : (z : Size) (r : Resource) → IsResource r → IsSizedResource z r → resource_fits z (redraft_resource r) ≡ true
 resource-fits z r fits small =
     and_from _ _
+    (and_from _ _
+    (and_from _ _
     (and_from _ _ (number-within 1 (most_limit z) r.limit fits.some_limit small.0) (gap-within z r.kind small.1))
-    (bit-within r.kind fits.kind_fits)
+    (bit-within r.kind fits.kind_fits))
+    refl)
+    (queue-within z r.kind small.2)
 
 -- the offset that a source has
 offset-written : (most ticks : ℕ) → ticks ≤ most → may_be_within 0 most (offset_at ticks) ≡ true
@@ -82,7 +99,9 @@ priority-within kind.Preemptive (turn.Priority number) fits = number-within 0 53
 priority-within kind.RoundRobin (turn.Priority number) fits = absurd fits
 priority-within (kind.Tdma gap) (turn.Priority number) fits = absurd fits
 priority-within (kind.Can bit) (turn.Priority number) fits = number-within 0 536870911 number (omega arith) fits
+priority-within kind.Fifo (turn.Priority number) fits = absurd fits
 priority-within k (turn.Slot ticks) fits = refl
+priority-within k turn.Queued fits = refl
 
 -- the slot that a turn may have
 slot-within : (z : Size) (k : Kind) (u : Turn) → TurnFits k u → slot_of u ≤ most_execution z → may_be_within 1 (most_execution z) (slot_at u) ≡ true
@@ -91,6 +110,8 @@ slot-within z kind.Preemptive (turn.Slot ticks) fits small = absurd fits
 slot-within z kind.RoundRobin (turn.Slot ticks) fits small = number-within 1 (most_execution z) ticks fits.0 small
 slot-within z (kind.Tdma gap) (turn.Slot ticks) fits small = number-within 1 (most_execution z) ticks fits.0 small
 slot-within z (kind.Can bit) (turn.Slot ticks) fits small = absurd fits
+slot-within z kind.Fifo (turn.Slot ticks) fits small = absurd fits
+slot-within z k turn.Queued fits small = refl
 
 -- the region that is written
 region-within : (z : Size) (ticks : ℕ) → 1 ≤ ticks → ticks ≤ most_region z → may_be_within 1 (most_region z) (region_at ticks) ≡ true
@@ -127,13 +148,14 @@ kind-suits r kind.Preemptive is = rw is refl
 kind-suits r kind.RoundRobin is = rw is refl
 kind-suits r (kind.Tdma gap) is = rw is refl
 kind-suits r (kind.Can bit) is = rw is refl
+kind-suits r kind.Fifo is = rw is refl
 
 -- so a resource has what its kind wants
 pub resource-suits : (r : Resource) → resource_misfits (redraft_resource r) ≡ false
 resource-suits r = kind-suits r r.kind refl
 
 -- a task has the turn that the kind of its resource wants
-turn-suits : (s : SystemLists) (t : Task) (k : Kind) (u : Turn) → t.turn ≡ u → TurnFits k u → turn_misfits (by_priority (Some (word_of k))) (redraft_task s t) ≡ false
+turn-suits : (s : SystemLists) (t : Task) (k : Kind) (u : Turn) → t.turn ≡ u → TurnFits k u → turn_misfits (Some (word_of k)) (redraft_task s t) ≡ false
 turn-suits s t kind.Preemptive (turn.Priority number) is fits = rw is refl
 turn-suits s t kind.Preemptive (turn.Slot ticks) is fits = absurd fits
 turn-suits s t kind.RoundRobin (turn.Priority number) is fits = absurd fits
@@ -142,6 +164,13 @@ turn-suits s t (kind.Tdma gap) (turn.Priority number) is fits = absurd fits
 turn-suits s t (kind.Tdma gap) (turn.Slot ticks) is fits = rw is refl
 turn-suits s t (kind.Can bit) (turn.Priority number) is fits = rw is refl
 turn-suits s t (kind.Can bit) (turn.Slot ticks) is fits = absurd fits
+turn-suits s t kind.Preemptive turn.Queued is fits = absurd fits
+turn-suits s t kind.RoundRobin turn.Queued is fits = absurd fits
+turn-suits s t (kind.Tdma gap) turn.Queued is fits = absurd fits
+turn-suits s t (kind.Can bit) turn.Queued is fits = absurd fits
+turn-suits s t kind.Fifo (turn.Priority number) is fits = absurd fits
+turn-suits s t kind.Fifo (turn.Slot ticks) is fits = absurd fits
+turn-suits s t kind.Fifo turn.Queued is fits = rw is refl
 
 -- a region is written under preemptive priority alone
 region-suits : (k : Kind) (ticks : ℕ) → RegionFits k ticks → (is_some (region_at ticks) && not (is_preemptive (word_of k))) ≡ false
@@ -149,12 +178,23 @@ region-suits kind.Preemptive ticks fits = and-false (is_some (region_at ticks))
 region-suits kind.RoundRobin ticks fits = rw fits refl
 region-suits (kind.Tdma gap) ticks fits = rw fits refl
 region-suits (kind.Can bit) ticks fits = rw fits refl
+region-suits kind.Fifo ticks fits = rw fits refl
+
+-- where there is no payload, none misfits
+no-payload : (w : KindWord) → payload_misfits w None ≡ false
+no-payload word.Preemptive = refl
+no-payload word.RoundRobin = refl
+no-payload word.Tdma = refl
+no-payload word.Can = refl
+no-payload word.Fifo = refl
 
 -- so a task has what the kind of its resource wants, and no payload
 pub task-suits : (s : SystemLists) (t : Task) → IsTask s t → task_misfits (Some (word_of (resource_at s t.res.0).kind)) (redraft_task s t) ≡ false
 task-suits s t fits =
     let k = (resource_at s t.res.0).kind in
-    or_from _ _ (or_from _ _ (turn-suits s t k t.turn refl fits.turn_fits) refl) (region-suits k t.region fits.region_fits)
+    or_from _ _
+    (or_from _ _ (or_from _ _ (turn-suits s t k t.turn refl fits.turn_fits) (no-payload (word_of k))) refl)
+    (region-suits k t.region fits.region_fits)
 
 -- the least execution isn't above the greatest
 pub task-ordered : (s : SystemLists) (t : Task) → IsTask s t → is_crossed (redraft_task s t) ≡ false

@@ -32,6 +32,7 @@ none-kept f p (x ∷ xs) each = none-cons p (f x) (filter_map f xs) (each 0 x (o
 rank-turn : (b : Bool) (place : ℕ) (u : Turn) (r : ℕ × ℕ) → cond b (option_map {U = ℕ × ℕ} (λ (z : ℤ). (place, nat_of z)) (priority_at u)) None ≡ Some r → (place ≡ r.0) × (u ≡ turn.Priority r.1)
 rank-turn true place (turn.Priority number) r is = let same : (place, number) ≡ r = same_Some _ r is in rw (← same) (refl, refl)
 rank-turn true place (turn.Slot ticks) r is = absurd (none-some r is)
+rank-turn true place turn.Queued r is = absurd (none-some r is)
 rank-turn false place u r is = absurd (none-some r is)
 
 -- the rank of a task of the redraft

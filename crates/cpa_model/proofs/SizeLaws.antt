@@ -1,22 +1,22 @@
 -- What a size allows is within the limits of all systems, and the tests of a draft's numbers say so of its system.
 use Rattle.std.proofs.Common.{◌≡◌, ℕ, ℤ, pos, negsuc, ◌*◌, ◌≤◌, Bool, true, false, ◌&&◌, List, Option, Some, None, is_some, unwrap_or, refl, ap, ◌∙◌, arith}
-use Rattle.std.proofs.Math.Nat.{le_trans, mul-le-mul_right}
+use Rattle.std.proofs.Math.Nat.{le_trans}
 use Rattle.std.proofs.lemmas.Bool.{and_parts, and_from, false≢true, leb-true, le-leb}
 use Rattle.cpa_units.specs.declared.limits.Size.{Size}
 use Rattle.cpa_units.specs.declared.limits.Size.TheVariants.{Small, Large}
 use Rattle.cpa_units.specs.Sizes.{most_resources, most_sources, most_tasks, most_paths, most_execution, most_region, most_gap, most_limit}
-use Rattle.cpa_units.specs.Frames.{greatest_frame_bits}
 use Rattle.cpa_draft.specs.Numbers.{nat_of, nat_or, is_within, may_be_within}
-use Rattle.cpa_draft.specs.Refusals.{resource_fits, source_fits, task_fits, clock_fits}
+use Rattle.cpa_draft.specs.Refusals.{resource_fits, is_fifo, queue_fits, source_fits, task_fits, clock_fits}
 use Rattle.cpa_draft.specs.declared.draft.DraftResource.{DraftResource}
 use Rattle.cpa_draft.specs.declared.draft.DraftSource.{DraftSource}
 use Rattle.cpa_draft.specs.declared.draft.DraftTask.{DraftTask}
 use Rattle.cpa_draft.specs.declared.draft.KindWord.{KindWord}
 use Rattle.cpa_draft.specs.declared.draft.KindWord.TheVariants as word
 use Rattle.cpa_model.specs.SystemLists.{gap_of, slot_of}
+use Rattle.cpa_model.specs.Kinds.{is_queue}
 use Rattle.cpa_model.specs.Rules.{IsSizedResource, IsSizedSource}
-use Rattle.cpa_model.specs.Built.{built_kind, built_resource, built_on_clock, built_source, built_turn, greatest_execution}
-use Rattle.cpa_model.proofs.EntryLaws.{may-range}
+use Rattle.cpa_model.specs.Built.{built_kind, built_resource, built_on_clock, built_source, built_turn, most_frame, greatest_execution}
+use Rattle.cpa_model.proofs.EntryLaws.{may-range, kind_frames-kept}
 
 pub resources-most : (z : Size) → most_resources z ≤ 128
 resources-most Small = omega arith
@@ -60,9 +60,13 @@ wider least most more (Some (negsuc n)) le h = absurd (false≢true h)
 pub larger-resource : (z : Size) (r : DraftResource) → resource_fits z r ≡ true → resource_fits Large r ≡ true
 larger-resource Large r h = h
 larger-resource Small r h =
-    let a = and_parts _ _ h in
+    let queue = and_parts _ _ h in
+    let rate = and_parts _ _ queue.0 in
+    let a = and_parts _ _ rate.0 in
     let b = and_parts _ _ a.0 in
-    and_from _ _ (and_from _ _ (wider 1 10000000 100000000 r.limit (omega arith) b.0) (wider 0 1000000 10000000 r.gap (omega arith) b.1)) a.1
+    and_from _ _
+    (and_from _ _ (and_from _ _ (and_from _ _ (wider 1 10000000 100000000 r.limit (omega arith) b.0) (wider 0 1000000 10000000 r.gap (omega arith) b.1)) a.1) rate.1)
+    refl
 
 pub larger-task : (z : Size) (t : DraftTask) → task_fits z t ≡ true → task_fits Large t ≡ true
 larger-task Large t h = h
@@ -75,7 +79,7 @@ larger-task Small t h =
     and_from _ _
     (and_from _ _
     (and_from _ _
-    (and_from _ _ (and_from _ _ (wider 1 1000000 10000000 t.best (omega arith) run.0) (wider 1 1000000 10000000 t.worst (omega arith) run.1)) payload.1)
+    (and_from _ _ (and_from _ _ (wider 1 1000000 10000000 t.best (omega arith) run.0) (wider 1 1000000 10000000 t.worst (omega arith) run.1)) (wider 0 8 1500 t.payload (omega arith) payload.1))
     priority.1)
     (wider 1 1000000 10000000 t.slot (omega arith) slot.1))
     (wider 1 1 10000000 t.region (omega arith) region.1)
@@ -90,13 +94,24 @@ gap-sized z word.Preemptive gap bit h = omega arith
 gap-sized z word.RoundRobin gap bit h = omega arith
 gap-sized z word.Tdma gap bit h = upper 0 (most_gap z) gap h
 gap-sized z word.Can gap bit h = omega arith
+gap-sized z word.Fifo gap bit h = omega arith
+
+queue-sized : (z : Size) (w : KindWord) (gap bit : Option ℤ) → queue_fits z (is_fifo w) ≡ true → queue_fits z (is_queue (built_kind w gap bit)) ≡ true
+queue-sized z word.Preemptive gap bit h = h
+queue-sized z word.RoundRobin gap bit h = h
+queue-sized z word.Tdma gap bit h = h
+queue-sized z word.Can gap bit h = h
+queue-sized z word.Fifo gap bit h = h
 
 pub resource-sized : (z : Size) (r : DraftResource) → resource_fits z r ≡ true → IsSizedResource z (built_resource r)
 resource-sized z r h =
-    let a = and_parts _ _ h in
+    let queue = and_parts _ _ h in
+    let rate = and_parts _ _ queue.0 in
+    let a = and_parts _ _ rate.0 in
     let b = and_parts _ _ a.0 in (
       (may-range 1 (most_limit z) 1000000 r.limit (omega arith, limit-default z) b.0).1,
       gap-sized z r.kind r.gap r.bit b.1,
+      queue-sized z r.kind r.gap r.bit queue.1,
     )
 
 built-clocked : (clock : Option (List ℕ)) (offset : Option ℤ) → is_some (built_on_clock clock offset) ≡ is_some clock
@@ -110,21 +125,18 @@ source-sized z r h =
     let s = and_parts _ _ c.0 in
     (s.1, ap (clock_fits z) (built-clocked r.clock r.offset) ∙ c.1)
 
-frame-most : (s : ℕ) (extended : Bool) → s ≤ 8 → greatest_frame_bits s extended ≤ 160
-frame-most s true h = omega arith
-frame-most s false h = omega arith
+pub worst-sized : (z : Size) (k : Option KindWord) (payload worst : Option ℤ) (extended : Bool) (bit rate : ℕ) → nat_or 0 payload ≤ most_frame k → may_be_within 1 (most_execution z) worst ≡ true
+    → (1 ≤ bit) × (bit ≤ 1000) → (1 ≤ rate) × (rate ≤ 672) → greatest_execution k payload extended bit rate (nat_or 0 worst) ≤ most_execution z
+worst-sized z k None worst extended bit rate p w b r = upper 1 (most_execution z) worst w
+worst-sized z k (Some s) worst extended bit rate p w b r = le_trans (kind_frames-kept k bit rate (nat_of s) extended p b r).small (execution-frame z)
 
-pub worst-sized : (z : Size) (payload worst : Option ℤ) (extended : Bool) (bit : ℕ) → may_be_within 0 8 payload ≡ true → may_be_within 1 (most_execution z) worst ≡ true → bit ≤ 1000
-    → greatest_execution payload extended bit (nat_or 0 worst) ≤ most_execution z
-worst-sized z None worst extended bit p w b = upper 1 (most_execution z) worst w
-worst-sized z (Some s) worst extended bit p w b =
-    let most : greatest_frame_bits (nat_of s) extended * bit ≤ 160 * bit = mul-le-mul_right bit (frame-most (nat_of s) extended (upper 0 8 (Some s) p)) in
-    let fits : 160 * bit ≤ 160000 = omega arith in
-    le_trans most (le_trans fits (execution-frame z))
-
-pub slot-sized : (z : Size) (b : Bool) (t : DraftTask) → may_be_within 1 (most_execution z) t.slot ≡ true → slot_of (built_turn b t) ≤ most_execution z
-slot-sized z true t h = omega arith
-slot-sized z false t h = upper 1 (most_execution z) t.slot h
+pub slot-sized : (z : Size) (k : Option KindWord) (t : DraftTask) → may_be_within 1 (most_execution z) t.slot ≡ true → slot_of (built_turn k t) ≤ most_execution z
+slot-sized z None t h = upper 1 (most_execution z) t.slot h
+slot-sized z (Some word.Preemptive) t h = omega arith
+slot-sized z (Some word.RoundRobin) t h = upper 1 (most_execution z) t.slot h
+slot-sized z (Some word.Tdma) t h = upper 1 (most_execution z) t.slot h
+slot-sized z (Some word.Can) t h = omega arith
+slot-sized z (Some word.Fifo) t h = omega arith
 
 pub region-sized : (z : Size) (region : Option ℤ) → may_be_within 1 (most_region z) region ≡ true → nat_or 1 region ≤ most_region z
 region-sized z region h = (may-range 1 (most_region z) 1 region (omega arith, region-tick z) h).1

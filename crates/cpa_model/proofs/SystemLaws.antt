@@ -283,6 +283,8 @@ slot-small kind.Preemptive (turn.Slot ticks) h = absurd h
 slot-small kind.RoundRobin (turn.Slot ticks) h = h.1
 slot-small (kind.Tdma gap) (turn.Slot ticks) h = h.1
 slot-small (kind.Can bit) (turn.Slot ticks) h = absurd h
+slot-small kind.Fifo (turn.Slot ticks) h = absurd h
+slot-small k turn.Queued h = omega arith
 
 -- a region is in its range under any kind
 pub region-range : (k : Kind) (ticks : ℕ) → RegionFits k ticks → (1 ≤ ticks) × (ticks ≤ 10000000)
@@ -290,6 +292,7 @@ region-range kind.Preemptive ticks h = h
 region-range kind.RoundRobin ticks h = (omega arith, omega arith)
 region-range (kind.Tdma gap) ticks h = (omega arith, omega arith)
 region-range (kind.Can bit) ticks h = (omega arith, omega arith)
+region-range kind.Fifo ticks h = (omega arith, omega arith)
 
 -- and a region of a tick fits any kind
 pub tick-fits : (k : Kind) → RegionFits k 1
@@ -297,12 +300,14 @@ tick-fits kind.Preemptive = (omega arith, omega arith)
 tick-fits kind.RoundRobin = refl
 tick-fits (kind.Tdma gap) = refl
 tick-fits (kind.Can bit) = refl
+tick-fits kind.Fifo = refl
 
 pub gap-small : (k : Kind) → KindFits k → gap_of k ≤ 10000000
 gap-small kind.Preemptive h = omega arith
 gap-small kind.RoundRobin h = omega arith
 gap-small (kind.Tdma gap) h = h
 gap-small (kind.Can bit) h = omega arith
+gap-small kind.Fifo h = omega arith
 
 pub cond-small : (b : Bool) (n most : ℕ) → n ≤ most → cond b n 0 ≤ most
 cond-small true n most h = h

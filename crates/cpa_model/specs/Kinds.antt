@@ -1,15 +1,16 @@
 -- What the kinds of resources differ in, but for their bounds and their step rules: one more kind has an arm in each.
 use Rattle.std.specs.Prelude.{ℕ, ◌-◌, min, Bool, IsTrue, true, false}
 use Rattle.cpa_model.specs.declared.entries.Kind.{Kind}
-use Rattle.cpa_model.specs.declared.entries.Kind.TheVariants.{Preemptive, RoundRobin, Tdma, Can}
+use Rattle.cpa_model.specs.declared.entries.Kind.TheVariants.{Preemptive, RoundRobin, Tdma, Can, Fifo}
 use Rattle.cpa_model.specs.declared.entries.Task.{Task}
 
--- whether its tasks have priorities; those of the others have slots
+-- whether its tasks have priorities; those of the others have slots, or neither where they queue
 abbrev pub has_priorities : Kind → Bool
 has_priorities Preemptive = true
 has_priorities RoundRobin = false
 has_priorities (Tdma gap) = false
 has_priorities (Can bit) = true
+has_priorities Fifo = false
 
 abbrev pub HasPriorities : Kind → Type 0
 HasPriorities kind = IsTrue (has_priorities kind)
@@ -20,6 +21,7 @@ has_feedback Preemptive = false
 has_feedback RoundRobin = true
 has_feedback (Tdma gap) = false
 has_feedback (Can bit) = false
+has_feedback Fifo = false
 
 -- whether a task's bound depends on the inputs of others on the same resource
 abbrev pub wants_inputs : Kind → Bool
@@ -27,12 +29,19 @@ wants_inputs Preemptive = true
 wants_inputs RoundRobin = true
 wants_inputs (Tdma gap) = false
 wants_inputs (Can bit) = true
+wants_inputs Fifo = true
 
 -- by how long a job of this task that has begun keeps a more urgent one waiting: under preemptive priority by the rest of a
 -- region after its first tick, with fixed preemption points as in Davis and Bertogna (2012); on CAN by a whole frame (Davis et
--- al., 2007); where tasks take turns there is no such blocking
+-- al., 2007); where tasks take turns or queue there is no such blocking
 abbrev pub blocking_by : Kind → Task → ℕ
 blocking_by Preemptive t = min t.region t.worst - 1
 blocking_by RoundRobin t = 0
 blocking_by (Tdma gap) t = 0
 blocking_by (Can bit) t = t.worst
+blocking_by Fifo t = 0
+
+-- whether jobs are served in the order in which they came
+abbrev pub is_queue : Kind → Bool
+is_queue Fifo = true
+is_queue _ = false

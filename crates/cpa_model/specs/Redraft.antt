@@ -6,9 +6,9 @@ use Rattle.cpa_model.specs.declared.entries.Source.{Source}
 use Rattle.cpa_model.specs.declared.entries.Task.{Task}
 use Rattle.cpa_model.specs.declared.entries.Path.{Path}
 use Rattle.cpa_model.specs.declared.entries.Kind.{Kind}
-use Rattle.cpa_model.specs.declared.entries.Kind.TheVariants.{Preemptive, RoundRobin, Tdma, Can}
+use Rattle.cpa_model.specs.declared.entries.Kind.TheVariants.{Preemptive, RoundRobin, Tdma, Can, Fifo}
 use Rattle.cpa_model.specs.declared.entries.Turn.{Turn}
-use Rattle.cpa_model.specs.declared.entries.Turn.TheVariants.{Priority, Slot}
+use Rattle.cpa_model.specs.declared.entries.Turn.TheVariants.{Priority, Slot, Queued}
 use Rattle.cpa_draft.specs.declared.draft.DraftResource.{DraftResource}
 use Rattle.cpa_draft.specs.declared.draft.DraftSource.{DraftSource}
 use Rattle.cpa_draft.specs.declared.draft.DraftTask.{DraftTask}
@@ -27,6 +27,7 @@ word_of Preemptive = word.Preemptive
 word_of RoundRobin = word.RoundRobin
 word_of (Tdma gap) = word.Tdma
 word_of (Can bit) = word.Can
+word_of Fifo = word.Fifo
 
 abbrev pub gap_at : Kind → Option ℤ
 gap_at (Tdma gap) = Some (pos gap)
@@ -37,7 +38,7 @@ bit_at (Can bit) = Some (pos bit)
 bit_at _ = None
 
 abbrev pub redraft_resource : Resource → DraftResource
-redraft_resource r = record { name = r.name; kind = word_of r.kind; limit = Some (pos r.limit); gap = gap_at r.kind; bit = bit_at r.kind }
+redraft_resource r = record { name = r.name; kind = word_of r.kind; limit = Some (pos r.limit); gap = gap_at r.kind; bit = bit_at r.kind; rate = None }
 
 -- an offset that isn't the default
 abbrev pub offset_at : ℕ → Option ℤ
@@ -49,10 +50,12 @@ redraft_source r = record { name = r.name; period = pos r.period; jitter = Some 
 abbrev pub priority_at : Turn → Option ℤ
 priority_at (Priority number) = Some (pos number)
 priority_at (Slot ticks) = None
+priority_at Queued = None
 
 abbrev pub slot_at : Turn → Option ℤ
 slot_at (Priority number) = None
 slot_at (Slot ticks) = Some (pos ticks)
+slot_at Queued = None
 
 -- a region that isn't the default
 abbrev pub region_at : ℕ → Option ℤ

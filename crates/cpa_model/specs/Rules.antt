@@ -7,7 +7,7 @@ use Rattle.cpa_units.specs.Name.{is_name}
 use Rattle.cpa_units.specs.declared.limits.Size.{Size}
 use Rattle.cpa_units.specs.Sizes.{most_resources, most_sources, most_tasks, most_paths, most_execution, most_region, most_gap, most_limit}
 use Rattle.cpa_units.specs.declared.places.TaskId.{TaskId}
-use Rattle.cpa_draft.specs.Refusals.{sporadic_fits, clock_fits, has_clock_name}
+use Rattle.cpa_draft.specs.Refusals.{queue_fits, sporadic_fits, clock_fits, has_clock_name}
 use Rattle.cpa_draft.specs.Clocks.{is_too_long}
 use Rattle.cpa_model.specs.declared.entries.Resource.{Resource}
 use Rattle.cpa_model.specs.declared.entries.Source.{Source}
@@ -21,6 +21,7 @@ use Rattle.cpa_model.specs.declared.entries.Activator.{Activator}
 use Rattle.cpa_model.specs.declared.entries.Activator.TheVariants as activator
 use Rattle.cpa_model.specs.Chains.{depth_within, activators}
 use Rattle.cpa_model.specs.SystemLists.{SystemLists, resource_at, is_activated_by, streams_of, slot_of, gap_of}
+use Rattle.cpa_model.specs.Kinds.{is_queue}
 use Rattle.cpa_model.specs.Clocks.{clock_name, clock_periods}
 use Rattle.cpa_events.specs.declared.TheConstants.{MAX_STREAMS}
 
@@ -53,6 +54,7 @@ TurnFits kind.Preemptive (turn.Priority number) = number ≤ MAX_PRIORITY
 TurnFits (kind.Can bit) (turn.Priority number) = number ≤ MAX_PRIORITY
 TurnFits kind.RoundRobin (turn.Slot ticks) = (1 ≤ ticks) × (ticks ≤ MAX_EXECUTION)
 TurnFits (kind.Tdma gap) (turn.Slot ticks) = (1 ≤ ticks) × (ticks ≤ MAX_EXECUTION)
+TurnFits kind.Fifo turn.Queued = Unit {0}
 TurnFits _ _ = ⊥
 
 -- a region is in its range; only under preemptive priority is it more than a tick
@@ -84,7 +86,7 @@ pub record IsPath (s : SystemLists) (p : Path) : Type 0 where
 
 -- the numbers of an entry are no greater than the size of its system allows
 abbrev pub IsSizedResource : Size → Resource → Type 0
-IsSizedResource z r = (r.limit ≤ most_limit z) × (gap_of r.kind ≤ most_gap z)
+IsSizedResource z r = (r.limit ≤ most_limit z) × (gap_of r.kind ≤ most_gap z) × (queue_fits z (is_queue r.kind) ≡ true)
 
 abbrev pub IsSizedSource : Size → Source → Type 0
 IsSizedSource z r = (sporadic_fits z r.sporadic ≡ true) × (clock_fits z (is_some r.on_clock) ≡ true)

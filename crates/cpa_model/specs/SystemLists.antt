@@ -80,15 +80,17 @@ places_of tasks = map place_of tasks
 abbrev pub resource_of : SystemLists → ℕ → Resource
 resource_of s i = resource_at s (task_at s i).res.0
 
--- the priority number of a turn, 0 where it has a slot
+-- the priority number of a turn, 0 where it has none
 abbrev pub priority_of : Turn → ℕ
 priority_of (turn.Priority number) = number
 priority_of (turn.Slot ticks) = 0
+priority_of turn.Queued = 0
 
--- the slot of a turn, 0 where it has a priority
+-- the slot of a turn, 0 where it has none
 abbrev pub slot_of : Turn → ℕ
 slot_of (turn.Priority number) = 0
 slot_of (turn.Slot ticks) = ticks
+slot_of turn.Queued = 0
 
 -- whether two tasks are on one resource
 abbrev pub shares_resource : SystemLists → ℕ → ℕ → Bool

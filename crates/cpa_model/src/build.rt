@@ -1,7 +1,7 @@
 //! From a draft to the system that it stands for.
 
 ghost use Rattle.std.specs.Prelude.{◌≡◌, ◌<◌, ◌≤◌, ◌^◌, All, map, length, option_map, unwrap_or, Some, None, true, false, not, IfOk, IfErr};
-ghost use Rattle.cpa_units.specs.declared.limits.TheConstants.{MAX_PAYLOAD, MAX_BIT};
+ghost use Rattle.cpa_units.specs.declared.limits.TheConstants.{MAX_BIT};
 ghost use Rattle.cpa_units.specs.Name.{is_name};
 ghost use Rattle.cpa_draft.specs.declared.draft.DraftResource.{DraftResource};
 ghost use Rattle.cpa_draft.specs.declared.draft.DraftSource.{DraftSource};
@@ -10,11 +10,12 @@ ghost use Rattle.cpa_draft.specs.declared.draft.DraftPath.{DraftPath};
 ghost use Rattle.cpa_draft.specs.Numbers.{nat_of, nat_or};
 ghost use Rattle.cpa_draft.specs.Names.{AreTables, kind_of};
 ghost use Rattle.cpa_draft.specs.Validated.{Validates};
-ghost use Rattle.cpa_draft.specs.Refusals.{by_priority, has_clock_name, first_refusal};
+ghost use Rattle.cpa_draft.specs.declared.ports.TheConstants.{MAX_RATE};
+ghost use Rattle.cpa_draft.specs.Refusals.{has_clock_name, first_refusal};
 ghost use Rattle.cpa_draft.specs.declared.refusal.BuildFault.TheVariants.{Memory};
 ghost use Rattle.cpa_model.specs.declared.activators.TheConstants.{MAX_ACTIVATORS};
 ghost use Rattle.cpa_model.specs.declared.entries.Task.{Task};
-ghost use Rattle.cpa_model.specs.Built.{built_kind, built_resource, built_on_clock, built_source, built_task, built_path, built_turn, built_activator, activity_place, task_named, least_execution, greatest_execution, has_executions, TaskFitsTypes, PathFitsTypes, system_of};
+ghost use Rattle.cpa_model.specs.Built.{built_kind, built_resource, built_on_clock, built_source, built_task, built_path, built_turn, built_activator, activity_place, task_named, least_execution, greatest_execution, most_frame, has_executions, TaskFitsTypes, PathFitsTypes, system_of};
 ghost use Rattle.cpa_model.specs.Redraft.{OwnDraftsAreAccepted, OwnDraftsStand};
 
 use crate::activators::Activators;
@@ -22,7 +23,7 @@ use crate::entries::{Activator, Kind, OnClock, Path, Resource, Source, Task, Tas
 use crate::system::System;
 use cpa_draft::{
     BuildFault, Draft, DraftPath, DraftResource, DraftSource, DraftTask, KindWord, Raw, Tables,
-    is_by_priority, natural, natural_or, validate,
+    natural, natural_or, port_ticks, validate,
 };
 use cpa_units::limits::DEFAULT_LIMIT;
 use cpa_units::{Name, NameFault, NoMemory, ResId, SourceId, TaskId, frame_bits};
@@ -52,6 +53,7 @@ fn build_kind(kind: KindWord, gap: Option<i64>, bit: Option<i64>) -> Kind
         KindWord::Can => Kind::Can {
             bit: natural_or(1, bit),
         },
+        KindWord::Fifo => Kind::Fifo,
     }
 }
 
@@ -137,29 +139,34 @@ fn build_activators(draft: &Draft, tables: &Tables, names: &[Raw]) -> Activators
 }
 
 /// The least and the greatest execution: that of a frame where there is a payload, else as given.
-fn build_executions(task: &DraftTask, bit: u64) -> (u64, u64)
-    requires payload { nat_or 0 task.now.payload ≤ MAX_PAYLOAD }
+fn build_executions(kind: Option<KindWord>, task: &DraftTask, bit: u64, rate: u64) -> (u64, u64)
+    requires payload { nat_or 0 task.now.payload ≤ most_frame kind }
     requires bit { bit ≤ MAX_BIT }
-    ensures least { result.0 ≡ least_execution task.now.payload (unwrap_or task.now.extended false) bit (nat_or 0 task.now.best) }
-    ensures greatest { result.1 ≡ greatest_execution task.now.payload (unwrap_or task.now.extended false) bit (nat_or 0 task.now.worst) }
+    requires some_rate { 1 ≤ rate }
+    requires rate { rate ≤ MAX_RATE }
+    ensures least { result.0 ≡ least_execution kind task.now.payload (unwrap_or task.now.extended false) bit rate (nat_or 0 task.now.best) }
+    ensures greatest { result.1 ≡ greatest_execution kind task.now.payload (unwrap_or task.now.extended false) bit rate (nat_or 0 task.now.worst) }
 {
-    match task.payload {
-        None => (natural_or(0, task.best), natural_or(0, task.worst)),
-        Some(payload) => {
+    match (task.payload, kind) {
+        (None, _) => (natural_or(0, task.best), natural_or(0, task.worst)),
+        (Some(payload), Some(KindWord::Fifo)) => port_ticks(natural(payload), rate),
+        (Some(payload), _) => {
             let (least, greatest) = frame_bits(natural(payload), task.extended.unwrap_or(false));
             (least * bit, greatest * bit)
         }
     }
 }
 
-fn build_turn(by_priority: bool, task: &DraftTask) -> Turn
+fn build_turn(kind: Option<KindWord>, task: &DraftTask) -> Turn
     requires { nat_or 0 task.now.priority < 2 ^ 32 }
-    ensures { result ≡ built_turn by_priority task.now }
+    ensures { result ≡ built_turn kind task.now }
 {
-    if by_priority {
-        Turn::Priority(natural_or(0, task.priority) as u32)
-    } else {
-        Turn::Slot(natural_or(0, task.slot))
+    match kind {
+        Some(KindWord::Preemptive | KindWord::Can) => {
+            Turn::Priority(natural_or(0, task.priority) as u32)
+        }
+        Some(KindWord::Fifo) => Turn::Queued,
+        _ => Turn::Slot(natural_or(0, task.slot)),
     }
 }
 
@@ -178,13 +185,14 @@ fn build_task(
     let name = build_name(alloc, &task.name)?;
     let found = tables.resource(draft, task.on.bytes());
     let place = found.unwrap_or(0);
-    let (best, worst) = build_executions(task, draft.bit_at(place));
+    let kind = draft.kind_of(found);
+    let (best, worst) = build_executions(kind, task, draft.bit_at(place), draft.rate_at(place));
     Ok(Task {
         name,
         res: ResId(place as u32),
         best,
         worst,
-        turn: build_turn(is_by_priority(draft.kind_of(found)), task),
+        turn: build_turn(kind, task),
         after: build_activators(draft, tables, task.after.names()),
         region: natural_or(1, task.region),
     })

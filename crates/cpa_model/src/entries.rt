@@ -27,6 +27,8 @@ pub enum Kind {
     Tdma { gap: u64 },
     /// Frames on a bus whose bits take so many ticks; a started frame goes on.
     Can { bit: u64 },
+    /// The job that came first is served, whatever its task.
+    Fifo,
 }
 
 /// A processor or a bus.
@@ -94,27 +96,29 @@ pub enum Turn {
     Priority(u32),
     /// The ticks of a turn, 1 to 10,000,000.
     Slot(u64),
+    /// Neither: its jobs are served in the order in which they came.
+    Queued,
 }
 
 impl Turn {
-    /// The priority number, 0 where it is a slot.
+    /// The priority number, 0 where there is none.
     #[inline(always)]
     pub fn priority(self) -> u32
         ensures { result ≡ priority_of self }
     {
         match self {
             Turn::Priority(number) => number,
-            Turn::Slot(_) => 0,
+            Turn::Slot(_) | Turn::Queued => 0,
         }
     }
 
-    /// The slot in ticks, 0 where it is a priority.
+    /// The slot in ticks, 0 where there is none.
     #[inline(always)]
     pub fn slot(self) -> u64
         ensures { result ≡ slot_of self }
     {
         match self {
-            Turn::Priority(_) => 0,
+            Turn::Priority(_) | Turn::Queued => 0,
             Turn::Slot(ticks) => ticks,
         }
     }

@@ -2,18 +2,18 @@
 
 ghost use Rattle.std.specs.Prelude.{◌≡◌, ◌≤◌};
 ghost use Rattle.cpa_units.specs.declared.limits.TheConstants.{MAX_EXECUTION};
-ghost use Rattle.cpa_model.specs.Kinds.{has_priorities, has_feedback, wants_inputs, blocking_by};
+ghost use Rattle.cpa_model.specs.Kinds.{has_priorities, has_feedback, wants_inputs, blocking_by, is_queue};
 
 use crate::entries::{Kind, Task};
 
 impl Kind {
-    /// Whether its tasks have priorities; those of the others have slots.
+    /// Whether its tasks have priorities; those of the others have slots, or neither where they queue.
     pub fn has_priorities(self) -> bool
         ensures { result ≡ has_priorities self }
     {
         match self {
             Kind::Preemptive | Kind::Can { bit: _ } => true,
-            Kind::RoundRobin | Kind::Tdma { gap: _ } => false,
+            Kind::RoundRobin | Kind::Tdma { gap: _ } | Kind::Fifo => false,
         }
     }
 
@@ -23,7 +23,7 @@ impl Kind {
     {
         match self {
             Kind::RoundRobin => true,
-            Kind::Preemptive | Kind::Tdma { gap: _ } | Kind::Can { bit: _ } => false,
+            Kind::Preemptive | Kind::Tdma { gap: _ } | Kind::Can { bit: _ } | Kind::Fifo => false,
         }
     }
 
@@ -32,7 +32,7 @@ impl Kind {
         ensures { result ≡ wants_inputs self }
     {
         match self {
-            Kind::Preemptive | Kind::RoundRobin | Kind::Can { bit: _ } => true,
+            Kind::Preemptive | Kind::RoundRobin | Kind::Can { bit: _ } | Kind::Fifo => true,
             Kind::Tdma { gap: _ } => false,
         }
     }
@@ -48,7 +48,18 @@ impl Kind {
         match self {
             Kind::Preemptive => task.region.min(task.worst).saturating_sub(1),
             Kind::Can { bit: _ } => task.worst,
-            Kind::RoundRobin | Kind::Tdma { gap: _ } => 0,
+            Kind::RoundRobin | Kind::Tdma { gap: _ } | Kind::Fifo => 0,
+        }
+    }
+
+    /// Whether jobs are served in the order in which they came.
+    pub fn is_queue(self) -> bool
+        ensures { result ≡ is_queue self }
+    {
+        match self {
+            Kind::Fifo => true,
+            Kind::Preemptive | Kind::RoundRobin | Kind::Tdma { gap: _ } | Kind::Can { bit: _ } =>
+                false,
         }
     }
 }
