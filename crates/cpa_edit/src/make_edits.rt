@@ -1,6 +1,6 @@
 //! Making the edits, one by one. None of them breaks a rule.
 
-ghost use Rattle.std.specs.Prelude.{◌≡◌, ◌<◌, ◌^◌, true, None, OnOk, OnErr, unwrap_or};
+ghost use Rattle.std.specs.Prelude.{◌≡◌, ◌<◌, ◌^◌, None, OnOk, OnErr, unwrap_or};
 ghost use Rattle.cpa_model.specs.Rules.{IsSystem};
 ghost use Rattle.cpa_model.specs.declared.entries.Activator.TheVariants as activator;
 ghost use Rattle.cpa_edit.specs.declared.edit.Edit.TheVariants.{Exec, Priority, Swap, Slot, Source, Offset, Add, Remove};
@@ -8,8 +8,8 @@ ghost use Rattle.cpa_edit.specs.Named.{activator_named, turn_of};
 ghost use Rattle.cpa_edit.specs.Edited.{change, refusal};
 
 use crate::edit::Numbers;
-use crate::lookups::{find_activator, is_by_priority, resource_named, source_named, task_named};
-use cpa_model::{Activator, Activators, System, Task, Turn};
+use crate::lookups::{find_activator, resource_named, source_named, task_named};
+use cpa_model::{Activator, Activators, Kind, System, Task, Turn};
 use cpa_units::{Name, NoMemory, SourceId};
 use std::alloc::Global;
 
@@ -75,15 +75,15 @@ fn activator_named(system: &System, name: &Name) -> Activator
     find_activator(system, name).unwrap_or(Activator::Source(SourceId(0)))
 }
 
-/// What a number is on a resource with priorities, and on one without.
-fn turn_of(by_priority: bool, number: u64) -> Turn
-    requires { by_priority ≡ true → number < 2 ^ 32 }
-    ensures { result ≡ turn_of by_priority number }
+/// What a number is on a resource of a kind: a priority or a slot, and neither where tasks queue.
+fn turn_of(kind: Kind, number: u64) -> Turn
+    requires { number < 2 ^ 32 }
+    ensures { result ≡ turn_of kind number }
 {
-    if by_priority {
-        Turn::Priority(number as u32)
-    } else {
-        Turn::Slot(number)
+    match kind {
+        Kind::Preemptive | Kind::Can { bit: _ } => Turn::Priority(number as u32),
+        Kind::RoundRobin | Kind::Tdma { gap: _ } => Turn::Slot(number),
+        Kind::Fifo => Turn::Queued,
     }
 }
 
@@ -101,7 +101,7 @@ pub(crate) fn make_addition(
     ensures unchanged { OnErr result (system.new ≡ system.old) }
 {
     let place = resource_named(system, res);
-    let turn = turn_of(is_by_priority(system, place), numbers.number);
+    let turn = turn_of(system.resource(place).kind, numbers.number);
     let task = Task {
         name: name.copy(alloc)?,
         res: place,

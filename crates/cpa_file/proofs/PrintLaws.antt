@@ -21,12 +21,13 @@ use Rattle.cpa_model.specs.declared.entries.OnClock.{OnClock}
 use Rattle.cpa_model.specs.declared.entries.Task.{Task}
 use Rattle.cpa_model.specs.declared.entries.Path.{Path}
 use Rattle.cpa_model.specs.declared.entries.Kind.{Kind}
-use Rattle.cpa_model.specs.declared.entries.Kind.TheVariants.{Preemptive, RoundRobin, Tdma, Can}
+use Rattle.cpa_model.specs.declared.entries.Kind.TheVariants.{Preemptive, RoundRobin, Tdma, Can, Fifo}
 use Rattle.cpa_model.specs.declared.entries.Turn.{Turn}
-use Rattle.cpa_model.specs.declared.entries.Turn.TheVariants.{Priority, Slot}
+use Rattle.cpa_model.specs.declared.entries.Turn.TheVariants.{Priority, Slot, Queued}
 use Rattle.cpa_model.specs.SystemLists.{SystemLists, resource_at, task_at, activator_name}
+use Rattle.cpa_model.specs.Kinds.{is_queue}
 use Rattle.cpa_model.specs.Rules.{IsSystem}
-use Rattle.cpa_draft.specs.Refusals.{sporadic_fits, clock_fits}
+use Rattle.cpa_draft.specs.Refusals.{queue_fits, sporadic_fits, clock_fits}
 use Rattle.cpa_model.proofs.SystemLaws.{region-range}
 use Rattle.cpa_file.specs.declared.format.Format.{Format}
 use Rattle.cpa_file.specs.declared.format.Format.TheVariants.{One, Two, Four}
@@ -42,6 +43,10 @@ use Rattle.cpa_file.specs.Printed.{put, resource_data, source_numbers_data, sour
 -- a region of no more than a tick
 abbrev has_no_region : Task → Bool
 has_no_region t = t.region == 1
+
+-- a resource that is no queue
+abbrev is_no_queue : Resource → Bool
+is_no_queue r = not (is_queue r.kind)
 
 -- a source that isn't sporadic, and on no clock
 abbrev is_plain : Source → Bool
@@ -63,15 +68,32 @@ pub read_all-printed : {X Y : Type 0} (read : Data → Option Y) (data_of : X �
 read_all-printed read data_of redraft each k [] = refl
 read_all-printed read data_of redraft each k (x ∷ xs) = rw (each x, read_all-printed read data_of redraft each (k + 1) xs) refl
 
-resource_by : (n : List ℕ) (k : Kind) (l : ℕ) → let r : Resource = record { name = n; kind = k; limit = l } in resource_entry (resource_data r) ≡ Some (redraft_resource r)
+-- a resource that is no queue is read in each format
+plain_resource_by : (format : Format) (n : List ℕ) (k : Kind) (l : ℕ) → not (is_queue k) ≡ true → let r : Resource = record { name = n; kind = k; limit = l } in resource_entry format (resource_data r) ≡ Some (redraft_resource r)
+unfolding resource_entry resource_data required optional has_only
+plain_resource_by format n Preemptive l h = refl
+plain_resource_by format n RoundRobin l h = refl
+plain_resource_by format n (Tdma gap) l h = refl
+plain_resource_by format n (Can bit) l h = refl
+plain_resource_by format n Fifo l h = absurd (false≢true h)
+
+-- and any resource in format 4
+resource_by : (n : List ℕ) (k : Kind) (l : ℕ) → let r : Resource = record { name = n; kind = k; limit = l } in resource_entry Four (resource_data r) ≡ Some (redraft_resource r)
 unfolding resource_entry resource_data required optional has_only
 resource_by n Preemptive l = refl
 resource_by n RoundRobin l = refl
 resource_by n (Tdma gap) l = refl
 resource_by n (Can bit) l = refl
+resource_by n Fifo l = refl
 
-resource-printed : (r : Resource) → resource_entry (resource_data r) ≡ Some (redraft_resource r)
+resource-printed : (r : Resource) → resource_entry Four (resource_data r) ≡ Some (redraft_resource r)
 resource-printed r = resource_by r.name r.kind r.limit
+
+plain_resources-printed : (format : Format) (k : ℕ) (rs : List Resource) → list_all is_no_queue rs ≡ true → read_all (resource_entry format) k (items_of (map resource_data rs)) ≡ Ok (map redraft_resource rs)
+plain_resources-printed format k [] h = refl
+plain_resources-printed format k (r ∷ rs) h =
+    let here = and_parts (is_no_queue r) (list_all is_no_queue rs) h in
+    rw (plain_resource_by format r.name r.kind r.limit here.0, plain_resources-printed format (k + 1) rs here.1) refl
 
 -- a plain source is read in each format
 plain_source_by : (format : Format) (r : Source) → r.sporadic ≡ false → r.on_clock ≡ None → source_entry format (source_data r) ≡ Some (redraft_source r)
@@ -126,12 +148,14 @@ plain_by : (format : Format) (s : SystemLists) (t : Task) (turn : Turn) → has_
 unfolding task_entry task_fields task_data task_names_data required optional has_only
 plain_by format s t (Priority number) plain after = rw (plain, after) refl
 plain_by format s t (Slot ticks) plain after = rw (plain, after) refl
+plain_by format s t Queued plain after = rw (plain, after) refl
 
 -- and one with a region in format 4
 region_by : (s : SystemLists) (t : Task) (turn : Turn) → has_no_region t ≡ false → let u : Task = record t { turn = turn } in task_entry Four (task_data s u) ≡ Some (redraft_task s u)
 unfolding task_entry task_fields task_data task_names_data required optional has_only
 region_by s t (Priority number) region = rw (region, list-printed s t.after) refl
 region_by s t (Slot ticks) region = rw (region, list-printed s t.after) refl
+region_by s t Queued region = rw (region, list-printed s t.after) refl
 
 task-printed : (s : SystemLists) (t : Task) → task_entry Four (task_data s t) ≡ Some (redraft_task s t)
 task-printed s t = elim (cases_Bool (has_no_region t)) [
@@ -163,16 +187,16 @@ path_by s p (Some deadline) = rw (names-printed s p.tasks) refl
 path-printed : (s : SystemLists) (p : Path) → path_entry (path_data s p) ≡ Some (redraft_path s p)
 path-printed s p = path_by s p p.deadline
 
--- the document of a system is read as its draft: that of a small one has no region
-draft_by : (z : Size) (s : SystemLists) → (z ≡ Small → list_all has_no_region s.tasks ≡ true) → (z ≡ Small → list_all is_plain s.sources ≡ true) → let u : SystemLists = record s { size = z } in draft_of (system_data u) ≡ Ok (redraft u)
+-- the document of a system is read as its draft: that of a small one has neither a region nor a queue
+draft_by : (z : Size) (s : SystemLists) → (z ≡ Small → list_all has_no_region s.tasks ≡ true) → (z ≡ Small → list_all is_plain s.sources ≡ true) → (z ≡ Small → list_all is_no_queue s.resources ≡ true) → let u : SystemLists = record s { size = z } in draft_of (system_data u) ≡ Ok (redraft u)
 unfolding draft_of lists_of has_form entries_at items_at system_data has_only redraft
-draft_by Small s plain steady =
+draft_by Small s plain steady unqueued =
     let u : SystemLists = record s { size = Small } in
     elim (cases_Bool (list_all has_one s.tasks)) [
       | inl one ↦
           rw (
             one,
-            read_all-printed resource_entry resource_data redraft_resource resource-printed 1 s.resources,
+            plain_resources-printed One 1 s.resources (unqueued refl),
             plain_sources-printed One 1 s.sources (steady refl),
             one_each-printed u 1 s.tasks (plain refl) one,
             read_all-printed path_entry (path_data u) (redraft_path u) (path-printed u) 1 s.paths,
@@ -181,17 +205,17 @@ draft_by Small s plain steady =
       | inr several ↦
           rw (
             several,
-            read_all-printed resource_entry resource_data redraft_resource resource-printed 1 s.resources,
+            plain_resources-printed Two 1 s.resources (unqueued refl),
             plain_sources-printed Two 1 s.sources (steady refl),
             two-printed u 1 s.tasks (plain refl),
             read_all-printed path_entry (path_data u) (redraft_path u) (path-printed u) 1 s.paths,
           )
           refl
     ]
-draft_by Large s plain steady =
+draft_by Large s plain steady unqueued =
     let u : SystemLists = record s { size = Large } in
     rw (
-      read_all-printed resource_entry resource_data redraft_resource resource-printed 1 s.resources,
+      read_all-printed (resource_entry Four) resource_data redraft_resource resource-printed 1 s.resources,
       read_all-printed (source_entry Four) source_data redraft_source source-printed 1 s.sources,
       read_all-printed (task_entry Four) (task_data u) (redraft_task u) (task-printed u) 1 s.tasks,
       read_all-printed path_entry (path_data u) (redraft_path u) (path-printed u) 1 s.paths,
@@ -219,8 +243,17 @@ plain-sources s rules small =
     list_all-from_AllPass is_plain s.sources
     (λ k r less. let sized = rules.sized.arrivals k r less in let u = get_or s.sources k r in plain-small s.size u.sporadic u.on_clock small sized.0 sized.1)
 
+no_queue-small : (z : Size) (queue : Bool) → z ≡ Small → queue_fits z queue ≡ true → not queue ≡ true
+no_queue-small Large queue small h = cc
+no_queue-small Small queue small h = h
+
+no-queues : (s : SystemLists) → IsSystem s → s.size ≡ Small → list_all is_no_queue s.resources ≡ true
+no-queues s rules small =
+    list_all-from_AllPass is_no_queue s.resources
+    (λ k r less. let u = get_or s.resources k r in no_queue-small s.size (is_queue u.kind) small (rules.sized.limits k r less).2)
+
 pub draft_of-printed : (s : SystemLists) → IsSystem s → draft_of (system_data s) ≡ Ok (redraft s)
-draft_of-printed s rules = draft_by s.size s (no-regions s rules) (plain-sources s rules)
+draft_of-printed s rules = draft_by s.size s (no-regions s rules) (plain-sources s rules) (no-queues s rules)
 
 -- no printed document is deep
 
@@ -235,6 +268,7 @@ resource-depth_by n Preemptive l = omega arith
 resource-depth_by n RoundRobin l = omega arith
 resource-depth_by n (Tdma gap) l = omega arith
 resource-depth_by n (Can bit) l = omega arith
+resource-depth_by n Fifo l = omega arith
 
 resource-depth : (r : Resource) → depth (resource_data r) ≤ 2
 resource-depth r = resource-depth_by r.name r.kind r.limit
@@ -266,6 +300,8 @@ task-depth_by s t (Priority number) true is = rw is (omega (arith, after-depth s
 task-depth_by s t (Priority number) false is = rw is (omega (arith, after-depth s t.after))
 task-depth_by s t (Slot ticks) true is = rw is (omega (arith, after-depth s t.after))
 task-depth_by s t (Slot ticks) false is = rw is (omega (arith, after-depth s t.after))
+task-depth_by s t Queued true is = rw is (omega (arith, after-depth s t.after))
+task-depth_by s t Queued false is = rw is (omega (arith, after-depth s t.after))
 
 task-depth : (s : SystemLists) (t : Task) → depth (task_data s t) ≤ 2
 task-depth s t = task-depth_by s t t.turn (has_no_region t) refl
@@ -305,6 +341,7 @@ resource-undated_by n Preemptive l = refl
 resource-undated_by n RoundRobin l = refl
 resource-undated_by n (Tdma gap) l = refl
 resource-undated_by n (Can bit) l = refl
+resource-undated_by n Fifo l = refl
 
 resource-undated : (r : Resource) → has_valid_dates (resource_data r) ≡ true
 resource-undated r = resource-undated_by r.name r.kind r.limit
@@ -336,6 +373,8 @@ task-undated_by s t (Priority number) true is = rw (is, after-undated s t.after)
 task-undated_by s t (Priority number) false is = rw (is, after-undated s t.after) refl
 task-undated_by s t (Slot ticks) true is = rw (is, after-undated s t.after) refl
 task-undated_by s t (Slot ticks) false is = rw (is, after-undated s t.after) refl
+task-undated_by s t Queued true is = rw (is, after-undated s t.after) refl
+task-undated_by s t Queued false is = rw (is, after-undated s t.after) refl
 
 task-undated : (s : SystemLists) (t : Task) → has_valid_dates (task_data s t) ≡ true
 task-undated s t = task-undated_by s t t.turn (has_no_region t) refl

@@ -3,28 +3,34 @@ use Rattle.std.specs.Prelude.{ℕ, Bool, true, false, List, [], ◌∷◌, Optio
 use Rattle.std.specs.Str.{bytes_eq}
 use Rattle.toml.specs.Data.{Data, Items, as_str, as_integer, as_bool, as_array}
 use Rattle.cpa_draft.specs.declared.draft.KindWord.{KindWord}
-use Rattle.cpa_draft.specs.declared.draft.KindWord.TheVariants.{Preemptive, RoundRobin, Tdma, Can}
+use Rattle.cpa_draft.specs.declared.draft.KindWord.TheVariants.{Preemptive, RoundRobin, Tdma, Can, Fifo}
 use Rattle.cpa_draft.specs.declared.draft.DraftResource.{DraftResource}
 use Rattle.cpa_draft.specs.declared.draft.DraftSource.{DraftSource}
 use Rattle.cpa_draft.specs.declared.draft.DraftTask.{DraftTask}
 use Rattle.cpa_draft.specs.declared.draft.DraftPath.{DraftPath}
 use Rattle.cpa_model.specs.Built.{has_executions}
 use Rattle.cpa_file.specs.declared.format.Format.{Format}
-use Rattle.cpa_file.specs.Formats.{has_lists, has_regions, has_more_of_sources}
+use Rattle.cpa_file.specs.Formats.{has_lists, has_regions, has_queues, has_more_of_sources}
 use Rattle.cpa_file.specs.Lists.{read_all}
 use Rattle.cpa_file.specs.Fields.{◌>>=◌, optional, required, has_only}
 
+-- the kind of a queue, where there are queues
+abbrev pub queue_kind : Bool → Option KindWord
+queue_kind true = Some Fifo
+queue_kind false = None
+
 -- the word for a kind
-abbrev pub kind_of_word : List ℕ → Option KindWord
-kind_of_word w =
+abbrev pub kind_of_word : Bool → List ℕ → Option KindWord
+kind_of_word queues w =
     if bytes_eq w (codes "preemptive") then Some Preemptive
     else if bytes_eq w (codes "round-robin") then Some RoundRobin
     else if bytes_eq w (codes "tdma") then Some Tdma
     else if bytes_eq w (codes "can") then Some Can
+    else if bytes_eq w (codes "fifo") then queue_kind queues
     else None
 
-abbrev pub as_kind : Data → Option KindWord
-as_kind d = as_str d >>= kind_of_word
+abbrev pub as_kind : Bool → Data → Option KindWord
+as_kind queues d = as_str d >>= kind_of_word queues
 
 -- texts
 abbrev pub list_or_none : {X : Type 0} → Result (List X) ℕ → Option (List X)
@@ -47,16 +53,30 @@ one_or_texts false None d = None
 abbrev pub as_after : Bool → Data → Option (List (List ℕ))
 as_after lists d = one_or_texts lists (as_str d) d
 
+-- the key of a resource that only some formats know
+abbrev pub rate_key : Bool → List (List ℕ)
+rate_key true = codes "rate" ∷ []
+rate_key false = []
+
+-- the keys that a resource may have
+abbrev pub resource_keys : Format → List (List ℕ)
+resource_keys format = codes "name" ∷ codes "kind" ∷ codes "limit" ∷ codes "gap" ∷ codes "bit" ∷ rate_key (has_queues format)
+
+-- those that nearly all resources have, and no others
+abbrev pub usual_resource_keys : List (List ℕ)
+usual_resource_keys = codes "name" ∷ codes "kind" ∷ codes "limit" ∷ codes "gap" ∷ codes "bit" ∷ []
+
 -- the entry, if it has the form of a resource
-unfoldable pub resource_entry : Data → Option DraftResource
-resource_entry d = do
+unfoldable pub resource_entry : Format → Data → Option DraftResource
+resource_entry format d = do
   name ← required as_str (codes "name") d
-  kind ← required as_kind (codes "kind") d
+  kind ← required (as_kind (has_queues format)) (codes "kind") d
   limit ← optional as_integer (codes "limit") d
   gap ← optional as_integer (codes "gap") d
   bit ← optional as_integer (codes "bit") d
-  if has_only (codes "name" ∷ codes "kind" ∷ codes "limit" ∷ codes "gap" ∷ codes "bit" ∷ []) d
-      then Some (record { name = name; kind = kind; limit = limit; gap = gap; bit = bit }) else None
+  rate ← optional as_integer (codes "rate") d
+  if has_only (resource_keys format) d
+      then Some (record { name = name; kind = kind; limit = limit; gap = gap; bit = bit; rate = rate }) else None
 
 -- the key that only some formats know
 abbrev pub region_key : Bool → List (List ℕ)

@@ -29,6 +29,12 @@ has_more_of_sources One = false
 has_more_of_sources Two = false
 has_more_of_sources Four = true
 
+-- in format 4 a resource may be a queue
+abbrev pub has_queues : Format → Bool
+has_queues One = false
+has_queues Two = false
+has_queues Four = true
+
 -- in format 4 a system may be large
 abbrev pub size_of : Format → Size
 size_of One = Small

@@ -15,9 +15,9 @@ use Rattle.cpa_model.specs.declared.entries.OnClock.{OnClock}
 use Rattle.cpa_model.specs.declared.entries.Task.{Task}
 use Rattle.cpa_model.specs.declared.entries.Path.{Path}
 use Rattle.cpa_model.specs.declared.entries.Kind.{Kind}
-use Rattle.cpa_model.specs.declared.entries.Kind.TheVariants.{Preemptive, RoundRobin, Tdma, Can}
+use Rattle.cpa_model.specs.declared.entries.Kind.TheVariants.{Preemptive, RoundRobin, Tdma, Can, Fifo}
 use Rattle.cpa_model.specs.declared.entries.Turn.{Turn}
-use Rattle.cpa_model.specs.declared.entries.Turn.TheVariants.{Priority, Slot}
+use Rattle.cpa_model.specs.declared.entries.Turn.TheVariants.{Priority, Slot, Queued}
 use Rattle.cpa_model.specs.declared.entries.Activator.{Activator}
 use Rattle.cpa_model.specs.SystemLists.{SystemLists, resource_at, task_at, activator_name}
 use Rattle.cpa_file.specs.Document.{document_of}
@@ -32,6 +32,7 @@ kind_text Preemptive = codes "preemptive"
 kind_text RoundRobin = codes "round-robin"
 kind_text (Tdma gap) = codes "tdma"
 kind_text (Can bit) = codes "can"
+kind_text Fifo = codes "fifo"
 
 -- the number that goes with a kind
 abbrev pub with_kind_number : Kind → Members → Members
@@ -66,6 +67,7 @@ source_data r = table (with_clock r.on_clock (with_sporadic r.sporadic (source_n
 abbrev pub with_turn : Turn → Members → Members
 with_turn (Priority number) ms = put (codes "priority") (integer (pos number)) ms
 with_turn (Slot ticks) ms = put (codes "slot") (integer (pos ticks)) ms
+with_turn Queued ms = ms
 
 abbrev pub activator_data : SystemLists → Activator → Data
 activator_data s a = string (activator_name s a)

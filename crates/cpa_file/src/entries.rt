@@ -5,7 +5,8 @@ ghost use Rattle.toml.specs.View.{view, items_view};
 ghost use Rattle.cpa_file.specs.Lists.{GivesList, read_all};
 ghost use Rattle.toml.specs.Data.{as_str};
 ghost use Rattle.cpa_file.specs.Fields.{Gives, required, optional, has_only};
-ghost use Rattle.cpa_file.specs.Entries.{source_keys, usual_source_keys, source_fields, has_offset_on_clock, kind_of_word, as_kind, as_texts, as_after, usual_keys, task_keys, task_fields};
+ghost use Rattle.cpa_file.specs.Entries.{queue_kind, resource_keys, usual_resource_keys, resource_entry, source_keys, usual_source_keys, source_fields, has_offset_on_clock, kind_of_word, as_kind, as_texts, as_after, usual_keys, task_keys, task_fields};
+ghost use Rattle.cpa_file.specs.Formats.{has_queues};
 ghost use Rattle.cpa_model.specs.Built.{has_executions};
 
 use crate::fault::ReadFault;
@@ -18,27 +19,35 @@ use cpa_model::{DraftPath, DraftResource, DraftSource, DraftTask, KindWord, Raw,
 use std::alloc::Global;
 use toml::Value;
 
-fn kind_named(word: &str) -> Option<KindWord>
-    ensures { result ≡ kind_of_word word.now }
+/// The kind of a queue, where a file may have queues.
+fn queue_kind(queues: bool) -> Option<KindWord>
+    ensures { result ≡ queue_kind queues }
+{
+    if queues { Some(KindWord::Fifo) } else { None }
+}
+
+fn kind_named(queues: bool, word: &str) -> Option<KindWord>
+    ensures { result ≡ kind_of_word queues word.now }
 {
     match word {
         "preemptive" => Some(KindWord::Preemptive),
         "round-robin" => Some(KindWord::RoundRobin),
         "tdma" => Some(KindWord::Tdma),
         "can" => Some(KindWord::Can),
+        "fifo" => queue_kind(queues),
         _ => None,
     }
 }
 
 #[tactic(auto, unfolding(crate::specs::Fields::required))]
-fn required_kind(entry: &Value, key: &str) -> Result<KindWord, ReadFault>
-    ensures { Gives result (required as_kind key.now (view entry.now)) }
+fn required_kind(format: Format, entry: &Value, key: &str) -> Result<KindWord, ReadFault>
+    ensures { Gives result (required (as_kind (has_queues format)) key.now (view entry.now)) }
 {
     match entry.get(key) {
         None => Err(ReadFault::Malformed),
         Some(value) => match value.as_str() {
             None => Err(ReadFault::Malformed),
-            Some(word) => match kind_named(word) {
+            Some(word) => match kind_named(format.has_queues(), word) {
                 None => Err(ReadFault::Malformed),
                 Some(kind) => Ok(kind),
             },
@@ -54,36 +63,67 @@ pub trait Entry: Drop {
     ghost use Rattle.cpa_file.specs.Fields.{Gives};
     ghost use Rattle.cpa_file.specs.declared.format.Format.{Format};
 
-    /// The entry, if it has the form; what a task may have goes by the format.
+    /// The entry, if it has the form; what an entry may have goes by the format.
     ghost entry: { Format → Data → Option Self };
 
     fn read(alloc: Global, format: Format, value: &Value) -> Result<Self, ReadFault>
         ensures { Gives result (entry format (view value.now)) };
 }
 
+/// Whether an entry has no key but those that nearly all resources have.
+fn has_usual_resource_keys(value: &Value) -> bool
+    ensures { result ≡ has_only usual_resource_keys (view value.now) }
+{
+    only_has(value, &["name", "kind", "limit", "gap", "bit"])
+}
+
+/// Whether an entry has no key but those that a resource may have, where it is known whether these are usual ones alone.
+fn has_resource_keys(format: Format, value: &Value, usual: bool) -> bool
+    requires { usual ≡ has_only usual_resource_keys (view value.now) }
+    ensures { result ≡ has_only (resource_keys format) (view value.now) }
+{
+    if usual {
+        return true;
+    }
+    if format.has_queues() {
+        only_has(value, &["name", "kind", "limit", "gap", "bit", "rate"])
+    } else {
+        false
+    }
+}
+
+#[tactic(auto, unfolding(crate::specs::Entries::resource_entry))]
+fn read_resource(alloc: Global, format: Format, value: &Value) -> Result<DraftResource, ReadFault>
+    ensures { Gives result (resource_entry format (view value.now)) }
+{
+    let usual = has_usual_resource_keys(value);
+    let name = required_text(alloc, value, "name")?;
+    let kind = required_kind(format, value, "kind")?;
+    let limit = optional_integer(value, "limit")?;
+    let gap = optional_integer(value, "gap")?;
+    let bit = optional_integer(value, "bit")?;
+    let rate = optional_integer_unless(usual, value, "rate")?;
+    if has_resource_keys(format, value, usual) {
+        Ok(DraftResource {
+            name,
+            kind,
+            limit,
+            gap,
+            bit,
+            rate,
+        })
+    } else {
+        Err(ReadFault::Malformed)
+    }
+}
+
 impl Entry for DraftResource {
     ghost use Rattle.cpa_file.specs.Entries.{resource_entry};
 
-    ghost entry = { λ format. resource_entry };
+    ghost entry = { resource_entry };
 
-    #[tactic(auto, unfolding(crate::specs::Entries::resource_entry))]
-    fn read(alloc: Global, _format: Format, value: &Value) -> Result<DraftResource, ReadFault> {
-        let name = required_text(alloc, value, "name")?;
-        let kind = required_kind(value, "kind")?;
-        let limit = optional_integer(value, "limit")?;
-        let gap = optional_integer(value, "gap")?;
-        let bit = optional_integer(value, "bit")?;
-        if only_has(value, &["name", "kind", "limit", "gap", "bit"]) {
-            Ok(DraftResource {
-                name,
-                kind,
-                limit,
-                gap,
-                bit,
-            })
-        } else {
-            Err(ReadFault::Malformed)
-        }
+    fn read(alloc: Global, format: Format, value: &Value) -> Result<DraftResource, ReadFault> {
+        read_resource(alloc, format, value)
     }
 }
 

@@ -1,7 +1,7 @@
 //! The formats of system files.
 
 ghost use Rattle.std.specs.Prelude.{◌≡◌};
-ghost use Rattle.cpa_file.specs.Formats.{format_with, has_lists, has_regions, has_more_of_sources, size_of};
+ghost use Rattle.cpa_file.specs.Formats.{format_with, has_lists, has_regions, has_more_of_sources, has_queues, size_of};
 
 use cpa_units::limits::Size;
 
@@ -12,7 +12,7 @@ pub enum Format {
     One,
     /// Tasks with several activators.
     Two,
-    /// Tasks with regions, sporadic sources, sources on clocks, and large systems.
+    /// Tasks with regions, sporadic sources, sources on clocks, queues, and large systems.
     Four,
 }
 
@@ -60,6 +60,13 @@ impl Format {
     /// Whether a source may be sporadic, and on a clock.
     pub(crate) fn has_more_of_sources(self) -> bool
         ensures { result ≡ has_more_of_sources self }
+    {
+        matches!(self, Format::Four)
+    }
+
+    /// Whether a resource may be a queue.
+    pub(crate) fn has_queues(self) -> bool
+        ensures { result ≡ has_queues self }
     {
         matches!(self, Format::Four)
     }

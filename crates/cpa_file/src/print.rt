@@ -67,6 +67,7 @@ fn kind_word(kind: Kind) -> &'static str
         Kind::RoundRobin => "round-robin",
         Kind::Tdma { .. } => "tdma",
         Kind::Can { .. } => "can",
+        Kind::Fifo => "fifo",
     }
 }
 
@@ -77,6 +78,7 @@ fn put_kind_number(alloc: Global, entry: &mut Table, kind: Kind) -> Result<(), N
     match kind {
         Kind::Preemptive => Ok(()),
         Kind::RoundRobin => Ok(()),
+        Kind::Fifo => Ok(()),
         Kind::Tdma { gap } => put_number(alloc, entry, "gap", gap),
         Kind::Can { bit } => put_number(alloc, entry, "bit", bit),
     }
@@ -220,6 +222,7 @@ fn put_turn(alloc: Global, entry: &mut Table, turn: Turn) -> Result<(), NoMemory
     match turn {
         Turn::Priority(number) => put_number(alloc, entry, "priority", u64::from(number)),
         Turn::Slot(ticks) => put_number(alloc, entry, "slot", ticks),
+        Turn::Queued => Ok(()),
     }
 }
 
@@ -335,7 +338,7 @@ fn have_one(system: &System) -> bool
     true
 }
 
-/// The least format that can say a system of its size: no small one has a region.
+/// The least format that can say a system of its size: no small one has a region or a queue.
 fn format_of(system: &System) -> u64
     ensures { result ≡ format_of system.now }
 {

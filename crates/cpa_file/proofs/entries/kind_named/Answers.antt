@@ -12,3 +12,6 @@ returns-in-tdma c = rw (c.in-tdma.is) refl
 
 pub returns-in-can : goal.returns-in-can
 returns-in-can c = rw (c.in-can.is) refl
+
+pub returns-in-fifo : goal.returns-in-fifo
+returns-in-fifo c = rw (c.in-fifo.is) c.queue_kind.ensures
