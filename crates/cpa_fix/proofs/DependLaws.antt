@@ -1,19 +1,22 @@
 -- The bounds on a resource depend on what it reads alone; so clean resources everywhere make a least solution.
-use Rattle.std.proofs.Common.{◌≡◌, ℕ, zero, suc, ◌<◌, length, Bool, true, List, [], ◌∷◌, map, Option, Some, None, refl, sym, ap, ◌∙◌, inl, inr, subst}
+use Rattle.std.proofs.Common.{◌≡◌, ℕ, zero, suc, ◌*◌, ◌<◌, length, Bool, true, List, [], ◌∷◌, map, Option, Some, None, refl, sym, ap, ◌∙◌, inl, inr, subst}
 use Rattle.std.specs.List.{filter}
 use Rattle.std.proofs.lemmas.Bool.{cases_lt, cases_Bool, and_parts, eqb-true, false≢true}
 use Rattle.cpa_units.specs.declared.bound.Bound.{Bound}
+use Rattle.cpa_units.specs.declared.bound.Bound.TheVariants.{Within}
 use Rattle.cpa_units.specs.declared.limits.TheConstants.{MAX_CHAIN}
-use Rattle.cpa_units.specs.Bounds.{IsNowhereAbove, bound_of}
+use Rattle.cpa_units.specs.Bounds.{IsNowhereAbove, bound_of, bound_plus}
 use Rattle.cpa_units.proofs.BoundLaws.{zero_at_most}
-use Rattle.cpa_events.specs.Events.{Model}
+use Rattle.cpa_events.specs.Events.{Model, eta_plus}
 use Rattle.cpa_window.specs.declared.rivals.Rival.{Rival}
+use Rattle.cpa_window.proofs.RivalLaws.{load_of, work_in-same}
+use Rattle.cpa_fifo.proofs.FifoBoundLaws.{fifo_bound-same}
 use Rattle.cpa_rr.specs.RoundRobin.{round_robin_bound}
 use Rattle.cpa_clock.specs.Clocked.{clocked_preemptive_bound, clocked_can_bound}
 use Rattle.cpa_model.specs.Clocks.{clock_cycle}
 use Rattle.cpa_model.specs.declared.entries.Kind.{Kind}
-use Rattle.cpa_model.specs.declared.entries.Kind.TheVariants.{Preemptive, RoundRobin, Tdma, Can}
-use Rattle.cpa_model.specs.SystemLists.{SystemLists, task_at, resource_at, resource_of, task_places, slot_of, is_higher, is_other, shares_resource, higher_tasks, no_task}
+use Rattle.cpa_model.specs.declared.entries.Kind.TheVariants.{Preemptive, RoundRobin, Tdma, Can, Fifo}
+use Rattle.cpa_model.specs.SystemLists.{SystemLists, task_at, resource_at, resource_of, task_places, slot_of, is_higher, is_other, shares_resource, higher_tasks, other_tasks, no_task}
 use Rattle.cpa_model.specs.Rules.{IsSystem, IsTask}
 use Rattle.cpa_model.specs.Kinds.{has_feedback}
 use Rattle.cpa_local.specs.Blocking.{blocking_of}
@@ -21,6 +24,7 @@ use Rattle.cpa_local.specs.Inputs.{input_along, input}
 use Rattle.cpa_local.specs.Local.{rival_of, bound_by_kind, bound_at_input, response}
 use Rattle.cpa_local.specs.OnClocks.{anchors_of, clocked_rival_of}
 use Rattle.cpa_local.specs.Solution.{IsClosed, IsVector, least_of}
+use Rattle.cpa_local.proofs.PassingPlaces.{map-map}
 use Rattle.cpa_local.proofs.ResponseLaws.{bound_of-responses, bound_of-responses_past}
 use Rattle.cpa_local.proofs.SentLaws.{sent_all-same}
 use Rattle.cpa_local.proofs.SolutionLaws.{least_of-from_closed}
@@ -63,12 +67,23 @@ module _ (s : SystemLists) (x y : List Bound) where
         map-filter-same (is_higher s i) (clocked_rival_of s x) (clocked_rival_of s y) (task_places s)
         (λ j p. ap (λ m. record { model = m; anchors = anchors_of s j; worst = (task_at s j).worst }) (own_input j (shares r i j on (and_parts _ _ p).0)))
 
+    -- what others ask for, whatever their bounds
+    other_loads-same : (i : ℕ) → (task_at s i).res.0 ≡ r → map load_of (map (rival_of s x) (other_tasks s i)) ≡ map load_of (map (rival_of s y) (other_tasks s i))
+    other_loads-same i on =
+        map-map load_of (rival_of s x) (other_tasks s i)
+        ∙ map-filter-same (is_other s i) (λ j. load_of (rival_of s x j)) (λ j. load_of (rival_of s y j)) (task_places s)
+        (λ j p. ap (λ m. (m, (task_at s j).worst)) (own_input j (shares r i j on (and_parts _ _ p).0)))
+        ∙ sym (map-map load_of (rival_of s y) (other_tasks s i))
+
     module _ (turns : (i : ℕ) (own : Model) → (task_at s i).res.0 ≡ r → (resource_of s i).kind ≡ RoundRobin → bound_by_kind s x i own RoundRobin ≡ bound_by_kind s y i own RoundRobin) where
       bound_by_kind-same : (i : ℕ) (own : Model) (kind : Kind) → (task_at s i).res.0 ≡ r → (resource_of s i).kind ≡ kind → bound_by_kind s x i own kind ≡ bound_by_kind s y i own kind
       bound_by_kind-same i own Preemptive on e =
           ap (λ rivals. clocked_preemptive_bound own (anchors_of s i) (task_at s i).worst (blocking_of s Preemptive i) rivals (clock_cycle s) (length s.sources) (resource_of s i).limit) (rivals-same i on)
       bound_by_kind-same i own RoundRobin on e = turns i own on e
       bound_by_kind-same i own (Tdma gap) on e = refl
+      bound_by_kind-same i own Fifo on e =
+          fifo_bound-same own own (task_at s i).worst (task_at s i).worst (map (rival_of s x) (other_tasks s i)) (map (rival_of s y) (other_tasks s i)) (resource_of s i).limit
+          (λ w. ap (bound_plus (Within (eta_plus own w * (task_at s i).worst))) (work_in-same (map (rival_of s x) (other_tasks s i)) (map (rival_of s y) (other_tasks s i)) w (other_loads-same i on)))
       bound_by_kind-same i own (Can bit) on e =
           ap (λ rivals. clocked_can_bound own (anchors_of s i) (task_at s i).worst (blocking_of s (Can bit) i) rivals (clock_cycle s) (length s.sources) bit (resource_of s i).limit) (rivals-same i on)
 

@@ -7,6 +7,7 @@ pub mod PathLaws
 pub mod OnlyTask
 pub mod WiderLaws
 pub mod WholeLaws
+pub mod QueueLaws
 pub mod ResponseLaws
 pub mod RivalLaws
 pub mod PlainLaws
@@ -15,6 +16,7 @@ pub mod TrailLaws
 pub mod VectorLaws
 pub mod WorkedCases
 pub mod WorkedClocks
+pub mod WorkedQueues
 pub mod PlaceLists
 pub mod RaisingLaws
 pub mod RaisedLaws
@@ -23,6 +25,7 @@ pub mod PassingPlaces
 pub mod SourceChanges
 pub mod RaisingChanges
 pub mod RisingLaws
+pub mod OneQueue
 pub mod AnchorLists
 pub mod ClockedInputs
 pub mod OffClocks

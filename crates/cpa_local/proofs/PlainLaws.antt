@@ -12,7 +12,7 @@ use Rattle.cpa_clock.specs.Wider.{AreSameRivals, AreOffClocks}
 use Rattle.cpa_clock.specs.Laws.{PlainBoundsAreTheSame}
 use Rattle.cpa_clock.proofs.OffLaws.{preemptive-off, can-off}
 use Rattle.cpa_model.specs.declared.entries.Kind.{Kind}
-use Rattle.cpa_model.specs.declared.entries.Kind.TheVariants.{Preemptive, RoundRobin, Tdma, Can}
+use Rattle.cpa_model.specs.declared.entries.Kind.TheVariants.{Preemptive, RoundRobin, Tdma, Can, Fifo}
 use Rattle.cpa_model.specs.declared.entries.Activator.{Activator}
 use Rattle.cpa_model.specs.declared.entries.Activator.TheVariants.{Source as FromSource, Task as FromTask}
 use Rattle.cpa_model.specs.Clocks.{has_clocks, clock_cycle}
@@ -95,6 +95,7 @@ module _ (same : PlainBoundsAreTheSame) (s : SystemLists) (x : List Bound) (i : 
   by_kind-plain own RoundRobin = refl
   by_kind-plain own (Tdma gap) = refl
   by_kind-plain own (Can bit) = can-plain own bit
+  by_kind-plain own Fifo = refl
 
   pub response-off : response s x i ≡ plain_response s x i
   unfolding response plain_response

@@ -13,11 +13,12 @@ use Rattle.cpa_clock.specs.Clocked.{clocked_preemptive_bound, clocked_can_bound}
 use Rattle.cpa_clock.specs.Wider.{AreWider, IsInputWider, IsRivalWider, AreRivalsWider}
 use Rattle.cpa_clock.proofs.BoundLaws.{clocked_preemptive_bound-grows, clocked_can_bound-grows}
 use Rattle.cpa_clock.proofs.WiderLaws.{wide-denser}
+use Rattle.cpa_fifo.proofs.FifoBoundLaws.{fifo_bound-mono}
 use Rattle.cpa_rr.proofs.RoundRobinLaws.{round_robin_bound-mono}
 use Rattle.cpa_tdma.proofs.TdmaLaws.{tdma_bound-mono}
 use Rattle.cpa_model.specs.declared.entries.Resource.{Resource}
 use Rattle.cpa_model.specs.declared.entries.Kind.{Kind}
-use Rattle.cpa_model.specs.declared.entries.Kind.TheVariants.{Preemptive, RoundRobin, Tdma, Can}
+use Rattle.cpa_model.specs.declared.entries.Kind.TheVariants.{Preemptive, RoundRobin, Tdma, Can, Fifo}
 use Rattle.cpa_model.specs.declared.entries.Activator.{Activator}
 use Rattle.cpa_model.specs.declared.entries.Activator.TheVariants.{Source as FromSource, Task as FromTask}
 use Rattle.cpa_model.specs.Clocks.{clock_cycle}
@@ -113,6 +114,7 @@ module _ (s t : SystemLists) (rules : IsSystem s) (up : IsRaising s t) (x y : Li
     blocking_by_up RoundRobin j j_less = omega arith
     blocking_by_up (Tdma gap) j j_less = omega arith
     blocking_by_up (Can bit) j j_less = (up.tasks j j_less).worst
+    blocking_by_up Fifo j j_less = omega arith
 
     blocking_up : (kind : Kind) → blocking_of s kind i ≤ blocking_of t kind i
     blocking_up kind =
@@ -142,6 +144,9 @@ module _ (s t : SystemLists) (rules : IsSystem s) (up : IsRaising s t) (x y : Li
         rw (← limit, ← own.turn)
         (tdma_bound-mono m n (task_at s i).worst (task_at t i).worst (slot_of (task_at s i).turn) (cycle_of s (task_at s i).res.0) (cycle_of t (task_at t i).res.0) (resource_of s i).limit (wide-denser (anchors_of s i) (anchors_of t i) 0 m n d) own.worst cycle_up)
     by_kind_up m n (Can bit) d = can_up m n bit d
+    by_kind_up m n Fifo d =
+        rw (← resource_as)
+        (fifo_bound-mono m n (task_at s i).worst (task_at t i).worst _ _ (resource_of s i).limit (wide-denser (anchors_of s i) (anchors_of t i) 0 m n d) own.worst others_heavier)
 
     at_input_up : (m n : Option Model) → IsInputWider (anchors_of s i) (anchors_of t i) m n → IsAtMost (bound_at_input s x i m) (bound_at_input t y i n)
     at_input_up m None d = tt

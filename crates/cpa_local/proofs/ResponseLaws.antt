@@ -14,6 +14,7 @@ use Rattle.cpa_events.specs.Events.{Model}
 use Rattle.cpa_events.specs.Streams.{IsStream}
 use Rattle.cpa_events.proofs.EventLaws.{one-is_model, after_response-is_model}
 use Rattle.cpa_window.specs.Rivals.{IsInput, IsInputNoDenser, AreNoHeavier}
+use Rattle.cpa_fifo.proofs.FifoBoundLaws.{fifo_bound-mono, fifo_bound-limit}
 use Rattle.cpa_rr.proofs.RoundRobinLaws.{round_robin_bound-mono, round_robin_bound-low, round_robin_bound-high}
 use Rattle.cpa_tdma.proofs.TdmaLaws.{tdma_bound-mono, tdma_bound-low, tdma_bound-high}
 use Rattle.cpa_clock.specs.Wider.{AreWider, IsInputWider, AreRivalsWider}
@@ -22,7 +23,7 @@ use Rattle.cpa_clock.proofs.WiderLaws.{wide-denser}
 use Rattle.cpa_clock.proofs.RangeLaws.{OnlyReturns, clocked_preemptive_bound-low, clocked_can_bound-low, clocked_preemptive_bound-limit, clocked_can_bound-limit}
 use Rattle.cpa_model.specs.Clocks.{clock_cycle}
 use Rattle.cpa_model.specs.declared.entries.Kind.{Kind}
-use Rattle.cpa_model.specs.declared.entries.Kind.TheVariants.{Preemptive, RoundRobin, Tdma, Can}
+use Rattle.cpa_model.specs.declared.entries.Kind.TheVariants.{Preemptive, RoundRobin, Tdma, Can, Fifo}
 use Rattle.cpa_model.specs.declared.entries.Activator.{Activator}
 use Rattle.cpa_model.specs.declared.entries.Activator.TheVariants.{Source as FromSource, Task as FromTask}
 use Rattle.cpa_model.specs.SystemLists.{SystemLists, task_at, source_at, resource_of, slot_of, higher_tasks, other_tasks, cycle_of, is_task, no_source, no_task}
@@ -34,6 +35,7 @@ use Rattle.cpa_local.specs.Inputs.{output_of, sent_by, joined, sent_by_all, inpu
 use Rattle.cpa_local.specs.OnClocks.{anchors_of, clocked_rival_of}
 use Rattle.cpa_local.specs.Raising.{IsDenserActivator}
 use Rattle.cpa_local.specs.Local.{rival_of, bound_by_kind, bound_at_input, response, responses}
+use Rattle.cpa_local.proofs.QueueLaws.{queue_bound-ge}
 use Rattle.cpa_local.proofs.SentLaws.{is_task-itself}
 use Rattle.cpa_local.proofs.WiderLaws.{input-wider, input_wider-denser, each-itself, denser-itself}
 use Rattle.cpa_local.proofs.WholeLaws.{AreWhole, input-some, input-returns, system-whole}
@@ -106,6 +108,7 @@ module _ (t : SystemLists) (n : ℕ) (y : List Bound) (whole : AreWhole t n) whe
   bound_by_kind-ge i own (Tdma gap) some returns = tdma_bound-low own (task_at t i).worst (slot_of (task_at t i).turn) (cycle_of t (task_at t i).res.0) (resource_of t i).limit
   bound_by_kind-ge i own (Can bit) some returns =
       clocked_can_bound-low (task_at t i).worst (blocking_of t (Can bit) i) (map (clocked_rival_of t y) (higher_tasks t i)) (clock_cycle t) (length t.sources) (resource_of t i).limit own (anchors_of t i) bit some returns
+  bound_by_kind-ge i own Fifo some returns = queue_bound-ge own (task_at t i).worst (map (rival_of t y) (other_tasks t i)) (resource_of t i).limit some
 
   -- a bound of one of the first tasks of a system is at least the task's greatest execution, where sources and these start them
   pub response-ge_first : (i : ℕ) → i < n → IsAtMost (Within (task_at t i).worst) (response t y i)
@@ -130,6 +133,7 @@ module _ (s : SystemLists) (x : List Bound) where
   bound_by_kind-limit i own (Tdma gap) = tdma_bound-high own (task_at s i).worst (slot_of (task_at s i).turn) (cycle_of s (task_at s i).res.0) (resource_of s i).limit
   bound_by_kind-limit i own (Can bit) =
       clocked_can_bound-limit (task_at s i).worst (blocking_of s (Can bit) i) (map (clocked_rival_of s x) (higher_tasks s i)) (clock_cycle s) (length s.sources) (resource_of s i).limit own (anchors_of s i) bit
+  bound_by_kind-limit i own Fifo = fifo_bound-limit own (task_at s i).worst (map (rival_of s x) (other_tasks s i)) (resource_of s i).limit
 
   bound_at_input-limit : (i : ℕ) (m : Option Model) → RespectsLimit (resource_of s i).limit (bound_at_input s x i m)
   bound_at_input-limit i (Some own) = bound_by_kind-limit i own (resource_of s i).kind
@@ -173,6 +177,8 @@ module _ (s : SystemLists) (x y : List Bound) (below : IsNowhereAbove x y) where
   bound_by_kind-mono i m n (Can bit) d =
       clocked_can_bound-grows (task_at s i).worst (task_at s i).worst (blocking_of s (Can bit) i) (blocking_of s (Can bit) i) (map (clocked_rival_of s x) (higher_tasks s i)) (map (clocked_rival_of s y) (higher_tasks s i)) (clock_cycle s) (length s.sources) (resource_of s i).limit (omega arith) (omega arith)
       (clocked_rivals-wider (higher_tasks s i)) m n (anchors_of s i) (anchors_of s i) bit d
+  bound_by_kind-mono i m n Fifo d =
+      fifo_bound-mono m n (task_at s i).worst (task_at s i).worst _ _ (resource_of s i).limit (wide-denser (anchors_of s i) (anchors_of s i) 0 m n d) (omega arith) (rivals-mono (other_tasks s i))
 
   bound_at_input-mono : (i : ℕ) (m n : Option Model) → IsInputWider (anchors_of s i) (anchors_of s i) m n → IsAtMost (bound_at_input s x i m) (bound_at_input s y i n)
   bound_at_input-mono i m None d = tt

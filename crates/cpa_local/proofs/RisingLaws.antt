@@ -1,5 +1,5 @@
 -- What raising one bound does.
-use Rattle.std.proofs.Common.{◌≡◌, ℕ, ◌+◌, ◌<◌, ◌≤◌, length, set, List, get_or, refl, sym, ap, ◌∙◌, inl, inr, subst, arith, get_or-set_same, get_or-set_other, length-set}
+use Rattle.std.proofs.Common.{◌≡◌, ℕ, ◌+◌, ◌<◌, ◌≤◌, length, set, true, List, get_or, refl, sym, ap, ◌∙◌, inl, inr, subst, arith, get_or-set_same, get_or-set_other, length-set}
 use Rattle.std.proofs.lemmas.Bool.{cases_eq}
 use Rattle.cpa_units.specs.declared.bound.Bound.{Bound}
 use Rattle.cpa_units.specs.declared.bound.Bound.TheVariants.{Within}
@@ -8,9 +8,10 @@ use Rattle.cpa_units.specs.declared.places.TaskId.{TaskId}
 use Rattle.cpa_units.specs.declared.limits.TheConstants.{MAX_LIMIT}
 use Rattle.cpa_units.proofs.BoundLaws.{IsAtMost_refl, IsAtMost_trans, IsNowhereAbove_trans, le-bound_max_left, le-bound_max_right, bound_max-le, bound_max-limit}
 use Rattle.cpa_model.specs.declared.entries.Kind.{Kind}
-use Rattle.cpa_model.specs.declared.entries.Kind.TheVariants.{Preemptive, RoundRobin, Tdma, Can}
+use Rattle.cpa_model.specs.declared.entries.Kind.TheVariants.{Preemptive, RoundRobin, Tdma, Can, Fifo}
 use Rattle.cpa_model.specs.SystemLists.{SystemLists, task_at, resource_at, places_of, tasks_on}
 use Rattle.cpa_model.specs.Rules.{IsSystem}
+use Rattle.cpa_model.specs.Kinds.{is_queue}
 use Rattle.cpa_model.proofs.SystemLaws.{no_id}
 use Rattle.cpa_model.proofs.ResourceTaskLaws.{on-each, on-found}
 use Rattle.cpa_local.specs.Inputs.{AreInputs}
@@ -33,12 +34,12 @@ pub IsRisen_trans : (s : SystemLists) (a b c : List Bound) → IsRisen s a b →
 IsRisen_trans s a b c first second =
     record { vector = second.vector; up = IsNowhereAbove_trans a b c first.up second.up; below = second.below }
 
--- the bound of one task raised by its analysis
-pub risen-set : (s : SystemLists) (x : List Bound) (i : ℕ) → IsSystem s → i < length s.tasks → IsVector s x → IsNowhereAbove x (least_of s) → IsRisen s x (set x i (bound_max (response s x i) (bound_of x i)))
-risen-set s x i rules h vector below =
-    let b = bound_max (response s x i) (bound_of x i) in
+-- the bound of one task raised by its analysis at a vector that may be lower
+pub risen-from : (s : SystemLists) (old x : List Bound) (i : ℕ) → IsSystem s → i < length s.tasks → IsNowhereAbove old (least_of s) → IsVector s x → IsNowhereAbove x (least_of s) → IsRisen s x (set x i (bound_max (response s old i) (bound_of x i)))
+risen-from s old x i rules h old_below vector below =
+    let b = bound_max (response s old i) (bound_of x i) in
     let here : i < length x = rw vector.long h in
-    let up : IsAtMost (bound_of x i) b = le-bound_max_right (response s x i) (bound_of x i) in
+    let up : IsAtMost (bound_of x i) b = le-bound_max_right (response s old i) (bound_of x i) in
     record {
       vector = record {
         long = length-set x i b ∙ vector.long;
@@ -47,7 +48,7 @@ risen-set s x i rules h vector below =
           | inr other ↦ rw (bound_of-set_other x i j b other) (vector.low j k)
         ];
         high = λ j k. elim (cases_eq j i) [
-          | inl same ↦ rw (same, bound_of-set_same x i b here) (bound_max-limit MAX_LIMIT (response s x i) (bound_of x i) (response-high s rules x i h) (vector.high i h))
+          | inl same ↦ rw (same, bound_of-set_same x i b here) (bound_max-limit MAX_LIMIT (response s old i) (bound_of x i) (response-high s rules old i h) (vector.high i h))
           | inr other ↦ rw (bound_of-set_other x i j b other) (vector.high j k)
         ];
       };
@@ -56,10 +57,14 @@ risen-set s x i rules h vector below =
         | inr other ↦ rw (bound_of-set_other x i j b other) (IsAtMost_refl (bound_of x j))
       ];
       below = λ j. elim (cases_eq j i) [
-        | inl same ↦ rw (same, bound_of-set_same x i b here) (bound_max-le (response s x i) (bound_of x i) (bound_of (least_of s) i) (response-below s x i h below) (below i))
+        | inl same ↦ rw (same, bound_of-set_same x i b here) (bound_max-le (response s old i) (bound_of x i) (bound_of (least_of s) i) (response-below s old i h old_below) (below i))
         | inr other ↦ rw (bound_of-set_other x i j b other) (below j)
       ];
     }
+
+-- and at this one
+pub risen-set : (s : SystemLists) (x : List Bound) (i : ℕ) → IsSystem s → i < length s.tasks → IsVector s x → IsNowhereAbove x (least_of s) → IsRisen s x (set x i (bound_max (response s x i) (bound_of x i)))
+risen-set s x i rules h vector below = risen-from s x x i rules h below vector below
 
 -- so far the first tasks of the resource
 pub record IsRaisedTo (s : SystemLists) (r : ℕ) (tasks : List TaskId) (old new : List Bound) (count : ℕ) : Type 0 where
@@ -73,16 +78,16 @@ answered-whole s r tasks old new count are all h i less on =
     let at = on-found s r tasks are i no_id less on in
     subst (λ (j : ℕ). IsAtMost (response s old j) (bound_of new j)) at.2 (h.answered at.0 (omega (arith, at.1)))
 
--- a task is analysed at the vector as it has risen by then, where its bound is no smaller than before
-pub raise-task : (s : SystemLists) (r : ℕ) (tasks : List TaskId) (old new : List Bound) (k : ℕ) → IsSystem s → places_of tasks ≡ tasks_on s r → k < length tasks → (get_or tasks k no_id).0 < length s.tasks
-    → IsRaisedTo s r tasks old new k
-    → IsRaisedTo s r tasks old (set new (get_or tasks k no_id).0 (bound_max (response s new (get_or tasks k no_id).0) (bound_of new (get_or tasks k no_id).0))) (k + 1)
-raise-task s r tasks old new k rules are within h raised =
+-- a task is analysed at a vector no lower than the one before, and no higher than it has risen by then
+pub raise-from : (s : SystemLists) (r : ℕ) (tasks : List TaskId) (old at new : List Bound) (k : ℕ) → IsSystem s → places_of tasks ≡ tasks_on s r → k < length tasks → (get_or tasks k no_id).0 < length s.tasks
+    → IsNowhereAbove old at → IsNowhereAbove at (least_of s) → IsRaisedTo s r tasks old new k
+    → IsRaisedTo s r tasks old (set new (get_or tasks k no_id).0 (bound_max (response s at (get_or tasks k no_id).0) (bound_of new (get_or tasks k no_id).0))) (k + 1)
+raise-from s r tasks old at new k rules are within h up at_below raised =
     let task = (get_or tasks k no_id).0 in
     let on : (task_at s task).res.0 ≡ r = on-each s r tasks are k no_id within in
-    let b = bound_max (response s new task) (bound_of new task) in
+    let b = bound_max (response s at task) (bound_of new task) in
     let here : task < length new = rw raised.risen.vector.long h in
-    let step = risen-set s new task rules h raised.risen.vector raised.risen.below in
+    let step = risen-from s at new task rules h at_below raised.risen.vector raised.risen.below in
     record {
       risen = IsRisen_trans s old new (set new task b) raised.risen step;
       others = λ i off. elim (cases_eq i task) [
@@ -92,12 +97,27 @@ raise-task s r tasks old new k rules are within h raised =
       answered = λ m lt. elim (cases_eq m k) [
         | inl same ↦
             rw (same, bound_of-set_same new task b here)
-            (IsAtMost_trans (response s old task) (response s new task) b (response-mono s old new raised.risen.up task) (le-bound_max_left (response s new task) (bound_of new task)))
+            (IsAtMost_trans (response s old task) (response s at task) b (response-mono s old at up task) (le-bound_max_left (response s at task) (bound_of new task)))
         | inr other ↦
             let i = (get_or tasks m no_id).0 in
             IsAtMost_trans (response s old i) (bound_of new i) (bound_of (set new task b) i) (raised.answered m (omega arith)) (step.up i)
       ];
     }
+
+-- at the vector as it has risen by then
+pub raise-task : (s : SystemLists) (r : ℕ) (tasks : List TaskId) (old new : List Bound) (k : ℕ) → IsSystem s → places_of tasks ≡ tasks_on s r → k < length tasks → (get_or tasks k no_id).0 < length s.tasks
+    → IsRaisedTo s r tasks old new k
+    → IsRaisedTo s r tasks old (set new (get_or tasks k no_id).0 (bound_max (response s new (get_or tasks k no_id).0) (bound_of new (get_or tasks k no_id).0))) (k + 1)
+raise-task s r tasks old new k rules are within h raised =
+    raise-from s r tasks old new new k rules are within h raised.risen.up raised.risen.below raised
+
+-- on a queue a kind is known by its answer
+pub queue-kind : (k : Kind) → is_queue k ≡ true → k ≡ Fifo
+queue-kind Preemptive e = cc
+queue-kind RoundRobin e = cc
+queue-kind (Tdma gap) e = cc
+queue-kind (Can bit) e = cc
+queue-kind Fifo e = refl
 
 -- ---- what the analyses share
 
@@ -120,6 +140,7 @@ prepared-raised s r i x b work apart on prepared =
     by Preemptive inputs = known inputs
     by RoundRobin inputs = known inputs
     by (Can bit) inputs = known inputs
+    by Fifo inputs = known inputs
 
 -- ---- marks of all tasks on a resource
 

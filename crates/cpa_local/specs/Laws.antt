@@ -6,7 +6,8 @@ use Rattle.cpa_units.specs.declared.places.SourceId.{SourceId}
 use Rattle.cpa_events.specs.declared.stream.Stream.{Stream}
 use Rattle.cpa_events.specs.Events.{Model}
 use Rattle.cpa_model.specs.Clocks.{has_clocks}
-use Rattle.cpa_model.specs.SystemLists.{SystemLists, source_at, streams_of}
+use Rattle.cpa_model.specs.declared.entries.Kind.TheVariants.{Fifo}
+use Rattle.cpa_model.specs.SystemLists.{SystemLists, task_at, resource_of, source_at, streams_of}
 use Rattle.cpa_model.specs.Rules.{IsSystem}
 use Rattle.cpa_local.specs.Inputs.{input}
 use Rattle.cpa_local.specs.Local.{response, responses}
@@ -28,6 +29,12 @@ ResponsesAreMonotone =
 -- where no source is on a clock, bounds are those without clocks
 abbrev pub PlainResponsesAreTheSame : Type 0
 PlainResponsesAreTheSame = (s : SystemLists) (x : List Bound) (i : ℕ) → has_clocks s ≡ false → response s x i ≡ plain_response s x i
+
+-- all tasks of a queue have one bound
+abbrev pub QueuesHaveOneBound : Type 0
+QueuesHaveOneBound =
+    (s : SystemLists) (x : List Bound) (i j : ℕ) → i < length s.tasks → j < length s.tasks → (task_at s i).res.0 ≡ (task_at s j).res.0 → (resource_of s i).kind ≡ Fifo →
+    response s x i ≡ response s x j
 
 -- each system has a least solution
 abbrev pub LeastExists : Type 0

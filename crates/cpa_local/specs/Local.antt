@@ -7,10 +7,11 @@ use Rattle.cpa_events.specs.Events.{Model}
 use Rattle.cpa_window.specs.declared.rivals.Rival.{Rival}
 use Rattle.cpa_rr.specs.RoundRobin.{round_robin_bound}
 use Rattle.cpa_tdma.specs.Tdma.{tdma_bound}
+use Rattle.cpa_fifo.specs.Fifo.{fifo_bound}
 use Rattle.cpa_clock.specs.Clocked.{clocked_preemptive_bound, clocked_can_bound}
 use Rattle.cpa_model.specs.Clocks.{clock_cycle}
 use Rattle.cpa_model.specs.declared.entries.Kind.{Kind}
-use Rattle.cpa_model.specs.declared.entries.Kind.TheVariants.{Preemptive, RoundRobin, Tdma, Can}
+use Rattle.cpa_model.specs.declared.entries.Kind.TheVariants.{Preemptive, RoundRobin, Tdma, Can, Fifo}
 use Rattle.cpa_model.specs.SystemLists.{SystemLists, task_at, resource_of, task_places, slot_of, higher_tasks, other_tasks, cycle_of}
 use Rattle.cpa_local.specs.Blocking.{blocking_of}
 use Rattle.cpa_local.specs.Inputs.{input}
@@ -38,6 +39,8 @@ bound_by_kind s x i own (Tdma gap) =
 bound_by_kind s x i own (Can bit) =
     clocked_can_bound own (anchors_of s i) (task_at s i).worst (blocking_of s (Can bit) i) (map (clocked_rival_of s x) (higher_tasks s i))
     (clock_cycle s) (length s.sources) bit (resource_of s i).limit
+bound_by_kind s x i own Fifo =
+    fifo_bound own (task_at s i).worst (map (rival_of s x) (other_tasks s i)) (resource_of s i).limit
 
 abbrev pub bound_at_input : SystemLists → List Bound → ℕ → Option Model → Bound
 bound_at_input s x i (Some own) = bound_by_kind s x i own (resource_of s i).kind

@@ -6,7 +6,7 @@ use Rattle.cpa_events.specs.Events.{Model}
 use Rattle.cpa_spp.specs.Preemptive.{preemptive_bound}
 use Rattle.cpa_can.specs.Can.{can_bound}
 use Rattle.cpa_model.specs.declared.entries.Kind.{Kind}
-use Rattle.cpa_model.specs.declared.entries.Kind.TheVariants.{Preemptive, RoundRobin, Tdma, Can}
+use Rattle.cpa_model.specs.declared.entries.Kind.TheVariants.{Preemptive, RoundRobin, Tdma, Can, Fifo}
 use Rattle.cpa_model.specs.SystemLists.{SystemLists, task_at, resource_of, higher_tasks}
 use Rattle.cpa_local.specs.Blocking.{blocking_of}
 use Rattle.cpa_local.specs.Inputs.{input}
@@ -18,6 +18,7 @@ plain_by_kind s x i own Preemptive =
     preemptive_bound own (task_at s i).worst (blocking_of s Preemptive i) (map (rival_of s x) (higher_tasks s i)) (resource_of s i).limit
 plain_by_kind s x i own RoundRobin = bound_by_kind s x i own RoundRobin
 plain_by_kind s x i own (Tdma gap) = bound_by_kind s x i own (Tdma gap)
+plain_by_kind s x i own Fifo = bound_by_kind s x i own Fifo
 plain_by_kind s x i own (Can bit) =
     can_bound own (task_at s i).worst (blocking_of s (Can bit) i) (map (rival_of s x) (higher_tasks s i)) bit (resource_of s i).limit
 

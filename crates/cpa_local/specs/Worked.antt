@@ -10,7 +10,7 @@ use Rattle.cpa_clock.specs.Wider.{AreOffClocks}
 use Rattle.cpa_clock.specs.Gathered.{IsInputOn, added_rival}
 use Rattle.cpa_model.specs.Clocks.{clock_cycle}
 use Rattle.cpa_model.specs.declared.entries.Kind.{Kind}
-use Rattle.cpa_model.specs.declared.entries.Kind.TheVariants.{Preemptive, RoundRobin, Tdma, Can}
+use Rattle.cpa_model.specs.declared.entries.Kind.TheVariants.{Preemptive, RoundRobin, Tdma, Can, Fifo}
 use Rattle.cpa_model.specs.SystemLists.{SystemLists, task_at, resource_at, cycle_of}
 use Rattle.cpa_model.specs.Kinds.{wants_inputs, blocking_by}
 use Rattle.cpa_local.specs.Inputs.{AreInputs}
@@ -36,6 +36,7 @@ HasCycle s r cycle (Tdma gap) = cycle ≡ cycle_of s r
 HasCycle s r cycle Preemptive = Unit {0}
 HasCycle s r cycle RoundRobin = Unit {0}
 HasCycle s r cycle (Can bit) = Unit {0}
+HasCycle s r cycle Fifo = Unit {0}
 
 -- under preemptive priority, no task on r blocks another by more
 abbrev pub HasLongest : SystemLists → ℕ → ℕ → Kind → Type 0
@@ -43,6 +44,7 @@ HasLongest s r longest Preemptive = (i : ℕ) → i < length s.tasks → (task_a
 HasLongest s r longest RoundRobin = Unit {0}
 HasLongest s r longest (Tdma gap) = Unit {0}
 HasLongest s r longest (Can bit) = Unit {0}
+HasLongest s r longest Fifo = Unit {0}
 
 -- the input of each task on r at x, where by its kind one task's bound depends on the inputs of others
 abbrev pub HasInputs : SystemLists → ℕ → List Bound → List (Option Model) → Kind → Type 0
@@ -69,6 +71,7 @@ HasClocks s r clocks Preemptive = AreAnchored s r clocks
 HasClocks s r clocks RoundRobin = Unit {0}
 HasClocks s r clocks (Tdma gap) = Unit {0}
 HasClocks s r clocks (Can bit) = AreAnchored s r clocks
+HasClocks s r clocks Fifo = Unit {0}
 
 -- a task as its neighbours see it, where this list has the inputs
 abbrev pub clocked_rival_by : SystemLists → List (Option Model) → ℕ → ClockedRival

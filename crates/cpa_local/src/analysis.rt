@@ -4,7 +4,7 @@ ghost use Rattle.std.specs.Prelude.{◌≡◌, ℕ, ◌<◌, ◌≤◌, List, So
 ghost use Rattle.cpa_units.specs.declared.bound.Bound.{Bound};
 ghost use Rattle.cpa_units.specs.Numbers.{IsExecution};
 ghost use Rattle.cpa_events.specs.Events.{IsModelInRange};
-ghost use Rattle.cpa_model.specs.declared.entries.Kind.TheVariants.{Preemptive, RoundRobin, Tdma, Can};
+ghost use Rattle.cpa_model.specs.declared.entries.Kind.TheVariants.{Preemptive, RoundRobin, Tdma, Can, Fifo};
 ghost use Rattle.cpa_model.specs.SystemLists.{task_at, tasks_on, resource_of, slot_of, cycle_of};
 ghost use Rattle.cpa_model.specs.Rules.{IsSystem};
 ghost use Rattle.cpa_local.specs.Local.{bound_by_kind, response};
@@ -133,6 +133,7 @@ fn bound_by_kind(
         Kind::Can { bit } => can(
             alloc, system, task, x, own, bit, inputs, rivals, clocks, gathered,
         ),
+        Kind::Fifo => Ok(fifo(system, task, x, own, inputs, rivals)),
     }
 }
 
@@ -211,6 +212,30 @@ fn tdma(system: &System, task: TaskId, own: &Model, cycle: u64) -> Bound
     let entry = system.task(task);
     let limit = system.resource(entry.res).limit;
     cpa_tdma::respond(own, entry.worst, entry.turn.slot(), cycle, limit)
+}
+
+/// The bound where jobs are served in the order in which they came: all other tasks are rivals.
+fn fifo(
+    system: &System,
+    task: TaskId,
+    x: &Vector,
+    own: &Model,
+    inputs: &[Option<Model>],
+    rivals: &mut [Rival],
+) -> Bound
+    requires there { task.0 < length system.now.tasks }
+    requires vector { IsVector system.now x.now }
+    requires own { IsModelInRange own.now }
+    requires long { length system.now.tasks ≤ length inputs.now }
+    requires known { AreInputs system.now (task_at system.now task.0).res.0 x.now inputs.now }
+    requires room { length (tasks_on system.now (task_at system.now task.0).res.0) ≤ length rivals.old }
+    ensures value { result ≡ bound_by_kind system.now x.now task.0 own.now Fifo }
+    ensures room { length rivals.new ≡ length rivals.old }
+{
+    let others = gather_others(system, task, x, inputs, rivals);
+    let entry = system.task(task);
+    let limit = system.resource(entry.res).limit;
+    cpa_fifo::respond(own, entry.worst, &rivals[..others], limit)
 }
 
 /// The bound on a CAN bus whose bits take so many ticks.

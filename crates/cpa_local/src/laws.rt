@@ -1,6 +1,6 @@
 //! What holds of bounds and of least solutions, for crates that depend on this one.
 
-ghost use Rattle.cpa_local.specs.Laws.{InputsFollowStreams, ResponsesAreMonotone, PlainResponsesAreTheSame, LeastExists, LeastIsUnique, LeastIsFixed, ClosedBelowIsLeast, RaisingLiftsLeast};
+ghost use Rattle.cpa_local.specs.Laws.{InputsFollowStreams, ResponsesAreMonotone, PlainResponsesAreTheSame, QueuesHaveOneBound, LeastExists, LeastIsUnique, LeastIsFixed, ClosedBelowIsLeast, RaisingLiftsLeast};
 
 use crate::trail::Trail;
 use cpa_clock::plain_bounds_are_the_same;
@@ -22,6 +22,11 @@ pub fn plain_responses_are_the_same()
 {
     plain_bounds_are_the_same();
 }
+
+/// All tasks of a queue have one bound: that of what they ask for together.
+pub fn queues_have_one_bound()
+    ensures { QueuesHaveOneBound }
+{}
 
 /// What threads may be handed and may share.
 fn crosses_threads<T: Send + Sync>(_value: &T) {}

@@ -46,7 +46,9 @@ impl Scratch {
                 self.shared.longest = longest_blocking(system, res);
                 learn(system, res, x, &mut self.inputs, &mut self.found);
             }
-            Kind::RoundRobin => learn(system, res, x, &mut self.inputs, &mut self.found),
+            Kind::RoundRobin | Kind::Fifo => {
+                learn(system, res, x, &mut self.inputs, &mut self.found);
+            }
             Kind::Can { bit: _ } => {
                 self.clocks.learn(system, res)?;
                 learn(system, res, x, &mut self.inputs, &mut self.found);

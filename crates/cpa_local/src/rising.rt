@@ -4,7 +4,8 @@ ghost use Rattle.std.specs.Prelude.{ℕ, ◌≡◌, ◌<◌, ◌≤◌, length, 
 ghost use Rattle.std.specs.Bool.{OnFalse};
 ghost use Rattle.std.specs.Result.{OnOk, OnErr};
 ghost use Rattle.cpa_units.specs.Bounds.{IsAtMost, bound_of, bound_max};
-ghost use Rattle.cpa_model.specs.SystemLists.{task_at};
+ghost use Rattle.cpa_model.specs.declared.entries.Kind.TheVariants.{Fifo};
+ghost use Rattle.cpa_model.specs.SystemLists.{task_at, resource_at};
 ghost use Rattle.cpa_local.specs.Local.{response};
 ghost use Rattle.cpa_local.specs.Rising.{IsRisen, IsRaised, AgreeOutside, HasInputsApart, TasksOn};
 ghost use Rattle.cpa_local.specs.Trails.{IsKept, NewMarksAre};
@@ -14,7 +15,7 @@ use crate::analysis::respond_prepared;
 use crate::scratch::Scratch;
 use crate::trail::Trail;
 use cpa_model::System;
-use cpa_units::{NoMemory, ResId, TaskId, Vector};
+use cpa_units::{Bound, NoMemory, ResId, TaskId, Vector};
 use std::alloc::Global;
 
 /// Raises the bounds on a resource by its analysis, task after task, each at the vector as it has risen
@@ -63,10 +64,56 @@ fn raise_all(
     ensures room { length work.new.inputs ≡ length work.old.inputs }
 {
     work.prepare(system, res, x)?;
+    if system.resource(res).kind.is_queue() {
+        return raise_queue(alloc, system, res, x, work);
+    }
     for task in system.tasks_on(res) {
         raise_task(alloc, system, res, *task, back, x, work)?;
     }
     Ok(())
+}
+
+/// The same of a queue, all of whose tasks have one bound: the first one's analysis is that of all. What
+/// the analyses share is worked out for the vector before.
+fn raise_queue(
+    alloc: Global,
+    system: &System,
+    res: ResId,
+    x: &mut Vector,
+    work: &mut Scratch,
+) -> Result<(), NoMemory>
+    requires in_range { res.0 < length system.now.resources }
+    requires kind { (resource_at system.now res.0).kind ≡ Fifo }
+    requires start { IsRisen system.now x.old x.old }
+    requires room { length system.now.tasks ≤ length work.old.inputs }
+    requires prepared { IsPrepared system.now res.0 x.old work.old }
+    ensures risen { IsRisen system.now x.old x.new }
+    ensures others { AgreeOutside system.now res.0 x.new x.old }
+    ensures answered { OnOk result ((i : ℕ) → i < length system.now.tasks → (task_at system.now i).res.0 ≡ res.0 → IsAtMost (response system.now x.old i) (bound_of x.new i)) }
+    ensures room { length work.new.inputs ≡ length work.old.inputs }
+{
+    let tasks = system.tasks_on(res);
+    if tasks.is_empty() {
+        return Ok(());
+    }
+    let bound = respond_prepared(alloc, system, tasks[0], x, work)?;
+    raise_to(system, res, bound, x);
+    Ok(())
+}
+
+/// Raises the bounds on a resource to this one, where that is what its analysis finds for each task.
+fn raise_to(system: &System, res: ResId, bound: Bound, x: &mut Vector)
+    requires in_range { res.0 < length system.now.resources }
+    requires start { IsRisen system.now x.old x.old }
+    requires one { (i : ℕ) → i < length system.now.tasks → (task_at system.now i).res.0 ≡ res.0 → bound ≡ response system.now x.old i }
+    ensures risen { IsRisen system.now x.old x.new }
+    ensures others { AgreeOutside system.now res.0 x.new x.old }
+    ensures answered { (i : ℕ) → i < length system.now.tasks → (task_at system.now i).res.0 ≡ res.0 → IsAtMost (response system.now x.old i) (bound_of x.new i) }
+{
+    for task in system.tasks_on(res) {
+        let raised = bound.max(x.get(*task));
+        x.set(*task, raised);
+    }
 }
 
 /// Raises the bound of a task on a resource by its analysis. What the analyses on it share is worked out

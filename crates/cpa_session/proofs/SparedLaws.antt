@@ -16,7 +16,7 @@ use Rattle.cpa_model.specs.Clocks.{clock_cycle}
 use Rattle.cpa_model.proofs.ClockLaws.{clock-some}
 use Rattle.cpa_model.specs.declared.entries.Resource.{Resource}
 use Rattle.cpa_model.specs.declared.entries.Kind.{Kind}
-use Rattle.cpa_model.specs.declared.entries.Kind.TheVariants.{Preemptive, RoundRobin, Tdma, Can}
+use Rattle.cpa_model.specs.declared.entries.Kind.TheVariants.{Preemptive, RoundRobin, Tdma, Can, Fifo}
 use Rattle.cpa_model.specs.declared.entries.Activator.{Activator}
 use Rattle.cpa_model.specs.declared.entries.Activator.TheVariants.{Source as FromSource, Task as FromTask}
 use Rattle.cpa_model.specs.SystemLists.{SystemLists, task_at, resource_at, resource_of, task_places, slot_of, gap_of, is_higher, is_other, higher_tasks, other_tasks, cycle_of, is_task, no_resource}
@@ -183,6 +183,7 @@ module _ (s t : SystemLists) (touched reached : List Bool) (was : ℕ → ℕ) (
     blocking_by_same RoundRobin j it = refl
     blocking_by_same (Tdma gap) j it = refl
     blocking_by_same (Can bit) j it = it.worst
+    blocking_by_same Fifo j it = refl
 
     blocking_same : (kind : Kind) → blocking_of s kind (was i) ≡ blocking_of t kind i
     blocking_same kind =
@@ -332,6 +333,7 @@ module _ (s t : SystemLists) (touched reached : List Bool) (was : ℕ → ℕ) (
           (ap (λ os. clocked_can_bound own (anchors_at os) (task_at t i).worst (blocking_of t (Can bit) i) (map (clocked_rival_of t y) (higher_tasks t i)) (clock_cycle s) (length t.sources) bit (resource_of t i).limit) (anchors_same i less off)
           ∙ clocked_can-same (clock_cycle s) (clock_cycle t) (clock-some s) (clock-some t) (map (clocked_rival_of t y) (higher_tasks t i)) whole_rivals (length t.sources) own (anchors_of t i)
           (task_at t i).worst (blocking_of t (Can bit) i) bit (resource_of t i).limit (own_whole own is))
+      by_kind_same own Fifo is = rw (others_same, (same_task i less off).worst, resource_same i less off) refl
 
       at_input_same : (m : Option Model) → input t y i ≡ m → bound_at_input s x (was i) m ≡ bound_at_input t y i m
       at_input_same (Some own) is = ap (λ (r : Resource). bound_by_kind s x (was i) own r.kind) (resource_same i less off) ∙ by_kind_same own (resource_of t i).kind is

@@ -1,8 +1,12 @@
-use Rattle.std.proofs.Common.{◌∙◌}
+use Rattle.std.proofs.Common.{sym, ◌∙◌}
 use Rattle.cpa_model.proofs.SystemLaws.{no_id}
 use Rattle.cpa_model.proofs.ResourceTaskLaws.{on-each}
-use Rattle.cpa_local.proofs.RisingLaws.{raise-task, answered-whole}
+use Rattle.cpa_local.proofs.RisingLaws.{raise-task, answered-whole, queue-kind}
 use Rattle.cpa_local.proofs.rising.raise_all.Goals as goal
+
+pub raise_queue-requires-clause-kind : goal.raise_queue-requires-clause-kind
+raise_queue-requires-clause-kind c =
+    rw (← c.resource.ensures.value) (queue-kind c.resource.result.now.kind (sym c.is_queue.ensures ∙ c.if-is_queue.true))
 
 pub raise_task-requires-clause-on : goal.raise_task-requires-clause-on
 raise_task-requires-clause-on c =
