@@ -8,6 +8,7 @@ use Rattle.cpa_model.specs.SystemLists.{SystemLists, is_on, task_places, tasks_o
 use Rattle.cpa_sched.specs.Least.{lesser, least_by, ComesBefore}
 use Rattle.cpa_sched.specs.States.{IsWaiting}
 use Rattle.cpa_sched.proofs.OptionLaws.{some-injective}
+use Rattle.cpa_sched.proofs.LeastOfList.{lesser-later, lesser-former, least-among}
 use Rattle.cpa_sched.proofs.ScanLaws.{filter-passing, filter-failing}
 use Rattle.cpa_sched.proofs.StepLaws.{all_filter, tasks_on-are, waiting-are}
 
@@ -63,17 +64,11 @@ ascending-waiting s r w = ascending-filter w (tasks_on s r) (ascending-filter (i
 
 -- ---- the least
 
-all_map : (P Q : ℕ → Type 0) → ((j : ℕ) → P j → Q j) → (js : List ℕ) → AllByRecursion P js → AllByRecursion Q js
+pub all_map : (P Q : ℕ → Type 0) → ((j : ℕ) → P j → Q j) → (js : List ℕ) → AllByRecursion P js → AllByRecursion Q js
 all_map P Q f [] all = tt
 all_map P Q f (j ∷ js) all = (f j all.0, all_map P Q f js all.1)
 
 module _ (number : ℕ → ℕ) where
-  pub lesser-later : (j k : ℕ) → number k < number j → lesser number j (Some k) ≡ k
-  lesser-later j k less = cond-true _ k j (lt-ltb (number k) (number j) less)
-
-  pub lesser-former : (j k : ℕ) → number j ≤ number k → lesser number j (Some k) ≡ j
-  lesser-former j k le = cond-false _ k j (le-ltb (number k) (number j) le)
-
   before-same : (k : ℕ) → ComesBefore number k k
   before-same k = inr (refl, omega arith)
 
@@ -93,19 +88,6 @@ module _ (number : ℕ → ℕ) where
   none-least [] e = refl
   none-least (j ∷ js) e = cc
 
-  lesser-among : (P : ℕ → Type 0) (j : ℕ) (o : Option ℕ) → P j → ForSome o P → P (lesser number j o)
-  lesser-among P j None here rest = here
-  lesser-among P j (Some k) here rest =
-      elim (cases_lt (number k) (number j)) [
-        | inl less ↦ rw (lesser-later j k less) (rest k refl)
-        | inr more ↦ rw (lesser-former j k more) here
-      ]
-
-  pub least-among : (P : ℕ → Type 0) (js : List ℕ) (k : ℕ) → AllByRecursion P js → least_by number js ≡ Some k → P k
-  least-among P [] k all e = cc
-  least-among P (j ∷ js) k all e =
-      subst P (some-injective (lesser number j (least_by number js)) k e) (lesser-among P j (least_by number js) all.0 (λ l e'. least-among P js l all.1 e'))
-
   -- of two with one number the former comes before the other
   ties : (j l : ℕ) → j ≤ l → number j ≤ number l → ComesBefore number j l
   ties j l later le =
@@ -119,10 +101,10 @@ module _ (number : ℕ → ℕ) where
   lesser-first j js None same order rest = subst (λ ks. AllByRecursion (ComesBefore number j) (j ∷ ks)) (sym (none-least js same)) (before-same j, tt)
   lesser-first j js (Some l) same order rest =
       elim (cases_lt (number l) (number j)) [
-        | inl less ↦ subst (λ k. AllByRecursion (ComesBefore number k) (j ∷ js)) (sym (lesser-later j l less)) (inl less, rest l refl)
+        | inl less ↦ subst (λ k. AllByRecursion (ComesBefore number k) (j ∷ js)) (sym (lesser-later number j l less)) (inl less, rest l refl)
         | inr more ↦
-            let before : ComesBefore number j l = ties j l (least-among (λ i. j ≤ i) js l order same) more in
-            subst (λ k. AllByRecursion (ComesBefore number k) (j ∷ js)) (sym (lesser-former j l more)) (before-same j, all_map (ComesBefore number l) (ComesBefore number j) (λ i h. before-then j l i before h) js (rest l refl))
+            let before : ComesBefore number j l = ties j l (least-among number (λ i. j ≤ i) js l order same) more in
+            subst (λ k. AllByRecursion (ComesBefore number k) (j ∷ js)) (sym (lesser-former number j l more)) (before-same j, all_map (ComesBefore number l) (ComesBefore number j) (λ i h. before-then j l i before h) js (rest l refl))
       ]
 
   pub least-first : (js : List ℕ) (k : ℕ) → IsAscending js → least_by number js ≡ Some k → AllByRecursion (ComesBefore number k) js

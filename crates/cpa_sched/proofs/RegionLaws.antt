@@ -4,7 +4,7 @@ use Rattle.std.specs.Prelude.{filter}
 use Rattle.std.proofs.lemmas.Bool.{cases_Bool, cond-false, eqb-true, ne_eqb}
 use Rattle.cpa_units.specs.declared.limits.TheConstants.{MAX_EXECUTION}
 use Rattle.cpa_model.specs.declared.entries.Kind.{Kind}
-use Rattle.cpa_model.specs.declared.entries.Kind.TheVariants.{Preemptive, RoundRobin, Tdma, Can}
+use Rattle.cpa_model.specs.declared.entries.Kind.TheVariants.{Preemptive, RoundRobin, Tdma, Can, Fifo}
 use Rattle.cpa_model.specs.Rules.{RegionFits}
 use Rattle.cpa_model.specs.SystemLists.{SystemLists, tasks_on}
 use Rattle.cpa_sched.specs.Steps.{ResourceState, ReadyQueue, Choice, most_urgent, region_of, within_region, preemptive_step, kind_of, step}
@@ -23,12 +23,14 @@ region-some Preemptive ticks fits = fits.0
 region-some RoundRobin ticks fits = omega (arith, fits)
 region-some (Tdma gap) ticks fits = omega (arith, fits)
 region-some (Can bit) ticks fits = omega (arith, fits)
+region-some Fifo ticks fits = omega (arith, fits)
 
 pub region-few : (k : Kind) (ticks : ℕ) → RegionFits k ticks → ticks ≤ MAX_EXECUTION
 region-few Preemptive ticks fits = fits.1
 region-few RoundRobin ticks fits = omega (arith, fits)
 region-few (Tdma gap) ticks fits = omega (arith, fits)
 region-few (Can bit) ticks fits = omega (arith, fits)
+region-few Fifo ticks fits = omega (arith, fits)
 
 -- ---- states
 

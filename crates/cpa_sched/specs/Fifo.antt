@@ -1,17 +1,11 @@
 -- FIFO resources (first in, first out; first come, first served): the task runs whose earliest pending job arrived first.
-use Rattle.std.specs.Prelude.{ℕ, ◌≡◌, ◌<◌, ◌⊎◌, true, filter, Some, None}
+use Rattle.std.specs.Prelude.{ℕ, ◌≡◌, ◌<◌, ◌⊎◌, true, Some, None}
 use Rattle.std.specs.Option.{ForSome}
-use Rattle.cpa_model.specs.SystemLists.{SystemLists, tasks_on}
-use Rattle.cpa_sched.specs.Least.{least_by, ComesBefore}
-use Rattle.cpa_sched.specs.Steps.{ResourceState, ReadyQueue, Choice}
+use Rattle.cpa_model.specs.SystemLists.{SystemLists}
+use Rattle.cpa_sched.specs.Least.{ComesBefore}
+use Rattle.cpa_sched.specs.Steps.{ResourceState, ReadyQueue, fifo_step}
 use Rattle.cpa_sched.specs.States.{IsWaiting}
 use Rattle.cpa_sched.specs.Stretches.{got}
-
--- FIFO: the waiting task whose earliest pending job arrived first runs, the first in the file where several did; the state never changes
-abbrev pub fifo_step : SystemLists → ℕ → ResourceState → ReadyQueue → Choice
-fifo_step s r st q = record { task = least_by q.arrival (filter q.waits (tasks_on s r)); state = st }
-
--- ---- laws
 
 -- while a task waits, some task runs
 abbrev pub FifoNeverIdles : Type 0

@@ -136,6 +136,7 @@ pub(crate) fn regions_by<Q: Queue>(
     ensures some { 1 ≤ result.ticks }
     ensures most { result.ticks ≤ most }
     ensures waiters { HasWaitingRange (places_of ranking.now.tasks.now) (Q.ready queue.now).waits waiters.new }
+    ensures since { waiters.new.since ≡ waiters.old.since }
 {
     let Some(task) = state.holder else {
         let urgent = first_waiting(ranking.tasks, waiters, queue);

@@ -18,11 +18,12 @@ use Rattle.cpa_sim.specs.declared.dispatches.Dispatch.{Dispatch}
 use Rattle.cpa_sim.specs.declared.jobs.Job.{Job}
 use Rattle.cpa_sim.specs.declared.jobs.Cause.{Cause}
 use Rattle.cpa_sim.specs.Run.{is_chosen, events_at, by_task, by_source}
-use Rattle.cpa_sim.specs.JobQueues.{QueueCounts, new_seen, with_arrivals}
+use Rattle.cpa_sim.specs.JobQueues.{QueueCounts, arrivals_of, new_seen, with_arrivals}
 use Rattle.cpa_sim.specs.Simulation.{queue_at, dispatch_at, runner, runs_at, ends_at, ends_of, IsUnchanged, AreEnding}
 use Rattle.cpa_sim.specs.Arrivals.{is_among, IsListOf, IsWithin, AreGiven, ended_of, first_of, IsNextEnd}
 use Rattle.cpa_sim.proofs.CauseLists.{by-none}
 use Rattle.cpa_sim.proofs.DispatchLaws.{unchanged-same, unchanged-then}
+use Rattle.cpa_sim.proofs.QueueLaws.{queue-same}
 use Rattle.cpa_sim.proofs.SameTaskLaws.{chosen-is}
 use Rattle.cpa_sim.proofs.RangeLaws.{filter-agree, passing-high, passing-rises, any-passing, flat_map-quiet}
 
@@ -38,17 +39,28 @@ seen-add now a b (Some js) =
     ap Some (append_assoc js (new_seen now a) (new_seen now b)
     ∙ ap (λ ks. js ++ ks) (sym (map-append (λ (cause : Cause). let made : Job = record { arrival = now; end = None; cause = cause } in made) a b)))
 
+came-none : (now : ℕ) (came : Option (List ℕ)) → option_map (λ times. times ++ arrivals_of (new_seen now [])) came ≡ came
+came-none now None = refl
+came-none now (Some times) = ap Some (append-nil times)
+
+came-add : (now : ℕ) (a b : List Cause) (came : Option (List ℕ))
+    → option_map (λ times. times ++ arrivals_of (new_seen now b)) (option_map (λ times. times ++ arrivals_of (new_seen now a)) came) ≡ option_map (λ times. times ++ arrivals_of (new_seen now (a ++ b))) came
+came-add now a b None = refl
+came-add now a b (Some times) =
+    ap Some (append_assoc times (arrivals_of (new_seen now a)) (arrivals_of (new_seen now b))
+    ∙ ap (λ more. times ++ more)
+    (sym (ap arrivals_of (map-append (λ (cause : Cause). let made : Job = record { arrival = now; end = None; cause = cause } in made) a b)
+    ∙ map-append (λ (job : Job). job.arrival) (new_seen now a) (new_seen now b))))
+
 pub arrivals-none : (now : ℕ) (queue : QueueCounts) → with_arrivals now [] queue ≡ queue
 arrivals-none now queue =
     let e : queue.count + 0 ≡ queue.count = omega arith in
-    ap (λ n. let made : QueueCounts = record { count = n; done = queue.done; left = queue.left; kept = option_map (λ js. js ++ new_seen now []) queue.kept } in made) e
-    ∙ ap (λ k. let made : QueueCounts = record { count = queue.count; done = queue.done; left = queue.left; kept = k } in made) (seen-none now queue.kept)
+    queue-same _ _ _ _ _ _ _ _ _ _ _ e refl refl (seen-none now queue.kept) (came-none now queue.came)
 
 arrivals-add : (now : ℕ) (a b : List Cause) (queue : QueueCounts) → with_arrivals now b (with_arrivals now a queue) ≡ with_arrivals now (a ++ b) queue
 arrivals-add now a b queue =
     let e : queue.count + length a + length b ≡ queue.count + length (a ++ b) = omega (arith, length-append a b) in
-    ap (λ n. let made : QueueCounts = record { count = n; done = queue.done; left = queue.left; kept = option_map (λ js. js ++ new_seen now b) (option_map (λ js. js ++ new_seen now a) queue.kept) } in made) e
-    ∙ ap (λ k. let made : QueueCounts = record { count = queue.count + length (a ++ b); done = queue.done; left = queue.left; kept = k } in made) (seen-add now a b queue.kept)
+    queue-same _ _ _ _ _ _ _ _ _ _ _ e refl refl (seen-add now a b queue.kept) (came-add now a b queue.came)
 
 module _ (s : SystemLists) (places : List ℕ) (now : ℕ) where
   pub given-none : (queues : List QueueCounts) (dispatches : List Dispatch) → length queues ≡ length s.tasks → length dispatches ≡ length s.resources → AreGiven s places now (λ i. []) queues dispatches queues dispatches
@@ -92,7 +104,7 @@ module _ (s : SystemLists) (places : List ℕ) (now : ℕ) where
                   | inl before ↦ inl (ap (λ new. new ++ d i) before ∙ none)
                   | inr at ↦
                       let wide = then.unchanged (task_at s i).res.0 (placed i less) in
-                      inr (record { first = omega (arith, at.first, wide.first); last = omega (arith, at.last, wide.last) })
+                      inr (record { first = omega (arith, at.first, wide.first); last = omega (arith, at.last, wide.last); since = omega (arith, at.since, wide.since) })
                 ]
                 | inr at ↦ inr at
               ];
@@ -104,7 +116,7 @@ module _ (s : SystemLists) (places : List ℕ) (now : ℕ) where
 pub given-one : (s : SystemLists) (places : List ℕ) (now t : ℕ) (new : List Cause) (l1 : List QueueCounts) (d1 : List Dispatch) (l2 : List QueueCounts) (d2 : List Dispatch)
     → length l2 ≡ length s.tasks → length d2 ≡ length s.resources → queue_at l2 t ≡ with_arrivals now new (queue_at l1 t) → ((i : ℕ) → i ≢ t → queue_at l2 i ≡ queue_at l1 i)
     → ((r : ℕ) → r < length s.resources → IsUnchanged (kind_of s r) (dispatch_at d1 r) (dispatch_at d2 r))
-    → (dispatch_at d2 (task_at s t).res.0).gone ≡ (dispatch_at d2 (task_at s t).res.0).ticks → IsWithin (dispatch_at d2 (task_at s t).res.0).waiters (get_or places t 0)
+    → (dispatch_at d2 (task_at s t).res.0).gone ≡ (dispatch_at d2 (task_at s t).res.0).ticks → IsWithin (dispatch_at d2 (task_at s t).res.0).waiters (get_or places t 0) now
     → AreGiven s places now (λ i. cond (eqb t i) new []) l1 d1 l2 d2
 given-one s places now t new l1 d1 l2 d2 count_queues count_dispatches here others unchanged passed within =
     record {
@@ -126,7 +138,7 @@ given-one s places now t new l1 d1 l2 d2 count_queues count_dispatches here othe
           ];
       within = λ i less.
           elim (cases_Bool (eqb t i)) [
-            | inl same ↦ inr (subst (λ k. IsWithin (dispatch_at d2 (task_at s k).res.0).waiters (get_or places k 0)) (eqb-true t i same) within)
+            | inl same ↦ inr (subst (λ k. IsWithin (dispatch_at d2 (task_at s k).res.0).waiters (get_or places k 0) now) (eqb-true t i same) within)
             | inr differs ↦ inl (rw differs refl)
           ];
     }

@@ -11,7 +11,7 @@ use Rattle.cpa_sim.specs.Simulation.{dispatch_at, runner, runs_at, ends_of, IsUn
 use Rattle.cpa_sim.proofs.SameTaskLaws.{chosen-is}
 
 pub unchanged-same : (k : Kind) (a b : Dispatch) → b ≡ a → IsUnchanged k a b
-unchanged-same k a b e = subst (λ x. IsUnchanged k a x) (sym e) (record { running = refl; ends = refl; state = refl; same = λ more. refl; first = omega arith; last = omega arith })
+unchanged-same k a b e = subst (λ x. IsUnchanged k a x) (sym e) (record { running = refl; ends = refl; state = refl; same = λ more. refl; first = omega arith; last = omega arith; since = omega arith })
 
 pub unchanged-then : (k : Kind) (a b c : Dispatch) → IsUnchanged k a b → IsUnchanged k b c → IsUnchanged k a c
 unchanged-then k a b c first then =
@@ -22,6 +22,7 @@ unchanged-then k a b c first then =
       same = λ more. let e = then.same more in e ∙ first.same (subst (λ (x : Dispatch). x.gone < x.ticks) e more);
       first = omega (arith, then.first, first.first);
       last = omega (arith, then.last, first.last);
+      since = omega (arith, then.since, first.since);
     }
 
 -- a member more, if it is to be one

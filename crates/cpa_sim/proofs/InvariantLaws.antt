@@ -3,7 +3,7 @@ use Rattle.std.proofs.Common.{◌≡◌, ℕ, zero, suc, ◌+◌, ◌-◌, ◌<�
 use Rattle.std.specs.Option.{ForSome}
 use Rattle.std.proofs.lemmas.Bool.{cases_lt, cases_Bool, le-leb, cond-true, cond-false, eqb-true, eq-eqb, false≢true}
 use Rattle.cpa_model.specs.declared.entries.Kind.{Kind}
-use Rattle.cpa_model.specs.declared.entries.Kind.TheVariants.{Preemptive, RoundRobin, Tdma, Can}
+use Rattle.cpa_model.specs.declared.entries.Kind.TheVariants.{Preemptive, RoundRobin, Tdma, Can, Fifo}
 use Rattle.cpa_model.specs.SystemLists.{SystemLists, task_at, tasks_on}
 use Rattle.cpa_trace.specs.Trace.{TraceLists, phase_of, need}
 use Rattle.cpa_sched.specs.Steps.{ResourceState, ReadyQueue, kind_of, step, completed, first_state}
@@ -58,12 +58,14 @@ module _ (s : SystemLists) (tr : TraceLists) where
     first-held r RoundRobin = λ x e. last_is (IsOn s r) (tasks_on s r) x (tasks_on-are s r) e
     first-held r (Tdma gap) = λ x e. cc
     first-held r (Can bit) = λ x e. cc
+    first-held r Fifo = λ x e. cc
 
     first-frames : (r : ℕ) (k : Kind) (w : ℕ → Bool) → FrameWaits k (first_state s r k) w
     first-frames r Preemptive w = λ x e. cc
     first-frames r RoundRobin w = tt
     first-frames r (Tdma gap) w = tt
     first-frames r (Can bit) w = λ x e. cc
+    first-frames r Fifo w = tt
 
     -- a jump keeps it
     module _ (t n : ℕ) (q : ReadyQueue) (d : ℕ → ℕ) (o : ℕ → Option ℕ) (g : SameTasksRun s tr t n q d o) (fresh : (i : ℕ) → i < length s.tasks → AreFresh (need s tr i) (d i) ((run s tr t).jobs i)) where
@@ -104,6 +106,7 @@ module _ (s : SystemLists) (tr : TraceLists) where
           completed-holder RoundRobin st P h = h
           completed-holder (Tdma gap) st P h = h
           completed-holder (Can bit) st P h = λ x e. cc
+          completed-holder Fifo st P h = h
 
       pub landed-held : (r : ℕ) → r < length s.resources → ForSome ((run s tr (t + n)).resources r).holder (IsOn s r)
       landed-held r there =
@@ -153,6 +156,7 @@ module _ (s : SystemLists) (tr : TraceLists) where
           placed = can.placed;
           ordered = λ i there. (k.jobs i there).ordered;
           waiting = λ i there. refl;
+          arrived = λ i there queued waits. refl;
           held = k.held;
           frames = k.frames;
           runs = λ r u there less.

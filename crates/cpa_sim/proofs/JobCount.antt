@@ -156,7 +156,7 @@ length-events tr k now = length-passing (λ e. eqb e now) (λ n. eqb (time_of tr
 
 module _ (s : SystemLists) (tr : TraceLists) where
   -- a task's jobs after a tick are those before it, of which one may have got the tick
-  by_serving : (P : List Progress → Type 0) (t i : ℕ) → P (serve (t + 1) ((run s tr t).jobs i)) → P ((run s tr t).jobs i) → P (served s tr t (run s tr t) i)
+  pub by_serving : (P : List Progress → Type 0) (t i : ℕ) → P (serve (t + 1) ((run s tr t).jobs i)) → P ((run s tr t).jobs i) → P (served s tr t (run s tr t) i)
   by_serving P t i runs idles =
       let o : Option ℕ = (choice_at s tr t (run s tr t) (task_at s i).res.0).task in
       let is = served-is s tr t i o refl in

@@ -1,6 +1,7 @@
 -- A task's jobs in the order in which they came, and what a queue knows of them.
 use Rattle.std.proofs.Common.{◌≡◌, ◌≢◌, ℕ, zero, suc, ◌+◌, ◌-◌, ◌<◌, ◌≤◌, ◌++◌, length, List, [], ◌∷◌, Bool, true, false, cond, not, nat_le, map, Option, Some, None, option_map, ltb, refl, sym, ◌∙◌, ap, subst, inl, inr, arith, get_or, set, length-set, length-append}
 use Rattle.std.specs.List.{AllByRecursion}
+use Rattle.std.specs.Option.{IfSome}
 use Rattle.std.proofs.lemmas.Bool.{cases_lt, cases_Bool, le-leb, lt-leb, lt-ltb, le-ltb, cond-true, cond-false, false≢true}
 use Rattle.std.proofs.lemmas.List.{get_or_default, get_or_past, get_or_append_left, get_or-append_right, get_or-set_same, get_or-set_other, get_or-map, length-map, map-append, map-set}
 use Rattle.std.proofs.lemmas.Option.{none-some, same_Some}
@@ -8,9 +9,10 @@ use Rattle.std.proofs.Math.Seq.{map-set_same}
 use Rattle.std.proofs.lemmas.List.Sums.{sum_by-cons, sum_by-append}
 use Rattle.cpa_sim.specs.declared.jobs.Job.{Job}
 use Rattle.cpa_sim.specs.declared.jobs.Cause.{Cause}
+use Rattle.cpa_sim.specs.declared.jobs.Keeping.{Keeping}
 use Rattle.cpa_sim.specs.Run.{no_cause, no_job, Progress, is_open, waits, ended_count, after_tick, serve, new_jobs}
 use Rattle.cpa_sim.specs.Outcome.{job_of, no_job_seen}
-use Rattle.cpa_sim.specs.JobQueues.{QueueCounts, has_pending, left_of, queue_of, new_seen, with_arrivals, with_end, completed_queue, shorter_queue, worked}
+use Rattle.cpa_sim.specs.JobQueues.{QueueCounts, has_pending, left_of, arrivals_of, queue_of, new_seen, with_arrivals, with_end, completed_queue, shorter_queue, worked}
 use Rattle.cpa_sim.proofs.JobLists.{IsRunning, AreInOrder, AreFresh, after_ticks, jobs_after}
 
 pub serve-here : (now : ℕ) (job : Progress) (js : List Progress) → is_open job ≡ true → serve now (job ∷ js) ≡ after_tick now job ∷ js
@@ -174,14 +176,14 @@ waits-less d js a w =
 
 -- ---- what is known of a task's jobs
 
-pub queue-same : (a b c a' b' c' : ℕ) (k k' : Option (List Job)) → a ≡ a' → b ≡ b' → c ≡ c' → k ≡ k'
-    → ◌≡◌ {A = QueueCounts} (record { count = a; done = b; left = c; kept = k }) (record { count = a'; done = b'; left = c'; kept = k' })
-queue-same a b c a' b' c' k k' ea eb ec ek =
-    let made : ℕ → ℕ → ℕ → Option (List Job) → QueueCounts = λ a b c k. record { count = a; done = b; left = c; kept = k } in
-    ap (λ x. made x b c k) ea ∙ (ap (λ x. made a' x c k) eb ∙ (ap (λ x. made a' b' x k) ec ∙ ap (made a' b' c') ek))
+pub queue-same : (m a b c a' b' c' : ℕ) (k k' : Option (List Job)) (l l' : Option (List ℕ)) → a ≡ a' → b ≡ b' → c ≡ c' → k ≡ k' → l ≡ l'
+    → ◌≡◌ {A = QueueCounts} (record { count = a; done = b; left = c; room = m; kept = k; came = l }) (record { count = a'; done = b'; left = c'; room = m; kept = k'; came = l' })
+queue-same m a b c a' b' c' k k' l l' ea eb ec ek el =
+    let made : ℕ → ℕ → ℕ → Option (List Job) → Option (List ℕ) → QueueCounts = λ a b c k l. record { count = a; done = b; left = c; room = m; kept = k; came = l } in
+    ap (λ x. made x b c k l) ea ∙ (ap (λ x. made a' x c k l) eb ∙ (ap (λ x. made a' b' x k l) ec ∙ (ap (λ x. made a' b' c' x l) ek ∙ ap (made a' b' c' k') el)))
 
-pub pending-is : (keeps : Bool) (needs : ℕ → ℕ) (js : List Progress) → AreInOrder (ended_count js) js → has_pending (queue_of keeps needs js) ≡ waits js
-pending-is keeps needs js order = waits-lt (ended_count js) js order
+pub pending-is : (keeping : Keeping) (needs : ℕ → ℕ) (js : List Progress) → AreInOrder (ended_count js) js → has_pending (queue_of keeping needs js) ≡ waits js
+pending-is keeping needs js order = waits-lt (ended_count js) js order
 
 pub left-is : (needs : ℕ → ℕ) (js : List Progress) → ended_count js < length js → left_of needs js ≡ (get_or js (ended_count js) no_job).left
 left-is needs js h = ap (λ (j : Progress). j.left) (get_or_default js (ended_count js) (record { arrival = 0; left = needs (ended_count js); end = None; cause = no_cause }) no_job h)
@@ -195,6 +197,13 @@ kept-more : (keeps : Bool) (needs : ℕ → ℕ) (now : ℕ) (new : List Cause) 
     → cond keeps (Some (map job_of (js ++ new_jobs needs (length js) now new))) None ≡ option_map (λ ks. ks ++ new_seen now new) (cond keeps (Some (map job_of js)) None)
 kept-more true needs now new js = ap Some (map-append job_of js (new_jobs needs (length js) now new) ∙ ap (λ ks. map job_of js ++ ks) (map-new needs (length js) now new))
 kept-more false needs now new js = refl
+
+came-more : (keeps : Bool) (needs : ℕ → ℕ) (now : ℕ) (new : List Cause) (js : List Progress)
+    → cond keeps (Some (arrivals_of (map job_of (js ++ new_jobs needs (length js) now new)))) None ≡ option_map (λ times. times ++ arrivals_of (new_seen now new)) (cond keeps (Some (arrivals_of (map job_of js))) None)
+came-more true needs now new js =
+    ap Some (ap arrivals_of (map-append job_of js (new_jobs needs (length js) now new) ∙ ap (λ ks. map job_of js ++ ks) (map-new needs (length js) now new))
+    ∙ map-append (λ (job : Job). job.arrival) (map job_of js) (new_seen now new))
+came-more false needs now new js = refl
 
 -- a job that needs so much, where there is none
 abbrev waiting_for : ℕ → Progress
@@ -223,12 +232,16 @@ left-more needs now new js =
           ∙ (tail ∙ sym (ap (λ (j : Progress). j.left) (get_or_past js d other h)))))
     ]
 
-pub queue-more : (keeps : Bool) (needs : ℕ → ℕ) (now : ℕ) (new : List Cause) (js : List Progress) → queue_of keeps needs (js ++ new_jobs needs (length js) now new) ≡ with_arrivals now new (queue_of keeps needs js)
-queue-more keeps needs now new js =
+pub queue-more : (keeping : Keeping) (needs : ℕ → ℕ) (now : ℕ) (new : List Cause) (js : List Progress)
+    → queue_of keeping needs (js ++ new_jobs needs (length js) now new) ≡ with_arrivals now new (queue_of keeping needs js)
+queue-more keeping needs now new js =
     let come = new_jobs needs (length js) now new in
     let count : length (js ++ come) ≡ length js + length new = length-append js come ∙ ap (λ k. length js + k) (length-new needs (length js) now new) in
     let done : ended_count (js ++ come) ≡ ended_count js = omega (arith, ended-append js come, ended-new needs (length js) now new) in
-    queue-same _ _ _ _ _ _ _ _ count done (left-more needs now new js) (kept-more keeps needs now new js)
+    queue-same _ _ _ _ _ _ _ _ _ _ _ count done (left-more needs now new js) (kept-more keeping.jobs needs now new js) (came-more keeping.arrivals needs now new js)
+
+pub length-seen : (now : ℕ) (new : List Cause) → length (new_seen now new) ≡ length new
+length-seen now new = length-map new (λ (cause : Cause). let made : Job = record { arrival = now; end = None; cause = cause } in made)
 
 -- all jobs are kept still
 pub kept-length : (now : ℕ) (new : List Cause) (old kept : Option (List Job)) (count : ℕ) → kept ≡ option_map (λ js. js ++ new_seen now new) old
@@ -236,24 +249,43 @@ pub kept-length : (now : ℕ) (new : List Cause) (old kept : Option (List Job)) 
 kept-length now new None kept count e all ks f = let none : None ≡ Some ks = sym e ∙ f in absurd (none-some ks none)
 kept-length now new (Some js) kept count e all ks f =
     let same : js ++ new_seen now new ≡ ks = same_Some (js ++ new_seen now new) ks (sym e ∙ f) in
-    omega (arith, ap length same, length-append js (new_seen now new), length-map new (λ (cause : Cause). let made : Job = record { arrival = now; end = None; cause = cause } in made), all js refl)
+    omega (arith, ap length same, length-append js (new_seen now new), length-seen now new, all js refl)
+
+-- and so are all arrivals
+pub came-length : (now : ℕ) (new : List Cause) (old came : Option (List ℕ)) (count : ℕ) → came ≡ option_map (λ times. times ++ arrivals_of (new_seen now new)) old
+    → ((times : List ℕ) → old ≡ Some times → count ≡ length times) → (times : List ℕ) → came ≡ Some times → count + length new ≡ length times
+came-length now new None came count e all us f = let none : None ≡ Some us = sym e ∙ f in absurd (none-some us none)
+came-length now new (Some ts) came count e all us f =
+    let same : ts ++ arrivals_of (new_seen now new) ≡ us = same_Some (ts ++ arrivals_of (new_seen now new)) us (sym e ∙ f) in
+    omega (arith, ap length same, length-append ts (arrivals_of (new_seen now new)), length-map (new_seen now new) (λ (job : Job). job.arrival), length-seen now new, all ts refl)
+
+-- there is room for some more
+pub some-room : {A : Type 0} (items : A → List ℕ) (capacity : A → ℕ) (came : Option A) (count more room : ℕ) → ((times : List ℕ) → option_map items came ≡ Some times → count ≡ length times)
+    → ((n : ℕ) → option_map capacity came ≡ Some n → room ≤ n) → count + more ≤ room → IfSome came (λ v. length (items v) + more ≤ capacity v)
+some-room items capacity None count more room all taken few = tt
+some-room items capacity (Some v) count more room all taken few = omega (arith, all (items v) refl, taken (capacity v) refl, few)
 
 -- the earliest pending job goes on, or is complete
-module _ (keeps : Bool) (needs : ℕ → ℕ) (ticks now : ℕ) (js : List Progress) (order : AreInOrder (ended_count js) js) (h : ended_count js < length js) where
+module _ (keeping : Keeping) (needs : ℕ → ℕ) (ticks now : ℕ) (js : List Progress) (order : AreInOrder (ended_count js) js) (h : ended_count js < length js) where
   abbrev d : ℕ
   d = ended_count js
 
   abbrev job : Progress
   job = get_or js (ended_count js) no_job
 
-  kept-shorter : ticks < job.left → (b : Bool) → cond b (Some (map job_of (jobs_after ticks now d js))) None ≡ cond b (Some (map job_of js)) None
-  kept-shorter more true =
+  seen-shorter : ticks < job.left → map job_of (jobs_after ticks now d js) ≡ map job_of js
+  seen-shorter more =
       let unended = (first-runs d js order h).open_now in
       let same : job_of (after_ticks ticks now job) ≡ job_of job = ap job_of (after-more ticks now job more) ∙ ap (λ o. let made : Job = record { arrival = job.arrival; end = o; cause = job.cause } in made) (sym unended) in
-      ap Some (map-set_same job_of js d (after_ticks ticks now job) no_job same)
-  kept-shorter more false = refl
+      map-set_same job_of js d (after_ticks ticks now job) no_job same
 
-  queue-shorter : ticks < job.left → queue_of keeps needs (jobs_after ticks now d js) ≡ shorter_queue ticks (queue_of keeps needs js)
+  kept-shorter : ticks < job.left → (b : Bool) → cond b (Some (map job_of (jobs_after ticks now d js))) None ≡ cond b (Some (map job_of js)) None
+  kept-shorter more b = ap (λ ks. cond b (Some ks) None) (seen-shorter more)
+
+  came-shorter : ticks < job.left → (b : Bool) → cond b (Some (arrivals_of (map job_of (jobs_after ticks now d js)))) None ≡ cond b (Some (arrivals_of (map job_of js))) None
+  came-shorter more b = ap (λ ks. cond b (Some (arrivals_of ks)) None) (seen-shorter more)
+
+  queue-shorter : ticks < job.left → queue_of keeping needs (jobs_after ticks now d js) ≡ shorter_queue ticks (queue_of keeping needs js)
   queue-shorter more =
       let next = jobs_after ticks now d js in
       let done : ended_count next ≡ d = ended-is d next (ordered-more ticks now d js order h more) in
@@ -262,17 +294,29 @@ module _ (keeps : Bool) (needs : ℕ → ℕ) (ticks now : ℕ) (js : List Progr
       ap (λ x. (get_or next x (waiting_for (needs x))).left) done
       ∙ (ap (λ (j : Progress). j.left) (get_or-set_same js d (after_ticks ticks now job) other h ∙ after-more ticks now job more)
       ∙ ap (λ x. x - ticks) (sym (left-is needs js h))) in
-      queue-same _ _ _ _ _ _ _ _ (length-jobs ticks now d js) done left (kept-shorter more keeps)
+      queue-same _ _ _ _ _ _ _ _ _ _ _ (length-jobs ticks now d js) done left (kept-shorter more keeping.jobs) (came-shorter more keeping.arrivals)
 
-  kept-completed : job.left ≤ ticks → (b : Bool) → cond b (Some (map job_of (jobs_after ticks now d js))) None ≡ option_map (with_end d now) (cond b (Some (map job_of js)) None)
-  kept-completed last true =
+  seen-completed : job.left ≤ ticks → map job_of (jobs_after ticks now d js) ≡ with_end d now (map job_of js)
+  seen-completed last =
       let seen : job_of (after_ticks ticks now job) ≡ record { arrival = job.arrival; end = Some now; cause = job.cause } = ap job_of (after-last ticks now job last) in
       let read = get_or-map job_of js d no_job no_job_seen h in
-      ap Some (map-set job_of js d (after_ticks ticks now job)
-      ∙ ap (set (map job_of js) d) (seen ∙ ap (λ (j : Job). let made : Job = record { arrival = j.arrival; end = Some now; cause = j.cause } in made) (sym read)))
+      map-set job_of js d (after_ticks ticks now job)
+      ∙ ap (set (map job_of js) d) (seen ∙ ap (λ (j : Job). let made : Job = record { arrival = j.arrival; end = Some now; cause = j.cause } in made) (sym read))
+
+  kept-completed : job.left ≤ ticks → (b : Bool) → cond b (Some (map job_of (jobs_after ticks now d js))) None ≡ option_map (with_end d now) (cond b (Some (map job_of js)) None)
+  kept-completed last true = ap Some (seen-completed last)
   kept-completed last false = refl
 
-  queue-completed : job.left ≤ ticks → AreFresh needs d js → queue_of keeps needs (jobs_after ticks now d js) ≡ completed_queue (needs (d + 1)) now (queue_of keeps needs js)
+  -- a job's end leaves its arrival
+  arrivals-ended : (seen : List Job) → arrivals_of (with_end d now seen) ≡ arrivals_of seen
+  arrivals-ended seen =
+      let old : Job = get_or seen d no_job_seen in
+      map-set_same (λ (job : Job). job.arrival) seen d (record { arrival = old.arrival; end = Some now; cause = old.cause }) no_job_seen refl
+
+  came-completed : job.left ≤ ticks → (b : Bool) → cond b (Some (arrivals_of (map job_of (jobs_after ticks now d js)))) None ≡ cond b (Some (arrivals_of (map job_of js))) None
+  came-completed last b = ap (λ times. cond b (Some times) None) (ap arrivals_of (seen-completed last) ∙ arrivals-ended (map job_of js))
+
+  queue-completed : job.left ≤ ticks → AreFresh needs d js → queue_of keeping needs (jobs_after ticks now d js) ≡ completed_queue (needs (d + 1)) now (queue_of keeping needs js)
   queue-completed last fresh =
       let next = jobs_after ticks now d js in
       let done : ended_count next ≡ d + 1 = omega (arith, ended-is (suc d) next (ordered-last ticks now d js order h last)) in
@@ -287,9 +331,9 @@ module _ (keeps : Bool) (needs : ℕ → ℕ) (ticks now : ℕ) (js : List Progr
       let left : left_of needs next ≡ needs (d + 1) =
       ap (λ x. (get_or next x (waiting_for (needs x))).left) done
       ∙ (ap (λ (j : Progress). j.left) there ∙ needed) in
-      queue-same _ _ _ _ _ _ _ _ (length-jobs ticks now d js) done left (kept-completed last keeps)
+      queue-same _ _ _ _ _ _ _ _ _ _ _ (length-jobs ticks now d js) done left (kept-completed last keeping.jobs) (came-completed last keeping.arrivals)
 
-  pub queue-worked : AreFresh needs d js → queue_of keeps needs (jobs_after ticks now d js) ≡ worked needs ticks now (queue_of keeps needs js)
+  pub queue-worked : AreFresh needs d js → queue_of keeping needs (jobs_after ticks now d js) ≡ worked needs ticks now (queue_of keeping needs js)
   queue-worked fresh =
       let same = left-is needs js h in
       elim (cases_lt ticks job.left) [

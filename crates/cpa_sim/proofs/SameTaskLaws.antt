@@ -4,13 +4,16 @@ use Rattle.std.specs.List.{range_with_len}
 use Rattle.std.specs.Option.{ForSome}
 use Rattle.std.proofs.lemmas.Bool.{cases_lt, cases_Bool, eqb-true, le-leb, lt-leb, cond-true, cond-false, false≢true}
 use Rattle.std.proofs.lemmas.List.{append-nil}
+use Rattle.cpa_model.specs.Kinds.{is_queue}
 use Rattle.cpa_model.specs.SystemLists.{SystemLists, task_at}
 use Rattle.cpa_trace.specs.Trace.{TraceLists, phase_of, need}
 use Rattle.cpa_sched.specs.Steps.{ResourceState, ReadyQueue, Choice, kind_of, step}
 use Rattle.cpa_sched.specs.States.{IsOn, IsWaiting, FrameWaits}
 use Rattle.cpa_sched.specs.Stretches.{got, state_after, task_after}
-use Rattle.cpa_sim.specs.Run.{no_job, Progress, waits, ready_at, ended_count, serve, new_jobs, events_at, arriving, is_chosen, choice_at, served, ends_in, ended_in, settled, run}
+use Rattle.cpa_sim.specs.Run.{no_job, Progress, waits, head_of, ready_at, ended_count, serve, new_jobs, events_at, arriving, is_chosen, choice_at, served, ends_in, ended_in, settled, run}
+use Rattle.cpa_sim.specs.Simulation.{is_queued}
 use Rattle.cpa_sim.proofs.JobLists.{AreInOrder, jobs_after}
+use Rattle.cpa_sim.proofs.HeadLaws.{head-arrival}
 use Rattle.cpa_sim.proofs.QueueLaws.{length-jobs, jobs-none, serve-jobs, ordered-more, ordered-last, ended-is, waits-is, waits-less}
 use Rattle.cpa_sim.proofs.RunLaws.{jobs-next, state-next, served-is, ends-is, ended-is as numbers-are, choice-is}
 use Rattle.cpa_sim.proofs.CauseLists.{arriving-agrees, arriving-none}
@@ -40,6 +43,7 @@ module _ (s : SystemLists) (tr : TraceLists) (t n : ℕ) (q : ReadyQueue) (d : �
     pub placed : (i : ℕ) → i < length s.tasks → (task_at s i).res.0 < length s.resources
     pub ordered : (i : ℕ) → i < length s.tasks → AreInOrder (d i) (jobs_at i)
     pub waiting : (i : ℕ) → i < length s.tasks → waits (jobs_at i) ≡ q.waits i
+    pub arrived : (i : ℕ) → i < length s.tasks → is_queued s i ≡ true → q.waits i ≡ true → (head_of (jobs_at i)).arrival ≡ q.arrival i
     pub held : (r : ℕ) → r < length s.resources → ForSome (state_at r).holder (IsOn s r)
     pub frames : (r : ℕ) → r < length s.resources → FrameWaits (kind_of s r) (state_at r) q.waits
     pub runs : (r u : ℕ) → r < length s.resources → u < n → task_after s r (state_at r) q (o r) t (phase_of tr r) u ≡ o r
@@ -103,11 +107,27 @@ module _ (s : SystemLists) (tr : TraceLists) (t n : ℕ) (q : ReadyQueue) (d : �
             | inr fails ↦ ap waits (a.jobs i there ∙ cond-false (chosen i) _ _ fails) ∙ g.waiting i there
           ]
 
+      -- the arrivals of the earliest pending jobs stay the same
+      still-arrived : (i : ℕ) → i < length s.tasks → (head_of ((run s tr (t + u)).jobs i)).arrival ≡ (head_of (jobs_at i)).arrival
+      still-arrived i there =
+          elim (cases_Bool (chosen i)) [
+            | inl passes ↦
+                let h = chosen-pending i there passes in
+                let l : u < left_at i = omega (arith, g.enough i there passes) in
+                ap (λ js. (head_of js).arrival) (a.jobs i there ∙ cond-true (chosen i) _ _ passes) ∙ head-arrival u (t + u) (d i) (jobs_at i) (g.ordered i there) h l
+            | inr fails ↦ ap (λ js. (head_of js).arrival) (a.jobs i there ∙ cond-false (chosen i) _ _ fails)
+          ]
+
+      came-first : (r : ℕ) → is_queue (kind_of s r) ≡ true → (j : ℕ) → IsWaiting s r q.waits j → (head_of ((run s tr (t + u)).jobs j)).arrival ≡ q.arrival j
+      came-first r queue j w =
+          let here : (task_at s j).res.0 ≡ r = eqb-true (task_at s j).res.0 r w.on.here in
+          still-arrived j w.on.task ∙ g.arrived j w.on.task (ap (λ v. is_queue (kind_of s v)) here ∙ queue) w.waits_now
+
       pub choice : (r : ℕ) → r < length s.resources → choice_at s tr (t + u) (run s tr (t + u)) r ≡ step s r (state_after s r (state_at r) q (o r) t (phase_of tr r) u) (got q (o r) u) (t + u) (phase_of tr r)
       choice r there =
           choice-is s tr (t + u) r
           ∙ (ap (λ st. step s r st (ready_at s tr (run s tr (t + u)).jobs) (t + u) (phase_of tr r)) (a.states r there)
-          ∙ step-agrees s r (ready_at s tr (run s tr (t + u)).jobs) (got q (o r) u) (λ j on. still j on.task) (state_after s r (state_at r) q (o r) t (phase_of tr r) u) (t + u) (phase_of tr r) (a.holds r there))
+          ∙ step-agrees s r (ready_at s tr (run s tr (t + u)).jobs) (got q (o r) u) (λ j on. still j on.task) (came-first r) (state_after s r (state_at r) q (o r) t (phase_of tr r) u) (t + u) (phase_of tr r) (a.holds r there))
 
       pub task : (r : ℕ) → r < length s.resources → (choice_at s tr (t + u) (run s tr (t + u)) r).task ≡ o r
       task r there = ap (λ (c : Choice). c.task) (choice r there) ∙ g.runs r u there less

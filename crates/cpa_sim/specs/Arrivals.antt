@@ -54,10 +54,11 @@ is_among tasks i = list_any (λ (t : TaskId). t.0 == i) tasks
 abbrev pub IsListOf : SystemLists → List TaskId → Type 0
 IsListOf s tasks = places_of tasks ≡ filter (is_among tasks) (range_with_len 0 (length s.tasks))
 
--- a place that is looked at where those that wait are looked for
-pub record IsWithin (waiters : WaitingRange) (place : ℕ) : Type 0 where
+-- a place that is looked at where those that wait are looked for, of a task of which a job arrives now
+pub record IsWithin (waiters : WaitingRange) (place now : ℕ) : Type 0 where
   pub first : waiters.first ≤ place
   pub last : place ≤ waiters.last
+  pub since : waiters.since ≤ now
 
 -- each task has got the jobs with these causes, and where it has got one, nothing is foreseen of its resource any more, and its place in the
 -- resource's list is looked at
@@ -67,7 +68,7 @@ pub record AreGiven (s : SystemLists) (places : List ℕ) (now : ℕ) (causes : 
   pub arrived : (i : ℕ) → i < length s.tasks → queue_at next_queues i ≡ with_arrivals now (causes i) (queue_at queues i)
   pub unchanged : (r : ℕ) → r < length s.resources → IsUnchanged (kind_of s r) (dispatch_at dispatches r) (dispatch_at next_dispatches r)
   pub asked : (i : ℕ) → i < length s.tasks → (dispatch_at next_dispatches (task_at s i).res.0).gone < (dispatch_at next_dispatches (task_at s i).res.0).ticks → causes i ≡ []
-  pub within : (i : ℕ) → i < length s.tasks → (causes i ≡ []) ⊎ IsWithin (dispatch_at next_dispatches (task_at s i).res.0).waiters (slice_index places i)
+  pub within : (i : ℕ) → i < length s.tasks → (causes i ≡ []) ⊎ IsWithin (dispatch_at next_dispatches (task_at s i).res.0).waiters (slice_index places i) now
 
 -- which jobs of a task end now: the last that is complete, if one does
 abbrev pub ended_of : SystemLists → List QueueCounts → List Dispatch → ℕ → List ℕ

@@ -5,16 +5,23 @@ use Rattle.cpa_units.specs.declared.limits.TheConstants.{MAX_TRACE_JOBS}
 use Rattle.cpa_sim.specs.declared.jobs.Job.{Job}
 use Rattle.cpa_sim.specs.declared.jobs.Cause.{Cause}
 use Rattle.cpa_sim.specs.declared.jobs.Causes.{Causes}
+use Rattle.cpa_sim.specs.declared.jobs.Keeping.{Keeping}
 use Rattle.cpa_sim.specs.Run.{Progress, no_cause, causes_by, ended_count}
 use Rattle.cpa_sim.specs.Outcome.{job_of, no_job_seen}
 
 -- how many jobs a task has got so far, how many of them are complete, what the next one to be complete still needs, be it there or yet to come,
--- and where the jobs are kept, what is seen of them
+-- and for how many there is room; where the jobs are kept, what is seen of them, and where arrivals are kept, when each job arrived
 pub record QueueCounts : Type 0 where
   pub count : ℕ
   pub done : ℕ
   pub left : ℕ
+  pub room : ℕ
   pub kept : Option (List Job)
+  pub came : Option (List ℕ)
+
+-- when each of some jobs arrived
+abbrev pub arrivals_of : List Job → List ℕ
+arrivals_of jobs = map (λ (job : Job). job.arrival) jobs
 
 -- whether some job is pending
 abbrev pub has_pending : QueueCounts → Bool
@@ -24,34 +31,49 @@ has_pending queue = nat_lt queue.done queue.count
 abbrev pub left_of : (ℕ → ℕ) → List Progress → ℕ
 left_of needs jobs = (slice_index_or jobs (ended_count jobs) (record { arrival = 0; left = needs (ended_count jobs); end = None; cause = no_cause })).left
 
--- what is known of these jobs, of which each needs so much in all: where they are to be kept, also what is seen of them
-abbrev pub queue_of : Bool → (ℕ → ℕ) → List Progress → QueueCounts
-queue_of keeps needs jobs =
-    record { count = length jobs; done = ended_count jobs; left = left_of needs jobs; kept = if keeps then Some (map job_of jobs) else None }
+-- what is known of these jobs, of which each needs so much in all, and of what is to be kept of them
+abbrev pub queue_of : Keeping → (ℕ → ℕ) → List Progress → QueueCounts
+queue_of keeping needs jobs =
+    record {
+      count = length jobs;
+      done = ended_count jobs;
+      left = left_of needs jobs;
+      room = keeping.room;
+      kept = if keeping.jobs then Some (map job_of jobs) else None;
+      came = if keeping.arrivals then Some (arrivals_of (map job_of jobs)) else None;
+    }
 
--- no job so far, where the first one needs so much, and jobs are to be kept or not
-abbrev pub empty_queue : Bool → ℕ → QueueCounts
-empty_queue keeps need = record { count = 0; done = 0; left = need; kept = if keeps then Some [] else None }
+-- no job so far, where the first one needs so much
+abbrev pub empty_queue : Keeping → ℕ → QueueCounts
+empty_queue keeping need =
+    record { count = 0; done = 0; left = need; room = keeping.room; kept = if keeping.jobs then Some [] else None; came = if keeping.arrivals then Some [] else None }
 
--- what every queue keeps to: its jobs are no more than a trace may have, no more are complete, the next one needs something, and where jobs are
--- kept, all are
-pub record IsQueue (queue : QueueCounts) : Type 0 where
-  pub few : queue.count ≤ MAX_TRACE_JOBS
+-- what every queue keeps to: its jobs are no more than there is room for, and that is for no more than a trace may have; no more are complete, the
+-- next one needs something; where jobs are kept, all are, and so it is with arrivals, for which room has been taken, of which there is so much
+pub record IsQueue (queue : QueueCounts) (capacity : Option ℕ) : Type 0 where
+  pub few : queue.count ≤ queue.room
+  pub room : queue.room ≤ MAX_TRACE_JOBS
   pub within : queue.done ≤ queue.count
   pub some : 1 ≤ queue.left
   pub all : (jobs : List Job) → queue.kept ≡ Some jobs → queue.count ≡ length jobs
+  pub all_came : (times : List ℕ) → queue.came ≡ Some times → queue.count ≡ length times
+  pub taken : (n : ℕ) → capacity ≡ Some n → queue.room ≤ n
 
 -- the jobs that are kept
 abbrev pub kept_of : QueueCounts → List Job
 kept_of queue = elim queue.kept [ None ↦ [] | Some jobs ↦ jobs ]
 
--- when the earliest pending job arrived, where the jobs are kept
+-- the arrivals that are kept
+abbrev pub came_of : QueueCounts → List ℕ
+came_of queue = elim queue.came [ None ↦ [] | Some times ↦ times ]
+
+-- when the earliest pending job arrived, where arrivals are kept
 abbrev pub arrival_of : QueueCounts → ℕ
-arrival_of queue = (slice_index_or (kept_of queue) queue.done no_job_seen).arrival
+arrival_of queue = slice_index_or (came_of queue) queue.done 0
 
 -- what stands outside the lists
 abbrev pub no_queue : QueueCounts
-no_queue = record { count = 0; done = 0; left = 0; kept = None }
+no_queue = record { count = 0; done = 0; left = 0; room = 0; kept = None; came = None }
 
 -- some causes one after the other
 abbrev pub causes_of : Causes → List Cause
@@ -64,7 +86,14 @@ new_seen now causes = map (λ cause. record { arrival = now; end = None; cause =
 -- a task's jobs with those that these causes start now
 abbrev pub with_arrivals : ℕ → List Cause → QueueCounts → QueueCounts
 with_arrivals now causes queue =
-    record { count = queue.count + length causes; done = queue.done; left = queue.left; kept = option_map (λ jobs. jobs ++ new_seen now causes) queue.kept }
+    record {
+      count = queue.count + length causes;
+      done = queue.done;
+      left = queue.left;
+      room = queue.room;
+      kept = option_map (λ jobs. jobs ++ new_seen now causes) queue.kept;
+      came = option_map (λ times. times ++ arrivals_of (new_seen now causes)) queue.came;
+    }
 
 -- the jobs, of which this one is complete now
 abbrev pub with_end : ℕ → ℕ → List Job → List Job
@@ -73,10 +102,11 @@ with_end done now jobs =
 
 -- a task's jobs once the earliest pending one is complete, where the one after it needs so much; and once it needs so many ticks less
 abbrev pub completed_queue : ℕ → ℕ → QueueCounts → QueueCounts
-completed_queue next now queue = record { count = queue.count; done = queue.done + 1; left = next; kept = option_map (with_end queue.done now) queue.kept }
+completed_queue next now queue =
+    record { count = queue.count; done = queue.done + 1; left = next; room = queue.room; kept = option_map (with_end queue.done now) queue.kept; came = queue.came }
 
 abbrev pub shorter_queue : ℕ → QueueCounts → QueueCounts
-shorter_queue ticks queue = record { count = queue.count; done = queue.done; left = queue.left - ticks; kept = queue.kept }
+shorter_queue ticks queue = record { count = queue.count; done = queue.done; left = queue.left - ticks; room = queue.room; kept = queue.kept; came = queue.came }
 
 -- a task's jobs after it ran for so many ticks
 abbrev pub worked : (ℕ → ℕ) → ℕ → ℕ → QueueCounts → QueueCounts

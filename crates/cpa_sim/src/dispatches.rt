@@ -10,13 +10,13 @@ ghost use Rattle.cpa_sched.specs.Steps.{kind_of, completed};
 ghost use Rattle.cpa_sched.specs.Stretches.{IsStretch, state_later};
 ghost use Rattle.cpa_sched.specs.States.{seen, Belongs, FrameWaits, IsWaiting};
 ghost use Rattle.cpa_sched.specs.Urgency.{IsByUrgency};
-ghost use Rattle.cpa_sched.specs.WaitingRanges.{HasWaitingRange};
+ghost use Rattle.cpa_sched.specs.WaitingRanges.{CameSince, HasWaitingRange};
 ghost use Rattle.cpa_sim.specs.Arrivals.{listed};
 ghost use Rattle.cpa_sim.specs.JobQueues.{served_queue};
 ghost use Rattle.cpa_sim.specs.Orders.{AreOrders, AreReached};
 ghost use Rattle.cpa_sim.specs.Outcome.{CanReplay};
 ghost use Rattle.cpa_sim.specs.Run.{settled};
-ghost use Rattle.cpa_sim.specs.Simulation.{queue_at, dispatch_at, runner, runs_at, waiting, ready, state_by, state_now, Foresees, HasEnough, IsServed, AreEnding};
+ghost use Rattle.cpa_sim.specs.Simulation.{queue_at, dispatch_at, runner, runs_at, waiting, arrived, ready, state_by, state_now, Foresees, HasEnough, IsServed, AreEnding};
 
 use crate::job_queues::{JobQueue, work};
 use cpa_model::System;
@@ -38,7 +38,8 @@ pub(crate) struct Dispatch {
     pub(crate) gone: u64,
     /// Whether the job that ran is complete now.
     pub(crate) ends: bool,
-    /// Between which places of its list by urgency those of its tasks stand that wait.
+    /// Between which places of its list by urgency those of its tasks stand that wait, and since when their
+    /// jobs came.
     pub(crate) waiters: WaitingRange,
 }
 
@@ -102,6 +103,7 @@ fn begin_now(
     requires there { ranking.now.res.0 < length system.now.resources }
     requires ranking { IsByUrgency system.now ranking.now.res.0 (places_of ranking.now.tasks.now) }
     requires waiters { HasWaitingRange (places_of ranking.now.tasks.now) (waiting queues.now) waiters.old }
+    requires since { CameSince system.now ranking.now.res.0 (waiting queues.now) (arrived queues.now) waiters.old.since }
     requires can { CanReplay system.now trace.now }
     requires belongs { Belongs system.now ranking.now.res.0 (seen state.old) }
     requires frame { FrameWaits (kind_of system.now ranking.now.res.0) (seen state.old) (waiting queues.now) }
@@ -110,6 +112,7 @@ fn begin_now(
     ensures stretch { (n : ℕ) → n < result.ticks → IsStretch system.now ranking.now.res.0 (seen state.old) (ready system.now trace.now queues.now) now (phase_of trace.now ranking.now.res.0) (n + 1) (option_map place_of result.task) (state_later (kind_of system.now ranking.now.res.0) (option_map place_of result.task) (seen state.new) n) }
     ensures some { 1 ≤ result.ticks }
     ensures waiters { HasWaitingRange (places_of ranking.now.tasks.now) (waiting queues.now) waiters.new }
+    ensures since { CameSince system.now ranking.now.res.0 (waiting queues.now) (arrived queues.now) waiters.new.since }
     ensures waits { IfSome result.task (λ t. IsWaiting system.now ranking.now.res.0 (waiting queues.now) t.0) }
 {
     let queue = Waiting {
@@ -173,6 +176,7 @@ fn foresee(
     requires there { ranking.now.res.0 < length system.now.resources }
     requires ranking { IsByUrgency system.now ranking.now.res.0 (places_of ranking.now.tasks.now) }
     requires waiters { HasWaitingRange (places_of ranking.now.tasks.now) (waiting queues.now) dispatch.old.waiters }
+    requires since { CameSince system.now ranking.now.res.0 (waiting queues.now) (arrived queues.now) dispatch.old.waiters.since }
     requires can { CanReplay system.now trace.now }
     requires queues { length queues.now ≡ length system.now.tasks }
     requires belongs { Belongs system.now ranking.now.res.0 (state_now (kind_of system.now ranking.now.res.0) dispatch.old) }
@@ -182,6 +186,7 @@ fn foresee(
     ensures some { dispatch.new.gone < dispatch.new.ticks }
     ensures enough { HasEnough queues.now dispatch.new }
     ensures waiters { HasWaitingRange (places_of ranking.now.tasks.now) (waiting queues.now) dispatch.new.waiters }
+    ensures since { CameSince system.now ranking.now.res.0 (waiting queues.now) (arrived queues.now) dispatch.new.waiters.since }
 {
     refresh(system, dispatch, ranking.res);
     let most = HORIZON - now;
@@ -213,6 +218,7 @@ fn foresee_more(
     requires there { res.0 < length system.now.resources }
     requires orders { AreOrders system.now (map (λ v. v.items) orders.now.items) }
     requires waiters { HasWaitingRange (places_of (listed (map (λ v. v.items) orders.now.items) res.0)) (waiting queues.now) dispatch.old.waiters }
+    requires since { CameSince system.now res.0 (waiting queues.now) (arrived queues.now) dispatch.old.waiters.since }
     requires can { CanReplay system.now trace.now }
     requires queues { length queues.now ≡ length system.now.tasks }
     requires belongs { Belongs system.now res.0 (state_now (kind_of system.now res.0) dispatch.old) }
@@ -224,6 +230,7 @@ fn foresee_more(
     ensures some { dispatch.new.gone < dispatch.new.ticks }
     ensures enough { HasEnough queues.now dispatch.new }
     ensures waiters { HasWaitingRange (places_of (listed (map (λ v. v.items) orders.now.items) res.0)) (waiting queues.now) dispatch.new.waiters }
+    ensures since { CameSince system.now res.0 (waiting queues.now) (arrived queues.now) dispatch.new.waiters.since }
 {
     if dispatch.gone < dispatch.ticks {
         return;

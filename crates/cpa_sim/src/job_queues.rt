@@ -1,13 +1,13 @@
 //! What is known of the jobs of one task, in the order in which they come. Times are in ticks.
 
-ghost use Rattle.std.specs.Prelude.{◌≡◌, ◌<◌, ◌≤◌, ◌+◌, ◌++◌, length, true, false, None, option_map, IfOk, OnOk, OnErr, IsOk, nat_le};
+ghost use Rattle.std.specs.Prelude.{◌≡◌, ◌<◌, ◌≤◌, ◌+◌, ◌++◌, [], if◌then◌else◌, length, true, false, Some, None, option_map, vec_capacity, IfOk, IfSome, OnOk, OnErr, IsOk, nat_le};
 ghost use Rattle.std.specs.List.{list_any};
 ghost use Rattle.cpa_units.specs.declared.limits.TheConstants.{HORIZON, MAX_TRACE_JOBS};
-ghost use Rattle.cpa_sim.specs.JobQueues.{QueueCounts, has_pending, arrival_of, empty_queue, kept_of, causes_of, new_seen, with_arrivals, completed_queue, shorter_queue, worked};
+ghost use Rattle.cpa_sim.specs.JobQueues.{QueueCounts, has_pending, arrival_of, arrivals_of, empty_queue, kept_of, causes_of, new_seen, with_arrivals, completed_queue, shorter_queue, worked};
 ghost use Rattle.cpa_trace.specs.Trace.{need};
 ghost use Rattle.cpa_sim.specs.Outcome.{CanReplay};
 
-use crate::jobs::{Cause, Causes};
+use crate::jobs::{Cause, Causes, Keeping};
 use crate::seen_job::SeenJob;
 use cpa_model::System;
 use cpa_trace::Trace;
@@ -17,7 +17,8 @@ use std::alloc::Global;
 use std::marker::Model;
 
 /// The jobs of a task so far, of which the first ones are complete, and no others. What is seen of them is
-/// kept where that is asked for; all else takes the same room, however many there are.
+/// kept where that is asked for, and so is when each arrived, in room that is taken at the start; all else
+/// takes the same room, however many there are.
 #[derive(Debug, Drop)]
 pub(crate) struct JobQueue {
     /// How many there are.
@@ -26,18 +27,22 @@ pub(crate) struct JobQueue {
     done: u64,
     /// What the next job to be complete still needs, be it there or yet to come.
     left: u64,
+    /// For how many there is room.
+    room: u64,
     kept: Option<Vec<SeenJob>>,
+    /// When each arrived.
+    came: Option<Vec<u32>>,
 }
 
 impl Model for JobQueue {
-    ghost use Rattle.std.specs.Prelude.{option_map};
+    ghost use Rattle.std.specs.Prelude.{option_map, vec_capacity};
     ghost use Rattle.cpa_sim.specs.JobQueues.{QueueCounts, IsQueue};
 
     ghost Value = { QueueCounts };
 
-    ghost view = { λ l. record { count = l.count; done = l.done; left = l.left; kept = option_map (λ v. v.items) l.kept } };
+    ghost view = { λ l. record { count = l.count; done = l.done; left = l.left; room = l.room; kept = option_map (λ v. v.items) l.kept; came = option_map (λ v. v.items) l.came } };
 
-    ghost invariant = { λ l. IsQueue (record { count = l.count; done = l.done; left = l.left; kept = option_map (λ v. v.items) l.kept }) };
+    ghost invariant = { λ l. IsQueue (record { count = l.count; done = l.done; left = l.left; room = l.room; kept = option_map (λ v. v.items) l.kept; came = option_map (λ v. v.items) l.came }) (option_map (λ v. vec_capacity v) l.came) };
 }
 
 /// Adds jobs that these causes start now.
@@ -74,27 +79,58 @@ fn keep(kept: &mut Option<Vec<SeenJob>>, causes: Causes, now: u64) -> Result<(),
     Ok(())
 }
 
+/// Adds the arrivals of so many jobs that arrive now.
+fn push_arrivals(times: &mut Vec<u32>, causes: Causes, now: u64)
+    requires horizon { now ≤ HORIZON }
+    requires room { length times.old.items + causes.count ≤ vec_capacity times.old }
+    ensures items { times.new.items ≡ times.old.items ++ arrivals_of (new_seen now (causes_of causes)) }
+    ensures capacity { vec_capacity times.new ≡ vec_capacity times.old }
+{
+    for _ in 0..causes.count {
+        times.push_reserved(now as u32);
+    }
+}
+
+/// Adds the arrivals of jobs that these causes start now to those that are kept, if they are, in the room
+/// that there is.
+fn keep_arrivals(came: &mut Option<Vec<u32>>, causes: Causes, now: u64)
+    requires horizon { now ≤ HORIZON }
+    requires room { IfSome came.old (λ v. length v.items + causes.count ≤ vec_capacity v) }
+    ensures more { option_map (λ v. v.items) came.new ≡ option_map (λ times. times ++ arrivals_of (new_seen now (causes_of causes))) (option_map (λ v. v.items) came.old) }
+    ensures capacity { option_map (λ v. vec_capacity v) came.new ≡ option_map (λ v. vec_capacity v) came.old }
+{
+    if let Some(times) = came {
+        push_arrivals(times, causes, now);
+    }
+}
+
+/// Room for what is seen of so many jobs, or for when so many arrived, if it is kept.
+fn room_for<T>(alloc: Global, keeps: bool, room: u64) -> Result<Option<Vec<T>>, NoMemory>
+    requires { room ≤ MAX_TRACE_JOBS }
+    ensures items { IfOk result (λ kept. option_map (λ v. v.items) kept ≡ (if keeps then Some [] else None)) }
+    ensures capacity { IfOk result (λ kept. option_map (λ v. vec_capacity v) kept ≡ (if keeps then Some room else None)) }
+{
+    if keeps {
+        Ok(Some(Vec::with_capacity(alloc, room as usize)?))
+    } else {
+        Ok(None)
+    }
+}
+
 impl JobQueue {
-    /// No job so far. The first one needs so many ticks. Where what is seen of jobs is kept, there is room for so many.
-    pub(crate) fn new(
-        alloc: Global,
-        keeps: bool,
-        need: u64,
-        room: u64,
-    ) -> Result<JobQueue, NoMemory>
-        requires { 1 ≤ need }
-        ensures { IfOk result (λ queue. queue ≡ empty_queue keeps need) }
+    /// No job so far. The first one needs so many ticks.
+    pub(crate) fn new(alloc: Global, keeping: Keeping, need: u64) -> Result<JobQueue, NoMemory>
+        requires some { 1 ≤ need }
+        requires room { keeping.room ≤ MAX_TRACE_JOBS }
+        ensures { IfOk result (λ queue. queue ≡ empty_queue keeping need) }
     {
-        let kept = if keeps {
-            Some(Vec::with_capacity(alloc, room as usize)?)
-        } else {
-            None
-        };
         Ok(JobQueue {
             count: 0,
             done: 0,
             left: need,
-            kept,
+            room: keeping.room,
+            kept: room_for(alloc, keeping.jobs, keeping.room)?,
+            came: room_for(alloc, keeping.arrivals, keeping.room)?,
         })
     }
 
@@ -113,14 +149,14 @@ impl JobQueue {
         self.done
     }
 
-    /// When the earliest pending job arrived, where jobs are kept.
+    /// When the earliest pending job arrived, where arrivals are kept.
     pub(crate) fn arrival(&self) -> u64
         requires { has_pending self.now ≡ true }
         ensures { result ≡ arrival_of self.now }
     {
-        match &self.kept {
+        match &self.came {
             None => 0,
-            Some(jobs) => jobs[self.done as usize].job().arrival,
+            Some(times) => u64::from(times[self.done as usize]),
         }
     }
 
@@ -152,13 +188,14 @@ impl JobQueue {
 
     /// Adds jobs that these causes start now. Where memory runs out, those so far are lost.
     pub(crate) fn arrive(&mut self, causes: Causes, now: u64) -> Result<(), NoMemory>
-        requires few { self.old.count + causes.count ≤ MAX_TRACE_JOBS }
+        requires few { self.old.count + causes.count ≤ self.old.room }
         requires numbers { causes.first + causes.count ≤ MAX_TRACE_JOBS }
         requires horizon { now ≤ HORIZON }
         ensures queue { OnOk result (self.new ≡ with_arrivals now (causes_of causes) self.old) }
         ensures memory { self.old.kept ≡ None → IsOk result }
     {
         keep(&mut self.kept, causes, now)?;
+        keep_arrivals(&mut self.came, causes, now);
         self.count += causes.count;
         Ok(())
     }

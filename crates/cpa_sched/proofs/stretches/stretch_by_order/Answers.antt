@@ -1,12 +1,13 @@
 use Rattle.std.proofs.Common.{◌≡◌, ◌∙◌, ◌+◌, ◌<◌, option_map, sym, ap, subst}
 use Rattle.cpa_model.specs.declared.entries.Resource.{Resource}
-use Rattle.cpa_model.specs.declared.entries.Kind.TheVariants.{Preemptive, Can}
+use Rattle.cpa_model.specs.declared.entries.Kind.TheVariants.{Preemptive, Can, Fifo}
 use Rattle.cpa_model.specs.SystemLists.{place_of}
 use Rattle.cpa_sched.specs.Steps.{kind_of, can_step}
 use Rattle.cpa_sched.specs.States.{seen}
 use Rattle.cpa_sched.specs.Stretches.{IsStretch, state_later}
+use Rattle.cpa_sched.specs.WaitingRanges.{CameSince}
 use Rattle.cpa_sched.proofs.RegionLaws.{region-stretch, region-long}
-use Rattle.cpa_sched.proofs.StretchLaws.{frame-stretch, frame-long}
+use Rattle.cpa_sched.proofs.StretchLaws.{frame-stretch, frame-long, later-queued, queued-stretch, queued-long}
 use Rattle.cpa_sched.proofs.stretches.stretch_by_order.Goals as goal
 
 pub returns-in-Preemptive-clause-stretch : goal.returns-in-Preemptive-clause-stretch
@@ -45,3 +46,33 @@ returns-in-Can-clause-length g c =
     let q = g.Q.Queue.ready c.args.queue.now in
     let kind : kind_of s r ≡ Can c.in-Can.bit = sym (ap (λ (x : Resource). x.kind) c.resource.ensures.value) ∙ c.in-Can.is in
     frame-long s r q (seen c.args.state.now) c.args.tick c.args.phase c.in-Can.bit c.args.most kind
+
+pub returns-in-Preemptive-clause-since : goal.returns-in-Preemptive-clause-since
+returns-in-Preemptive-clause-since g c =
+    let q = g.Q.Queue.ready c.args.queue.now in
+    subst (CameSince c.args.system.now c.args.ranking.now.res.0 q.waits q.arrival) (sym c.regions_by.ensures.since) c.requires.since
+
+pub returns-in-Can-clause-since : goal.returns-in-Can-clause-since
+returns-in-Can-clause-since g c =
+    let q = g.Q.Queue.ready c.args.queue.now in
+    subst (CameSince c.args.system.now c.args.ranking.now.res.0 q.waits q.arrival) (sym c.frame_by.ensures.since) c.requires.since
+
+pub returns-in-Fifo-clause-stretch : goal.returns-in-Fifo-clause-stretch
+returns-in-Fifo-clause-stretch g c n less =
+    let s = c.args.system.now in
+    let r = c.args.ranking.now.res.0 in
+    let q = g.Q.Queue.ready c.args.queue.now in
+    let kind : kind_of s r ≡ Fifo = sym (ap (λ (x : Resource). x.kind) c.resource.ensures.value) ∙ c.in-Fifo.is in
+    let st = seen c.args.state.now in
+    let o = option_map place_of c.first_come_within.result.task in
+    subst (λ k. IsStretch s r st q c.args.tick c.args.phase (n + 1) o (state_later k o st n)) (sym kind)
+    (subst (IsStretch s r st q c.args.tick c.args.phase (n + 1) o) (sym (later-queued o st n))
+    (queued-stretch s r q st c.args.tick c.args.phase kind (n + 1) o (c.first_come_within.ensures.step st)))
+
+pub returns-in-Fifo-clause-length : goal.returns-in-Fifo-clause-length
+returns-in-Fifo-clause-length g c =
+    let s = c.args.system.now in
+    let r = c.args.ranking.now.res.0 in
+    let q = g.Q.Queue.ready c.args.queue.now in
+    let kind : kind_of s r ≡ Fifo = sym (ap (λ (x : Resource). x.kind) c.resource.ensures.value) ∙ c.in-Fifo.is in
+    c.first_come_within.ensures.ticks ∙ queued-long s r q (seen c.args.state.now) c.args.tick c.args.phase kind c.args.most

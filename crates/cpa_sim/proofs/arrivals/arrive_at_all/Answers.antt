@@ -31,7 +31,7 @@ arrive_at-requires-clause-few c =
     let same : queue_at c.loop-task.queues.items t ≡ queue_at c.args.queues.now.items t =
     c.loop-task.invariant.arrived t there ∙ (ap (λ b. with_arrivals c.args.now (cond b (causes_of c.args.causes) []) (queue_at c.args.queues.now.items t)) none ∙ arrivals-none c.args.now (queue_at c.args.queues.now.items t)) in
     let few = c.requires.few t there (listed-among s tasks c.requires.tasks m c.loop-task-test.true) in
-    omega (arith, ap (λ (l : QueueCounts). l.count) same, few)
+    omega (arith, ap (λ (l : QueueCounts). l.count) same, ap (λ (l : QueueCounts). l.room) same, few)
 
 pub loop-task-init : goal.loop-task-init
 loop-task-init c = given-none c.args.system.now c.args.places.now.items c.args.now c.args.queues.now.items c.args.dispatches.now.items c.requires.queues c.requires.dispatches

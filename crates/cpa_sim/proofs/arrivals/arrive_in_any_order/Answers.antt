@@ -44,8 +44,9 @@ arrive_by_last-requires-clause-few c = λ i less activates.
     let ends : ended_task (dispatch_at d0 k) ≡ Some t =
     sym (ended-unchanged (kind_of s k) (dispatch_at d0 k) (dispatch_at d1 k) (given.unchanged k low)) ∙ (ap ended_task (sym here) ∙ (sym c.ended_on.ensures.value ∙ ap (option_map place_of) c.in-Some-ended_on.is)) in
     let so_far = ap (λ (l : QueueCounts). l.count) (given.arrived i less) in
+    let room = ap (λ (l : QueueCounts). l.room) (given.arrived i less) in
     let all = ap length (ended-all s l0 d0 i (placed s c.has_rules.ensures) c.requires.runs (c.requires.single i less)) in
-    omega (arith, so_far, all, ended-one s l0 (ended_task (dispatch_at d0 k)) t i ends activates, part-le (λ r. by_ended s l0 (ended_task (dispatch_at d0 r)) i) k (length s.resources) low, c.requires.few i less)
+    omega (arith, so_far, room, all, ended-one s l0 (ended_task (dispatch_at d0 k)) t i ends activates, part-le (λ r. by_ended s l0 (ended_task (dispatch_at d0 r)) i) k (length s.resources) low, c.requires.few i less)
 
 pub resources-init : goal.resources-init
 resources-init c =

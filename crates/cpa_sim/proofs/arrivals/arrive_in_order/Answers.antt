@@ -45,8 +45,9 @@ arrive_by_last-requires-clause-few c = λ i less activates.
     let here : AreGiven s c.args.places.now.items c.args.now (λ i. started_below s l0 d0 i t) l0 d0 c.ends.queues.items c.ends.dispatches.items =
     subst (λ (o : Option ℕ). AreGiven s c.args.places.now.items c.args.now (λ i. started_below s l0 d0 i (upto (length s.tasks) o)) l0 d0 c.ends.queues.items c.ends.dispatches.items) (ap (option_map place_of) c.in-Some.is) inv.given in
     let so_far = ap (λ (l : QueueCounts). l.count) (here.arrived i less) in
+    let room = ap (λ (l : QueueCounts). l.room) (here.arrived i less) in
     let one = started-one s l0 d0 i t (inv.ends t (ap (option_map place_of) c.in-Some.is)) activates in
-    omega (arith, so_far, one, part-le (λ j. by_task s (ended_of s l0 d0) j i) t (length s.tasks) there, c.requires.few i less)
+    omega (arith, so_far, room, one, part-le (λ j. by_task s (ended_of s l0 d0) j i) t (length s.tasks) there, c.requires.few i less)
 
 pub next_end-next-requires-in-Some-clause-ended : goal.next_end-next-requires-in-Some-clause-ended
 next_end-next-requires-in-Some-clause-ended c =

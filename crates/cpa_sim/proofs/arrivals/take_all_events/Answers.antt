@@ -23,9 +23,10 @@ take_event-requires-clause-few c = λ i there cursors.
     let now = c.args.now in
     let k = c.loop-k.k in
     let so_far = ap (λ (l : QueueCounts). l.count) (c.loop-k.invariant.given.arrived i there) in
+    let room = ap (λ (l : QueueCounts). l.room) (c.loop-k.invariant.given.arrived i there) in
     let count = ap length c.deref_mut-cursor-items.ensures.value ∙ c.requires.cursors in
     let low : k < length s.sources = omega (arith, c.loop-k-test.true, count) in
-    omega (arith, so_far, length-fed s tr now i k cursors, part-le (λ q. by_source s tr now q i) k (length s.sources) low, c.requires.few i there)
+    omega (arith, so_far, room, length-fed s tr now i k cursors, part-le (λ q. by_source s tr now q i) k (length s.sources) low, c.requires.few i there)
 
 pub overflow_cast-source : goal.overflow_cast-source
 overflow_cast-source c =

@@ -1,12 +1,13 @@
 use Rattle.std.proofs.Common.{◌∙◌, ◌+◌, ◌<◌, ◌≤◌, ℕ, List, length, map, sym, ap, subst, arith}
 use Rattle.cpa_model.specs.SystemLists.{places_of}
-use Rattle.cpa_sched.specs.WaitingRanges.{HasWaitingRange}
+use Rattle.cpa_sched.specs.WaitingRanges.{CameSince, HasWaitingRange}
 use Rattle.cpa_sched.specs.States.{Belongs, FrameWaits}
 use Rattle.cpa_sim.specs.Arrivals.{listed}
+use Rattle.cpa_sim.specs.Orders.{IsReached}
 use Rattle.cpa_trace.specs.Trace.{phase_of}
 use Rattle.cpa_sched.specs.Steps.{kind_of}
 use Rattle.cpa_sim.specs.declared.dispatches.Dispatch.{Dispatch}
-use Rattle.cpa_sim.specs.Simulation.{dispatch_at, no_dispatch, waiting, ready, state_now, Foresees, HasEnough}
+use Rattle.cpa_sim.specs.Simulation.{dispatch_at, no_dispatch, waiting, arrived, ready, state_now, Foresees, HasEnough}
 use Rattle.cpa_sim.proofs.PlaceLaws.{below-more, above-same, came-back}
 use Rattle.cpa_sim.proofs.dispatches.foresee_all.Goals as goal
 
@@ -31,7 +32,15 @@ foresee_more-requires-clause-waiters c =
     let k = c.loop-k.k in
     let count = ap length c.deref_mut-dispatch-items.ensures.value ∙ c.requires.dispatches in
     let less : k < length c.args.system.now.resources = omega (arith, c.loop-k-test.true, count) in
-    subst (λ (x : Dispatch). HasWaitingRange (places_of (listed (map (λ v. v.items) c.args.orders.now.items) k)) (waiting c.args.queues.now) x.waiters) (sym (c.loop-k.invariant.same k (omega arith))) (c.requires.reached k less)
+    subst (λ (x : Dispatch). HasWaitingRange (places_of (listed (map (λ v. v.items) c.args.orders.now.items) k)) (waiting c.args.queues.now) x.waiters) (sym (c.loop-k.invariant.same k (omega arith))) (c.requires.reached k less).range
+
+pub foresee_more-requires-clause-since : goal.foresee_more-requires-clause-since
+foresee_more-requires-clause-since c =
+    let s = c.args.system.now in
+    let k = c.loop-k.k in
+    let count = ap length c.deref_mut-dispatch-items.ensures.value ∙ c.requires.dispatches in
+    let less : k < length s.resources = omega (arith, c.loop-k-test.true, count) in
+    subst (λ (x : Dispatch). CameSince s k (waiting c.args.queues.now) (arrived c.args.queues.now) x.waiters.since) (sym (c.loop-k.invariant.same k (omega arith))) (c.requires.reached k less).since
 
 pub foresee_more-requires-clause-belongs : goal.foresee_more-requires-clause-belongs
 foresee_more-requires-clause-belongs c =
@@ -79,7 +88,8 @@ loop-k-preserved c =
       foresees = below-more (λ r (x : Dispatch). Foresees s r (state_now (kind_of s r) (dispatch_at old r)) (ready s c.args.trace.now c.args.queues.now) c.args.now (phase_of c.args.trace.now r) x) dispatches k dispatch no_dispatch there c.loop-k.invariant.foresees
           (subst (λ (x : Dispatch). Foresees s k (state_now (kind_of s k) x) (ready s c.args.trace.now c.args.queues.now) c.args.now (phase_of c.args.trace.now k) dispatch) here c.foresee_more.ensures.foresees);
       enough = below-more (λ r (x : Dispatch). HasEnough c.args.queues.now x) dispatches k dispatch no_dispatch there c.loop-k.invariant.enough c.foresee_more.ensures.enough;
-      reached = below-more (λ r (x : Dispatch). HasWaitingRange (places_of (listed (map (λ v. v.items) c.args.orders.now.items) r)) (waiting c.args.queues.now) x.waiters) dispatches k dispatch no_dispatch there c.loop-k.invariant.reached c.foresee_more.ensures.waiters;
+      reached = below-more (λ r (x : Dispatch). IsReached s r (places_of (listed (map (λ v. v.items) c.args.orders.now.items) r)) c.args.queues.now x.waiters) dispatches k dispatch no_dispatch there c.loop-k.invariant.reached
+          (record { range = c.foresee_more.ensures.waiters; since = c.foresee_more.ensures.since });
       fits = below-more (λ r (x : Dispatch). x.gone + c.min-ticks.result ≤ x.ticks) dispatches k dispatch no_dispatch there (λ r less. omega (arith, c.loop-k.invariant.fits r less, c.min-ticks.ensures)) (omega (arith, c.min-ticks.ensures, c.foresee_more.ensures.some));
       same = above-same old dispatches k dispatch no_dispatch c.loop-k.invariant.same;
     }

@@ -6,4 +6,4 @@ pub overflow_add-result : goal.overflow_add-result
 overflow_add-result c =
     let pending = rw (← c.self.view_is) at c.requires in
     let less : c.self.inside.done < c.self.inside.count = ltb-true c.self.inside.done c.self.inside.count pending in
-    omega (arith, less, c.self.invariant.few)
+    omega (arith, less, c.self.invariant.few, c.self.invariant.room)
