@@ -1,18 +1,20 @@
 -- What is chosen in a run, kind by kind, and the next state of a resource.
-use Rattle.std.proofs.Common.{◌≡◌, ℕ, zero, suc, ◌+◌, ◌-◌, ◌%◌, ◌<◌, ◌⊎◌, Bool, true, eqb, Option, Some, None, refl, sym, ◌∙◌, inl, inr, arith, subst, ap}
+use Rattle.std.proofs.Common.{◌≡◌, ℕ, zero, suc, ◌+◌, ◌-◌, ◌%◌, ◌<◌, ◌≤◌, ◌⊎◌, Bool, true, eqb, Option, Some, None, refl, sym, ◌∙◌, inl, inr, arith, subst, ap}
 use Rattle.std.specs.List.{filter}
 use Rattle.std.proofs.lemmas.Bool.{cases_Bool, eqb-true, eq-eqb, false≢true}
 use Rattle.cpa_model.specs.declared.entries.Kind.{Kind}
-use Rattle.cpa_model.specs.declared.entries.Kind.TheVariants.{Preemptive, RoundRobin, Tdma, Can}
+use Rattle.cpa_model.specs.declared.entries.Kind.TheVariants.{Preemptive, RoundRobin, Tdma, Can, Fifo}
 use Rattle.cpa_model.specs.SystemLists.{SystemLists, task_at, cycle_of, tasks_on}
 use Rattle.cpa_trace.specs.Trace.{TraceLists, phase_of}
-use Rattle.cpa_sched.specs.Steps.{ResourceState, Choice, most_urgent, owner_at, if_waiting, region_of, within_region, preemptive_step, can_step, choose, kind_of, step}
-use Rattle.cpa_sim.specs.Run.{waits, ready_at, is_chosen, choice_at, runs_in, ends_in, settled, run}
+use Rattle.cpa_sched.specs.Steps.{ResourceState, Choice, most_urgent, owner_at, if_waiting, region_of, within_region, preemptive_step, can_step, fifo_step, choose, kind_of, step}
+use Rattle.cpa_sched.specs.Least.{ComesBefore}
+use Rattle.cpa_sim.specs.Run.{head_of, waits, ready_at, is_chosen, choice_at, runs_in, ends_in, settled, run}
 use Rattle.cpa_sound.proofs.JobLaws.{waits-less, less-waits}
 use Rattle.cpa_sim.proofs.JobCount.{ended-suc, length-suc}
 use Rattle.cpa_sound.proofs.ArrivalLaws.{ends_in-is}
 use Rattle.cpa_sched.specs.States.{IsOn, IsWaiting}
 use Rattle.cpa_sched.proofs.OptionLaws.{some-injective}
+use Rattle.cpa_sched.proofs.FifoLaws.{fifo-waits, fifo-first, fifo-busy}
 use Rattle.cpa_sched.proofs.StepLaws.{tasks_on-are, waiting-are, owner_is, if_waiting-is}
 use Rattle.cpa_sim.proofs.RunLaws.{state-zero, state-suc}
 use Rattle.cpa_sound.proofs.StepLaws.{IsMostUrgent, urgent_is}
@@ -237,3 +239,28 @@ module _ (s : SystemLists) (tr : TraceLists) where
 
     pub tdma-runs : (t j : ℕ) → owner t ≡ Some j → waiting_at t j ≡ true → chosen_at t r ≡ Some j
     tdma-runs t j e w = tdma-choice t ∙ rw (e, w) refl
+
+  -- ---- queues
+
+  -- when the earliest pending job of a task came
+  abbrev pub since_at : ℕ → ℕ → ℕ
+  since_at t j = (head_of ((run s tr t).jobs j)).arrival
+
+  module _ (r : ℕ) (kind : kind_of s r ≡ Fifo) where
+    queue-choice : (t : ℕ) → chosen_at t r ≡ (fifo_step s r (state_at t r) (ready_at s tr (run s tr t).jobs)).task
+    queue-choice t = ap (λ (c : Choice). c.task) (choice-by_kind t r Fifo kind)
+
+    pub queue-waits : (t j : ℕ) → chosen_at t r ≡ Some j → IsWaiting s r (waiting_at t) j
+    queue-waits t j e = fifo-waits s r (state_at t r) (ready_at s tr (run s tr t).jobs) j (sym (queue-choice t) ∙ e)
+
+    -- no job that is pending came before the one that runs
+    pub queue-first : (t k j : ℕ) → chosen_at t r ≡ Some k → IsWaiting s r (waiting_at t) j → since_at t k ≤ since_at t j
+    queue-first t k j e w = no_later (fifo-first s r (state_at t r) (ready_at s tr (run s tr t).jobs) k j (sym (queue-choice t) ∙ e) w)
+      where
+        no_later : ComesBefore (since_at t) k j → since_at t k ≤ since_at t j
+        no_later (inl less) = omega (arith, less)
+        no_later (inr same) = omega (arith, same.0)
+
+    -- while a job is pending, one runs
+    pub queue-busy : (t j : ℕ) → IsWaiting s r (waiting_at t) j → chosen_at t r ≡ None → ⊥
+    queue-busy t j w none = fifo-busy s r (state_at t r) (ready_at s tr (run s tr t).jobs) j w (sym (queue-choice t) ∙ none)

@@ -3,7 +3,7 @@ use Rattle.std.proofs.Common.{◌≡◌, ℕ, zero, suc, ◌+◌, ◌-◌, ◌<�
 use Rattle.std.specs.List.{AllByRecursion, filter}
 use Rattle.std.proofs.lemmas.Bool.{cases_lt, cases_Bool, lt-ltb, and_parts, and_from, and_cases, ltb-true, ltb-false, eqb-true, eq-eqb, false≢true}
 use Rattle.cpa_model.specs.declared.entries.Kind.{Kind}
-use Rattle.cpa_model.specs.declared.entries.Kind.TheVariants.{Preemptive, RoundRobin, Tdma, Can}
+use Rattle.cpa_model.specs.declared.entries.Kind.TheVariants.{Preemptive, RoundRobin, Tdma, Can, Fifo}
 use Rattle.cpa_model.specs.SystemLists.{SystemLists, task_at, resource_of, priority_of, slot_of, shares_resource, is_higher, higher_tasks, tasks_on}
 use Rattle.cpa_sound.proofs.Serving.{work, IsPending, IsStarted, IsInOrder, AnyOf}
 use Rattle.cpa_sound.proofs.Turns.{Turns, GoesOn, PassesOn, TakesTurn}
@@ -29,14 +29,21 @@ use Rattle.cpa_sched.specs.States.{IsOn, IsWaiting, HoldsRegion}
 use Rattle.cpa_sim.proofs.RunLaws.{run-belongs}
 use Rattle.cpa_sched.proofs.OptionLaws.{some-injective}
 use Rattle.cpa_sound.proofs.StepLaws.{all_at, in_waiting, some_urgent, some_first, in_ring_after, next-nearest}
-use Rattle.cpa_sound.proofs.ChoiceLaws.{waiting_at, state_at, chosen_at, runs-chosen, chosen-runs, urgent_waits, region-goes_on, region-starts, region-next, region-first, region-held, region-waits, can-goes_on, can-starts, can-next, can-kept, can-first, can-held, can-waits, tdma-waits}
+use Rattle.cpa_sound.proofs.ChoiceLaws.{waiting_at, state_at, chosen_at, runs-chosen, chosen-runs, urgent_waits, region-goes_on, region-starts, region-next, region-first, region-held, region-waits, can-goes_on, can-starts, can-next, can-kept, can-first, can-held, can-waits, tdma-waits, queue-waits}
 use Rattle.cpa_sound.proofs.RingRuns.{ring-waits, held, ring_cases, next_on}
 
 -- a member of a list that is so, with what holds of all
-any_with : (P Q : ℕ → Type 0) (js : List ℕ) → AllByRecursion P js → AnyOf Q js → (j : ℕ) × P j × Q j
+pub any_with : (P Q : ℕ → Type 0) (js : List ℕ) → AllByRecursion P js → AnyOf Q js → (j : ℕ) × P j × Q j
 any_with P Q [] all any = absurd any
 any_with P Q (j ∷ js) all (inl h) = (j, all.0, h)
 any_with P Q (j ∷ js) all (inr h) = any_with P Q js all.1 h
+
+-- the tasks that share a resource with one are those on its resource
+pub ring_on : (s : SystemLists) (i j : ℕ) → IsOnRing s i j → IsOn s (task_at s i).res.0 j
+ring_on s i j m = record { task = m.task; here = eq-eqb (task_at s j).res.0 (task_at s i).res.0 (sym (eqb-true (task_at s i).res.0 (task_at s j).res.0 m.shares)) }
+
+pub on_ring : (s : SystemLists) (i j : ℕ) → IsOn s (task_at s i).res.0 j → IsOnRing s i j
+on_ring s i j on = record { task = on.task; shares = eq-eqb (task_at s i).res.0 (task_at s j).res.0 (sym (eqb-true (task_at s j).res.0 (task_at s i).res.0 on.here)) }
 
 module _ (s : SystemLists) (tr : TraceLists) (rules : IsSystem s) (obeys : Obeys s tr) where
   pub on_own : (i : ℕ) → i < length s.tasks → IsOn s (task_at s i).res.0 i
@@ -49,6 +56,7 @@ module _ (s : SystemLists) (tr : TraceLists) (rules : IsSystem s) (obeys : Obeys
   chosen_waits_at t i h RoundRobin kind e = ring-waits s tr (task_at s i).res.0 kind i (on_own i h) t i e
   chosen_waits_at t i h (Tdma gap) kind e = tdma-waits s tr (task_at s i).res.0 gap kind t i e
   chosen_waits_at t i h (Can bit) kind e = can-waits s tr (task_at s i).res.0 bit kind t i e
+  chosen_waits_at t i h Fifo kind e = queue-waits s tr (task_at s i).res.0 kind t i e
 
   waits_to_run : (i t : ℕ) → i < length s.tasks → runs_in s tr t (run s tr t) i ≡ true → waits ((run s tr t).jobs i) ≡ true
   waits_to_run i t h e = (chosen_waits_at t i h (kind_of s (task_at s i).res.0) refl (runs-chosen s tr t i e)).waits_now
@@ -345,12 +353,6 @@ module _ (s : SystemLists) (tr : TraceLists) (rules : IsSystem s) (obeys : Obeys
   -- ---- round robin
 
   module _ (i : ℕ) (h : i < length s.tasks) (kind : (resource_of s i).kind ≡ RoundRobin) where
-    ring_on : (j : ℕ) → IsOnRing s i j → IsOn s (task_at s i).res.0 j
-    ring_on j m = record { task = m.task; here = eq-eqb (task_at s j).res.0 (task_at s i).res.0 (sym (eqb-true (task_at s i).res.0 (task_at s j).res.0 m.shares)) }
-
-    on_ring : (j : ℕ) → IsOn s (task_at s i).res.0 j → IsOnRing s i j
-    on_ring j on = record { task = on.task; shares = eq-eqb (task_at s i).res.0 (task_at s j).res.0 (sym (eqb-true (task_at s j).res.0 (task_at s i).res.0 on.here)) }
-
     who_holds : ℕ → ℕ
     who_holds t = (held s tr (task_at s i).res.0 kind i (on_own i h) t).who
 
@@ -372,11 +374,11 @@ module _ (s : SystemLists) (tr : TraceLists) (rules : IsSystem s) (obeys : Obeys
     takes_turn t c on chosen here turn =
         record {
           turn = turn;
-          runs = λ j m e. received-runs s tr t j (chosen-runs s tr t (task_at s i).res.0 j (ring_on j m) (chosen ∙ ap Some (sym here ∙ e)));
+          runs = λ j m e. received-runs s tr t j (chosen-runs s tr t (task_at s i).res.0 j (ring_on s i j m) (chosen ∙ ap Some (sym here ∙ e)));
           waits = λ j m ne.
               elim (cases_Bool (runs_in s tr t (run s tr t) j)) [
                 | inl ran ↦
-                    let chosen_j = rw (eqb-true (task_at s j).res.0 (task_at s i).res.0 (ring_on j m).here) at (runs-chosen s tr t j ran) in
+                    let chosen_j = rw (eqb-true (task_at s j).res.0 (task_at s i).res.0 (ring_on s i j m).here) at (runs-chosen s tr t j ran) in
                     absurd (ne (here ∙ same_holder c j (chosen_at s tr t (task_at s i).res.0) chosen chosen_j))
                 | inr idle ↦ received-idle s tr t j idle
               ];
@@ -408,7 +410,7 @@ module _ (s : SystemLists) (tr : TraceLists) (rules : IsSystem s) (obeys : Obeys
                 (inr (record {
                   over = gone t now.who p.1.over;
                   fresh = rw same (omega (arith, left, slot_some p.0 w.on));
-                  next = λ j m pending. rw same (next-nearest s (task_at s i).res.0 now.who now.on.task (waiting_at s tr t) p.0 j p.1.first (record { on = ring_on j m; waits_now = pending-waits j t pending }));
+                  next = λ j m pending. rw same (next-nearest s (task_at s i).res.0 now.who now.on.task (waiting_at s tr t) p.0 j p.1.first (record { on = ring_on s i j m; waits_now = pending-waits j t pending }));
                 }))
             | inr rest ↦
                 absurd (some_first (filter (waiting_at s tr t) (ring_after s (task_at s i).res.0 now.who)) i (in_ring_after s (task_at s i).res.0 now.who now.on.task (waiting_at s tr t) i own) rest.nobody)
@@ -430,7 +432,7 @@ module _ (s : SystemLists) (tr : TraceLists) (rules : IsSystem s) (obeys : Obeys
           are =
               record {
                 placed = λ j m. m.task;
-                held = λ t. on_ring (who_holds t) (held s tr (task_at s i).res.0 kind i (on_own i h) t).on;
+                held = λ t. on_ring s i (who_holds t) (held s tr (task_at s i).res.0 kind i (on_own i h) t).on;
                 within = λ t. (held s tr (task_at s i).res.0 kind i (on_own i h) t).within;
               };
           slots = λ j. refl;

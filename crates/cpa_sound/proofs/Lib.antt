@@ -9,6 +9,7 @@ pub mod BusyLaws
 pub mod WindowFacts
 pub mod PriorityLaws
 pub mod CanLaws
+pub mod FifoLaws
 pub mod RingLaws
 pub mod TurnLaws
 pub mod SlotLaws
@@ -40,6 +41,7 @@ pub mod RingRuns
 pub mod KindRuns
 pub mod SlotRuns
 pub mod FieldLaws
+pub mod QueueRuns
 pub mod PathLaws
 pub mod ClockRuns
 pub mod Soundness

@@ -1,7 +1,7 @@
 -- Worked runs, and a bound that is one too small and doesn't hold.
 use Rattle.std.proofs.Common.{◌≡◌, ℕ, zero, suc, ◌+◌, ◌<◌, ◌≤◌, length, map, get_or, List, [], ◌∷◌, false, Some, None, refl, sym, ◌∙◌, ap, arith}
 use Rattle.cpa_units.specs.declared.bound.Bound.TheVariants.{Within}
-use Rattle.cpa_units.specs.declared.limits.Size.TheVariants.{Small}
+use Rattle.cpa_units.specs.declared.limits.Size.TheVariants.{Small, Large}
 use Rattle.cpa_units.specs.Search.{least_from, greatest_to}
 use Rattle.cpa_events.specs.declared.stream.Stream.{Stream}
 use Rattle.cpa_events.specs.Streams.{stream_delta_minus, stream_eta_plus}
@@ -10,13 +10,13 @@ use Rattle.cpa_events.proofs.StreamLaws.{stream_delta_minus-one}
 use Rattle.cpa_window.specs.Windows.{window}
 use Rattle.cpa_window.specs.BusyWindow.{jobs_in_busy_window, busy_window_bound}
 use Rattle.cpa_model.specs.declared.entries.Kind.{Kind}
-use Rattle.cpa_model.specs.declared.entries.Kind.TheVariants.{Preemptive, RoundRobin, Tdma, Can}
+use Rattle.cpa_model.specs.declared.entries.Kind.TheVariants.{Preemptive, RoundRobin, Tdma, Can, Fifo}
 use Rattle.cpa_model.specs.declared.entries.Resource.{Resource}
 use Rattle.cpa_model.specs.declared.entries.Source.{Source}
 use Rattle.cpa_model.specs.declared.entries.Activator.{Activator}
 use Rattle.cpa_model.specs.declared.entries.Activator.TheVariants.{Source as FromSource, Task as FromTask}
 use Rattle.cpa_model.specs.declared.entries.Turn.{Turn}
-use Rattle.cpa_model.specs.declared.entries.Turn.TheVariants.{Priority, Slot}
+use Rattle.cpa_model.specs.declared.entries.Turn.TheVariants.{Priority, Slot, Queued}
 use Rattle.cpa_model.specs.declared.entries.Task.{Task}
 use Rattle.cpa_model.specs.Clocks.{clock_of}
 use Rattle.cpa_phase.specs.Clocks.{most_of}
@@ -96,6 +96,39 @@ crossing = refl
 crossing-other : (run chains (both_at (0 ∷ [])) 8).jobs 3 ≡ done (from_task 2) 0 4 6 ∷ []
 unfolding run advance served ends_in ended_in runs_in choice_at step chains
 crossing-other = refl
+
+-- ---- a queue
+
+abbrev queues : List Kind → List ℕ → List Task → SystemLists
+queues kinds periods tasks = record { size = Large; resources = map resource kinds; sources = map source periods; tasks = tasks; paths = [] }
+
+queue : SystemLists
+queue = queues (Fifo ∷ []) (10 ∷ 20 ∷ []) (task 0 (from_source 0 ∷ []) 1 3 Queued ∷ task 0 (from_source 1 ∷ []) 2 7 Queued ∷ [])
+
+-- a job that came a tick earlier is served first
+first_come : (run queue (record { times = (1 ∷ []) ∷ (0 ∷ []) ∷ []; executions = []; phases = [] }) 10).jobs 0 ≡ done (from_source 0) 0 1 10 ∷ []
+unfolding run advance served ends_in ended_in runs_in choice_at step queue
+first_come = refl
+
+-- of two that came at once that of the first task, so that the other takes 10 ticks
+come_at_once : (run queue (both_at (0 ∷ [])) 10).jobs 1 ≡ done (from_source 1) 0 0 10 ∷ []
+unfolding run advance served ends_in ended_in runs_in choice_at step queue
+come_at_once = refl
+
+-- and 10 are the bounds of both
+queue_closed : responses queue (Within 10 ∷ Within 10 ∷ []) ≡ Within 10 ∷ Within 10 ∷ []
+unfolding queue input response window stream_eta_plus eta_plus stream_delta_minus delta_minus least_from greatest_to
+queue_closed = refl
+
+-- two queues that send on to each other, so that the bounds of each depend on those of the other
+crossing_queues : SystemLists
+crossing_queues =
+    queues (Fifo ∷ Fifo ∷ []) (20 ∷ 20 ∷ [])
+    (task 0 (from_source 0 ∷ []) 1 3 Queued ∷ task 1 (from_task 0 ∷ []) 1 2 Queued ∷ task 1 (from_source 1 ∷ []) 2 4 Queued ∷ task 0 (from_task 2 ∷ []) 1 2 Queued ∷ [])
+
+crossing_queues-closed : responses crossing_queues (Within 5 ∷ Within 6 ∷ Within 6 ∷ Within 5 ∷ []) ≡ Within 5 ∷ Within 6 ∷ Within 6 ∷ Within 5 ∷ []
+unfolding crossing_queues input response window stream_eta_plus eta_plus stream_delta_minus delta_minus least_from greatest_to
+crossing_queues-closed = refl
 
 -- ---- several activators
 
