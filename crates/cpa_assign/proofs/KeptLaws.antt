@@ -12,7 +12,7 @@ use Rattle.cpa_units.proofs.PlaceLaws.{map-all_places}
 use Rattle.cpa_model.specs.declared.entries.Task.{Task}
 use Rattle.cpa_model.specs.declared.entries.Path.{Path}
 use Rattle.cpa_model.specs.declared.entries.Kind.{Kind}
-use Rattle.cpa_model.specs.declared.entries.Kind.TheVariants.{Preemptive, RoundRobin, Tdma, Can}
+use Rattle.cpa_model.specs.declared.entries.Kind.TheVariants.{Preemptive, RoundRobin, Tdma, Can, Fifo}
 use Rattle.cpa_model.specs.declared.entries.Turn.{Turn}
 use Rattle.cpa_model.specs.declared.entries.Turn.TheVariants.{Priority}
 use Rattle.cpa_model.specs.declared.entries.Activator.{Activator}
@@ -31,6 +31,7 @@ priority-fits Preemptive n h le = le
 priority-fits (Can bit) n h le = le
 priority-fits RoundRobin n h le = absurd (false≢true h)
 priority-fits (Tdma gap) n h le = absurd (false≢true h)
+priority-fits Fifo n h le = absurd (false≢true h)
 
 same-number : (n m : ℕ) → Priority n ≡ Priority m → n ≡ m
 same-number n m e = ap priority_of e

@@ -18,7 +18,7 @@ use Rattle.cpa_clock.specs.Clocked.{clocked_preemptive_bound}
 use Rattle.cpa_clock.specs.Wider.{AreOffClocks}
 use Rattle.cpa_model.specs.declared.entries.OnClock.{OnClock}
 use Rattle.cpa_model.specs.declared.entries.Kind.{Kind}
-use Rattle.cpa_model.specs.declared.entries.Kind.TheVariants.{Preemptive, RoundRobin, Tdma, Can}
+use Rattle.cpa_model.specs.declared.entries.Kind.TheVariants.{Preemptive, RoundRobin, Tdma, Can, Fifo}
 use Rattle.cpa_model.specs.declared.entries.Turn.TheVariants.{Priority}
 use Rattle.cpa_model.specs.declared.entries.Task.{Task}
 use Rattle.cpa_model.specs.declared.entries.Activator.{Activator}
@@ -226,6 +226,7 @@ module _ (s : SystemLists) (r : ℕ) (o : List ℕ) (rules : IsSystem s) (able :
   blocking_by-same RoundRobin j less = refl
   blocking_by-same (Tdma gap) j less = refl
   blocking_by-same (Can bit) j less = worst-same j less
+  blocking_by-same Fifo j less = refl
 
   module _ (x : List Bound) (i : ℕ) (mi : is_member o i ≡ true) where
     higher-same : higher_tasks t i ≡ filter (is_before o i) (task_places s)
@@ -266,6 +267,7 @@ module _ (s : SystemLists) (r : ℕ) (o : List ℕ) (rules : IsSystem s) (able :
         (λ w. work_in-same (map (rival_of t x) (higher_tasks t i)) (rivals_at s (is_before o i)) w loads-same))
     by_kind-plainly RoundRobin h = absurd (false≢true h)
     by_kind-plainly (Tdma gap) h = absurd (false≢true h)
+    by_kind-plainly Fifo h = absurd (false≢true h)
 
     by_kind-same : is_off_clocks s r ≡ true → (kind : Kind) → HasPriorities kind → bound_by_kind t x i (sources_model s i) kind ≡ placed_by_kind s r (is_before o i) i kind
     by_kind-same off kind h = by_kind-plain plain-bounds t x i (off-own i mi off) (higher-off off) (sources_model s i) kind ∙ by_kind-plainly kind h
@@ -302,6 +304,7 @@ module _ (s : SystemLists) (r : ℕ) (o : List ℕ) (rules : IsSystem s) (able :
     by_clocks-same none RoundRobin p = absurd (false≢true p)
     by_clocks-same none (Tdma gap) p = absurd (false≢true p)
     by_clocks-same none (Can bit) p = absurd (false≢true p)
+    by_clocks-same none Fifo p = absurd (false≢true p)
 
     -- the bound of a member is that of its place, at any vector
     pub response-placed : response t x i ≡ placed_bound s r (is_before o i) i

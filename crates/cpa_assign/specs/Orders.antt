@@ -16,7 +16,7 @@ use Rattle.cpa_model.specs.declared.entries.Activator.{Activator}
 use Rattle.cpa_model.specs.declared.entries.Activator.TheVariants.{Source as FromSource, Task as FromTask}
 use Rattle.cpa_model.specs.declared.entries.Turn.TheVariants.{Priority}
 use Rattle.cpa_model.specs.declared.entries.Kind.{Kind}
-use Rattle.cpa_model.specs.declared.entries.Kind.TheVariants.{Preemptive, RoundRobin, Tdma, Can}
+use Rattle.cpa_model.specs.declared.entries.Kind.TheVariants.{Preemptive, RoundRobin, Tdma, Can, Fifo}
 use Rattle.cpa_model.specs.Kinds.{HasPriorities, blocking_by}
 use Rattle.cpa_model.specs.Clocks.{is_clocked}
 use Rattle.cpa_model.specs.SystemLists.{SystemLists, task_at, source_at, path_at, resource_at, task_places, tasks_on, streams_of, priority_of, is_on, places_of}
@@ -129,6 +129,7 @@ is_preemptive Preemptive = true
 is_preemptive RoundRobin = false
 is_preemptive (Tdma gap) = false
 is_preemptive (Can bit) = false
+is_preemptive Fifo = false
 
 -- Whether a task on the resource is never worse off where another moves from above it to below: none is on a clock, or none keeps
 -- another waiting. Of two tasks on one clock that never meet, the lower may keep the higher waiting all the same.

@@ -56,7 +56,7 @@ fn is_preemptive(kind: Kind) -> bool
 {
     match kind {
         Kind::Preemptive => true,
-        Kind::RoundRobin | Kind::Tdma { gap: _ } | Kind::Can { bit: _ } => false,
+        Kind::RoundRobin | Kind::Tdma { gap: _ } | Kind::Can { bit: _ } | Kind::Fifo => false,
     }
 }
 

@@ -138,7 +138,7 @@ pub(crate) fn is_lowest_by_clocks(
         Kind::Preemptive => is_preemptive_within(
             alloc, system, res, task, free, cycles, gathered, most,
         ),
-        Kind::RoundRobin | Kind::Tdma { gap: _ } | Kind::Can { bit: _ } => Ok(false),
+        Kind::RoundRobin | Kind::Tdma { gap: _ } | Kind::Can { bit: _ } | Kind::Fifo => Ok(false),
     }
 }
 

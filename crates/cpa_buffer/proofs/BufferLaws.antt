@@ -25,6 +25,7 @@ use Rattle.cpa_sound.proofs.FieldLaws.{arrival-is}
 use Rattle.cpa_sound.proofs.Soundness.{closed_vectors_bound_every_run, least_solutions_bound_every_run}
 use Rattle.cpa_buffer.specs.Buffers.{buffer_at, buffer_of, buffer_on, pending_at, pending_on, highest, peak_of, peak_on}
 use Rattle.cpa_buffer.specs.Laws.{HeldBoundsBoundBuffers, ClosedVectorsBoundBuffers, LeastSolutionsBoundBuffers}
+use Rattle.cpa_buffer.proofs.WorkLaws.{work-done}
 
 -- ---- the first job that isn't complete, where there is one
 
@@ -160,6 +161,7 @@ held_bounds_bound_buffers s x rules holds tr obeys =
       resource = λ t r. resource-suffices s x tr hold rules t r;
       task_peak = λ i there. task-peaks s x tr hold rules i there;
       resource_peak = λ r. resource-peaks s x tr hold rules r;
+      work = λ t r. work-done s x tr hold t r;
     }
 
 pub closed_vectors_bound_buffers : ClosedVectorsBoundBuffers

@@ -3,13 +3,14 @@ use Rattle.std.proofs.Common.{◌≡◌, ℕ, ◌+◌, ◌<◌, ◌≤◌, ◌++
 use Rattle.std.specs.Prelude.{sum_by, IfOk}
 use Rattle.std.specs.List.{AllByRecursion, flat_map}
 use Rattle.std.proofs.lemmas.List.{append-nil, append_assoc, take_all, take_more, get_or-map, length-map}
-use Rattle.std.proofs.lemmas.List.Sums.{sum_by-cons, sum_by-append}
+use Rattle.std.proofs.lemmas.List.Sums.{sum_by-cons, sum_by-append, fold_push}
 use Rattle.std.proofs.lemmas.Grind.{flat_map-append}
 use Rattle.std.proofs.lemmas.List.Concat.{flat_map-cons}
 use Rattle.std.proofs.lemmas.Option.{slice_get-get_or}
 use Rattle.cpa_units.specs.declared.bound.Bound.{Bound}
 use Rattle.cpa_units.specs.declared.places.TaskId.{TaskId}
-use Rattle.cpa_units.specs.Bounds.{bound_plus, sum_bounds}
+use Rattle.cpa_units.specs.declared.bound.Bound.TheVariants.{Within}
+use Rattle.cpa_units.specs.Bounds.{bound_of, bound_plus, bound_max, sum_bounds}
 use Rattle.cpa_units.proofs.PlaceLaws.{places, places-more, map-places_more}
 use Rattle.cpa_model.specs.SystemLists.{SystemLists, tasks_on, place_of, places_of}
 use Rattle.cpa_local.specs.Paths.{is_overload}
@@ -19,6 +20,7 @@ use Rattle.cpa_sched.specs.States.{IsOn}
 use Rattle.cpa_sched.proofs.StepLaws.{tasks_on-are}
 use Rattle.cpa_sim.specs.Outcome.{jobs_seen, end_of, outcome_of}
 use Rattle.cpa_buffer.specs.Buffers.{buffer_of, pending_at, pending_on, highest, peak_of, peak_on}
+use Rattle.cpa_buffer.specs.Work.{greatest_bound}
 use Rattle.cpa_buffer.specs.BufferText.{overloads}
 use Rattle.cpa_buffer.specs.Peaks.{arrivals_of, ends_of, come_by, inside}
 use Rattle.cpa_buffer.proofs.GreatestLaws.{greatest-agree}
@@ -44,6 +46,13 @@ module _ (tasks : List TaskId) (k : ℕ) (d : TaskId) (less : k < length tasks) 
   sum-next f sum part more before here is =
       is ∙ ap (λ b. bound_plus b part) before ∙ ap (bound_plus (sum_bounds f (take k (places_of tasks)))) here
       ∙ sym (sum_bounds-more f (places_of tasks) k (get_or tasks k d).0 place-at)
+
+  pub most-next : (x : List Bound) (most part more : Bound) → most ≡ greatest_bound x (take k (places_of tasks)) → part ≡ bound_of x (get_or tasks k d).0
+      → more ≡ bound_max most part → more ≡ greatest_bound x (take (k + 1) (places_of tasks))
+  most-next x most part more before here is =
+      let i : ℕ = (get_or tasks k d).0 in
+      is ∙ ap (λ b. bound_max b part) before ∙ ap (bound_max (greatest_bound x (take k (places_of tasks)))) here
+      ∙ sym (ap (greatest_bound x) taken-next ∙ fold_push (λ b j. bound_max b (bound_of x j)) (Within 0) (take k (places_of tasks)) i)
 
   pub flat-next : (f : ℕ → List ℕ) (so_far more : List ℕ) → so_far ≡ flat_map f (take k (places_of tasks)) → more ≡ so_far ++ f (get_or tasks k d).0
       → more ≡ flat_map f (take (k + 1) (places_of tasks))

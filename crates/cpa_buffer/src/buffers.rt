@@ -4,6 +4,7 @@ ghost use Rattle.std.specs.Prelude.{◌≡◌, ◌<◌, ◌^◌, length};
 ghost use Rattle.cpa_units.specs.Bounds.{RespectsLimit};
 ghost use Rattle.cpa_local.specs.Solution.{IsVector};
 ghost use Rattle.cpa_buffer.specs.Buffers.{buffer_of, buffer_on};
+ghost use Rattle.cpa_buffer.specs.Work.{most_work_on};
 
 use cpa_local::input;
 use cpa_model::System;
@@ -40,4 +41,19 @@ pub fn buffer_on(system: &System, res: ResId, x: &Vector) -> Bound
         sum = sum.plus(buffer(system, *task, x));
     }
     sum
+}
+
+/// How many ticks of work can wait on a resource at once, what its pending jobs still need: the greatest bound of its tasks,
+/// which is 0 where there are none and `Overload` where one of them is. By then all that waits is done.
+#[tactic(auto, unfolding(crate::specs::Work::most_work_on))]
+pub fn most_work_on(system: &System, res: ResId, x: &Vector) -> Bound
+    requires there { res.0 < length system.now.resources }
+    requires vector { IsVector system.now x.now }
+    ensures { result ≡ most_work_on system.now x.now res.0 }
+{
+    let mut most = Bound::Within(0);
+    for task in system.tasks_on(res) {
+        most = most.max(x.get(*task));
+    }
+    most
 }

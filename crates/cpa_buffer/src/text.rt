@@ -5,9 +5,9 @@ ghost use Rattle.std.specs.List.{flat_map, range_with_len};
 ghost use Rattle.cpa_model.specs.SystemLists.{task_places};
 ghost use Rattle.cpa_local.specs.Solution.{IsVector};
 ghost use Rattle.cpa_local.specs.Paths.{is_overload};
-ghost use Rattle.cpa_buffer.specs.BufferText.{line, task_line, resource_line, overloads, summary_line, buffer_text};
+ghost use Rattle.cpa_buffer.specs.BufferText.{line, task_line, resource_line, work_line, queue_line, overloads, summary_line, buffer_text};
 
-use crate::buffers::{buffer, buffer_on};
+use crate::buffers::{buffer, buffer_on, most_work_on};
 use crate::peaks::Peaks;
 use cpa_model::System;
 use cpa_report::put_bound;
@@ -106,6 +106,41 @@ fn put_resources(
     Ok(())
 }
 
+#[tactic(auto, unfolding(crate::specs::BufferText::work_line))]
+fn put_work(text: &mut Text, name: &[u8], most: Bound) -> Result<(), NoMemory>
+    ensures { OnOk result (text.new ≡ text.old ++ work_line name.now most) }
+{
+    text.put(b"queue ")?;
+    text.put(name)?;
+    text.put(b" work ")?;
+    put_bound(text, most)?;
+    text.put(b"\n")
+}
+
+/// The work that can wait in a queue; nothing of another resource.
+#[tactic(auto, unfolding(crate::specs::BufferText::queue_line))]
+fn put_queue(text: &mut Text, system: &System, x: &Vector, res: ResId) -> Result<(), NoMemory>
+    requires there { res.0 < length system.now.resources }
+    requires vector { IsVector system.now x.now }
+    ensures { OnOk result (text.new ≡ text.old ++ queue_line system.now x.now res.0) }
+{
+    let entry = system.resource(res);
+    if !entry.kind.is_queue() {
+        return Ok(());
+    }
+    put_work(text, entry.name.bytes(), most_work_on(system, res, x))
+}
+
+fn put_queues(text: &mut Text, system: &System, x: &Vector) -> Result<(), NoMemory>
+    requires { IsVector system.now x.now }
+    ensures { OnOk result (text.new ≡ text.old ++ flat_map (queue_line system.now x.now) (range_with_len 0 (length system.now.resources))) }
+{
+    for k in 0..system.resources() {
+        put_queue(text, system, x, ResId(k))?;
+    }
+    Ok(())
+}
+
 /// One where a bound is no number, else none.
 fn count_overload(bound: Bound) -> u64
     ensures value { result ≡ (if is_overload bound then 1 else 0) }
@@ -139,8 +174,8 @@ fn put_summary(text: &mut Text, tasks: u64, overloads: u64) -> Result<(), NoMemo
     Ok(())
 }
 
-/// The text that says for each task and each resource its buffer and its peak, and how many tasks
-/// have no number as their buffer.
+/// The text that says for each task and each resource its buffer and its peak, for each queue how much work
+/// can wait in it, and how many tasks have no number as their buffer.
 #[tactic(auto, unfolding(crate::specs::BufferText::buffer_text))]
 pub fn buffer_text(
     alloc: Global,
@@ -156,6 +191,7 @@ pub fn buffer_text(
     let mut text = Text::new(alloc);
     put_tasks(&mut text, system, x, peaks)?;
     put_resources(&mut text, system, x, peaks)?;
+    put_queues(&mut text, system, x)?;
     put_summary(&mut text, u64::from(system.tasks()), overloads(system, x))?;
     Ok(text.into_bytes())
 }

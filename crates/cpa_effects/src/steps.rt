@@ -62,6 +62,7 @@ fn is_preemptive(kind: Kind) -> bool
         Kind::RoundRobin => false,
         Kind::Tdma { gap: _ } => false,
         Kind::Can { bit: _ } => false,
+        Kind::Fifo => false,
     }
 }
 

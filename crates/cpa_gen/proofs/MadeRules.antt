@@ -58,8 +58,8 @@ resource_fits true size r = record { some_limit = omega arith; limit = omega ari
 resource_fits false size r = record { some_limit = omega arith; limit = omega arith; kind_fits = (omega arith, omega arith) }
 
 resource_small : (b : Bool) (size r : ℕ) → IsSizedResource Small (resource_if b size r)
-resource_small true size r = (omega arith, omega arith)
-resource_small false size r = (omega arith, omega arith)
+resource_small true size r = (omega arith, omega arith, refl)
+resource_small false size r = (omega arith, omega arith, refl)
 
 resource_named : (b : Bool) (size r : ℕ) → r < 128 → is_name (resource_if b size r).name ≡ true
 resource_named true size r l = processor_named r l

@@ -6,9 +6,9 @@ use Rattle.std.proofs.lemmas.List.{get_or_default, get_or_past, get_or-replicate
 use Rattle.std.proofs.Math.Nat.{mod-lt}
 use Rattle.cpa_events.specs.Streams.{stream_delta_minus}
 use Rattle.cpa_model.specs.declared.entries.Kind.{Kind}
-use Rattle.cpa_model.specs.declared.entries.Kind.TheVariants.{Can, Preemptive, RoundRobin, Tdma}
+use Rattle.cpa_model.specs.declared.entries.Kind.TheVariants.{Can, Fifo, Preemptive, RoundRobin, Tdma}
 use Rattle.cpa_model.specs.declared.entries.Turn.{Turn}
-use Rattle.cpa_model.specs.declared.entries.Turn.TheVariants.{Priority, Slot}
+use Rattle.cpa_model.specs.declared.entries.Turn.TheVariants.{Priority, Slot, Queued}
 use Rattle.cpa_model.specs.Streams.{source_stream}
 use Rattle.cpa_model.specs.SystemLists.{SystemLists, cycle_of, no_source, no_task, resource_of, slot_of, resource_at, source_at, task_at}
 use Rattle.cpa_model.specs.Rules.{IsSystem, TurnFits}
@@ -94,6 +94,7 @@ module _ (s : SystemLists) (kept : IsSystem s) (lates : ℕ → ℕ → ℕ) (wi
 some_slot : (gap : ℕ) (t : Turn) → TurnFits (Tdma gap) t → 1 ≤ slot_of t
 some_slot gap (Slot ticks) fits = fits.0
 some_slot gap (Priority number) fits = absurd fits
+some_slot gap Queued fits = absurd fits
 
 some_cycle : (s : SystemLists) → IsSystem s → (i gap : ℕ) → i < length s.tasks → (resource_of s i).kind ≡ Tdma gap → 0 < cycle_of s (task_at s i).res.0
 some_cycle s kept i gap l e =
@@ -200,6 +201,7 @@ tdma_gap (Tdma gap) e = (gap, refl)
 tdma_gap Preemptive e = absurd (search (rules, e))
 tdma_gap RoundRobin e = absurd (search (rules, e))
 tdma_gap (Can bit) e = absurd (search (rules, e))
+tdma_gap Fifo e = absurd (search (rules, e))
 
 -- a resource for which a phase is drawn has a cycle
 pub phase_cycle : (s : SystemLists) → IsSystem s → (r : ℕ) → has_phase s r ≡ true → 0 < cycle_of s r
