@@ -1,0 +1,12 @@
+mod UrgencyLaws
+mod OneHolder
+mod HadLaws
+mod Holding
+mod LostTicks
+mod LockWindow
+mod LostWindow
+mod BlockingLaws
+mod LockBounds
+mod Exclusion
+mod RegionLaws
+mod WorkedCases

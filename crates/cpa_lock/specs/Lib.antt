@@ -1,0 +1,4 @@
+pub mod Sections
+pub mod Blocking
+pub mod Ceilings
+pub mod Laws
