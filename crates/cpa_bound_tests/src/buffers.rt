@@ -3,7 +3,7 @@ ghost use Rattle.std.specs.Prelude.{◌≡◌, length};
 use cpa_buffer::{Peaks, buffer_text, find_peaks};
 use cpa_cases::{BURST, LONG_WINDOW};
 use cpa_file::read_system;
-use cpa_local::floor;
+use cpa_fix::{OneByOne, least_bounds};
 use cpa_model::System;
 use cpa_sim::replay;
 use cpa_trace::read_trace;
@@ -83,19 +83,46 @@ fn finds_peaks(rt: HostRuntime) -> Result<(), Fail> {
     Ok(())
 }
 
-/// At the least vector; three events come at one instant, one more when the last of them isn't complete.
-#[test]
-fn tells_buffers(rt: HostRuntime) -> Result<(), Fail> {
-    let alloc = rt.alloc();
-    let system = read_system(alloc, BURST.as_bytes())?;
-    let rows = "event,s,25\nevent,s,25\nevent,s,25\nevent,s,30\n";
+/// A queue that two sources feed, of which one sends three events at once.
+const QUEUE: &str = r#"format = 4
+resource = [{ name = "out", kind = "fifo" }]
+source = [{ name = "s", period = 10, jitter = 20 }, { name = "q", period = 20 }]
+task = [
+  { name = "a", on = "out", after = "s", best = 2, worst = 2 },
+  { name = "b", on = "out", after = "q", best = 5, worst = 5 },
+]
+"#;
+
+/// A system, the rows of a trace, and what is written of it.
+const TEXTS: [(&str, &str, &str); 2] = [
+    // Three events come at one instant, one more when the last of them isn't complete.
+    (
+        BURST,
+        "event,s,25\nevent,s,25\nevent,s,25\nevent,s,30\n",
+        "buffer t bound 4 peak 3\nresource cpu bound 4 peak 3\nsummary tasks 1 overload 0\n",
+    ),
+    // All that come at once take 11 ticks, in which one more may come.
+    (
+        QUEUE,
+        "event,s,0\nevent,s,0\nevent,s,0\nevent,q,0\nevent,s,10\n",
+        "buffer a bound 4 peak 3\nbuffer b bound 1 peak 1\nresource out bound 5 peak 4\nqueue out work 11\nsummary tasks 2 overload 0\n",
+    ),
+];
+
+fn text_of(alloc: Global, system: &str, rows: &str) -> Result<Vec<u8>, Fail> {
+    let system = read_system(alloc, system.as_bytes())?;
     let trace = read_trace(alloc, &system, rows.as_bytes())?;
     let outcome = replay(alloc, &system, &trace)?;
     let peaks = find_peaks(alloc, &system, &outcome)?;
-    let x = floor(alloc, &system)?;
-    let text = buffer_text(alloc, &system, &x, &peaks)?;
-    let written =
-        "buffer t bound 3 peak 3\nresource cpu bound 3 peak 3\nsummary tasks 1 overload 0\n";
-    assert!(rt; text.as_slice() == written.as_bytes());
+    let x = least_bounds(&(), alloc, &system, &mut OneByOne)?;
+    Ok(buffer_text(alloc, &system, &x, &peaks)?)
+}
+
+#[test]
+fn tells_buffers(rt: HostRuntime) -> Result<(), Fail> {
+    for (system, rows, wanted) in &TEXTS {
+        let text = text_of(rt.alloc(), system, rows)?;
+        assert!(rt; text.as_slice() == wanted.as_bytes(), "{wanted}");
+    }
     Ok(())
 }

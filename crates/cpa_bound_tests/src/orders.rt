@@ -4,13 +4,14 @@ use cpa_units::ResId;
 use std::alloc::Global;
 use std::test::Fail;
 
-/// The bus of Davis et al., a processor without tasks, one whose tasks have slots, and one whose task comes after a frame.
-const DAVIS_BUS: &str = r#"format = 1
+/// The bus of Davis et al., a processor without tasks, one whose tasks have slots, one whose task comes after a frame, and a queue.
+const DAVIS_BUS: &str = r#"format = 4
 resource = [
   { name = "bus", kind = "can", bit = 1 },
   { name = "p", kind = "preemptive" },
   { name = "q", kind = "round-robin" },
   { name = "r", kind = "preemptive" },
+  { name = "out", kind = "fifo" },
 ]
 source = [{ name = "s1", period = 250 }, { name = "s2", period = 350 }, { name = "s3", period = 350 }]
 task = [
@@ -29,7 +30,7 @@ struct Case {
     order: &'static [u32],
 }
 
-const CASES: [Case; 6] = [
+const CASES: [Case; 7] = [
     // The last of the frames is late by the priorities that it has.
     Case {
         paths: "path = [{ name = 'm3', tasks = ['m3'], deadline = 325 }]",
@@ -67,6 +68,12 @@ const CASES: [Case; 6] = [
         paths: "",
         res: 3,
         text: "fed by a task\n",
+        order: &[],
+    },
+    Case {
+        paths: "",
+        res: 4,
+        text: "no priorities\n",
         order: &[],
     },
 ];

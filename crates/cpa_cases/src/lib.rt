@@ -119,3 +119,27 @@ task = [
 ]
 path = [{ name = "p", tasks = ["low"] }]
 "#;
+
+/// A gateway that takes frames from one CAN bus to another, and to an Ethernet port: its jobs and the port's frames wait in
+/// queues. Two frames of `rb` may come 79 ticks apart, and jobs of `cb` take longer than that.
+pub const GATEWAY: &str = r#"format = 4
+resource = [
+  { name = "left", kind = "can" },
+  { name = "gateway", kind = "fifo", limit = 2000 },
+  { name = "right", kind = "can" },
+  { name = "port", kind = "fifo", rate = 100 },
+]
+source = [{ name = "sa", period = 500 }, { name = "sb", period = 700, jitter = 900 }, { name = "sc", period = 1000 }]
+task = [
+  { name = "ra", on = "left", after = "sa", payload = 8, priority = 1 },
+  { name = "rb", on = "left", after = "sb", payload = 4, priority = 2 },
+  { name = "ca", on = "gateway", after = "ra", best = 5, worst = 30 },
+  { name = "cb", on = "gateway", after = "rb", best = 5, worst = 90 },
+  { name = "log", on = "gateway", after = "sc", best = 10, worst = 80 },
+  { name = "wa", on = "right", after = "ca", payload = 8, priority = 2 },
+  { name = "wb", on = "right", after = "cb", payload = 4, priority = 1 },
+  { name = "pa", on = "port", after = "ca", payload = 0 },
+  { name = "pl", on = "port", after = "log", payload = 1500 },
+]
+path = [{ name = "a", tasks = ["ra", "ca", "wa"], deadline = 900 }]
+"#;

@@ -2,11 +2,11 @@
 
 use crate::calls::Call;
 use crate::cases::{
-    CUT_NAME, ENDLESS_JITTER, JOINED_KINDS, REGIONS, REGIONS_TRACE, TWO_ACTIVATORS,
+    CUT_NAME, ENDLESS_JITTER, GATEWAY_TRACE, JOINED_KINDS, REGIONS, REGIONS_TRACE, TWO_ACTIVATORS,
 };
 use crate::orders::IDLE;
 use crate::runs::{JOINED_KINDS_TRACE, LONG_WINDOW_TRACE};
-use cpa_cases::{BURST, LONG_WINDOW, TWO_TASKS};
+use cpa_cases::{BURST, GATEWAY, LONG_WINDOW, TWO_TASKS};
 
 /// A task that takes longer than its events are apart: of 30 jobs the run has time for 20, up to the horizon.
 const BACKLOG: &str = r#"format = 1
@@ -21,7 +21,15 @@ const BACKLOG_TRACE: &str =
 const BUFFERS: &[&str] = &["buffers", "sys", "tr"];
 
 /// Bounds and peaks of the jobs that wait.
-pub const WAITING: [Call; 9] = [
+pub const WAITING: [Call; 10] = [
+    (
+        BUFFERS,
+        &[("sys", GATEWAY), ("tr", GATEWAY_TRACE)],
+        0,
+        &[
+            "buffer ra bound 1 peak 1\nbuffer rb bound 2 peak 2\nbuffer ca bound 1 peak 1\nbuffer cb bound 2 peak 1\nbuffer log bound 1 peak 1\nbuffer wa bound 2 peak 1\nbuffer wb bound 3 peak 1\nbuffer pa bound 1 peak 1\nbuffer pl bound 1 peak 1\nresource left bound 3 peak 3\nresource gateway bound 4 peak 2\nresource right bound 5 peak 1\nresource port bound 2 peak 1\nqueue gateway work 211\nqueue port work 131\nsummary tasks 9 overload 0\n",
+        ],
+    ),
     (
         BUFFERS,
         &[("sys", REGIONS), ("tr", REGIONS_TRACE)],

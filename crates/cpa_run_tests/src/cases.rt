@@ -41,6 +41,24 @@ path = [
 ]
 "#;
 
+/// The gateway of `cpa_cases`: in a busy window of its queue the response that begins in its 80th tick is the greatest.
+pub const GATEWAY_REPORT: &str = "task ra left period 500 jitter 0 distance 0 best 111 worst 230
+task rb left period 700 jitter 900 distance 0 best 79 worst 325
+task ca gateway period 500 jitter 119 distance 111 best 5 worst 211
+task cb gateway period 700 jitter 1146 distance 79 best 5 worst 211
+task log gateway period 1000 jitter 0 distance 0 best 10 worst 211
+task wa right period 500 jitter 325 distance 5 best 111 worst 420
+task wb right period 700 jitter 1352 distance 5 best 79 worst 372
+task pa port period 500 jitter 325 distance 5 best 6 worst 131
+task pl port period 1000 jitter 201 distance 10 best 123 worst 131
+path a best 227 worst 861 deadline 900 met
+summary tasks 9 overload 0 missed 0
+";
+
+/// Frames that come in another order than that of the file, and two at once.
+pub const GATEWAY_TRACE: &str =
+    "event,sa,0\nevent,sa,500\nevent,sb,0\nevent,sb,0\nevent,sc,230\nevent,sc,1230\n";
+
 /// No tasks at all.
 pub const EMPTY_REPORT: &str = "summary tasks 0 overload 0 missed 0\n";
 

@@ -5,7 +5,7 @@ use crate::cases::{
     CROSSING_CHAINS, CUT_NAME, DAVIS_BUS, ENDLESS_JITTER, JOINED_KINDS, REGIONS_IN_TIME, TDMA_GAP,
     TWO_ACTIVATORS,
 };
-use cpa_cases::{ENDLESS_WITHOUT_DEADLINE, TWO_TASKS};
+use cpa_cases::{ENDLESS_WITHOUT_DEADLINE, GATEWAY, TWO_TASKS};
 
 /// The bus of Davis and others with a deadline of 250 for each message, which none meets at the lowest place.
 const LATE_BUS: &str = r#"format = 1
@@ -57,7 +57,7 @@ path = [
 "#;
 
 /// Orders of resources.
-pub const ORDERS: [Call; 10] = [
+pub const ORDERS: [Call; 11] = [
     (
         &["assign", "sys", "cpu"],
         &[("sys", REGIONS_IN_TIME)],
@@ -85,6 +85,12 @@ pub const ORDERS: [Call; 10] = [
     (
         &["assign", "sys", "ring"],
         &[("sys", TDMA_GAP)],
+        18,
+        &["assign refused 2\n"],
+    ),
+    (
+        &["assign", "sys", "port"],
+        &[("sys", GATEWAY)],
         18,
         &["assign refused 2\n"],
     ),

@@ -2,7 +2,7 @@
 
 use crate::calls::Call;
 use crate::cases::*;
-use cpa_cases::{IDLE_TDMA, LONG_WINDOW, TWO_TASKS};
+use cpa_cases::{GATEWAY, IDLE_TDMA, LONG_WINDOW, TWO_TASKS};
 
 const SIMULATE: &[&str] = &["simulate", "sys", "tr"];
 
@@ -91,7 +91,15 @@ pub const RUNS: [Call; 9] = [
 ];
 
 /// Runs of systems with tasks after tasks.
-pub const RUNS_OF_SEVERAL: [Call; 4] = [
+pub const RUNS_OF_SEVERAL: [Call; 5] = [
+    (
+        SIMULATE,
+        &[("sys", GATEWAY), ("tr", GATEWAY_TRACE)],
+        0,
+        &[
+            "task ra jobs 2 done 2 worst 135\ntask rb jobs 2 done 2 worst 325\ntask ca jobs 2 done 2 worst 30\ntask cb jobs 2 done 2 worst 165\ntask log jobs 2 done 2 worst 170\ntask wa jobs 2 done 2 worst 135\ntask wb jobs 2 done 2 worst 95\ntask pa jobs 2 done 2 worst 7\ntask pl jobs 2 done 2 worst 124\npath a passages 2 worst 300\nsummary jobs 18 done 18 end 1434\n",
+        ],
+    ),
     (
         SIMULATE,
         &[

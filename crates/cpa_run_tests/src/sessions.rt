@@ -2,7 +2,7 @@
 
 use crate::calls::Call;
 use crate::cases::*;
-use cpa_cases::TWO_TASKS;
+use cpa_cases::{GATEWAY, TWO_TASKS};
 
 const SESSION: &[&str] = &["session", "sys", "scr"];
 
@@ -10,7 +10,7 @@ const SESSION: &[&str] = &["session", "sys", "scr"];
 pub const SESSION_REPORTS: &str = "report\nexec b 2 8\nreport\nexec b 2 7\n";
 
 /// Scripts whose edits are made, most of them.
-pub const EDITS: [Call; 11] = [
+pub const EDITS: [Call; 12] = [
     (
         SESSION,
         &[("sys", TWO_TASKS), ("scr", SESSION_REPORTS)],
@@ -96,6 +96,24 @@ pub const EDITS: [Call; 11] = [
             "line 5 refused 6\n",
             "task a1 p streams 2 best 5 worst 160\ntask a2 bus streams 3 best 60 worst 300\ntask a3 rr streams 4 best 5 worst 168\ntask b1 bus period 800 jitter 20 distance 0 best 60 worst 300\ntask b2 p streams 5 best 5 worst 115\ntask c1 rr streams 2 best 5 worst 80\ntask c2 ring streams 7 best 5 worst 209\ntask e rr streams 7 best 1 worst 207\npath w best 80 worst 952 deadline 1200 met\nsummary tasks 8 overload 0 missed 0\n",
             "task a1 p streams 2 best 5 worst 40\ntask a2 bus streams 3 best 60 worst 300\ntask a3 rr streams 4 best 5 worst 120\ntask b1 bus period 800 jitter 20 distance 0 best 60 worst 300\ntask b2 p streams 5 best 5 worst 140\ntask c1 rr streams 2 best 5 worst 65\ntask c2 ring streams 7 best 5 worst 209\npath w best 80 worst 809 deadline 1200 met\nsummary tasks 7 overload 0 missed 0\n",
+        ],
+    ),
+    // A task more in a queue, whose number is 0, and which has neither a priority nor a slot.
+    (
+        SESSION,
+        &[
+            ("sys", GATEWAY),
+            (
+                "scr",
+                "add d gateway sa 1 50 1\nadd d gateway sa 1 50 0\nreport\npriority d 1\nslot ca 1\nswap ca cb\nremove d\n",
+            ),
+        ],
+        0,
+        &[
+            "line 1 refused 3\n",
+            "task ra left period 500 jitter 0 distance 0 best 111 worst 230\ntask rb left period 700 jitter 900 distance 0 best 79 worst 325\ntask ca gateway period 500 jitter 119 distance 111 best 5 worst 261\ntask cb gateway period 700 jitter 1146 distance 79 best 5 worst 261\ntask log gateway period 1000 jitter 0 distance 0 best 10 worst 261\ntask wa right period 500 jitter 375 distance 5 best 111 worst 430\ntask wb right period 700 jitter 1402 distance 5 best 79 worst 410\ntask pa port period 500 jitter 375 distance 5 best 6 worst 131\ntask pl port period 1000 jitter 251 distance 10 best 123 worst 131\ntask d gateway period 500 jitter 0 distance 0 best 1 worst 261\npath a best 227 worst 921 deadline 900 missed\nsummary tasks 10 overload 0 missed 1\n",
+            "line 4 refused 2\nline 5 refused 2\nline 6 refused 2\n",
+            GATEWAY_REPORT,
         ],
     ),
     // An overload comes, and goes.

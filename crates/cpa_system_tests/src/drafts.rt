@@ -1,12 +1,14 @@
 mod cases;
+mod queues;
 mod wholes;
 
-use cases::{ADDED, BASE, Case, PLACES};
+use cases::{ADDED, BASE, Case, PLACES, Told};
 use cpa_draft::{
     BuildFault, Draft, DraftPath, DraftResource, DraftSource, DraftTask, KindWord, Part, Raw,
     RawList, validate,
 };
 use cpa_units::limits::Size;
+use queues::{QUEUED, QUEUES};
 use std::alloc::{AllocError, Global};
 use std::slice;
 use std::test::Fail;
@@ -40,6 +42,7 @@ fn kind(line: &str) -> KindWord {
         "round-robin" => KindWord::RoundRobin,
         "tdma" => KindWord::Tdma,
         "can" => KindWord::Can,
+        "fifo" => KindWord::Fifo,
         _ => KindWord::Preemptive,
     }
 }
@@ -47,6 +50,15 @@ fn kind(line: &str) -> KindWord {
 /// The number behind the first word of a line.
 fn region(line: &str) -> Option<i64> {
     field(line, 0).strip_prefix("task ")?.parse().ok()
+}
+
+/// Whether a frame has an extended identifier, where the first word of a line says so.
+fn extended(line: &str) -> Option<bool> {
+    match field(line, 0) {
+        "extended" => Some(true),
+        "standard" => Some(false),
+        _ => None,
+    }
 }
 
 fn clock(alloc: Global, line: &str) -> Result<Option<Raw>, AllocError> {
@@ -64,7 +76,7 @@ fn task(alloc: Global, line: &str) -> Result<DraftTask, AllocError> {
         best: number(line, 3),
         worst: number(line, 4),
         payload: number(line, 5),
-        extended: None,
+        extended: extended(line),
         priority: number(line, 6),
         slot: number(line, 7),
         region: region(line),
@@ -80,6 +92,7 @@ fn add(alloc: Global, draft: &mut Draft, line: &str) -> Result<(), AllocError> {
             limit: number(line, 3),
             gap: number(line, 4),
             bit: number(line, 5),
+            rate: number(line, 6),
         })?,
         "source" => draft.sources.push(DraftSource {
             name: raw(alloc, field(line, 1))?,
@@ -181,11 +194,15 @@ fn wrong_run(alloc: Global) -> Result<Option<usize>, AllocError> {
     Ok(None)
 }
 
-/// The first line after the base of which something else is told than is wanted.
-fn wrong_line(alloc: Global) -> Result<Option<&'static str>, AllocError> {
-    for (want, lines) in &ADDED {
+/// The first line of a table of which something else is told than is wanted, where it stands after the first lines.
+fn wrong_line(
+    alloc: Global,
+    first: &[&str],
+    table: &[Told],
+) -> Result<Option<&'static str>, AllocError> {
+    for (want, lines) in table {
         for line in *lines {
-            if told(alloc, &BASE, slice::from_ref(line), &[])? != *want {
+            if told(alloc, first, slice::from_ref(line), &[])? != *want {
                 return Ok(Some(*line));
             }
         }
@@ -196,12 +213,16 @@ fn wrong_line(alloc: Global) -> Result<Option<&'static str>, AllocError> {
 #[test]
 fn refuses_the_first(rt: HostRuntime) -> Result<(), Fail> {
     let alloc = rt.alloc();
-    let line = wrong_line(alloc)?;
+    let line = wrong_line(alloc, &BASE, &ADDED)?;
+    let queued = wrong_line(alloc, &QUEUES, &QUEUED)?;
     let wrong = [
         wrong_case(alloc, &[], &WHOLES)?,
         wrong_case(alloc, PLACES, &TASKS)?,
         wrong_run(alloc)?,
     ];
-    assert!(rt; line.is_none() && wrong == [None; 3], "{line:?} {wrong:?}");
+    assert!(rt;
+        (line, queued) == (None, None) && wrong == [None; 3],
+        "{line:?} {queued:?} {wrong:?}"
+    );
     Ok(())
 }

@@ -1,6 +1,6 @@
 pub(crate) mod systems;
 
-use cpa_cases::ON_A_CLOCK;
+use cpa_cases::{GATEWAY, ON_A_CLOCK};
 use cpa_edit::{EditFault, EditRefusal, ScriptFault, Step, apply, read_script};
 use cpa_file::read_system;
 use cpa_model::{Activator, System, Turn};
@@ -231,6 +231,29 @@ const CLOCK_OUTCOMES: [Row; 6] = [
     ),
 ];
 
+/// And over the system with queues, whose gateway is the second resource and whose port is the fourth.
+const QUEUE_OUTCOMES: [Row; 8] = [
+    (
+        Ok(BUS),
+        "exec ca 5 31|add d gateway wb 1 10000000 0|add d gateway sa 1 2 0\nremove d|add d gateway sa 1 2 0\nexec d 2 2",
+    ),
+    (Ok(TABLE), "remove pl|add d port log 1 2 0"),
+    (Ok(BUS_AND_CPU), "add d gateway sa 1 2 0\nsource sa 400 0 0"),
+    // A task of a queue has neither a priority nor a slot.
+    (
+        Err(2),
+        "priority ca 0|slot ca 0|slot ca 1|swap ca cb|swap ca ca|swap ca ra|swap ra ca|add d gateway sa 1 2 0\npriority d 0",
+    ),
+    // And no number but 0.
+    (
+        Err(3),
+        "add d gateway sa 1 2 1|add d port sa 1 2 536870912|add d gateway sa 0 2 0|add ca gateway sa 9 2 1",
+    ),
+    (Err(5), "add ca gateway sa 9 2 0"),
+    (Err(6), "remove ca|remove log"),
+    (Err(7), "add ca gateway sa 1 2 0"),
+];
+
 /// The first of these scripts over copies of a system of which something else comes than is wanted.
 fn wrongly_judged(alloc: Global, system: &System, row: &Row) -> Result<Option<&'static str>, Fail> {
     for text in row.1.split('|') {
@@ -245,12 +268,13 @@ fn wrongly_judged(alloc: Global, system: &System, row: &Row) -> Result<Option<&'
 #[test]
 fn accepts_and_refuses(rt: HostRuntime) -> Result<(), Fail> {
     let alloc = rt.alloc();
-    let tables: [(&str, &[Row]); 5] = [
+    let tables: [(&str, &[Row]); 6] = [
         (WORKS, &OUTCOMES),
         (JOINED, &JOINED_OUTCOMES),
         (LADDER, &LADDER_OUTCOMES),
         (CROSSING_CHAINS, CROSSING_OUTCOMES),
         (ON_A_CLOCK, &CLOCK_OUTCOMES),
+        (GATEWAY, &QUEUE_OUTCOMES),
     ];
     for (file, rows) in tables {
         let system = read_system(alloc, file.as_bytes())?;
@@ -428,6 +452,7 @@ fn add_tasks(numbers: &mut Vec<u64>, system: &System) -> Result<(), AllocError> 
         let turn = match task.turn {
             Turn::Priority(number) => u64::from(number),
             Turn::Slot(ticks) => ticks,
+            Turn::Queued => 0,
         };
         let found = system.find_task(task.name.bytes()).unwrap_or(TaskId(1000));
         numbers.extend_from_slice(&[task.best, task.worst, turn, u64::from(found.0)])?;

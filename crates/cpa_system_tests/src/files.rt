@@ -1,6 +1,6 @@
 pub(crate) mod systems;
 
-use cpa_cases::ON_A_CLOCK;
+use cpa_cases::{GATEWAY, ON_A_CLOCK};
 use cpa_file::{FileRefusal, print_system, read_system};
 use cpa_model::{Part, Refusal, System};
 use cpa_units::TaskId;
@@ -16,7 +16,7 @@ use systems::{
 type Refused = (&'static str, u8, Part, u64);
 
 /// Each way to break the form of a file, at the top and in each kind of entry: the reason, the part and the place.
-const OTHER_FORMS: [Refused; 51] = [
+const OTHER_FORMS: [Refused; 53] = [
     ("", 1, Part::File, 0),
     ("format = 1.0", 1, Part::File, 0),
     ("format = \"1\"", 1, Part::File, 0),
@@ -56,6 +56,18 @@ const OTHER_FORMS: [Refused; 51] = [
     ),
     (
         "format = 1\nresource = [{ name = \"r\", kind = \"can\", bit = true }]",
+        1,
+        Part::Resource,
+        1,
+    ),
+    (
+        "format = 2\nresource = [{ name = \"r\", kind = \"can\", rate = 1 }]",
+        1,
+        Part::Resource,
+        1,
+    ),
+    (
+        "format = 4\nresource = [{ name = \"r\", kind = \"fifo\", rate = \"1\" }]",
         1,
         Part::Resource,
         1,
@@ -404,7 +416,7 @@ fn refuses_other_bytes(rt: HostRuntime) -> Result<(), Fail> {
 
 /// Files, the format in which their systems are printed, which is 4 where they were read from it and else the least that can say
 /// them, and how many tasks and paths these have.
-const READ_BACK: [(&str, &str, u32, u32); 18] = [
+const READ_BACK: [(&str, &str, u32, u32); 19] = [
     ("format = 1", "format = 1\n", 0, 0),
     ("format = 2", "format = 1\n", 0, 0),
     ("format = 4", "format = 4\n", 0, 0),
@@ -414,6 +426,7 @@ const READ_BACK: [(&str, &str, u32, u32); 18] = [
     (SHARED_SOURCE, "format = 2\n", 3, 0),
     (COOPERATIVE, "format = 4\n", 3, 0),
     (ON_A_CLOCK, "format = 4\n", 2, 1),
+    (GATEWAY, "format = 4\n", 9, 1),
     (LONG_WINDOW, "format = 1\n", 2, 0),
     (DAVIS_BUS, "format = 1\n", 3, 1),
     (FRAME_LENGTHS, "format = 1\n", 2, 0),
@@ -507,7 +520,60 @@ fn reads_and_prints_clocks(rt: HostRuntime) -> Result<(), Fail> {
     Ok(())
 }
 
-/// The regions of the tasks of that system.
+/// Queues are read in format 4 alone; their tasks have neither a priority, a slot nor a region, and frames on a port a payload of
+/// up to 1,500 bytes.
+const QUEUES: [(&str, Refused); 14] = [
+    ("format = 4", ("format = 2", 1, Part::Resource, 2)),
+    ("rate = 100", ("rate = 0", 2, Part::Resource, 4)),
+    ("rate = 100", ("rate = 673", 2, Part::Resource, 4)),
+    ("rate = 100", ("gap = 1", 9, Part::Resource, 4)),
+    ("rate = 100", ("bit = 1", 9, Part::Resource, 4)),
+    ("\"fifo\", rate", ("\"can\", rate", 9, Part::Resource, 4)),
+    ("worst = 90", ("worst = 90, priority = 1", 9, Part::Task, 4)),
+    ("worst = 90", ("worst = 90, slot = 1", 9, Part::Task, 4)),
+    ("worst = 90", ("worst = 90, region = 2", 9, Part::Task, 4)),
+    (
+        "payload = 0",
+        ("payload = 0, extended = true", 9, Part::Task, 8),
+    ),
+    ("payload = 0", ("payload = 0, best = 1", 1, Part::Task, 8)),
+    ("payload = 1500", ("payload = 1501", 2, Part::Task, 9)),
+    (
+        "payload = 4, priority = 2",
+        ("payload = 9, priority = 2", 9, Part::Task, 2),
+    ),
+    (
+        "payload = 4, priority = 2",
+        ("payload = 4", 9, Part::Task, 2),
+    ),
+];
+
+/// What is printed of a queue, and of a frame on a port: ticks, and no rate.
+const PRINTED_QUEUE: &str = "kind = \"fifo\"\nlimit = 2000\nname = \"gateway\"\n";
+
+const PRINTED_FRAME: &str =
+    "after = \"log\"\nbest = 123\nname = \"pl\"\non = \"port\"\nworst = 124\n";
+
+#[test]
+fn reads_and_prints_queues(rt: HostRuntime) -> Result<(), Fail> {
+    let alloc = rt.alloc();
+    let mut wrong = None;
+    for (old, other) in &QUEUES {
+        if !is_refused(alloc, GATEWAY, old, other)? {
+            wrong = Some(other.0);
+        }
+    }
+    let system = read_system(alloc, GATEWAY.as_bytes())?;
+    let bytes = print_system(alloc, &system)?;
+    let text = std::str::from_utf8(bytes.as_slice()).unwrap_or("");
+    assert!(rt;
+        wrong.is_none() && text.contains(PRINTED_QUEUE) && text.contains(PRINTED_FRAME),
+        "{wrong:?} {text}"
+    );
+    Ok(())
+}
+
+/// The regions of the tasks of the system with regions.
 const TICKS: &[u64] = &[1, 2, 1];
 
 /// Whether a system's tasks have them.

@@ -213,6 +213,53 @@ fn builds_a_system(rt: HostRuntime) -> Result<(), Fail> {
     Ok(())
 }
 
+/// Frames on a port at 100 bits in a tick, a task beside them, and a frame at a bit in a tick.
+const QUEUES: &str = r#"format = 4
+resource = [{ name = "port", kind = "fifo", rate = 100 }, { name = "line", kind = "fifo" }]
+source = [{ name = "s", period = 10000 }]
+task = [
+  { name = "a", on = "port", after = "s", payload = 0 },
+  { name = "b", on = "port", after = "s", payload = 46 },
+  { name = "c", on = "port", after = "s", payload = 62 },
+  { name = "d", on = "port", after = "s", payload = 1500 },
+  { name = "e", on = "port", after = "a", best = 2, worst = 7 },
+  { name = "f", on = "line", after = "b", payload = 46 },
+]
+"#;
+
+/// The name of each of these tasks, and its executions: 8 bits for each byte of a frame, with 38 bytes beside at least 46 of payload.
+const LENGTHS: [(&str, (u64, u64)); 6] = [
+    ("a", (6, 7)),
+    ("b", (6, 7)),
+    ("c", (8, 8)),
+    ("d", (123, 124)),
+    ("e", (2, 7)),
+    ("f", (672, 672)),
+];
+
+/// The name of the first task of which the system has something else.
+fn wrong_length(system: &System) -> Option<&'static str> {
+    for (name, executions) in &LENGTHS {
+        let seen = task_of(system, name).map(|seen| (seen.executions, seen.turn));
+        if seen != Some((*executions, Turn::Queued)) {
+            return Some(*name);
+        }
+    }
+    None
+}
+
+#[test]
+fn builds_queues(rt: HostRuntime) -> Result<(), Fail> {
+    let system = read_system(rt.alloc(), QUEUES.as_bytes())?;
+    let wrong = wrong_length(&system);
+    let port = resource_of(&system, "port");
+    assert!(rt;
+        wrong.is_none() && port == Some((ResId(0), Kind::Fifo, 1_000_000)),
+        "{wrong:?} {port:?}"
+    );
+    Ok(())
+}
+
 /// A third source without a period, in the text and in a draft of sources alone.
 #[test]
 fn refuses_the_first_place(rt: HostRuntime) -> Result<(), Fail> {

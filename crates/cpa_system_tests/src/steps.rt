@@ -38,14 +38,24 @@ task = [
 ]
 "#;
 
-/// The tasks that wait, all of whose jobs arrived at tick 0.
+/// Two tasks that are served in the order in which their jobs came.
+const QUEUE: &str = r#"format = 4
+resource = [{ name = "r", kind = "fifo" }]
+source = [{ name = "s", period = 100 }]
+task = [
+  { name = "a", on = "r", after = "s", best = 2, worst = 7 },
+  { name = "b", on = "r", after = "s", best = 2, worst = 7 },
+]
+"#;
+
+/// The tasks that wait, and when their earliest pending jobs arrived.
 #[derive(Drop)]
-struct Waiting([bool; 2]);
+struct Waiting([bool; 2], [u64; 2]);
 
 impl Queue for Waiting {
     ghost use Rattle.std.specs.Prelude.{false, slice_index_or};
 
-    ghost ready = { λ q. record { waits = λ i. slice_index_or q.0 i false; arrival = λ i. 0; received = λ i. 0 } };
+    ghost ready = { λ q. record { waits = λ i. slice_index_or q.0 i false; arrival = λ i. slice_index_or q.1 i 0; received = λ i. 0 } };
 
     fn waits(&self, task: TaskId) -> bool {
         if task.0 < 2 {
@@ -55,8 +65,12 @@ impl Queue for Waiting {
         }
     }
 
-    fn arrival(&self, _task: TaskId) -> u64 {
-        0
+    fn arrival(&self, task: TaskId) -> u64 {
+        if task.0 < 2 {
+            self.1[task.0 as usize]
+        } else {
+            0
+        }
     }
 }
 
@@ -142,7 +156,7 @@ fn takes_turns(rt: HostRuntime) -> Result<(), Fail> {
     let alloc = rt.alloc();
     let ring = read_system(alloc, RING.as_bytes())?;
     let table = read_system(alloc, TABLE.as_bytes())?;
-    let both = Waiting([true, true]);
+    let both = Waiting([true, true], [0, 0]);
     let res = ResId(0);
     assert!(rt;
         ring.resources() == 1
@@ -159,8 +173,8 @@ fn takes_turns(rt: HostRuntime) -> Result<(), Fail> {
 fn takes_regions(rt: HostRuntime) -> Result<(), Fail> {
     let alloc = rt.alloc();
     let system = read_system(alloc, REGIONS.as_bytes())?;
-    let second = Waiting([false, true]);
-    let both = Waiting([true, true]);
+    let second = Waiting([false, true], [0, 0]);
+    let both = Waiting([true, true], [0, 0]);
     let res = ResId(0);
     assert!(rt;
         system.resources() == 1
@@ -168,6 +182,28 @@ fn takes_regions(rt: HostRuntime) -> Result<(), Fail> {
             && four_stretches(&system, res, &second, 0) == [(B, 3); 4]
             && four_stretches(&system, res, &both, 0) == [(A, 9); 4]
             && first_turn(&system, res, &second) == (B, 3, 2, 1)
+    );
+    Ok(())
+}
+
+/// The job that came first is served, of those that came at once that of the first task in the file, and one
+/// that comes later doesn't take the resource.
+#[test]
+fn takes_jobs_as_they_came(rt: HostRuntime) -> Result<(), Fail> {
+    let alloc = rt.alloc();
+    let system = read_system(alloc, QUEUE.as_bytes())?;
+    let second = Waiting([false, true], [9, 3]);
+    let second_first = Waiting([true, true], [4, 3]);
+    let at_once = Waiting([true, true], [3, 3]);
+    let none = Waiting([false, false], [1, 2]);
+    let res = ResId(0);
+    assert!(rt;
+        system.resources() == 1
+            && eight_ticks(&system, res, &second, &second_first) == [B; 8]
+            && eight_ticks(&system, res, &at_once, &at_once) == [A; 8]
+            && four_stretches(&system, res, &second_first, 0) == [(B, 9); 4]
+            && four_stretches(&system, res, &none, 0) == [(None, 9); 4]
+            && first_turn(&system, res, &at_once) == (A, 9, 0, 0)
     );
     Ok(())
 }

@@ -1,14 +1,18 @@
 //! Drafts, and why they are refused.
 //!
 //! An entry is a line of fields, with a bar between each two; an empty one stands for a key that is absent. After the name these are:
-//! of a resource its kind, its limit, its gap and its bit time; of a source its period, its jitter, its distance, its clock and its offset; of a task its
-//! resource, its executions, its payload, its priority and its slot, and then its activators; of a path its deadline, and then its
-//! tasks. A region stands behind the word `task`. The line `large`, or a region, makes a draft one of a large system.
+//! of a resource its kind, its limit, its gap, its bit time and its rate; of a source its period, its jitter, its distance, its clock and its offset;
+//! of a task its resource, its executions, its payload, its priority and its slot, and then its activators; of a path its deadline, and then its
+//! tasks. A region stands behind the word `task`; in its place the word `extended` or `standard` says what identifier a frame has. The line
+//! `large`, or a region, makes a draft one of a large system.
 
 use cpa_draft::Part;
 
 /// Lines that stand after those with which all drafts of a table begin, and the refusal: the reason, the part and the place.
 pub(crate) type Case = (&'static [&'static str], Option<(u8, Part, u64)>);
+
+/// What is told where any one of some lines stands after those with which all drafts of a table begin.
+pub(crate) type Told = (Option<(u8, Part, u64)>, &'static [&'static str]);
 
 /// One resource of each kind, and one source.
 pub(crate) const PLACES: &[&str] = &[
@@ -32,7 +36,7 @@ pub(crate) const BASE: [&str; 8] = [
 ];
 
 /// What is told where any one of these lines stands after the base.
-pub(crate) const ADDED: [(Option<(u8, Part, u64)>, &[&str]); 25] = [
+pub(crate) const ADDED: [Told; 25] = [
     (
         None,
         &[

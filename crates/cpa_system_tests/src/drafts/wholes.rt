@@ -4,7 +4,7 @@ use crate::drafts::cases::{BASE, Case};
 use cpa_draft::Part;
 
 /// Drafts with more than one fault, and faults of several entries.
-pub(crate) const WHOLES: [Case; 18] = [
+pub(crate) const WHOLES: [Case; 20] = [
     (&BASE, None),
     (&[], None),
     // The greatest numbers of a large system.
@@ -31,6 +31,16 @@ pub(crate) const WHOLES: [Case; 18] = [
         &["large", "task|a|cpu|1|10000001||1||s"],
         Some((2, Part::Task, 1)),
     ),
+    // A small system has no queue.
+    (
+        &[
+            "resource|cpu|preemptive",
+            "resource|port|fifo",
+            "source|s|0",
+        ],
+        Some((2, Part::Resource, 2)),
+    ),
+    (&["resource|port|fifo||0||1"], Some((2, Part::Resource, 1))),
     // Sources on clocks: a cycle of as many ticks, and one of as many events, as there may be.
     (
         &[
