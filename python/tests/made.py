@@ -70,7 +70,7 @@ def add_task(draw: Random, system: System, name: str, on: Resource, priority: in
         task.worst = task.best + draw.randint(0, 20)
     if on.kind in (Kind.PREEMPTIVE, Kind.CAN):
         task.priority = priority
-    else:
+    elif on.kind != Kind.FIFO:
         task.slot = draw.randint(1, 20)
 
 

@@ -5,7 +5,7 @@ import unittest
 
 from lokwurmi.files.documents import Document
 from lokwurmi.refusals.rules import first_refusal
-from tests.support.damage import with_keys, with_regions
+from tests.support.damage import with_keys, with_queues, with_regions
 
 WRITTEN = """format = 1
 resource = [{ name = "cpu", kind = "preemptive" }]
@@ -34,6 +34,20 @@ best = 1
 worst = 3
 priority = 7_0"""
 
+WITH_FRAMES = """format = 1
+source = [{ name = "s", period = 1000 }]
+resource = [
+  { name = "bus", kind = "can", bit = 2 },
+  { name = "ring", kind = "tdma",
+    gap = 3 },
+]
+task = [
+  { name = "a", on = "bus", after = "s", payload = 8, extended = true, priority = 1 },
+  { name = "b", on = "bus", after = "s", priority = 2, payload = 0 },
+  { slot = 3, name = "c", on = "ring", after = "s", best = 1, worst = 1 },
+]
+"""
+
 
 class Damage(unittest.TestCase):
     def test_keys(self) -> None:
@@ -59,6 +73,22 @@ class Damage(unittest.TestCase):
                 some |= {(it["name"], it.get("sporadic"), it.get("clock")) for it in document.entries["source"]}
         # three of them may be sporadic or not, or not tell it, and all may be on one of two clocks, or on none
         self.assertEqual(len(some), 3 * 10)
+
+    def test_queues(self) -> None:
+        """Resources of any file can become queues, again and again, and it stays a system."""
+        kinds, rates, payloads = set(), set(), set()
+        for seed in range(200):
+            draw = random.Random(seed)
+            once = with_queues(draw, WITH_FRAMES)
+            for text in (once, with_queues(draw, once), with_queues(draw, with_regions(draw, WRITTEN))):
+                document = Document(text)
+                self.assertIsNone(first_refusal(document), text)
+                kinds |= {it["kind"] for it in document.entries["resource"]}
+                rates |= {it.get("rate") for it in document.entries["resource"]}
+                payloads |= {it.get("payload") for it in document.entries["task"]}
+        self.assertEqual(kinds, {"preemptive", "can", "tdma", "fifo"})
+        self.assertTrue({None, 1, 100, 672} <= rates, rates)
+        self.assertTrue({None, 0, 8, 46, 1500} <= payloads, payloads)
 
 
 if __name__ == "__main__":

@@ -294,6 +294,7 @@ class Files(unittest.TestCase):
                     system.round_robin("b"),
                     system.tdma("c", gap=3),
                     system.can("d", bit=2),
+                    system.fifo("e", rate=8),
                 )
             ],
             [str(it) for it in Kind],

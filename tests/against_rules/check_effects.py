@@ -1,7 +1,7 @@
 #!/usr/bin/env python3
 """Compares `chain` and `chains` with rules written down plainly, and holds their bounds against runs. Outside the gate.
 
-Random small systems of all four kinds and all formats get random traces that obey, and in which the events of a source
+Random small systems of all kinds and all formats get random traces that obey, and in which the events of a source
 that isn't sporadic stay near: any two are at most as far apart as its period and jitter say. A chain is a list of
 tasks, mostly none of which starts the next. Of each run the greatest reaction, latency, age and time for which data is
 held are found over ALL reading times of its jobs, and none may be beyond the bound; for jobs that read in ticks in

@@ -1,9 +1,9 @@
 #!/usr/bin/env python3
 """Compares the reports of `lokwurmi analyse` with those of the rules written down plainly, over random systems.
 
-The rules are those of tests/rules/bounds.py. Systems have all four kinds, chains that come back to a resource, jitter
-of several periods, and paths; in every other one tasks have up to three activators, and in every other pair regions.
-Prints the first file whose report or status differs, else how many were alike.
+The rules are those of tests/rules/bounds.py. Systems have all kinds of resource, chains that come back to a resource,
+jitter of several periods, and paths; in every other one tasks have up to three activators, and in every other pair
+there are regions and queues. Prints the first file whose report or status differs, else how many were alike.
 
     python3 -m tests.against_rules.check_reports [NUMBER of systems, 1000 if absent] [NUMBER to begin with, 0 if absent]
 """

@@ -2,11 +2,11 @@
 """Compares `simulate`, `buffers`, `audit` and `schedule` with runs that are followed plainly, tick by tick. Outside the
 gate.
 
-Random systems with all four kinds of resource, in every other one of which tasks have regions, get random traces that
+Random systems with all kinds of resource, in every other one of which tasks have regions, get random traces that
 obey. The step rules are followed plainly once more (tests/rules/runs.py): what is seen of each task, how many jobs are
 pending at each time, and who gets which tick, and from which job each one comes. `buffers` must tell those peaks, none
 of them above its bound, and each bound must be the most events of the task's streams in its greatest response; no
-response is above that.
+response is above that, and neither is the work that is pending in a queue.
 `audit` must take the schedule that was recorded here, and of one with a row changed, left out, added or exchanged it
 must tell the first place that differs, with what is expected there. `schedule` must write the schedule that was
 recorded here, and of that `audit` must say that it is the run's.
@@ -37,6 +37,10 @@ def buffers_text(system, run, report):
     text = "".join(f"buffer {name} bound {said(most)} peak {run.peaks[name]}\n" for name, most in jobs.items())
     for name, several in run.on.items():
         text += f"resource {name} bound {said(sum(jobs[it] for it in several))} peak {run.peaks_on[name]}\n"
+    for name in (it["name"] for it in system["resource"] if it["kind"] == "fifo"):
+        most = max((least[it] for it in run.on[name]), default=0)
+        assert run.most_work[name] <= most, name
+        text += f"queue {name} work {said(most)}\n"
     return text + f"summary tasks {len(jobs)} overload {list(jobs.values()).count(OVERLOAD)}\n"
 
 

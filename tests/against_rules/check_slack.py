@@ -1,7 +1,7 @@
 #!/usr/bin/env python3
 """Holds the answers of `lokwurmi slack` against `lokwurmi analyse`, over random systems.
 
-The systems are those of check_reports.py, with all four kinds and paths over two tasks, in every other one with tasks
+The systems are those of check_reports.py, with all kinds and paths over two tasks, in every other one with tasks
 that have up to three activators, and every task of each is asked for. In three of four the deadlines are made anew, so
 that all are met, with more or less to spare. With as many ticks as are told all deadlines have to be met, with one more
 not, or the execution is the greatest there is; and where there is none, one has to be missed already. One worker and
@@ -13,6 +13,7 @@ import random
 import re
 import sys
 
+from tests.rules.bounds import System
 from tests.support.calls import answer, built, range_of
 from tests.support.systems import random_file
 
@@ -26,6 +27,14 @@ def most_of(text):
 
 def holds(text):
     return not re.search(r"^path .* (missed|unknown)$", answer(PROGRAM, text, "analyse")[1], re.M)
+
+
+def with_executions(text):
+    """The system with the executions of frames in place of their payloads."""
+    for name, it in System(text).tasks.items():
+        times = f"best = {it['best']}\nworst = {it['worst']}"
+        text = re.sub(rf'(name = "{name}"\n.*\n.*\n)payload = \d+', rf"\g<1>{times}", text)
+    return text
 
 
 def relaxed(text, number):
@@ -61,7 +70,7 @@ def main():
     ends = {"missed": 0, "limit": 0, "none": 0}
     several = 0
     for number in numbers:
-        text = random_file(number)
+        text = with_executions(random_file(number))
         if number % 4:
             text = relaxed(text, number)
         several += "after = [" in text

@@ -265,6 +265,37 @@ OF_DBC: dict[str, Damage] = {
     "a letter": any_letter,
 }
 
+# of a file with offsets, besides: one offset is another whole file, and so is another sender that the file has
+START = r'^BA_ "GenMsgStart'
+OF_OFFSETS: dict[str, Damage] = {
+    "an offset's line less": at_line(START, gone),
+    "an offset without its number": at_line(START, other(r" [\d.]+;", ";")),
+    "an offset without its semicolon": at_line(START, less(";")),
+    "an offset in words": at_line(START, other(r" [\d.]+;", " some;")),
+    "an offset with a comma": at_line(START, other(r" (\d+)[\d.]*;", r" \1,5;")),
+    "an offset beyond a period": at_line(START, other(r" ([\d.]+);", r" 9\1;")),
+    "an offset out of range": at_line(START, other(r" [\d.]+;", " 9000;")),
+    "a negative offset": at_line(START, other(r" ([\d.]+);", r" -\1;")),
+    "an offset of another word": at_line(START, other("StartDelay", "StartDely")),
+    "an offset of another frame": at_line(START, other(r"BO_ \d", "BO_ 7")),
+    "an offset twice": at_line(START, twice),
+    "a definition of offsets less": at_line('^BA_DEF_ BO_ "GenMsgStart', gone),
+    "a default of offsets less": at_line('^BA_DEF_DEF_ "GenMsgStart', gone),
+    "no sender": at_line(BO, other(r"(: \d+) \w+", r"\1 Vector__XXX")),
+    "a sender of its own": at_line(BO, other(r"(: \d+) \w+", r"\1 Other")),
+    "the senders' line less": at_line("^BU_", gone),
+    "an event's send type": at_line(r"^BA_DEF_DEF_ .*Cyclic", other('"Cyclic"', '"Spontaneous"')),
+} | {
+    kind: OF_DBC[kind]
+    for kind in (
+        "a frame's line less",
+        "a frame's sender less",
+        "a period's line less",
+        "a period twice",
+        "a frame twice",
+    )
+}
+
 
 def unmarked(found: re.Match[str]) -> str:
     """An identifier of 29 bits without the bit that tells so."""
@@ -360,6 +391,48 @@ BA_ "JitterMs" BO_ 7 0.2;
 VAL_ 928 which 0 "pos" 1 "speed" ;
 """
 
+OFFSETS = """VERSION ""
+BU_: Gate Motor
+BO_ 16 A: 8 Gate
+BO_ 17 B: 8 Gate
+BO_ 18 C: 8 Motor
+BO_ 19 D: 8 Motor
+BA_DEF_ BO_ "GenMsgCycleTime" FLOAT 0 1000;
+BA_DEF_ BO_ "GenMsgStartDelayTime" FLOAT 0 1000;
+BA_DEF_ BO_ "GenMsgSendType" ENUM "Cyclic","Spontaneous";
+BA_DEF_DEF_ "GenMsgCycleTime" 0;
+BA_DEF_DEF_ "GenMsgStartDelayTime" 0;
+BA_DEF_DEF_ "GenMsgSendType" "Cyclic";
+BA_ "GenMsgCycleTime" BO_ 16 2;
+BA_ "GenMsgCycleTime" BO_ 17 2;
+BA_ "GenMsgCycleTime" BO_ 18 2;
+BA_ "GenMsgCycleTime" BO_ 19 4;
+BA_ "GenMsgSendType" BO_ 16 0;
+BA_ "GenMsgSendType" BO_ 17 0;
+BA_ "GenMsgSendType" BO_ 18 0;
+BA_ "GenMsgSendType" BO_ 19 0;
+BA_ "GenMsgStartDelayTime" BO_ 16 0;
+BA_ "GenMsgStartDelayTime" BO_ 17 1;
+BA_ "GenMsgStartDelayTime" BO_ 18 0.5;
+BA_ "GenMsgStartDelayTime" BO_ 19 1.5;
+"""
+# what that file says, written down by hand
+ON_CLOCKS = """format = 4
+resource = [{ name = "b", kind = "can", bit = 2 }]
+source = [
+  { name = "a", period = 2000, clock = "gate" },
+  { name = "b", period = 2000, clock = "gate", offset = 1000 },
+  { name = "c", period = 2000, clock = "motor", offset = 500 },
+  { name = "d", period = 4000, clock = "motor", offset = 1500 },
+]
+task = [
+  { name = "0x010", on = "b", after = "a", payload = 8, priority = 16 },
+  { name = "0x011", on = "b", after = "b", payload = 8, priority = 17 },
+  { name = "0x012", on = "b", after = "c", payload = 8, priority = 18 },
+  { name = "0x013", on = "b", after = "d", payload = 8, priority = 19 },
+]
+"""
+
 
 def is_as_said(what, status, text, told, wanted):
     """Whether a damaged file is refused, or what is imported has no bound below."""
@@ -411,6 +484,23 @@ def check_dbc(room, count):
             written_bytes(room, f"{name}.dbc", text, encoding)
             status, found, told = quietly(import_network, *words)
             is_as_said(f"{name}.dbc in {encoding}", status, found, told, wanted)
+
+
+def check_offsets(room, count):
+    """Each kind of damage to a DBC file with offsets: a source that has lost its clock has no lower bound."""
+    wanted = System(ON_CLOCKS).least_solution()
+    plain = bounds_of([Frame(16 + at, False, 8, period, 0) for at, period in enumerate((2000, 2000, 2000, 4000))])
+    hold(wanted != plain and not below(plain, wanted), f"no bound is lower on clocks: {wanted} {plain}")
+    words = (f"b={written_bytes(room, 'offsets.dbc', OFFSETS)}", "--bitrate", "500k", "--offsets")
+    status, found, told = quietly(import_network, *words)
+    hold(status == 0 and imported_bounds(found) == wanted, f"offsets whole: {told} {found} {wanted}")
+    for place, (kind, damage) in enumerate(OF_OFFSETS.items()):
+        draw = random.Random(f"offsets {place}")
+        for _ in range(count):
+            damaged = damage(draw, OFFSETS)
+            if damaged is not None and damaged != OFFSETS:
+                written_bytes(room, "offsets.dbc", damaged)
+                is_as_said(f"offsets, {kind}", *quietly(import_network, *words), wanted)
 
 
 def check_arxml(room, count):
@@ -483,9 +573,10 @@ def main():
     reader = reader_of(__doc__, "2", "the packages that databases.py names")
     add_number(reader, "count", 6, "at how many places each kind of damage is tried")
     count = reader.parse_args().count
-    kinds = len(OF_DBC) + len(OF_ARXML) + len(OF_LOG) + len(ENCODINGS)
+    kinds = len(OF_DBC) + len(OF_OFFSETS) + len(OF_ARXML) + len(OF_LOG) + len(ENCODINGS)
     with tempfile.TemporaryDirectory() as room:
         check_dbc(room, count)
+        check_offsets(room, count)
         check_arxml(room, count)
         check_log(room, count)
     hold(tried.get("refused", 0) > 100 and kinds >= 40, f"{kinds} kinds of damage, of which {tried} were tried")

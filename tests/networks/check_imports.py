@@ -250,6 +250,33 @@ def check_forward(room):
     )
 
 
+def check_gateway_queue(room):
+    """What a gateway passes on through a queue: each frame by a task of its own, in the order in which they come."""
+    front = [("Speed", 0x100, False, 8, 10, {}), ("Doors", 0x7, False, 2, 100, {}), ("Alone", 0x8, False, 2, 100, {})]
+    back = [("Speed", 0x200, False, 8, 10, {}), ("Doors", 0x9, False, 2, 100, {}), ("Lamps", 0x3, False, 1, 50, {})]
+    file = dumped(room, "queue.kcd", {"front": matrix_of(front), "back": matrix_of(back)})
+    words = [file, "--bitrate", 500000, "--forward", "front.Speed=back.Speed", "--forward", "front.Doors=back.Doors"]
+    system, told, text = imported(*words, "--gateway-queue", "gate=200us")
+    tasks = {it["name"]: it for it in system["task"]}
+    passed = {"on": "gate", "best": 1, "worst": 200}
+    for name in ("Speed", "Doors"):
+        own = {"name": f"back.{name}.passed", "after": f"front.{name}"} | passed
+        is_passed = tasks[f"back.{name}.passed"] == own and tasks[f"back.{name}"]["after"] == own["name"]
+        path = {"name": f"front.{name}-back.{name}", "tasks": [f"front.{name}", own["name"], f"back.{name}"]}
+        hold(is_passed and path in system["path"], f"--gateway-queue: {tasks} {system['path']}")
+    gate = {"name": "gate", "kind": "fifo"}
+    hold(gate in system["resource"] and system["format"] == 4 and len(tasks) == 8, f"--gateway-queue: {text}")
+    hold("by its queue gate, in the order in which frames come, each in up to 200us" in told, told)
+    system = imported(*words, "--gateway-queue", "100ns")[0]
+    hold({"name": "gateway", "kind": "fifo"} in system["resource"], f"--gateway-queue without a name: {system}")
+    hold([it["worst"] for it in system["task"] if it["on"] == "gateway"] == [1, 1], f"rounded up: {system}")
+    # each frame that is passed on may be in front of the one that is asked for
+    system = imported(*words, "--gateway-queue", "gate=200us", "--only", "back.Speed")[0]
+    names = {it["name"] for it in system["task"]}
+    wanted = {"back.Speed", "back.Speed.passed", "front.Speed", "back.Doors", "back.Doors.passed", "front.Doors"}
+    hold(wanted <= names and "front.Alone" in names, f"--only with --gateway-queue: {names}")
+
+
 def check_buses(room):
     """Buses of other names, one of several, plain KCD files, and several files."""
     front, back, file = two_buses(room)
@@ -410,6 +437,7 @@ if __name__ == "__main__":
         check_sheets,
         check_several,
         check_forward,
+        check_gateway_queue,
         check_buses,
         check_arxml,
         check_clusters,

@@ -6,7 +6,7 @@ no thought of speed. Times are ticks.
 import tomllib
 
 from tests.rules.clocks import OnClocks, clocks_of
-from tests.rules.curves import OVERLOAD, ceiling, least_time, least_window, most_events
+from tests.rules.curves import OVERLOAD, ceiling, least_time, least_window, longest_in_queue, most_events
 
 
 def activators_of(task):
@@ -23,6 +23,10 @@ def execution_of(task, resource):
     """The least and the greatest execution of a task: those of a frame follow from its payload."""
     if "payload" not in task:
         return task["best"], task["worst"]
+    if resource["kind"] == "fifo":
+        # preamble 8 bytes, addresses, type and check sum 18, gap 12
+        bits, rate = 8 * (8 + 18 + max(46, task["payload"]) + 12), resource.get("rate", 1)
+        return bits // rate, ceiling(bits, rate)
     least, greatest = (67, 80) if task.get("extended") else (47, 55)
     return tuple(
         bits * resource.get("bit", 1) for bits in (least + 8 * task["payload"], greatest + 10 * task["payload"])
@@ -95,7 +99,8 @@ class System:
         if model is None:
             return OVERLOAD
         mates = [n for n, t in self.tasks.items() if t["on"] == task["on"]]
-        analyse = {"preemptive": self.preemptive, "round-robin": self.round_robin, "tdma": self.tdma, "can": self.can}
+        kinds = ("preemptive", "round-robin", "tdma", "can", "fifo")
+        analyse = dict(zip(kinds, (self.preemptive, self.round_robin, self.tdma, self.can, self.fifo)))
         return analyse[resource["kind"]](name, task, resource, model, mates, bounds)
 
     def busy_window(self, model, limit, demand):
@@ -163,6 +168,11 @@ class System:
                 return OVERLOAD
             greatest = max(greatest, start + own - least_time(model, frame))
         return greatest
+
+    def fifo(self, name, task, resource, model, mates, bounds):
+        models = [self.input_of(n, bounds) for n in mates]
+        asked = [(None if it is None else tuple(it), self.tasks[n]["worst"]) for n, it in zip(mates, models)]
+        return longest_in_queue(tuple(asked), resource.get("limit", 1000000))
 
     def least_solution(self):
         bounds = {name: task["best"] for name, task in self.tasks.items()}

@@ -53,6 +53,10 @@ class Shared:
             behind = [0, *accumulate((one(it) for it in reversed(tasks)), max)]
             self.blocking = behind[-2::-1]
             return
+        if resource["kind"] == "fifo":
+            # of all tasks the same, once it is known
+            self.longest = None
+            return
         self.slots = np.array([it["slot"] for it in tasks], dtype=np.int64)
         self.cycle = int(self.slots.sum()) + resource.get("gap", 0)
         limits = np.array([math.nan if it == OVERLOAD else it for it in bounds], dtype=float)
@@ -107,7 +111,7 @@ class LargeSystem(System):
     def bounds_on(self, on, bounds):
         """The bounds of a resource's tasks."""
         resource, names = self.resources[on], self.names[on]
-        asked = {"preemptive": self.under_priority, "can": self.on_bus, "tdma": self.in_slots}
+        asked = {"preemptive": self.under_priority, "can": self.on_bus, "tdma": self.in_slots, "fifo": self.in_queue}
         analyse = asked.get(resource["kind"], self.by_turns)
         if resource["kind"] in ("preemptive", "can"):
             names = sorted(names, key=lambda it: self.tasks[it]["priority"])
@@ -152,6 +156,25 @@ class LargeSystem(System):
         own, slot = shared.tasks[place]["worst"], shared.tasks[place]["slot"]
         others = shared.cycle - slot
         return self.longest_busy_window(model, shared.limit, lambda q, w: q * own + ceiling(q * own, slot) * others)
+
+    def in_queue(self, shared, place, model):
+        if shared.longest is None:
+            shared.longest = self.longest_in_queue(shared)
+        return shared.longest
+
+    def longest_in_queue(self, shared):
+        """The greatest response in a busy window, from each window in which more is asked for to the next."""
+        count, streams = len(shared.tasks), shared.streams
+        busy = first_fitting(lambda w: streams.work(count, w), 1, shared.limit)
+        if busy == OVERLOAD:
+            return OVERLOAD
+        greatest, window = 0, 1
+        while window <= busy:
+            greatest = max(greatest, streams.work(count, window) - (window - 1))
+            # the event of each stream that isn't in the window yet comes with the tick after its least time
+            seen = streams.events(0, len(streams.period), window)
+            window = 1 + int(np.maximum(seen * streams.period - streams.jitter, seen * streams.distance).min())
+        return greatest
 
     def by_turns(self, shared, place, model):
         own, slot, streams = shared.tasks[place]["worst"], shared.tasks[place]["slot"], shared.streams

@@ -1,5 +1,5 @@
-"""Sources on clocks, by the rules of docs/DEFINITIONS.md, followed plainly: when the streams of tasks can come after the
-start of a busy window, the bounds from each start of one, and which traces come by their clocks.
+"""Sources on clocks, by the rules of docs/DEFINITIONS.md, followed plainly: when the streams of tasks can come after
+the start of a busy window, the bounds from each start of one, and which traces come by their clocks.
 
 Each tick of a cycle is tried, one after the other. Times are ticks.
 """

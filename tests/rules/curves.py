@@ -2,6 +2,8 @@
 for a demand. Times are ticks.
 """
 import math
+from functools import lru_cache
+from itertools import accumulate
 
 OVERLOAD = math.inf
 
@@ -46,3 +48,26 @@ def least_window(demand, first, limit):
             return window
         window = max(window + 1, asked)
     return OVERLOAD
+
+
+@lru_cache(maxsize=256)
+def longest_in_queue(tasks, limit):
+    """The greatest response in a queue, where each task is told by its streams and its greatest execution. A job may
+    come in any tick of the busy window, whose start left nothing to do: what came up to that tick and with it is done
+    first, and the ticks before it are gone by then."""
+
+    def demand(window):
+        return sum(most_events(model, window) * worst for model, worst in tasks)
+
+    busy = least_window(demand, 1, limit)
+    if busy == OVERLOAD:
+        return OVERLOAD
+    # what each tick of the window adds to the demand; event n comes with the tick after its least time
+    added = [0] * (busy + 1)
+    for (period, jitter, distance), worst in ((stream, worst) for model, worst in tasks for stream in model):
+        for event in range(busy):
+            window = max(event * period - jitter, event * distance, 0) + 1
+            if window > busy:
+                break
+            added[window] += worst
+    return max(asked - (window - 1) for window, asked in enumerate(accumulate(added)) if window)

@@ -1,4 +1,5 @@
 """Generated systems and traces, by the generator that docs/FILES.md describes, written down plainly."""
+from tests.rules.bounds import execution_of
 
 LAST = 2**64 - 1
 
@@ -97,10 +98,7 @@ def generated_trace(system, number, place):
         ]
 
     for task in tasks.values() if is_drawn else ():
-        best, worst = task.get("best"), task.get("worst")
-        if "payload" in task:
-            bit, (least, greatest) = resources[task["on"]].get("bit", 1), (67, 80) if task.get("extended") else (47, 55)
-            best, worst = (least + 8 * task["payload"]) * bit, (greatest + 10 * task["payload"]) * bit
+        best, worst = execution_of(task, resources[task["on"]])
         rows += [f"exec,{task['name']},{best + numbers.draw(worst - best + 1)}" for _ in first_events(task)]
     for resource in resources.values() if is_drawn else ():
         slots = [it["slot"] for it in tasks.values() if it["on"] == resource["name"] and resource["kind"] == "tdma"]

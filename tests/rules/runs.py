@@ -29,6 +29,7 @@ class Run:
         self.frame = dict.fromkeys(self.on)
         self.peaks = dict.fromkeys(self.tasks, 0)
         self.peaks_on = dict.fromkeys(self.on, 0)
+        self.most_work = dict.fromkeys(self.on, 0)
         self.segments = []
         self.time = 0
         self.go()
@@ -75,6 +76,8 @@ class Run:
                 self.left[name] = self.tasks[self.holder[name]]["slot"]
             self.left[name] -= 1
             return self.holder[name]
+        if resource["kind"] == "fifo":
+            return min(waiting, key=self.since)
         if resource["kind"] == "can" and self.frame[name]:
             return self.frame[name]
         if resource["kind"] == "preemptive" and (within := [task for task in waiting if self.is_within(task)]):
@@ -82,6 +85,10 @@ class Run:
         first = min(waiting, key=lambda task: self.tasks[task]["priority"])
         self.frame[name] = first
         return first
+
+    def since(self, task):
+        """When the earliest job of a task that is pending came."""
+        return self.jobs[task][self.pending(task)[0]]["arrival"]
 
     def is_within(self, task):
         """Whether the job of a task that is next is within a region: it has had a part of one."""
@@ -91,7 +98,9 @@ class Run:
         for task in self.tasks:
             self.peaks[task] = max(self.peaks[task], len(self.pending(task)))
         for name, several in self.on.items():
-            self.peaks_on[name] = max(self.peaks_on[name], sum(len(self.pending(task)) for task in several))
+            pending = [self.jobs[task][job] for task in several for job in self.pending(task)]
+            self.peaks_on[name] = max(self.peaks_on[name], len(pending))
+            self.most_work[name] = max(self.most_work[name], sum(job["needs"] for job in pending))
 
     def goes_on(self):
         return any(self.pending(task) for task in self.tasks) or any(

@@ -4,7 +4,7 @@ from tests.support.systems import draw_priorities, draw_regions, path_of, some_p
 
 # of what the periods of a clock are multiples
 MULTIPLES = ((1,), (1, 2), (1, 2, 4), (1, 3), (2, 3), (1, 2, 3))
-KINDS = ("preemptive", "can", "preemptive", "can", "preemptive", "can", "round-robin", "tdma")
+KINDS = ("preemptive", "can", "preemptive", "can", "preemptive", "can", "round-robin", "tdma", "fifo")
 
 
 def sources_on_clocks(draw):

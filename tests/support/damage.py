@@ -8,14 +8,15 @@ from collections.abc import Sequence
 from typing import Any
 
 from lokwurmi.files.documents import Document
+from lokwurmi.files.toml_spans import Place
 
 KEYS = (
     "name kind limit gap bit period jitter distance on after best worst payload extended"
-    " priority slot region sporadic clock offset tasks deadline wcet format nane"
+    " priority slot region sporadic clock offset rate tasks deadline wcet format nane"
 ).split()
 VALUES = [
-    *"0 1 2 -1 3 7 10 1000001 1000000 536870912 2_000 0x10 1.5 10.0 99999999999 1979-05-27 true false [] {}".split(),
-    *'"" "s" "a" "can" "tdma" "preemptive" "round-robin" "spp" ["a"]'.split(),
+    *"0 1 2 -1 3 7 10 672 673 1500 1000001 1000000 536870912 2_000 0x10 1.5 10.0 99999999999 1979-05-27".split(),
+    *'true false [] {} "" "s" "a" "can" "tdma" "preemptive" "round-robin" "fifo" "fifo" "spp" ["a"]'.split(),
     *('"a b"', '["s", "s"]', "'x'", '"ü"'),
 ]
 
@@ -82,6 +83,45 @@ def with_regions(draw: random.Random, text: str) -> str:
     added = [("source", at, "period", sporadic_told(draw, it) + clocks[at]) for at, it in sources]
     added += [("task", at, "priority", told) for at, it in tasks if (told := region_told(draw, it, kinds))]
     return with_keys(text, added)
+
+
+def changed_spans(text: str, changes: Sequence[tuple[int, int, str]]) -> str:
+    """A text in which stretches that don't overlap give way to others."""
+    for start, end, what in sorted(changes, reverse=True):
+        text = text[:start] + what + text[end:]
+    return text
+
+
+def dropped(text: str, place: Place, keys: Sequence[str]) -> list[tuple[int, int, str]]:
+    """What goes where an entry is to have no such keys, each with the comma behind it: one before may stay."""
+    found = [(place.keys[it][0], place.values[it].end) for it in keys if it in place.keys]
+    commas = [re.compile(r"[ \t]*,?").match(text, end) for _, end in found]
+    return [(start, comma.end() if comma else end, "") for (start, end), comma in zip(found, commas)]
+
+
+def with_queues(draw: random.Random, text: str) -> str:
+    """A system file some of whose resources are queues: their tasks have neither priorities nor slots, and frames on
+    them may be longer."""
+    text = re.sub(r"^format = [12]$", "format = 4", text, count=1, flags=re.M)
+    document = Document(text)
+    chosen = {it["name"] for it in document.entries["resource"] if draw.random() < 0.6}
+    changes: list[tuple[int, int, str]] = []
+    for at, it in enumerate(document.entries["resource"]):
+        if it["name"] in chosen:
+            place = document.place("resource", at)
+            changes += [(*place.values["kind"].span, '"fifo"'), *dropped(text, place, ("gap", "bit"))]
+            if "rate" in it:
+                changes.append((*place.values["rate"].span, str(draw.choice([1, 100, draw.randint(1, 672), 672]))))
+    for at, it in enumerate(document.entries["task"]):
+        if it["on"] in chosen:
+            place = document.place("task", at)
+            changes += dropped(text, place, ("priority", "slot", "region", "extended"))
+            if "payload" in it:
+                changes.append((*place.values["payload"].span, str(draw.choice([0, 46, draw.randint(0, 1500), 1500]))))
+    text = changed_spans(text, changes)
+    at_queues = [at for at, it in enumerate(document.entries["resource"]) if it["name"] in chosen and "rate" not in it]
+    rates = [(at, [f"rate = {draw.choice([1, 100, 672])}"]) for at in at_queues if draw.random() < 0.5]
+    return with_keys(text, [("resource", at, "kind", told) for at, told in rates])
 
 
 def words_of(text: str) -> list[tuple[int, int]]:
@@ -223,6 +263,7 @@ def damaged_script(draw: random.Random, names: list[str]) -> str:
                     f"source {one} {few[0]} {few[1]} {few[2]}",
                     f"offset {one} {few[0]}",
                     f"add {draw.choice(['n1', 'n2', one])} {other} {third} {few[0]} {few[1]} {few[2]}",
+                    f"add {draw.choice(['n1', 'n2', one])} {other} {third} 1 {few[1]} 0",
                     f"remove {draw.choice([one, 'n1', 'n2'])}",
                     "report",
                     "# text",

@@ -96,8 +96,9 @@ def dumped(room: str, name: str, matrices: "canmatrix.CanMatrix | dict[str, canm
     return file
 
 
-def timed_arxml(room: str, file: str, periods: Mapping[str, str]) -> str:
-    """An ARXML file in which frames get the periods that are given in seconds, which canmatrix doesn't write."""
+def timed_arxml(room: str, file: str, periods: Mapping[str, str], offsets: Mapping[str, str] | None = None) -> str:
+    """An ARXML file in which frames get the periods and offsets that are given in seconds, which canmatrix doesn't
+    write."""
     tree = lxml.etree.parse(file)
     space = tree.getroot().nsmap[None]
 
@@ -112,7 +113,10 @@ def timed_arxml(room: str, file: str, periods: Mapping[str, str]) -> str:
             timing = made(made(pdu, "I-PDU-TIMING-SPECIFICATIONS"), "I-PDU-TIMING")
             made(timing, "MINIMUM-DELAY", "0.005")
             mode = made(made(timing, "TRANSMISSION-MODE-DECLARATION"), "TRANSMISSION-MODE-TRUE-TIMING")
-            made(made(made(mode, "CYCLIC-TIMING"), "TIME-PERIOD"), "VALUE", periods[name])
+            cyclic = made(mode, "CYCLIC-TIMING")
+            if offsets and name in offsets:
+                made(made(cyclic, "TIME-OFFSET"), "VALUE", offsets[name])
+            made(made(cyclic, "TIME-PERIOD"), "VALUE", periods[name])
     timed = os.path.join(room, "timed.arxml")
     tree.write(timed, pretty_print=True)
     return timed

@@ -96,6 +96,22 @@ def buses(count):
     return document(resources, [source(k, own[k]) for k in range(sent)], tasks, paths)
 
 
+def queueing(count, load=0.7):
+    """Frames on 16 ports of 100 Mbit/s, where a tick is 1 us; every second one goes on to the next port."""
+    draw = random.Random(f"queues {count}")
+    sizes = [draw.randrange(46, 1501) for _ in range(count)]
+    ticks = [-(-8 * (38 + size) // 100) for size in sizes]
+    # a frame that goes on has the period of the one before it
+    times = periods(count, [sum(ticks[k : k + 2]) for k in range(0, count, 2)], load * 16)
+    tasks = [
+        f'{{ name = "t{k}", on = "r{k % 16}", after = "{f"t{k - 1}" if k % 2 else f"s{k}"}", payload = {size} }}'
+        for k, size in enumerate(sizes)
+    ]
+    sources = [source(k, times[k // 2]) for k in range(0, count, 2)]
+    resources = [f'{{ name = "r{k}", kind = "fifo", rate = 100, limit = {LIMIT} }}' for k in range(16)]
+    return document(resources, sources, tasks)
+
+
 def taking_turns(count: int, kind: str) -> str:
     """Tasks that take turns on 16 resources of a kind; every second one starts the next, which is on another resource.
     A job comes less often than its task has all the turns that it wants."""

@@ -4,24 +4,28 @@ import tomllib
 
 from tests.rules.runs import least_apart
 
+IN_EACH_FORMAT = ("preemptive", "round-robin", "tdma", "can")
+KINDS = (*IN_EACH_FORMAT, "fifo")
+
 
 def some_region(pick, worst):
     """A region for a task: a tick, some ticks, or as long as any of its jobs, or longer."""
     return pick.choice([1, 2, 3, pick.randint(1, worst), worst, worst + 3, 1_000_000])
 
 
-def resource_lines(pick, count):
-    """Resources of any kind in lines of a file, and their kinds."""
-    lines, kinds = [], []
+def resource_lines(pick, count, kinds):
+    """Resources of some kinds in lines of a file, and the kind of each."""
+    lines, drawn = [], []
     for r in range(count):
-        kind = pick.choice(["preemptive", "round-robin", "tdma", "can"])
-        kinds.append(kind)
+        kind = pick.choice(kinds)
+        drawn.append(kind)
         extra = {"tdma": f", gap = {pick.randint(0, 20)}", "can": f", bit = {pick.randint(1, 4)}"}.get(kind, "")
+        extra = f", rate = {pick.choice([336, 500, 671, 672])}" if kind == "fifo" else extra
         lines.append(
             f'[[resource]]\nname = "r{r}"\nkind = "{kind}"\n'
             f'limit = {pick.choice([60, 300, 2000, 20000])}{extra.replace(", ", chr(10))}'
         )
-    return lines, kinds
+    return lines, drawn
 
 
 def source_lines(pick, tasks, silent):
@@ -48,15 +52,28 @@ def path_lines(pick, tasks):
             yield f'[[path]]\nname = "p{second}"\ntasks = ["t{first}", "t{second}"]{deadline}'
 
 
+def execution_lines(pick, kind, task):
+    """The execution of a task on a resource of a kind in lines of a file, and its turn, where it has one; half of those
+    on queues are frames."""
+    worst, turn = pick.randint(1, 30), ""
+    if kind == "fifo" and pick.random() < 0.5:
+        return f"payload = {pick.choice([0, 46, 47, pick.randint(0, 1500), 1500])}"
+    if kind in ("round-robin", "tdma"):
+        turn = f"\nslot = {pick.randint(1, 20)}"
+    elif kind != "fifo":
+        turn = f"\npriority = {pick.randint(0, 9) * 100 + task}"
+    return f"best = {pick.randint(1, worst)}\nworst = {worst}{turn}"
+
+
 def random_file(number):
-    """A random system: its size grows with the number. In two of four tasks on preemptive resources have regions, and
-    sources are sporadic."""
+    """A random system: its size grows with the number. In two of four tasks on preemptive resources have regions,
+    sources are sporadic, and resources may be queues."""
     pick, regions = random.Random(number), random.Random(f"regions of {number}")
     has_regions = number // 2 % 2 == 1
     silent = random.Random(f"sporadic sources of {number}") if has_regions else None
     resources, tasks = pick.randint(1, 2 + number % 7), pick.randint(1, 3 + number % 25)
     lines, chains, streams = [f"format = {4 if has_regions else 1 + number % 2}"], [], []
-    of_resources, on_kind = resource_lines(pick, resources)
+    of_resources, on_kind = resource_lines(pick, resources, KINDS if has_regions else IN_EACH_FORMAT)
     lines += [*of_resources, *source_lines(pick, tasks, silent)]
     for t in range(tasks):
         r = pick.randrange(resources)
@@ -71,25 +88,15 @@ def random_file(number):
             after, depth, several = [-1], 1, 1
         chains.append(depth)
         streams.append(several)
-        worst = pick.randint(1, 30)
-        turn = (
-            f"slot = {pick.randint(1, 20)}"
-            if on_kind[r] in ("round-robin", "tdma")
-            else f"priority = {pick.randint(0, 9) * 100 + t}"
-        )
         names = [f'"s{-1 - k}"' if k < 0 else f'"t{k}"' for k in after]
         name = names[0] if len(names) == 1 else "[" + ", ".join(names) + "]"
-        lines.append(
-            f'[[task]]\nname = "t{t}"\non = "r{r}"\nafter = {name}\nbest = {pick.randint(1, worst)}\n'
-            f"worst = {worst}\n{turn}"
-        )
+        told = execution_lines(pick, on_kind[r], t)
+        lines.append(f'[[task]]\nname = "t{t}"\non = "r{r}"\nafter = {name}\n{told}')
         if has_regions and on_kind[r] == "preemptive" and regions.random() < 0.8:
+            worst = tomllib.loads(told)["worst"]
             lines[-1] += f"\nregion = {some_region(regions, worst)}"
     lines += path_lines(pick, tomllib.loads("\n".join(lines))["task"])
     return "\n".join(lines) + "\n"
-
-
-KINDS = ("preemptive", "round-robin", "tdma", "can")
 
 
 def some_resources(draw, most, kinds, gap):
@@ -200,7 +207,8 @@ def quoted(names):
 def file_of(system):
     kinds = {it["name"]: it["kind"] for it in system["resource"]}
     has_region = {it["name"] for it in system["task"] if kinds[it["on"]] == "preemptive" and it["region"] > 1}
-    is_newest = has_region or any(it.get("sporadic") or it.get("clock") for it in system["source"])
+    is_newest = any(it.get("sporadic") or it.get("clock") for it in system["source"]) or "fifo" in kinds.values()
+    is_newest = is_newest or has_region
     rows = [f"format = {4 if is_newest else 1 if all(len(it['after']) == 1 for it in system['task']) else 2}"]
     for it in system["resource"]:
         rows += ["[[resource]]", f"name = \"{it['name']}\"", f"kind = \"{it['kind']}\""]
@@ -214,11 +222,11 @@ def file_of(system):
             *([f"clock = \"{it['clock']}\"", f"offset = {it['offset']}"] if it.get("clock") else []),
         ]
     for it in system["task"]:
-        turn = "priority" if kinds[it["on"]] in ("preemptive", "can") else "slot"
+        turn = {"preemptive": ["priority"], "can": ["priority"], "fifo": []}.get(kinds[it["on"]], ["slot"])
         rows += [
             "[[task]]",
             *(f'{key} = "{it[key]}"' for key in ("name", "on")),
-            *(f"{key} = {it[key]}" for key in ("best", "worst", turn, *(["region"] * (it["name"] in has_region)))),
+            *(f"{key} = {it[key]}" for key in ("best", "worst", *turn, *(["region"] * (it["name"] in has_region)))),
         ]
         rows.append(f"after = {quoted(it['after'])}" if len(it["after"]) > 1 else f"after = \"{it['after'][0]}\"")
     for it in system["path"]:

@@ -79,6 +79,7 @@ WHOLE = {
         {"name": "r", "kind": "tdma", "gap": 1},
         {"name": "c", "kind": "can", "bit": 1, "limit": 1},
         {"name": "p", "kind": "preemptive"},
+        {"name": "q", "kind": "fifo", "rate": 1},
     ],
     "source": [
         {"name": "s", "period": 1000000000, "jitter": 1, "distance": 1, "sporadic": True, "clock": "c", "offset": 1}
@@ -87,6 +88,7 @@ WHOLE = {
         {"name": "t", "on": "r", "after": "s", "best": 1, "worst": 1, "slot": 1},
         {"name": "f", "on": "c", "after": "s", "payload": 1, "extended": True, "priority": 1},
         {"name": "g", "on": "p", "after": "s", "best": 1, "worst": 1, "priority": 1, "region": 1},
+        {"name": "h", "on": "q", "after": "s", "payload": 1},
     ],
     "path": [{"name": "p", "tasks": ["t"], "deadline": 1}],
 }
@@ -98,6 +100,12 @@ def accepts(part, place, key, value, form=4):
     return validator.is_valid(file)
 
 
+def accepts_last(part, key, value, form):
+    """The same of the last entry of a format that has a key."""
+    places = [k for k, entry in enumerate(in_format(form)[part]) if key in entry]
+    return accepts(part, places[-1], key, value, form)
+
+
 # the keys of a source that format 4 has alone
 OF_SOURCES = ("sporadic", "clock", "offset")
 
@@ -106,7 +114,7 @@ def in_format(number):
     """A file with all keys that a format has."""
     file = {"format": number, **copy.deepcopy(WHOLE)}
     if number < 3:
-        del file["task"][2]["region"]
+        del file["task"][3], file["resource"][3], file["task"][2]["region"]
         for key in OF_SOURCES:
             del file["source"][0][key]
     return file
@@ -115,14 +123,27 @@ def in_format(number):
 for number in (1, 2, 4):
     hold(validator.is_valid(in_format(number)), f"format {number}: a file with all keys isn't accepted")
     for part, key in (("task", "region"), *(("source", it) for it in OF_SOURCES)):
-        later = in_format(number)
-        later[part][-1][key] = WHOLE[part][-1][key]
+        later, place = in_format(number), next(k for k, entry in enumerate(WHOLE[part]) if key in entry)
+        later[part][place][key] = WHOLE[part][place][key]
         if key == "offset":
             hold(not validator.is_valid(later) or number == 4, f"format {number}: an offset without a clock")
-            later[part][-1]["clock"] = "c"
+            later[part][place]["clock"] = "c"
         hold(validator.is_valid(later) == (number == 4), f"format {number}: the key {key} of a {part}")
-for place in (0, 1):
-    hold(not accepts("task", place, "region", 1), f"a region beside {'slot' if place == 0 else 'payload'} is accepted")
+    for entry in ({"name": "r2", "kind": "fifo"}, {"name": "r2", "kind": "fifo", "rate": 672}):
+        later = in_format(number)
+        later["resource"].append(entry)
+        hold(validator.is_valid(later) == (number == 4), f"format {number}: {entry}")
+    later = in_format(number)
+    later["task"].append({"name": "k", "on": "q", "after": "s", "best": 1, "worst": 1})
+    hold(validator.is_valid(later) == (number == 4), f"format {number}: a task with neither priority nor slot")
+for place, beside in ((0, "slot"), (1, "payload"), (3, "payload alone")):
+    hold(not accepts("task", place, "region", 1), f"a region beside {beside} is accepted")
+for place in (0, 1, 2):
+    hold(not accepts("resource", place, "rate", 1), f"a rate on {WHOLE['resource'][place]['kind']} is accepted")
+for place, key in ((0, "priority"), (1, "slot"), (3, "slot")):
+    hold(not accepts("task", place, key, 1), f"a {key} beside {sorted(WHOLE['task'][place])} is accepted")
+hold(not accepts("task", 3, "extended", True), "a frame on a port with an identifier of 29 bits is accepted")
+hold(not accepts("task", 1, "payload", 9), "a frame of 9 bytes with a priority is accepted")
 for number, names, is_in in (
     (1, ["s"], False),
     (2, "s", True),
@@ -149,7 +170,6 @@ for part, keys in told.items():
         set(keys) == set(said), f"{part}: its keys are {sorted(keys)} in docs/FILES.md and {sorted(said)} in the schema"
     )
     for key, (kind, within, absent) in keys.items():
-        place = next(k for k, entry in enumerate(WHOLE[part]) if key in entry)
         hold("description" in said[key], f"{part}.{key}: no description")
         if kind != "integer":
             continue
@@ -157,8 +177,11 @@ for part, keys in told.items():
             r"([\d,]+) to ([\d,]*\d|the period)(?:, with `format = 4` to ([\d,]*\d))?", within
         ).groups()
         low, high = int(low.replace(",", "")), 1000000000 if high == "the period" else int(high.replace(",", ""))
-        # the greatest in each format; the keys of regions and clocks are of the newest alone
-        is_new = key in ("region", "offset")
+        # the greatest in each format; the keys of regions, clocks and ports are of the newest alone
+        is_new = key in ("region", "offset", "rate")
+        if key == "payload":
+            # that of a frame on a port
+            larger = re.findall(r"[\d,]*\d", within)[-1]
         most = {4: int(larger.replace(",", "")) if larger else high} | ({} if is_new else {1: high, 2: high})
         hold(
             (said[key]["minimum"], said[key]["maximum"]) == (low, most[4]),
@@ -167,7 +190,7 @@ for part, keys in told.items():
         for form, high in most.items():
             for value, is_in in ((low - 1, False), (low, True), (high, True), (high + 1, False), (str(low), False)):
                 hold(
-                    accepts(part, place, key, value, form) == is_in,
+                    accepts_last(part, key, value, form) == is_in,
                     f"format {form}, {part}.{key} = {value!r}: should be {'accepted' if is_in else 'refused'}",
                 )
         number = absent.replace(",", "")
@@ -212,11 +235,11 @@ def with_units(whole):
             entry["anyOf"] = [number, {"type": "string", "pattern": f"^[0-9]+([.][0-9]+)? ?{units}$"}]
     properties = whole["definitions"]["resource"]["properties"]
     properties["bitrate"] = {
-        "description": "Bits per second, in place of bit; times of its tasks may then be of bits and bytes.",
+        "description": "Bits per second, in place of bit or rate; times of its tasks may then be of bits and bytes.",
         "type": "integer",
         "minimum": 1,
     }
-    whole["definitions"]["resource"]["allOf"].append({"not": {"required": ["bit", "bitrate"]}})
+    whole["definitions"]["resource"]["allOf"] += [{"not": {"required": [key, "bitrate"]}} for key in ("bit", "rate")]
     return whole
 
 
@@ -259,6 +282,7 @@ for part, keys in TIMES.items():
                 f"{UNITS_FILE}: {part}.{key} = {value!r}: should be {'accepted' if is_in else 'refused'}",
             )
 hold(not accepts("resource", 1, "bitrate", 500000), "bit and bitrate together are accepted")
+hold(not accepts("resource", 3, "bitrate", 500000), "rate and bitrate together are accepted")
 hold(
     validator.is_valid({"format": 1, "resource": [{"name": "c", "kind": "can", "bitrate": 500000}]}),
     "a bit rate isn't accepted",

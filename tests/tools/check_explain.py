@@ -2,7 +2,7 @@
 """Tries `lokwurmi explain` over random systems. Outside the gate; takes about a minute for 5,000 of them, and no
 network.
 
-The systems are those of check_reports.py: all four kinds, chains that come back, jitter, paths, and in every other one
+The systems are those of check_reports.py: all kinds, chains that come back, jitter, paths, and in every other one
 tasks with up to three activators. Of each task with a bound the parts, less when the job came, must be the bound that
 the proved program has written, and of each path its greatest time. Each part is worked out here once more, by the rules
 as check_reports.py has them: how many jobs of a rival come in the window, which frame blocks, how many turns and slots
@@ -104,8 +104,16 @@ def wanted_parts(told, rules, bounds):
         return [own, *wanted_by_priority(told, rules, bounds, window)]
     if kind == "round-robin":
         return [own, *wanted_in_turns(told, rules, bounds, window, rounds)]
+    if kind == "fifo":
+        return [own, *wanted_in_queue(told, rules, bounds, job["window"])]
     slots = [("slot", it, rounds, rules.tasks[it]["slot"]) for it in mates_of(told, rules)]
     return [own, *slots, *([("gap", told["on"], rounds, gap)] if gap else [])]
+
+
+def wanted_in_queue(told, rules, bounds, window):
+    """The jobs of all others of a queue up to the last tick of a window."""
+    come = {it: plain.most_events(rules.input_of(it, bounds), window) for it in mates_of(told, rules)}
+    return [("rival", it, jobs, rules.tasks[it]["worst"]) for it, jobs in come.items()]
 
 
 def check_parts(what, told, rules, bounds):
@@ -113,7 +121,13 @@ def check_parts(what, told, rules, bounds):
     name, job, parts, model = told["task"], told["job"], told["parts"], rules.input_of(told["task"], bounds)
     comes = sum(it["ticks"] for it in parts) == job["done"] and job["done"] - job["came"] == told["bound"]
     hold(comes and all(it["ticks"] == it["count"] * it["each"] for it in parts), f"{what}: {parts} {job}", "sums")
-    hold(job["came"] == plain.least_time(model, job["number"]), f"{what}: it came at {job['came']}", "came")
+    if told["kind"] == "fifo":
+        comes = job["came"] == job["window"] - 1 and job["number"] == plain.most_events(model, job["window"])
+        hold(comes and job["number"] <= job["of"], f"{what}: {job}", "came")
+        if job["window"] <= 1000:
+            hold(is_first_window(told, rules, bounds), f"{what}: a shorter window than {job} leaves as much", "first")
+    else:
+        hold(job["came"] == plain.least_time(model, job["number"]), f"{what}: it came at {job['came']}", "came")
     if told["kind"] in ("preemptive", "tdma"):
         hold(is_first(told, rules, bounds), f"{what}: an earlier job than {job} is as late", "first")
     wanted = wanted_parts(told, rules, bounds)
@@ -147,11 +161,21 @@ def is_first(told, rules, bounds):
     return True
 
 
+def is_first_window(told, rules, bounds):
+    """Whether each window shorter than the one that is told leaves less at the end of its last tick but one."""
+    several = [told["task"], *mates_of(told, rules)]
+
+    def left(window):
+        return rules.work(several, bounds, window) - (window - 1)
+
+    return all(left(window) < told["bound"] for window in range(1, told["job"]["window"]))
+
+
 def alone(explained, name, rivals):
     """What the proved program says of a task with some rivals on a resource of its own, each after its streams as
     sources. The frames or the regions below it block it still."""
     parts, view = explained.parts, explained.view
-    is_bus, lower = view.kind(name) == "can", view.lower(name)
+    kind, lower = view.kind(name), view.lower(name)
     resource = next(it for it in view.values["resource"] if it["name"] == view.tasks[name].on)
     system = {"format": 4, "resource": [resource | {"name": "r"}], "source": [], "task": []}
     for it in [name, *rivals, *lower]:
@@ -160,9 +184,10 @@ def alone(explained, name, rivals):
         for source, (period, jitter, distance) in zip(names, several):
             model = {"period": period, "jitter": jitter, "distance": min(distance, period)}
             system["source"].append({"name": source} | model)
-        numbers = {"best": 1, "worst": view.tasks[it].worst, "priority": view.tasks[it].priority}
-        region = {} if is_bus else {"region": view.tasks[it].region}
-        system["task"].append({"name": it, "on": "r", "after": names} | numbers | region)
+        numbers = {"best": 1, "worst": view.tasks[it].worst}
+        rank = {} if kind == "fifo" else {"priority": view.tasks[it].priority}
+        region = {"region": view.tasks[it].region} if kind == "preemptive" else {}
+        system["task"].append({"name": it, "on": "r", "after": names} | numbers | rank | region)
     return re.search(rf"^task {name} .* worst (\S+)$", answer(PROGRAM, toml_of(system), "analyse")[1], re.M)[1]
 
 
@@ -170,7 +195,7 @@ def check_overload(what, told, explained):
     """Since which rival a busy window has no end."""
     crowd, name = told["overload"], told["task"]
     hold(abs(sum(crowd["loads"].values()) - crowd["load"]) < 1e-9 and crowd["causes"], f"{what}: {crowd}", "overload")
-    if crowd["why"] != "own" or told["kind"] not in ("preemptive", "can"):
+    if crowd["why"] != "own" or told["kind"] not in ("preemptive", "can", "fifo"):
         return
     rivals = [it.name for it in explained.parts.before(name)]
     place = 0 if crowd["since"] == name else rivals.index(crowd["since"]) + 1
@@ -316,6 +341,12 @@ def check_worked():
         ("regions", "a", [("own", "a", 1, 3), ("blocking", "c", 1, 3)]),
         ("regions", "b", [("own", "b", 1, 4), ("blocking", "c", 1, 3), ("rival", "a", 1, 3)]),
         ("regions", "c", [("own", "c", 1, 9), ("rival", "a", 3, 3), ("rival", "b", 2, 4)]),
+        ("queue", "record", [("own", "record", 3, 12), ("rival", "video", 10, 116)]),
+        (
+            "queue",
+            "packed",
+            [("own", "packed", 3, 150), ("rival", "wheel_passed", 1, 50), ("rival", "button_passed", 1, 50)],
+        ),
     ):
         told = explained_by(os.path.join(TOP, "examples", f"{name}.toml")).task(task)
         found = [(it["kind"], it["of"], it["count"], it["each"]) for it in told["parts"]]

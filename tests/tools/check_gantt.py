@@ -5,7 +5,8 @@ gate.
 Bars lie where the rows say, on the lane of their resource, with a mark where each job comes and one where it is done,
 and a job is red exactly where it is later than its bound. The passage of a path that took longest is the one by the
 step rules, and is drawn with its stretch. The jobs and passages in schedules of random systems are those of the step
-rules, followed tick by tick. What isn't a schedule is refused.
+rules, followed tick by tick, and jobs of queues begin in the order in which they came. What isn't a schedule is
+refused.
 
     python3 -m tests.tools.check_gantt
 """
@@ -17,7 +18,7 @@ import sys
 import tempfile
 
 from lokwurmi.model.view import SystemView
-from lokwurmi_tools.runs.jobs_in_run import jobs_in, passages_in, read_schedule, read_trace
+from lokwurmi_tools.runs.jobs_in_run import jobs_in, passages_in, read_schedule, read_trace, waits_in
 from lokwurmi_tools.shared.report import latencies_in, read_report
 from lokwurmi_tools.shared.system_file import read_system
 from tests.rules.runs import Run, passages, replayed
@@ -123,9 +124,26 @@ def check_jobs():
             jobs == {name: [(it["arrival"], it["end"]) for it in several] for name, several in run_of_it.jobs.items()},
             f"gantt: the jobs of random system {number}",
         )
+        hold_waits(number, view, jobs, run_of_it, trace)
         for path in system["path"]:
             took = [it.took() for it in passages_in(view, jobs, trace[0], path["tasks"])]
             hold(took == passages(run_of_it, path["tasks"]), f"gantt: the passages of random system {number}: {took}")
+
+
+def hold_waits(number, view, jobs, run_of_it, trace):
+    """Holds the waits in queues: each is from when a job came to when it began, in the order in which they came, and
+    from then on it had each tick."""
+    waits = waits_in(view, [tuple(it) for it in run_of_it.segments], trace, jobs)
+    queues = [name for name, it in view.resources.items() if it.kind == "fifo"]
+    hold(set(waits) == {task for on in queues for task in view.on(on)}, f"gantt: the queues of random system {number}")
+    for on in queues:
+        several = sorted(it for task in view.on(on) for it in waits[task])
+        begun = [began for _, began in several]
+        hold(begun == sorted(begun), f"gantt: a queue of random system {number}: {several}")
+        for task in view.on(on):
+            took = [job["end"] - began for (_, began), job in zip(waits[task], run_of_it.jobs[task])]
+            had = [job["had"] for job in run_of_it.jobs[task]]
+            hold(took == had, f"gantt: {task} of random system {number} took {took}, and not {had}")
 
 
 CHAINS = ["examples/crossing_chains.toml", "examples/crossing_chains.schedule.csv"]
@@ -134,6 +152,16 @@ RING = """format = 1
 resource = [{ name = "ring", kind = "tdma", gap = 8 }]
 source = [{ name = "s", period = 40 }]
 task = [{ name = "t", on = "ring", after = "s", best = 3, worst = 3, slot = 2 }]
+"""
+
+
+QUEUE = """format = 4
+resource = [{ name = "gate", kind = "fifo" }]
+source = [{ name = "s", period = 40 }, { name = "r", period = 40 }]
+task = [
+  { name = "a", on = "gate", after = "s", best = 3, worst = 3 },
+  { name = "b", on = "gate", after = "r", best = 5, worst = 5 },
+]
 """
 
 
@@ -171,6 +199,11 @@ def check_late(room):
         written(room, "ring.trace.csv", "event,s,3\nphase,ring,4\n"),
     )
     hold("gap" in texts and marks == 2, f"gantt, a TDMA resource: {texts}")
+    queue, rows = written(room, "queue.toml", QUEUE), written(room, "queue.csv", "b,1,6\na,6,9\n")
+    for events, waits in (("event,r,1\nevent,s,2\n", True), ("event,r,1\nevent,s,6\n", False)):
+        texts, bars, marks = gantt(room, queue, rows, "--trace", written(room, "queue.trace.csv", events))
+        is_told = ("it waits in a queue" in texts) == waits
+        hold(is_told and len(bars) == 2 and marks == 4, f"gantt, a queue: {texts} {bars} {marks}")
 
 
 def check_refused(room):

@@ -2,7 +2,7 @@
 """Tries what `lokwurmi explain` tells to help a path, over random systems. Outside the gate; takes some minutes, and no
 network.
 
-The systems are those of check_reports.py: all four kinds, in every other one tasks with up to three activators, and in
+The systems are those of check_reports.py: all kinds, in every other one tasks with up to three activators, and in
 every other pair regions.
 Which changes have to be tried for a path is worked out here once more: each number by which its tasks wait, a tenth
 less or more, or one place. Each of them must be there once, and what is told of it is what `analyse` says of a file of
@@ -93,7 +93,7 @@ def wanted_for(system, rules, name):
     task, kind = entry(system, "task", name), entry(system, "resource", entry(system, "task", name)["on"])["kind"]
     mates = [it for it in system["task"] if it["on"] == task["on"] and it is not task]
     ranked = kind in ("preemptive", "can")
-    before = [it for it in mates if kind == "round-robin" or ranked and it["priority"] < task["priority"]]
+    before = [it for it in mates if kind in ("round-robin", "fifo") or ranked and it["priority"] < task["priority"]]
     lower = [it for it in mates if ranked and it["priority"] > task["priority"]]
     found = {("worst", it["name"]): shorter(system, it["name"]) for it in [task, *before]}
     is_bus = kind == "can"
@@ -107,7 +107,7 @@ def wanted_for(system, rules, name):
     if ranked and before:
         other = max(before, key=lambda it: it["priority"])
         found["priority", name] = exchanged(system, name, other["name"])
-    if not ranked:
+    if kind in ("round-robin", "tdma"):
         found["longer", name] = resized(system, name, 1)
         found |= {("shorter", it["name"]): resized(system, it["name"], -1) for it in mates}
     return {key: it for key, it in found.items() if it}

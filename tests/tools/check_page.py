@@ -44,6 +44,7 @@ PAGES = [
     ("crossing_chains", True, True),
     ("sensor_fusion", True, True),
     ("gateway", True, False),
+    ("queue", True, False),
     ("tdma", False, False),
     ("overload", False, False),
 ]

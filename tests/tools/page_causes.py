@@ -31,6 +31,11 @@ TURNS = (
     '{ name = "b", on = "rr", after = "s", best = 9, worst = 9, slot = 2 }, '
     '{ name = "c", on = "rr", after = "l", best = 1, worst = 1, slot = 2 }]\n'
 )
+QUEUE = (
+    'format = 4\nresource = [{ name = "gate", kind = "fifo" }]\nsource = [{ name = "s", period = 10 }]\n'
+    'task = [{ name = "a", on = "gate", after = "s", best = 6, worst = 6 }, '
+    '{ name = "b", on = "gate", after = "s", best = 6, worst = 6 }]\n'
+)
 CASES = [
     (
         "too_much",
@@ -44,6 +49,7 @@ CASES = [
     ),
     ("short_slot", TDMA.replace("PERIOD", "10"), ["Too much work on ring", "its slot is 20.0 %"]),
     ("turns", TURNS, ["Too much work on rr", "each for its turns"]),
+    ("queue", QUEUE, ["Too much work on gate", "by arrival", "120.0 %"]),
     ("empty", "format = 1\n", ["no tasks"]),
 ]
 

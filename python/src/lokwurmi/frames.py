@@ -15,6 +15,8 @@ from dataclasses import dataclass
 from fractions import Fraction
 from typing import Any
 
+from lokwurmi.model.limits import DEFAULT_BIT, DEFAULT_RATE, Kind
+
 SIZES = (0, 1, 2, 3, 4, 5, 6, 7, 8, 12, 16, 20, 24, 32, 48, 64)
 """The payloads that a CAN FD frame may have, in bytes."""
 MOST_CLASSICAL, MOST_ETHERNET = 8, 1500
@@ -82,15 +84,39 @@ def ethernet(size: int, tagged: bool) -> tuple[Bits, Bits]:
     return Bits(8 * (rest + max(_SHORTEST, whole))), Bits(8 * (rest + max(_SHORTEST + tag, whole)))
 
 
+def port_bits(size: int) -> int:
+    """How many bits a frame with such a payload takes on the port of a switch, by IEEE 802.3: preamble 8 bytes,
+    addresses, type and check sum 18, gap 12, and at least 46 of payload, of which a tag is 4. Frames that are cut by
+    others (802.1Qbu) and shapers (802.1Qav, Qbv) are left out; where a bridge makes a short frame longer by its tag, it
+    is one of 50 bytes.
+
+    >>> port_bits(0), port_bits(1500)
+    (672, 12304)
+    """
+    return ethernet(size, tagged=False)[1].nominal
+
+
+def port_ticks(size: int, rate: int) -> tuple[int, int]:
+    """The least and the greatest ticks of such a frame, at so many bits in a tick.
+
+    >>> port_ticks(1500, 100)
+    (123, 124)
+    """
+    bits = port_bits(size)
+    return bits // rate, -(-bits // rate)
+
+
 def execution(task: Mapping[str, Any], resource: Mapping[str, Any]) -> tuple[int, int]:
     """The least and the greatest execution of a task of a system file on its resource, in ticks: those of a frame by
     its payload.
 
-    >>> execution({"payload": 8}, {"bit": 2})
-    (222, 270)
+    >>> execution({"payload": 8}, {"bit": 2}), execution({"payload": 100}, {"kind": "fifo", "rate": 100})
+    ((222, 270), (11, 12))
     """
     if "payload" not in task:
         return task["best"], task["worst"]
+    if resource.get("kind") == Kind.FIFO:
+        return port_ticks(task["payload"], resource.get("rate", DEFAULT_RATE))
     least, greatest = frame_bits(task["payload"], bool(task.get("extended")))
-    bit = resource.get("bit", 1)
+    bit = resource.get("bit", DEFAULT_BIT)
     return least * bit, greatest * bit

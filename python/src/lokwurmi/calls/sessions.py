@@ -11,7 +11,7 @@ from lokwurmi.files.report_lines import REFUSED
 from lokwurmi.model.conversion import Rounding, warn
 from lokwurmi.model.entries import Resource, Source, Task, Ticks
 from lokwurmi.model.event_models import Bounds
-from lokwurmi.model.limits import WITH_PRIORITIES
+from lokwurmi.model.limits import WITH_PRIORITIES, WITH_SLOTS, Kind
 from lokwurmi.model.statuses import Status
 from lokwurmi.refusals.program_lines import error_of
 from lokwurmi.refusals.sentences import edit_words
@@ -199,10 +199,13 @@ class Session:
         priority: int | None = None,
         slot: Ticks | None = None,
     ) -> None:
-        """Adds a task as the last one, after one source or task, with a priority or a slot."""
+        """Adds a task as the last one, after one source or task, with a priority or a slot; on a queue with neither."""
         with self._lock:
             found = self._ticks("task", name, on=_named(on), best=best, worst=worst, slot=slot)
-            number = found["slot"] if priority is None else priority
+            there = self._system.resources.get(_named(on))
+            # an edit has a number for a task of a queue, too
+            given = {"slot": 0} | found if there and there.kind == Kind.FIFO else found
+            number = given["slot"] if priority is None else priority
             self._edit(f"add {name} {_named(on)} {_named(after)} {found['best']} {found['worst']} {number}")
 
     def remove(self, task: str | Task) -> None:
@@ -283,8 +286,11 @@ def _apply(system: "System", words: list[str]) -> None:
     elif form == "add":
         on, after, best, worst, number = rest
         several: dict[str, Any] = {"best": int(best), "worst": int(worst)}
-        by_priority = system.resources[on].kind in WITH_PRIORITIES
-        several["priority" if by_priority else "slot"] = int(number)
+        kind = system.resources[on].kind
+        if kind in WITH_PRIORITIES:
+            several["priority"] = int(number)
+        elif kind in WITH_SLOTS:
+            several["slot"] = int(number)
         system.tasks[name] = Task(name, on, after, **several)
     elif form == "remove":
         del system.tasks[name]

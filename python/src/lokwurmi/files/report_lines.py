@@ -27,6 +27,7 @@ ASSIGNED = re.compile(r"assigned (\S+) tasks (\d+)")
 SLACK = re.compile(r"slack (\S+) (?:(\d+) next (missed|limit)|none)")
 BUFFER = re.compile(r"buffer (\S+) bound (\d+|overload) peak (\d+)")
 RESOURCE = re.compile(r"resource (\S+) bound (\d+|overload) peak (\d+)")
+QUEUE = re.compile(r"queue (\S+) work (\d+|overload)")
 WRONG = re.compile(r"audit wrong segment (\d+) expected (?:none|(\S+) (\d+) (\d+))")
 SEGMENT = re.compile(r"(\S+),(\d+),(\d+)")
 # what the bounds of effect chains presume

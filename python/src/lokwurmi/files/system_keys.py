@@ -6,12 +6,18 @@ from dataclasses import dataclass
 from functools import cache
 
 from lokwurmi.files.documents import PARTS
-from lokwurmi.frames import MOST_CLASSICAL
-from lokwurmi.model.formats import KEYS_SINCE
-from lokwurmi.model.limits import LIMITS, MOST_BIT, MOST_IN_NAME, MOST_PRIORITY, NEWEST, Kind, times_of
+from lokwurmi.frames import MOST_CLASSICAL, MOST_ETHERNET
+from lokwurmi.model.formats import KEYS_SINCE, KINDS_SINCE
+from lokwurmi.model.limits import LIMITS, MOST_BIT, MOST_IN_NAME, MOST_PRIORITY, MOST_RATE, NEWEST, Kind, times_of
 
 TOP_KEYS = ("format", *PARTS)
 KINDS = tuple(it.value for it in Kind)
+"""The kinds of resource in the newest format."""
+
+
+def kinds_of(form: int) -> tuple[str, ...]:
+    """The kinds of resource in a format."""
+    return tuple(it for it in KINDS if KINDS_SINCE.get(it, form) <= form)
 
 
 @dataclass(frozen=True)
@@ -35,9 +41,14 @@ def keys_of(form: int) -> dict[str, dict[str, Key]]:
     name = {"name": Key("text", is_required=True)}
     task = {"on": Key("text", is_required=True), "after": Key("after", is_required=True)}
     task |= {key: times["task"][key] for key in ("best", "worst")}
-    task |= {"payload": Key("integer", 0, MOST_CLASSICAL), "extended": Key("truth")}
+    payload = MOST_ETHERNET if "fifo" in kinds_of(form) else MOST_CLASSICAL
+    task |= {"payload": Key("integer", 0, payload), "extended": Key("truth")}
     task |= {"priority": Key("integer", 0, MOST_PRIORITY), "slot": times["task"]["slot"]}
-    later = {"task": times["task"], "source": {"sporadic": Key("truth"), "clock": Key("text"), **times["source"]}}
+    later = {
+        "resource": {"rate": Key("integer", 1, MOST_RATE)},
+        "source": {"sporadic": Key("truth"), "clock": Key("text"), **times["source"]},
+        "task": times["task"],
+    }
     added = {
         part: {key: later[part][key] for key, since in it.items() if form >= since} for part, it in KEYS_SINCE.items()
     }
@@ -48,6 +59,7 @@ def keys_of(form: int) -> dict[str, dict[str, Key]]:
             "kind": Key("text", is_required=True),
             **times["resource"],
             "bit": Key("integer", 1, MOST_BIT),
+            **added["resource"],
         },
         "source": name | source | added["source"],
         "task": name | task | added["task"],
@@ -85,6 +97,7 @@ OTHER_KEYS = by_word(
         "clock": "timebase timer counter scheduletable oscounter",
         "offset": "offsets phase phases start startoffset startdelay releaseoffset initialoffset",
         "bit": "bittime",
+        "rate": "bitspertick linkrate linkspeed speed bandwidth",
         "kind": "scheduler scheduling policy type",
         "tasks": "chain",
         "deadline": "e2e endtoend",
@@ -105,12 +118,15 @@ OTHER_KINDS = by_word(
         "round-robin": "rr roundrobin timeslice",
         "tdma": "tt timetriggered",
         "can": "canbus can2.0 spnp fpnp npfp nonpreemptive bus",
+        "fifo": "fcfs queue firstcomefirstserved firstinfirstout port switch switchport ethernet egress",
     }
 )
 """What others call a kind."""
 # of those kinds the ones of tasks that give way at some places alone, and the ones of tasks that never do
 WITH_REGIONS = ("cooperative", "fpds", "limitedpreemptive")
 WITHOUT_PREEMPTION = ("spnp", "fpnp", "npfp", "nonpreemptive")
+# what others call a port of a switch
+OF_PORTS = ("port", "switch", "switchport", "ethernet", "egress")
 # what others call CAN FD
 FLEXIBLE = ("canfd", "fd", "canflexibledatarate", "isocanfd")
 # what others call a lock of a task, or its ceiling

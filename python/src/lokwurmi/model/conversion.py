@@ -16,8 +16,8 @@ from fractions import Fraction
 from typing import Any
 
 from lokwurmi.errors import UnitsRefused
-from lokwurmi.frames import frame_bits
-from lokwurmi.model.limits import DOWN, MOST_BIT, NEITHER, TIMES, UP, TimeRanges, limits_of, times_of
+from lokwurmi.frames import MOST_CLASSICAL, MOST_ETHERNET, frame_bits, port_bits
+from lokwurmi.model.limits import DOWN, MOST_BIT, MOST_RATE, NEITHER, TIMES, UP, Kind, TimeRanges, limits_of, times_of
 from lokwurmi.model.units import UNITS, Time, bit_of, common, text_of
 
 # why a time has to be whole, by its key
@@ -107,6 +107,8 @@ class Converter:
     """Of a resource, by its name, the time of a bit in nanoseconds."""
     given: set[str] = field(default_factory=set)
     """The resources whose bit has a unit."""
+    ports: set[str] = field(default_factory=set)
+    """Those of them that are queues, over which frames of Ethernet go."""
     times: TimeRanges = field(default_factory=lambda: TIMES)
     """The keys that are times, by the format of the file, and by the newest where there is none."""
 
@@ -195,7 +197,7 @@ class Converter:
 
     def set_bit(self, item: WrittenEntry) -> None:
         """The time of a bit of a bus: by its bit rate, or with a unit. It's rounded up; where it isn't whole, frames
-        get their lengths in its place."""
+        get their lengths in its place. On a queue it is told by how many bits go in a tick, where that is whole."""
         name, rate, told = str(item.get("name", "?")), item.get("bitrate"), item.get("bit")
         if rate is not None:
             if not isinstance(rate, int) or isinstance(rate, bool) or rate < 1:
@@ -212,10 +214,14 @@ class Converter:
             if isinstance(told, int):
                 self.bare.append(("bit", "resource", name))
                 self.bits[name] = told * self.tick
+            elif isinstance(in_tick := item.get("rate"), int) and in_tick > 0:
+                self.bits[name] = self.tick / in_tick
             return
         self.bits[name] = bit
         self.given.add(name)
-        if item.get("kind") != "can":
+        if item.get("kind") == Kind.FIFO:
+            self.set_rate(item, name, self.tick / bit)
+        if item.get("kind") != Kind.CAN:
             return
         number = math.ceil(bit / self.tick)
         if not 1 <= number <= MOST_BIT:
@@ -224,15 +230,39 @@ class Converter:
             )
         item["bit"] = number
 
+    def set_rate(self, item: WrittenEntry, name: str, rate: Fraction) -> None:
+        """How many bits go over a port in a tick, where that is whole."""
+        self.ports.add(name)
+        if "rate" in item:
+            raise UnitsRefused(f"resource {name}: it has rate and bitrate: leave one out")
+        if rate.denominator == 1 and rate <= MOST_RATE:
+            item["rate"] = int(rate)
+
+    def lengths_of(self, name: str, size: int, extended: bool) -> tuple[int, int] | None:
+        """How many bits a frame has whose lengths have to be told: where those of a bit aren't whole on a bus, and
+        where its own aren't whole on a port; None where its payload tells them, or is out of its range."""
+        in_tick, is_port = self.tick / self.bits[name], name in self.ports
+        if not 0 <= size <= (MOST_ETHERNET if is_port else MOST_CLASSICAL):
+            return None
+        if not is_port:
+            return None if in_tick.numerator == 1 else frame_bits(size, extended)
+        bits = port_bits(size)
+        is_told = in_tick.denominator == 1 and in_tick <= MOST_RATE and (bits / in_tick).denominator == 1
+        return None if is_told or extended else (bits, bits)
+
     def set_payload(self, item: WrittenEntry) -> None:
-        """Tells the lengths of a frame where the time of a bit isn't whole, since `bit` is rounded up."""
-        name, bit = str(item.get("on", "")), self.bits.get(str(item.get("on", "")))
-        size, extended = item.get("payload"), item.get("extended", False)
-        if name not in self.given or bit is None or not isinstance(size, int) or (bit / self.tick).denominator == 1:
+        """Tells the lengths of a frame where they can't be worked out of what is written, since `bit` is rounded up,
+        or where they are rounded on a port."""
+        name, size, extended = str(item.get("on", "")), item.get("payload"), item.get("extended", False)
+        if name not in self.given or not isinstance(size, int):
             return
-        what = f"task {item.get('name', '?')}"
-        least, greatest = (count * bit for count in frame_bits(int(size), bool(extended)))
-        most = self.times["task"]["worst"][2]
+        counts = self.lengths_of(name, int(size), bool(extended))
+        if counts is None:
+            return
+        what, most = f"task {item.get('name', '?')}", self.times["task"]["worst"][2]
+        least, greatest = (count * self.bits[name] for count in counts)
+        if least < self.tick:
+            raise UnitsRefused(f"{what}: its least length is {text_of(least)}, below a tick: take a shorter tick")
         item["best"] = self.ticks(what, "the least length", least, DOWN, most)
         item["worst"] = self.ticks(what, "the greatest length", greatest, UP, most)
         for key in ("payload", "extended"):

@@ -31,7 +31,9 @@ class Resource:
     """The time of a bit, in ticks or as a time, rounded up, only for `can`. None: 1 tick. Frames with a payload get
     their lengths by the exact time."""
     bitrate: int | None = None
-    """In place of `bit`: bits per second, where the system has a tick."""
+    """In place of `bit` or `rate`: bits per second, where the system has a tick."""
+    rate: int | None = None
+    """How many bits go over a port in a tick, 1 to 672, only for `fifo`. None: 1."""
 
 
 @dataclass(slots=True)
@@ -70,11 +72,12 @@ class Task:
     worst: Ticks | None = None
     """Its greatest execution, in ticks or as a time, rounded up."""
     payload: int | None = None
-    """In place of both on `can`: how many bytes the frame has, 0 to 8."""
+    """In place of both: how many bytes the frame has, 0 to 8 on `can`, and on `fifo` 0 to 1500, of which a tag is
+    4."""
     extended: bool | None = None
-    """Whether the frame's identifier has 29 bits; only beside `payload`."""
+    """Whether the frame's identifier has 29 bits; only beside `payload`, on `can`."""
     priority: int | None = None
-    """On `preemptive` and `can`: the smaller number goes first."""
+    """On `preemptive` and `can`: the smaller number goes first. On `fifo` there is neither this nor a slot."""
     slot: Ticks | None = None
     """On `round-robin` and `tdma`: how long its turn lasts, in ticks or as a time, which must be a whole number of
     ticks."""

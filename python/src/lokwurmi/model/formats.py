@@ -8,8 +8,10 @@ FORMATS = tuple(LIMITS)
 """The formats of a system file, the newest one last."""
 WITH_LISTS = 2
 """The first format in which a task's `after` may be a list."""
-KEYS_SINCE = {"source": {"sporadic": 4, "clock": 4, "offset": 4}, "task": {"region": 4}}
+KEYS_SINCE = {"resource": {"rate": 4}, "source": {"sporadic": 4, "clock": 4, "offset": 4}, "task": {"region": 4}}
 """The keys of each list that a later format has alone, each with the first that has it."""
+KINDS_SINCE = {"fifo": 4}
+"""The kinds of resource that a later format has alone, each with the first that has it."""
 
 
 def _is_beyond(form: int, entries: Mapping[str, list[Mapping[str, Any]]]) -> bool:
@@ -33,7 +35,8 @@ def least_format(entries: Mapping[str, Iterable[Mapping[str, Any]]]) -> int:
     (1, 2)
     """
     lists = {part: list(several) for part, several in entries.items()}
-    later = (keys[key] for part, keys in KEYS_SINCE.items() for it in lists.get(part, []) for key in it if key in keys)
+    later = [keys[key] for part, keys in KEYS_SINCE.items() for it in lists.get(part, []) for key in it if key in keys]
+    later += [form for kind, form in KINDS_SINCE.items() for it in lists.get("resource", []) if it.get("kind") == kind]
     wanted = max(later, default=FORMATS[0])
     if any(isinstance(it.get("after"), list) for it in lists.get("task", [])):
         wanted = max(wanted, WITH_LISTS)

@@ -19,10 +19,14 @@ class Kind(StrEnum):
     """Each task in its slot of a fixed cycle."""
     CAN = "can"
     """The smallest priority number is next, and what has started goes on to its end."""
+    FIFO = "fifo"
+    """A queue: what came first is next, and goes on to its end."""
 
 
 WITH_PRIORITIES = ("preemptive", "can")
-"""The kinds of resource whose tasks have priorities; on the others they have slots."""
+"""The kinds of resource whose tasks have priorities."""
+WITH_SLOTS = ("round-robin", "tdma")
+"""Those whose tasks have slots; on a queue they have neither."""
 
 
 @dataclass(frozen=True, slots=True)
@@ -82,6 +86,8 @@ MOST_TICKS = 1_000_000_000
 """The longest period, jitter, distance and deadline, and the greatest phase of a trace."""
 MOST_BIT = 1_000
 """The most ticks that a bit of a CAN bus may take."""
+MOST_RATE = 672
+"""The most bits in a tick on a port: at more, the shortest frame would take less than a tick."""
 MOST_PRIORITY = 536_870_911
 """The greatest priority number, which is the greatest identifier of 29 bits."""
 MOST_SHORT, LOW_BITS = 0x7FF, 18
@@ -90,6 +96,8 @@ DEFAULT_LIMIT = 1_000_000
 """The longest busy window that is looked at where a resource names none."""
 DEFAULT_BIT = 1
 """The ticks of a bit of a CAN bus that names none."""
+DEFAULT_RATE = 1
+"""The bits in a tick on a port that names no number of them."""
 DEFAULT_REGION = 1
 """The region of a task that names none: a job may be preempted at each tick."""
 

@@ -118,9 +118,10 @@ class NamedEntries:
         gap: Ticks | None = None,
         bit: Ticks | None = None,
         bitrate: int | None = None,
+        rate: int | None = None,
     ) -> Resource:
         """Adds a resource; times are in ticks, or have a unit."""
-        return self._add(Resource(name, str(kind), limit, gap, bit, bitrate))
+        return self._add(Resource(name, str(kind), limit, gap, bit, bitrate, rate))
 
     def preemptive(self, name: str, *, limit: Ticks | None = None) -> Resource:
         """Adds a processor on which the smallest priority number is next."""
@@ -140,6 +141,21 @@ class NamedEntries:
     ) -> Resource:
         """Adds a CAN bus, whose bits take `bit` ticks or such a time each, or which has so many bits per second."""
         return self.resource(name, Kind.CAN, limit=limit, bit=bit, bitrate=bitrate)
+
+    def fifo(
+        self, name: str, *, rate: int | None = None, bitrate: int | None = None, limit: Ticks | None = None
+    ) -> Resource:
+        """Adds a queue, on which what came first is next. Where it serves a port, `rate` bits go over that in a tick,
+        or so many in a second, and its tasks may have a `payload`.
+
+        >>> from lokwurmi import System
+        >>> system = System()
+        >>> port, often = system.fifo("port", rate=100), system.source("often", period=100)
+        >>> video = system.task("video", on=port, after=often, payload=1000)
+        >>> system.execution(video)
+        (83, 84)
+        """
+        return self.resource(name, Kind.FIFO, limit=limit, bitrate=bitrate, rate=rate)
 
     def source(
         self,
@@ -221,8 +237,9 @@ class NamedEntries:
         """The least and the greatest execution of a task in ticks; those of a frame by its payload."""
         entry = keys_of(self.tasks[name_of(task)])
         self._convert("task", entry)
-        bit = self.ticks(self.resources[entry["on"]], "bit") if "payload" in entry else None
-        return execution(entry, {} if bit is None else {"bit": bit})
+        resource = keys_of(self.resources[entry["on"]]) if "payload" in entry else {}
+        self._convert("resource", resource)
+        return execution(entry, resource)
 
     def view(self) -> SystemView:
         """What the entries say together, in whole ticks, for a system that the program accepts: who shares a resource,

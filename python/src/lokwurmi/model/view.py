@@ -14,7 +14,16 @@ from typing import Any, NamedTuple
 from lokwurmi.files.documents import PARTS, activators
 from lokwurmi.frames import execution
 from lokwurmi.model.formats import least_format
-from lokwurmi.model.limits import DEFAULT_BIT, DEFAULT_LIMIT, DEFAULT_REGION, WITH_PRIORITIES, Kind, Limits, limits_of
+from lokwurmi.model.limits import (
+    DEFAULT_BIT,
+    DEFAULT_LIMIT,
+    DEFAULT_RATE,
+    DEFAULT_REGION,
+    WITH_PRIORITIES,
+    Kind,
+    Limits,
+    limits_of,
+)
 
 Way = tuple[str, ...]
 """The way of a stream to a task: its source, and the tasks behind that one by one."""
@@ -32,11 +41,18 @@ class ResourceRow:
     """The part of a TDMA cycle that belongs to no task."""
     bit: int = DEFAULT_BIT
     """The time of a bit of a CAN bus."""
+    rate: int = DEFAULT_RATE
+    """How many bits go over a port in a tick."""
 
     @property
     def has_priorities(self) -> bool:
-        """Whether its tasks have priorities; else they have slots."""
+        """Whether its tasks have priorities; else they have slots, or they queue."""
         return self.kind in WITH_PRIORITIES
+
+    @property
+    def is_queue(self) -> bool:
+        """Whether what came first is next, so that its tasks have neither priorities nor slots."""
+        return self.kind == Kind.FIFO
 
     @property
     def is_bus(self) -> bool:
@@ -85,9 +101,9 @@ class TaskRow:
     extended: bool = False
     """Whether the frame's identifier has 29 bits, where it has a payload."""
     priority: int | None = None
-    """None where it has a slot; the smaller number goes first."""
+    """None where it has a slot, or queues; the smaller number goes first."""
     slot: int | None = None
-    """None where it has a priority."""
+    """None where it has a priority, or queues."""
     region: int = DEFAULT_REGION
     """For how long a job isn't preempted once it has begun a region; it may be longer than the execution."""
 
@@ -119,7 +135,7 @@ class PathRow:
 
 
 def _resource_row(entry: Mapping[str, Any]) -> ResourceRow:
-    rest = {key: entry[key] for key in ("limit", "gap", "bit") if key in entry}
+    rest = {key: entry[key] for key in ("limit", "gap", "bit", "rate") if key in entry}
     return ResourceRow(entry["name"], Kind(entry["kind"]), **rest)
 
 
@@ -227,10 +243,10 @@ class SystemView:
 
     def rivals(self, task: str) -> list[str]:
         """The tasks that may go before this one on its resource: where there are priorities those of higher ones, in a
-        ring all others, and on TDMA none."""
+        ring and in a queue all others, and on TDMA none."""
         if self.resource(task).has_priorities:
             return [it for it in self.beside(task) if self.tasks[it].rank < self.tasks[task].rank]
-        return self.beside(task) if self.kind(task) == Kind.ROUND_ROBIN else []
+        return self.beside(task) if self.kind(task) in (Kind.ROUND_ROBIN, Kind.FIFO) else []
 
     def lower(self, task: str) -> list[str]:
         """The tasks that this one may go before, where there are priorities."""
@@ -239,10 +255,10 @@ class SystemView:
         return [it for it in self.beside(task) if self.tasks[it].rank > self.tasks[task].rank]
 
     def uninterrupted(self, task: str) -> int:
-        """For how many ticks a job that has begun isn't interrupted at most: a frame to its end, another for a
-        region."""
-        row = self.tasks[task]
-        return row.worst if self.resource(task).is_bus else row.longest_region
+        """For how many ticks a job that has begun isn't interrupted at most: a frame, and one of a queue, to its end,
+        another for a region."""
+        row, resource = self.tasks[task], self.resource(task)
+        return row.worst if resource.is_bus or resource.is_queue else row.longest_region
 
     def blockers(self, task: str) -> list[str]:
         """The tasks of lower priority that may hold up one that comes: by a frame that is under way, or by a region

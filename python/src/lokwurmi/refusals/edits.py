@@ -10,13 +10,14 @@ from lokwurmi.files.documents import Document, Table, activators
 from lokwurmi.files.system_keys import KEYS, keys_of
 from lokwurmi.files.text_files import File
 from lokwurmi.frames import execution
-from lokwurmi.model.limits import MOST_IN_CHAIN, MOST_STARTS, MOST_TICKS, WITH_PRIORITIES, limits_of
+from lokwurmi.model.limits import MOST_IN_CHAIN, MOST_STARTS, MOST_TICKS, WITH_PRIORITIES, Kind, limits_of
 from lokwurmi.refusals.names import Names
 from lokwurmi.refusals.remark import Remark, mean
 from lokwurmi.refusals.script import FORMS as SORTS
 from lokwurmi.refusals.script import Line, is_form, lines_in
 
 MORE = "Edits that are refused"
+IN_ORDER = "jobs on a queue are served in the order in which they came: change how long they are, or when they come"
 
 
 @dataclass(frozen=True)
@@ -51,6 +52,9 @@ class Bench:
 
     def has_priorities(self, resource: str) -> bool:
         return self.names.resources[resource]["kind"] in WITH_PRIORITIES
+
+    def is_queue(self, resource: str) -> bool:
+        return bool(self.names.resources[resource]["kind"] == Kind.FIFO)
 
     def take(self, line: Line) -> tuple[int, int, str, str] | None:
         """Makes an edit, or tells the rule that it breaks, why, which of its words is the one, and what helps."""
@@ -112,6 +116,15 @@ class Bench:
             says = f"{what}{number} isn't {rule.least} to {rule.most}"
             yield 3, word, says, f"the range is that of `{key}` in a system file"
 
+    def wrong_turn(self, resource: str, number: int, name: str, word: int) -> Broken:
+        """Why a task can't be added to a resource with a number, its priority or slot; on a queue it is 0."""
+        if not self.is_queue(resource):
+            yield from self.out_of_range("priority" if self.has_priorities(resource) else "slot", number, word)
+            yield from self.taken(resource, number, name, word)
+        elif number:
+            says = f"N is {number}, and {self.tasks_on(resource)} neither a priority nor a slot"
+            yield 3, word, says, "write 0 in its place"
+
     def taken(self, resource: str, number: int, name: str, word: int) -> Broken:
         others = [it for _, it in self.names.on(resource) if "priority" in it and it["name"] != name]
         used = {it["priority"]: it["name"] for it in others}
@@ -147,7 +160,9 @@ def break_turn(bench: Bench, name: str, number: int, key: str) -> Broken:
     yield from bench.no_task(name, 1)
     if name in bench.names.tasks:
         on = bench.names.task(name)["on"]
-        if bench.has_priorities(on) != (key == "priority"):
+        if bench.is_queue(on):
+            yield 2, 0, f"{bench.tasks_on(on)} neither a priority nor a slot", IN_ORDER
+        elif bench.has_priorities(on) != (key == "priority"):
             other = "slot" if key == "priority" else "priority"
             yield 2, 0, f"{bench.tasks_on(on)} a {other} and no {key}", f"write {other} {name} N"
         elif key == "priority":
@@ -168,7 +183,8 @@ def break_swap(bench: Bench, first: str, second: str) -> Broken:
             helps = "priorities of one resource can be exchanged; give each a new one by: priority TASK N"
             yield 2, 2, f'"{first}" is on {here}, and "{second}" on {there}', helps
         elif not bench.has_priorities(here):
-            yield 2, 0, f"{bench.tasks_on(here)} no priorities", "give each a new slot by: slot TASK N"
+            helps = IN_ORDER if bench.is_queue(here) else "give each a new slot by: slot TASK N"
+            yield 2, 0, f"{bench.tasks_on(here)} no priorities", helps
 
 
 def do_swap(bench: Bench, first: str, second: str) -> None:
@@ -217,8 +233,7 @@ def break_add(bench: Bench, name: str, on: str, after: str, best: int, worst: in
     yield from bench.out_of_range("best", best, 4)
     yield from bench.out_of_range("worst", worst, 5)
     if on in bench.names.resources:
-        yield from bench.out_of_range("priority" if bench.has_priorities(on) else "slot", number, 6)
-        yield from bench.taken(on, number, name, 6)
+        yield from bench.wrong_turn(on, number, name, 6)
     yield from bench.crossed(best, worst, 4)
     if name in known:
         yield 7, 1, f'the name "{name}" is taken', "sources and tasks share one set of names: choose another"
@@ -230,8 +245,10 @@ def break_add(bench: Bench, name: str, on: str, after: str, best: int, worst: in
 
 
 def do_add(bench: Bench, name: str, on: str, after: str, best: int, worst: int, number: int) -> None:
-    key = "priority" if bench.has_priorities(on) else "slot"
-    bench.entries["task"].append({"name": name, "on": on, "after": after, "best": best, "worst": worst, key: number})
+    task = {"name": name, "on": on, "after": after, "best": best, "worst": worst}
+    if not bench.is_queue(on):
+        task["priority" if bench.has_priorities(on) else "slot"] = number
+    bench.entries["task"].append(task)
 
 
 def break_remove(bench: Bench, name: str) -> Broken:

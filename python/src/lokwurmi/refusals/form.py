@@ -10,6 +10,7 @@ from lokwurmi.files.system_keys import (
     KEYS,
     KINDS,
     LOCKS,
+    OF_PORTS,
     OTHER_KEYS,
     OTHER_KINDS,
     TOP_KEYS,
@@ -19,8 +20,9 @@ from lokwurmi.files.system_keys import (
     holds,
     is_integer,
     keys_of,
+    kinds_of,
 )
-from lokwurmi.model.formats import FORMATS, KEYS_SINCE, least_format
+from lokwurmi.model.formats import FORMATS, KEYS_SINCE, KINDS_SINCE, least_format
 from lokwurmi.model.limits import DOWN, MOST_TICKS, TIMES
 from lokwurmi.refusals.remark import Note, Remark, listed, nearest, page
 from lokwurmi.refusals.spots import Spot, spots_in
@@ -49,7 +51,7 @@ TYPES = {
 }
 MISSING = {
     "name": 'give it a name of letters, digits, _, - and .: name = ".."',
-    "kind": 'write kind = "preemptive", "round-robin", "tdma" or "can"',
+    "kind": 'write kind = "preemptive", "round-robin", "tdma" or "can", or with `format = 4` "fifo"',
     "period": f"write period = N: how many ticks lie between two events, 1 to {MOST_TICKS}",
     "on": 'write on = "..": the resource that it runs on',
     "after": 'write after = "..": the source or the task that starts it',
@@ -58,6 +60,15 @@ MISSING = {
 LONG_FRAME = (
     "frames of CAN FD stand on can, with the best and worst that lokwurmi lengths tells, as lengths fd 64 --bitrate"
     " 500000 --data-bitrate 2000000, in place of payload"
+)
+PORTS = (
+    "; a port that sends frames in the order in which they came is fifo, with format = 4; one with strict priorities is"
+    " can, with the best and worst that lokwurmi lengths ethernet tells"
+)
+# a rate has no safe side: a lower one makes least lengths greater
+NO_WHOLE_RATE = (
+    "take another tick, in which whole bits go over the port; or leave it out, and give frames the best and worst that"
+    " lokwurmi lengths ethernet tells, in place of payload"
 )
 OF_NO_TASK = (
     "clocks and offsets belong to sources: those whose events keep their distances name one `clock`, and each has its"
@@ -88,7 +99,7 @@ def other_format(document: Document) -> Remark | None:
         return None
     helps = (
         "write `format = 1`, `format = 2` so that a task's `after` may be a list, or `format = 4` so that a task may"
-        " have a `region`, and a source be `sporadic` or on a `clock`, too"
+        " have a `region`, a source be `sporadic` or on a `clock`, and a resource be a queue (`fifo`), too"
     )
     return Remark(f"the format {value} isn't known: it is 1, 2 or 4", format_span(document), helps)
 
@@ -149,7 +160,7 @@ def entry(spot: Spot) -> Remark | None:
     for key in value:
         if not holds(keys[key], value[key], spot.document.has_lists):
             return wrong_type(spot, key)
-    if spot.part == "resource" and value.get("kind", "can") not in KINDS:
+    if spot.part == "resource" and value.get("kind", "can") not in kinds_of(spot.document.form):
         return unknown_kind(spot)
     if remark := missing(spot):
         return remark
@@ -223,8 +234,9 @@ def way_of(spot: Spot, key: str) -> tuple[str | None, str]:
     if part == "task" and meant in (CLOCK, OFFSET):
         return None, OF_NO_TASK
     if part == "resource" and bare(key) == "bitrate":
-        ways = "lokwurmi ticks FILE --tick 1us; or write bit = N, the time of a bit in ticks"
-        return None, f"it is for files with units: {ways}"
+        is_port = spot.entry.get("kind") == "fifo"
+        way = "rate = N, how many bits go in a tick" if is_port else "bit = N, the time of a bit in ticks"
+        return None, f"it is for files with units: lokwurmi ticks FILE --tick 1us; or write {way}"
     helps = f"the keys of {AN[part]} are {listed(known)}"
     if key in TOP_KEYS and not near:
         return None, f"`{key}` belongs to the top of the file, above all headings in [[ ]]"
@@ -282,6 +294,11 @@ def number_remedy(value: object, key: str) -> str:
     """What to write in place of a value that is no whole number."""
     if isinstance(value, str) and re.fullmatch(r"[+-]?\d+", value.strip()):
         return f"write it without quotes: {key} = {int(value)}"
+    if isinstance(value, str) and key == "rate":
+        return (
+            "write how many bits go over the port in a tick, as rate = 100 at 100 Mbit/s where a tick is a microsecond;"
+            " or write bitrate = 100000000, and have the file turned: lokwurmi ticks FILE --tick 1us --to TICKS.toml"
+        )
     if isinstance(value, str) and key not in WITH_UNITS:
         return f"write a whole number, without quotes: {key} = N"
     if isinstance(value, str) and UNIT_TIME.fullmatch(value):
@@ -293,17 +310,23 @@ def number_remedy(value: object, key: str) -> str:
     if isinstance(value, float):
         if value.is_integer():
             return f"write it without a point: {key} = {int(value)}"
+        if key == "rate":
+            return NO_WHOLE_RATE
         way = "up and add a tick" if key == REGION else "down" if key in ROUNDED_DOWN else "up"
         return f"take a finer tick, of which it is a multiple; or round it {way}, which is the safe side of `{key}`"
     return f"one number stands for all jobs of an entry: write {key} = N" if isinstance(value, list) else ""
 
 
 def unknown_kind(spot: Spot) -> Remark:
-    value = spot.entry["kind"]
+    value, known = spot.entry["kind"], kinds_of(spot.document.form)
+    if value in KINDS:
+        return old_kind(spot, value)
     same = next((it for it in KINDS if bare(it) == bare(value)), None)
     near = OTHER_KINDS.get(bare(value)) or same or nearest(value, KINDS)
-    helps = "the kinds are preemptive, round-robin, tdma and can"
-    if bare(value) in WITH_REGIONS:
+    helps = f"the kinds are {listed(known)}"
+    if near == "fifo":
+        helps += PORTS if bare(value) in OF_PORTS else ", and fifo with format = 4" if near not in known else ""
+    elif bare(value) in WITH_REGIONS:
         helps += "; on preemptive, tasks that cooperate have a region each, with format = 4"
     elif bare(value) in WITHOUT_PREEMPTION:
         helps += NO_PREEMPTION
@@ -311,6 +334,13 @@ def unknown_kind(spot: Spot) -> Remark:
         near, helps = "can", LONG_FRAME
     guess = f'; did you mean "{near}"?' if near else ""
     return spot.remark(f'the kind "{value}" isn\'t known{guess}', spot.value("kind"), helps)
+
+
+def old_kind(spot: Spot, kind: str) -> Remark:
+    """Of a resource of a kind that a later format has."""
+    number, notes = spot.document.values["format"], [Note("the format of this file", format_span(spot.document))]
+    helps = f"write `format = {KINDS_SINCE[kind]}`, which has all that format {number} has"
+    return spot.remark(f'its kind is "{kind}", which format {number} hasn\'t', spot.value("kind"), helps, notes)
 
 
 def without_clock(spot: Spot) -> Remark | None:
@@ -342,4 +372,6 @@ def executions(spot: Spot) -> Remark | None:
         helps = f"write {other} = N too: an execution lies between the two, and they may be equal"
         return spot.remark(f"the key `{other}` is missing beside `{has[0]}`", spot.key(has[0]), helps)
     helps = "write best = N and worst = N; on a CAN bus payload = N, 0 to 8 bytes, may stand in their place"
+    if "fifo" in kinds_of(spot.document.form):
+        helps += ", on a queue 0 to 1500"
     return spot.remark("it has no execution: `best` and `worst`, or `payload`, are missing", spot.span, helps)

@@ -61,7 +61,7 @@ def lonely_clocks(document: Document) -> Iterator[Remark]:
     at = {clock for name in view.tasks for clock in view.clocks_at(name)}
     for spot in [it for it in alone if it.entry["clock"] not in at][:MOST]:
         clock = spot.entry["clock"]
-        guess = f"; did you mean \"{near}\"?" if (near := nearest(clock, [it for it in on if it != clock])) else ""
+        guess = f'; did you mean "{near}"?' if (near := nearest(clock, [it for it in on if it != clock])) else ""
         helps = f"a clock says how the events of several sources lie to each other{guess}"
         yield Remark(f'{spot.called} is alone on clock "{clock}", which changes no bound', spot.value("clock"), helps)
 

@@ -83,7 +83,7 @@ EDIT_RULES = {
 """The rules that an edit may break."""
 WORD_REASONS = {
     ("assign", 1): "no resource has the name",
-    ("assign", 2): "its tasks have slots, and no priorities",
+    ("assign", 2): "its tasks have no priorities",
     ("assign", 3): "a task on it has a task among its activators",
     ("assign", 4): "a task on it comes after a source on a clock, and it is a bus, or a task on it has a region",
     ("slack", 1): "no task has the name",

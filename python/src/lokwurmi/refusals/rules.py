@@ -7,8 +7,9 @@ from collections.abc import Callable, Iterator, Sequence
 from dataclasses import dataclass, replace
 
 from lokwurmi.files.documents import PARTS, Document, activators
-from lokwurmi.files.system_keys import is_name, is_name_letter, keys_of
+from lokwurmi.files.system_keys import is_name, is_name_letter, keys_of, kinds_of
 from lokwurmi.files.toml_spans import Span
+from lokwurmi.frames import MOST_CLASSICAL
 from lokwurmi.model.limits import (
     LIMITS,
     MOST_IN_CHAIN,
@@ -32,6 +33,7 @@ NO_REGION = {
     "can": "no job is preempted there",
     "round-robin": "how long a job goes on is told by its `slot`",
     "tdma": "how long a job goes on is told by its `slot`",
+    "fifo": "what has begun there goes on to its end",
 }
 OF_NAMES = f"a name has 1 to {MOST_IN_NAME} of the letters A to Z and a to z, digits, _, - and ."
 # what is told of keys that aren't times, or whose range surprises
@@ -45,7 +47,27 @@ MEANINGS = {
     "limit": " ticks: the longest busy window that is looked at",
     "offset": " ticks, and below the period",
     "region": " ticks: 1 is as without it, and a job with one of at least `worst` is never preempted",
+    "rate": " bits in a tick; where a bit takes longer than a tick, choose a longer tick",
 }
+# the same of what is too large
+TOO_MUCH = {
+    "rate": (
+        " bits in a tick: at more, the shortest frame, of 672 bits, would take less than a tick; choose a shorter tick"
+    )
+}
+# what is told of payloads where frames may be those of ports, too
+OF_PORTS = (
+    " bytes, on can to 8; a longer frame has best and worst in its place: lokwurmi lengths ethernet 1500 --tagged"
+    " --bitrate 100000000 tells those of 1500 bytes and a tag"
+)
+# the kinds of resource whose tasks may be frames, and what tells when a job's turn is
+WITH_FRAMES, TURNS = ("can", "fifo"), ("priority", "slot")
+# what to write where a key is one of another kind
+IN_ITS_PLACE = {
+    ("bit", "fifo"): "write `rate` in its place: how many bits go over the port in a tick",
+    ("rate", "can"): "write `bit` in its place: how many ticks a bit takes",
+}
+IN_ORDER = "leave it out: jobs on a queue are served in the order in which they came"
 
 
 @dataclass(frozen=True)
@@ -63,6 +85,8 @@ class Refusal:
 
 
 Found = Iterator[tuple[Spot, Remark]]
+Misfits = Iterator[tuple[str, Span, str]]
+"""What of a task doesn't fit the kind of its resource, where that stands, and what helps."""
 
 
 def first_refusal(document: Document) -> Refusal | None:
@@ -127,10 +151,12 @@ def wrong_offset(spot: Spot) -> Remark | None:
 
 def beyond(spot: Spot, key: str, least: int, most: int) -> Remark:
     number = spot.entry[key]
-    helps = f"`{key}` is {least} to {most}{MEANINGS.get(key, '')}"
-    if number > most and key not in MEANINGS:
+    meanings = MEANINGS | (TOO_MUCH if number > most else {}) | ({"payload": OF_PORTS} if most > MOST_CLASSICAL else {})
+    helps = f"`{key}` is {least} to {most}{meanings.get(key, '')}"
+    if number > most and key not in meanings:
         helps += " ticks: take a coarser tick for the whole file"
-    helps += or_newest(spot.document, number, keys_of(NEWEST)[spot.part][key].most)
+    if key != "payload":
+        helps += or_newest(spot.document, number, keys_of(NEWEST)[spot.part][key].most)
     end = f"below {least}" if number < least else f"above {most}"
     return spot.remark(f"`{key}` is {number}, {end}", spot.value(key), helps)
 
@@ -310,33 +336,58 @@ def known_priority(document: Document) -> Found:
 def misfit(document: Document) -> Found:
     for spot in spots_in(document, "resource"):
         kind = spot.entry["kind"]
-        for key, wanted in (("gap", "tdma"), ("bit", "can")):
+        for key, wanted in (("gap", "tdma"), ("bit", "can"), ("rate", "fifo")):
             if key in spot.entry and kind != wanted:
                 says = f'`{key}` is for the kind "{wanted}", and its kind is "{kind}"'
                 notes = [Note("its kind", spot.value("kind"))]
-                yield spot, spot.remark(says, spot.key(key), f"leave `{key}` out, or change the kind", notes)
+                helps = f"leave `{key}` out, or change the kind"
+                helps = IN_ITS_PLACE.get((key, kind), helps)
+                yield spot, spot.remark(says, spot.key(key), helps, notes)
     names = Names(document.entries)
     for spot in spots_in(document, "task"):
         for says, span, helps in misfits_of(spot, names):
             yield spot, spot.remark(says, span, helps)
 
 
-def misfits_of(spot: Spot, names: Names) -> Iterator[tuple[str, Span, str]]:
+def misfits_of(spot: Spot, names: Names) -> Misfits:
     """What of a task doesn't fit the kind of its resource, where that stands, and what helps."""
     task, kind = spot.entry, names.kind(spot.entry)
-    wanted, other = ("priority", "slot") if kind in WITH_PRIORITIES else ("slot", "priority")
     where = f'resource "{task["on"]}" is {kind}'
+    yield from wrong_turns(spot, names, where)
+    yield from wrong_frames(spot, kind, where)
+    if "region" in task and kind != "preemptive":
+        says = f"`region` is for preemptive resources, and {where}"
+        yield says, spot.key("region"), "leave it out: " + NO_REGION[kind]
+
+
+def wrong_turns(spot: Spot, names: Names, where: str) -> Misfits:
+    """What of its priority and its slot doesn't fit."""
+    task, kind = spot.entry, names.kind(spot.entry)
+    if kind == "fifo":
+        yield from ((f"it has a `{key}`: {where}", spot.key(key), IN_ORDER) for key in TURNS if key in task)
+        return
+    wanted, other = TURNS if kind in WITH_PRIORITIES else TURNS[::-1]
     if other in task:
         how = f"beside its `{wanted}`" if wanted in task else f"in place of a `{wanted}`"
         helps = f"tasks of a {kind} resource have a `{wanted}` and no `{other}`"
         yield f"it has a `{other}` {how}: {where}", spot.key(other), helps
     if wanted not in task:
         yield f"the key `{wanted}` is missing: {where}", spot.span, missing_turn(spot, names, wanted)
-    if "payload" in task and kind != "can":
-        yield f"`payload` is for CAN, and {where}", spot.key("payload"), "write `best` and `worst` in its place"
-    if "region" in task and kind != "preemptive":
-        says = f"`region` is for preemptive resources, and {where}"
-        yield says, spot.key("region"), "leave it out: " + NO_REGION[kind]
+
+
+def wrong_frames(spot: Spot, kind: str, where: str) -> Misfits:
+    """What of its frame doesn't fit."""
+    task, kinds = spot.entry, kinds_of(spot.document.form)
+    if "payload" in task and kind not in WITH_FRAMES:
+        wanted = "CAN and for queues" if "fifo" in kinds else "CAN"
+        yield f"`payload` is for {wanted}, and {where}", spot.key("payload"), "write `best` and `worst` in its place"
+    elif "payload" in task and kind == "can" and task["payload"] > MOST_CLASSICAL:
+        helps = f"`payload` is 0 to {MOST_CLASSICAL}{MEANINGS['payload']}"
+        says = f"`payload` is {task['payload']}, above {MOST_CLASSICAL}: {where}"
+        yield says, spot.value("payload"), helps
+    if "extended" in task and kind != "can":
+        helps = "leave it out: frames on a port have no such identifier, and a VLAN tag is 4 bytes of `payload`"
+        yield f"`extended` is for CAN, and {where}", spot.key("extended"), helps
 
 
 def missing_turn(spot: Spot, names: Names, wanted: str) -> str:

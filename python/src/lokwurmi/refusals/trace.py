@@ -189,10 +189,9 @@ class TraceOfSystem:
         side = f"below its best, {best}" if ticks < best else f"above its worst, {worst}"
         helps = f"if that is what ran, the file's range of {name}, {best} to {worst}, is too narrow"
         if "payload" in task:
-            helps = (
-                f"a frame of {task['payload']} bytes takes {best} to {worst} ticks on this bus: look at `payload`,"
-                " `extended` and `bit`"
-            )
+            is_port = self.names.kind(task) == "fifo"
+            where, keys = ("port", "`payload` and `rate`") if is_port else ("bus", "`payload`, `extended` and `bit`")
+            helps = f"a frame of {task['payload']} bytes takes {best} to {worst} ticks on this {where}: look at {keys}"
         return row.remark(f"job {job} of {name} takes {ticks} ticks, {side}", helps, 2)
 
     def wrong_phase(self, name: str) -> Remark | None:

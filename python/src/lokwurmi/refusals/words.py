@@ -25,15 +25,22 @@ def remark_on(document: Document, line: str, words: Sequence[str]) -> Remark | N
         helps = f"its resources are {listed(resources[:8])}{' and more' if len(resources) > 8 else ''}"
         return Remark(f'no resource is called "{printable(word)}"{guess}', None, helps, more=MORE)
     if line == "assign refused 2" and word in resources:
-        spot = Spot(document, "resource", resources.index(word))
-        says = f'resource "{word}" is {spot.entry["kind"]}: its tasks have slots, and no priorities'
-        helps = "try other slots by a script: lokwurmi session, with slot TASK N"
-        return Remark(says, spot.value("kind"), helps, more=MORE)
+        return without_priorities(Spot(document, "resource", resources.index(word)))
     if line == "assign refused 3" and word in resources:
         return behind_tasks(document, word, set(names["task"]))
     if line == "assign refused 4" and word in resources:
         return on_clocks(document, word)
     return None
+
+
+def without_priorities(spot: Spot) -> Remark:
+    """Of a resource whose tasks have slots, or queue."""
+    name, kind = spot.entry["name"], spot.entry["kind"]
+    have, helps = "have slots, and no priorities", "try other slots by a script: lokwurmi session, with slot TASK N"
+    if kind == "fifo":
+        have = "are served in the order in which they came, and have no priorities"
+        helps = "there is no order to choose: try other executions, or other inputs, by a script: lokwurmi session"
+    return Remark(f'resource "{name}" is {kind}: its tasks {have}', spot.value("kind"), helps, more=MORE)
 
 
 def of_chain(names: dict[str, list[str]], word: str) -> Remark:

@@ -120,7 +120,12 @@ def bit_text(it: "Resource") -> Any:
 
 def system(it: "NamedEntries") -> str:
     """The entries of a system."""
-    resources = [(one.name, one.kind, one.limit, one.gap, bit_text(one)) for one in it.resources.values()]
+    has_rates = any(one.rate is not None for one in it.resources.values())
+    of_resource = ("resource", "kind", "limit", "gap", "bit", *(["bits in a tick"] if has_rates else []))
+    resources = [
+        (one.name, one.kind, one.limit, one.gap, bit_text(one)) + ((one.rate,) if has_rates else ())
+        for one in it.resources.values()
+    ]
     is_sporadic = any(one.sporadic for one in it.sources.values())
     has_clocks = any(one.clock is not None for one in it.sources.values())
     of_source = ("source", "period", "jitter", "distance", *(["silence"] if is_sporadic else []))
@@ -140,7 +145,7 @@ def system(it: "NamedEntries") -> str:
     paths = [(one.name, " → ".join(one.tasks), one.deadline) for one in it.paths.values()]
     note = f"{unit_note(it.tick)} Numbers without a unit are ticks." if it.tick else unit_note(None)
     parts: list[tuple[str, Sequence[str], list[Any]]] = [
-        ("Resources", ("resource", "kind", "limit", "gap", "bit"), resources),
+        ("Resources", of_resource, resources),
         ("Sources", of_source + (("clock", "offset") if has_clocks else ()), sources),
         ("Tasks", of_task, tasks),
         ("Paths", ("path", "tasks", "deadline"), paths),
@@ -172,7 +177,7 @@ def run(it: "reports.Run") -> str:
 
 
 def pairs(caption: str, head: str, found: Any, note: str) -> str:
-    """The bounds and the peaks of some queues."""
+    """The bounds and the peaks of some buffers."""
     rows = [(name, shown(bound, None), peak) for name, (bound, peak) in found.items()]
     return table(caption, (head, "bound", "peak seen"), rows, note)
 
@@ -180,7 +185,10 @@ def pairs(caption: str, head: str, found: Any, note: str) -> str:
 def buffers(it: "reports.Buffers") -> str:
     """How many jobs wait."""
     note = "Jobs that are pending at one time, running ones too. Bounds hold in every run that obeys the system."
-    return pairs("Queues of tasks", "task", it.tasks, "") + pairs("Queues of resources", "resource", it.resources, note)
+    found = pairs("Jobs of tasks", "task", it.tasks, "") + pairs("Jobs of resources", "resource", it.resources, note)
+    rows = [(name, shown(most, None)) for name, most in it.queues.items()]
+    more = "What the pending jobs of a queue still need."
+    return found + (table("Work in queues", ("queue", "bound in ticks"), rows, more) if rows else "")
 
 
 def slack(it: "reports.Slack") -> str:

@@ -384,6 +384,8 @@ class Buffers:
     """By task: the bound, or None where there is none, and the peak."""
     resources: Mapping[str, tuple[int | None, int]]
     """The same by resource, all its tasks together."""
+    queues: Mapping[str, int | None]
+    """By queue how many ticks of work may be pending at one time, or None where there is no bound."""
 
     def _repr_html_(self) -> str:
         return html.buffers(self)
@@ -391,19 +393,21 @@ class Buffers:
 
 def buffers(text: str) -> Buffers:
     """What `buffers` wrote."""
-    tasks, resources, is_whole = {}, {}, False
+    tasks, resources, queues, is_whole = {}, {}, {}, False
     for line in text.splitlines():
         if it := lines.BUFFER.fullmatch(line):
             tasks[it[1]] = (lines.number(it[2]), int(it[3]))
         elif it := lines.RESOURCE.fullmatch(line):
             resources[it[1]] = (lines.number(it[2]), int(it[3]))
+        elif it := lines.QUEUE.fullmatch(line):
+            queues[it[1]] = lines.number(it[2])
         elif line.startswith("summary "):
             is_whole = True
         else:
             raise Unreadable(f"this is no line of buffers: {line}")
     if not is_whole:
         raise Unreadable("there are no whole buffers; the last line begins with summary")
-    return Buffers(tasks, resources)
+    return Buffers(tasks, resources, queues)
 
 
 @dataclass(frozen=True, slots=True)
