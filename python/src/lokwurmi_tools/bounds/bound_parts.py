@@ -8,7 +8,7 @@ no part of what is proved."""
 from collections.abc import Iterator
 from typing import NamedTuple, NotRequired, TypedDict
 
-from lokwurmi.model.event_models import Bounds, Stream, inputs_of, least_time
+from lokwurmi.model.event_models import Bounds, Stream, inputs_of, least_time, most_events
 from lokwurmi.model.limits import Kind
 from lokwurmi.model.view import Anchor, SystemView
 from lokwurmi_tools.bounds.starts import (
@@ -94,7 +94,7 @@ class JobInWindow(NamedTuple):
 
 class LatestJob(NamedTuple):
     """The job of a busy window whose response is greatest: the how many-th of how many, when it came and when it is
-    done, and what fills the time up to there."""
+    done, and what fills the time up to there. On a queue it comes in the last tick of a window."""
 
     number: int
     of: int
@@ -103,6 +103,8 @@ class LatestJob(NamedTuple):
     parts: list[Part]
     start: Start | None = None
     """Where its clock stands as the window begins, where its one stream is on one."""
+    window: int | None = None
+    """On a queue the window up to whose end all that comes is served before the job is done."""
 
     @property
     def response(self) -> int:
@@ -139,6 +141,13 @@ class StreamTold(TypedDict):
     offset: NotRequired[int]
 
 
+def first_with(stream: Stream, window: int) -> int:
+    """The least window that has as many events of a stream as one has."""
+    period, jitter, distance = stream
+    gaps = most_events(stream, window) - 1
+    return max(0, gaps * distance, gaps * period - jitter) + 1
+
+
 class BoundParts:
     """A system at the bounds of its report, None where one is `overload`."""
 
@@ -146,6 +155,8 @@ class BoundParts:
         self.view, self.bounds, self.inputs = view, bounds, inputs_of(view, bounds)
         # where other clocks stand, by who goes before and the window
         self.worst_moments: dict[tuple[str, tuple[str, ...], int], int] = {}
+        # the busy window of some tasks of a queue, and the window in it after whose last tick most is left
+        self.fullest: dict[frozenset[str], tuple[int, int]] = {}
         # how many looks at the work of a task were taken, and with how many it ends
         self.looks = 0
         self.until: int | None = None
@@ -155,6 +166,8 @@ class BoundParts:
         resource, found = self.view.resource(name), self.view.rivals(name)
         if resource.kind == Kind.ROUND_ROBIN:
             return [self.in_turn(it) for it in found]
+        if resource.kind == Kind.FIFO:
+            return [self.queued(it) for it in found]
         # what comes within a bit time after the start of a frame goes first
         ahead = resource.bit if resource.is_bus else 0
         found.sort(key=lambda it: self.view.tasks[it].rank)
@@ -170,6 +183,10 @@ class BoundParts:
         streams = None if bound is None else self.inputs[name]
         task = self.view.tasks[name]
         return Rival(name, task.worst, streams, bound or 0, task.slot)
+
+    def queued(self, name: str) -> Rival:
+        """A task of a queue, by its streams; that these may be on clocks isn't used."""
+        return Rival(name, self.view.tasks[name].worst, self.inputs[name])
 
     def blocking(self, name: str) -> Part | None:
         """The task of lower priority that may hold one up for longest: on a bus the longest frame, that may be under
@@ -331,6 +348,8 @@ class BoundParts:
         rivals = self.before(name) if rivals is None else rivals
         latest: LatestJob | None = None
         try:
+            if self.view.kind(name) == Kind.FIFO:
+                return self.last_in_queue(name, rivals)
             for start in self.starts(name, rivals):
                 found = self.latest_from(name, Scene(rivals, start))
                 latest = found if found and (latest is None or found.response > latest.response) else latest
@@ -355,6 +374,33 @@ class BoundParts:
             # by its clock a rival may not come at all
             waits = [it for it in waits if it.count]
         return LatestJob(late.number, of, late.came, late.done, [own, *self.fixed(name, jobs), *waits], scene.start)
+
+    def last_in_queue(self, name: str, rivals: list[Rival]) -> LatestJob:
+        """A job that comes in the last tick of a window, behind all that came in it, where that takes longest."""
+        own = self.queued(name)
+        busy, window = self.fullest_window([own, *rivals])
+        number = own.events(window, {})
+        parts = [Part("own", name, number, own.worst), *(self.shared(it, 0, window, {}) for it in rivals)]
+        return LatestJob(number, own.events(busy, {}), window - 1, sum(it.ticks for it in parts), parts, window=window)
+
+    def fullest_window(self, several: list[Rival]) -> tuple[int, int]:
+        """The busy window of some tasks of a queue, and the first window in it after whose last tick most is left. It
+        goes back from the end of the busy window: no shorter window has more work, and so none that ends so late that
+        it would leave less than the most so far is looked at."""
+        key = frozenset(it.name for it in several)
+        if key not in self.fullest:
+            scene = Scene(several)
+            busy = window = self.window(several[0].name, scene, 0, 1)
+            most, at = 0, busy
+            while window > 0:
+                work = self.taken(scene, 0, window)
+                if work - (window - 1) >= most:
+                    at = max(first_with(stream, window) for it in several for stream in it.streams or [])
+                    most, window = work - (at - 1), at - 1
+                else:
+                    window = work - most + 1
+            self.fullest[key] = busy, at
+        return self.fullest[key]
 
     def streams(self, name: str) -> list[StreamTold] | None:
         """The streams that start a task: of each its source, its numbers, and from where its jitter comes."""

@@ -47,7 +47,10 @@ def bar(start: int, ticks: int, whole: int) -> str:
 
 
 def turn_of(told: Values, scale: Scale = TICKS) -> str:
-    return f"priority {told['priority']}" if "priority" in told else f"slot {scale.text(told['slot'])}"
+    """What tells who goes first, behind the kind; on a queue nothing but when jobs come."""
+    if "slot" in told:
+        return f"{told['kind']}, slot {scale.text(told['slot'])}"
+    return f"{told['kind']}, priority {told['priority']}" if "priority" in told else told["kind"]
 
 
 def jitter_text(stream: Values, scale: Scale) -> str:
@@ -99,11 +102,22 @@ def which_of(job: Values, scale: Scale = TICKS) -> str:
 
 
 def place_of(job: Values, scale: Scale) -> str:
+    if "window" in job:
+        return queue_text(job, scale)
     if job["of"] == 1:
         return "one job in the busy window"
     which = f"the latest is job {job['number']} of {job['of']} in the busy window"
     comes = f"{scale.text(job['came'])} after the window began" if job["came"] else "as the window begins"
     return f"{which}: it comes {comes}, and is done {scale.text(job['done'])} after"
+
+
+def queue_text(job: Values, scale: Scale) -> str:
+    """Who is in front on a queue: all that come up to then, those that come in the same tick with them."""
+    comes = (
+        f"in the last tick of a window of {scale.text(job['window'])}" if job["window"] > 1 else "as the window begins"
+    )
+    done = f"is done {scale.text(job['done'])} after it began"
+    return f"the latest job comes {comes}, behind all that come up to then (ties against it), and {done}"
 
 
 def lines_of_task(told: Values, scale: Scale = TICKS) -> list[str]:
@@ -113,7 +127,7 @@ def lines_of_task(told: Values, scale: Scale = TICKS) -> list[str]:
         if told["deadline"]
         else ""
     )
-    head = f"{told['task']} on {told['on']}, {told['kind']}, {turn_of(told, scale)}: "
+    head = f"{told['task']} on {told['on']}, {turn_of(told, scale)}: "
     if told["bound"] is None:
         return [head + "no bound" + deadline, *lines_of_overload(told, scale)]
     lines = [head + scale.length(told["bound"]) + deadline]

@@ -53,7 +53,7 @@ class Explained:
             "task": name,
             "on": task.on,
             "kind": self.view.kind(name).value,
-            **({"priority": task.priority} if task.slot is None else {"slot": task.slot}),
+            **{key: turn for key, turn in (("priority", task.priority), ("slot", task.slot)) if turn is not None},
             "bound": self.report.tasks[name].worst,
             "execution": [task.best, task.worst],
             "deadline": self.deadline(name),
@@ -71,6 +71,8 @@ class Explained:
             return {"job": None, "parts": []}
         parts = [it._asdict() | {"ticks": it.ticks} for it in job.parts]
         told = {"number": job.number, "of": job.of, "came": job.came, "done": job.done}
+        if job.window is not None:
+            told["window"] = job.window
         return {"job": told, "parts": parts, **self.clocks_of(name, job)}
 
     def clocks_of(self, name: str, job: LatestJob) -> Values:

@@ -6,10 +6,11 @@ ends with .svg, .png or .pdf. The tasks of a path have its colour, as lokwurmi g
 task.
 
 With a trace, the one that the schedule is of, triangles show when jobs came (above the lane) and when they were done
-(below it), a white line stands between two regions of a job, and TDMA slots stand where the trace's phases put them;
-without one the phases are 0. With a report of `lokwurmi analyse` as well, a job that took longer than its bound, or
-that isn't done though its bound is past, is framed in red, with a red line from its bound on. --from and --until cut a
-part out. With --tick, as 1us, the times that are shown have units; --from and --until stay ticks.
+(below it), a line leads from where a job of a queue comes to where it begins, a white line stands between two regions
+of a job, and TDMA slots stand where the trace's phases put them; without one the phases are 0. With a report of
+`lokwurmi analyse` as well, a job that took longer than its bound, or that isn't done though its bound is past, is
+framed in red, with a red line from its bound on. --from and --until cut a part out. With --tick, as 1us, the times that
+are shown have units; --from and --until stay ticks.
 
 --longest marks the job of a task that took longest, or the passage of a path that did: its jobs are framed, with a line
 for each from where it came to its end, and one for the whole below. Of a path only that stretch is drawn, and of a task

@@ -55,6 +55,12 @@ def rate_of_bus(word: str) -> tuple[str, int]:
     return plain(name)[:24] if name else "", rate_of(rate)
 
 
+def queue_of(word: str) -> tuple[str, Fraction]:
+    """What --gateway-queue takes: how long a frame takes in a queue, and before it the name of that."""
+    name, _, time = word.rpartition("=")
+    return plain(name)[:24] if name else "gateway", time_of(time)
+
+
 def millionths(word: str) -> Fraction:
     if not word.isascii() or not word.isdecimal() or int(word) > 100_000:
         raise ValueError(f"{word} is no number of millionths: write 0 to 100000")
@@ -127,6 +133,11 @@ def add_choices(reader: argparse.ArgumentParser) -> None:
         ("--forward", "FROM=TO", "frame TO of another bus is queued when FROM is received by a gateway"),
     ):
         reader.add_argument(option, metavar=metavar, help=f"{help_text}. May stand several times", **several)
+    what = (
+        "frames of --forward go through a queue first, in the order in which they come, and each takes up to so long"
+        " there; at once if absent"
+    )
+    reader.add_argument("--gateway-queue", metavar="[NAME=]TIME", type=word_of(queue_of), help=what)
     add_modes(reader)
 
 
@@ -153,6 +164,12 @@ def add_modes(reader: argparse.ArgumentParser) -> None:
         choices=("once", "each", "out"),
         help="how many multiplexed frames come in a cycle: one, one for each value, or leave them out; once if absent",
     )
+    what = (
+        "puts the frames of a sender on one clock, each at its offset in the database (GenMsgStartDelayTime, or"
+        " TIME-OFFSET of ARXML). Only where one timer of the sender queues them all, so that none drifts against"
+        " another, and none is left out; on no clock if absent"
+    )
+    reader.add_argument("--offsets", action="store_true", help=what)
     reader.add_argument(
         "--share",
         choices=("none", "sender", "all"),

@@ -5,7 +5,7 @@ What is printed as seen is exact: `lokwurmi simulate` replays the trace, whose e
 and by what it proves no run is later than the bound. Where the two are equal, the bound can't be lower. Where they
 aren't, either the bound isn't reached by any run, or the search hasn't found the run.
 
-The search begins with what is known of worst cases on the four kinds of resource, and then changes phases, jitter,
+The search begins with what is known of worst cases on each kind of resource, and then changes phases, jitter,
 executions and the phases of TDMA cycles, and keeps what is later. It makes so many tries (--tries), so that the same
 call gives the same answer for the same --seed; --seconds ends it before, and then it says so. A path is looked at after
 each of its tasks, and begins with what was found for these: with N tasks it takes N + 1 searches. An interrupt ends the

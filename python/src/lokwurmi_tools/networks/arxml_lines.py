@@ -3,13 +3,21 @@ identifiers, and how often their data units are sent."""
 import re
 from collections.abc import Iterator
 from fractions import Fraction
-from typing import Any
+from typing import Any, NamedTuple
 
 from lokwurmi.model.limits import MOST_PRIORITY, MOST_SHORT
 from lokwurmi_tools.shared.faults import Fault
 
 TOO_LOW = "Without it the bounds of all other frames may be too low"
-_SECONDS = re.compile(r"\d+(?:\.\d+)?(?:[eE][-+]?\d+)?|\.\d+(?:[eE][-+]?\d+)?")
+SECONDS = re.compile(r"\d+(?:\.\d+)?(?:[eE][-+]?\d+)?|\.\d+(?:[eE][-+]?\d+)?")
+# what is in a data unit that isn't sent by one period alone, without tolerance
+_UNSTEADY = (
+    "EVENT-CONTROLLED-TIMING",
+    "REQUEST-CONTROLLED-TIMING",
+    "TRANSMISSION-MODE-FALSE-TIMING",
+    "ABSOLUTE-TOLERANCE",
+    "RELATIVE-TOLERANCE",
+)
 
 
 def text_of(element: Any, key: str) -> str | None:
@@ -32,12 +40,25 @@ def paths_of(root: Any) -> dict[str, Any]:
     return found
 
 
+class Triggered(NamedTuple):
+    """A frame of a cluster, by its triggering; times are in seconds."""
+
+    name: str
+    number: int
+    is_long: bool  # whether its identifier has 29 bits
+    size: int
+    period: Fraction  # the shortest; 0 where none is told
+    offset: str | None  # when it begins, where one period alone starts it
+    senders: list[str]
+
+
 class ArxmlFrames:
     """The frames that the clusters of a file trigger."""
 
     def __init__(self, file: str, root: Any):
         self.file, self.root = file, root
         self.paths = paths_of(root)
+        self.stations = [text_of(it, "SHORT-NAME") for it in root.iter("{*}ECU-INSTANCE")]
 
     def fault(self, element: Any, says: str) -> Fault:
         return Fault(f"{self.file}: line {element.sourceline}: {says}")
@@ -70,7 +91,7 @@ class ArxmlFrames:
         """The periods of some data units, in seconds."""
         for it in (it for unit in units for it in unit.iter("{*}TIME-PERIOD", "{*}REPEATING-TIME")):
             word = text_of(it, "VALUE")
-            if word is None or not _SECONDS.fullmatch(word):
+            if word is None or not SECONDS.fullmatch(word):
                 raise self.fault(it, f"{what}: its period is {word or 'empty'}: VALUE is a number of seconds, as 0.02")
             yield Fraction(word)
 
@@ -85,15 +106,38 @@ class ArxmlFrames:
                 rest += [self.paths[it.text.strip()] for it in inner if it.text.strip() in self.paths]
         return found
 
-    def triggerings(self, cluster: Any) -> Iterator[tuple[str, int, bool, int, Fraction]]:
-        """The frames of a cluster: name, identifier, whether that has 29 bits, length, and the shortest period in
-        seconds; 0 where none is told."""
+    def offset_of(self, units: list[Any]) -> str | None:
+        """When the only data unit of a frame is first sent, as the file has it, in seconds; None where that isn't told,
+        or where it isn't sent by one period alone, which has no tolerance."""
+        timings = [it for unit in units for it in unit.iter("{*}CYCLIC-TIMING")]
+        if len(units) != 1 or len(timings) != 1 or list(units[0].iter(*(f"{{*}}{it}" for it in _UNSTEADY))):
+            return None
+        if len(list(timings[0].iter("{*}TIME-PERIOD", "{*}REPEATING-TIME"))) != 1:
+            return None
+        starts = list(timings[0].iter("{*}TIME-OFFSET", "{*}STARTING-TIME"))
+        return (text_of(starts[0], "VALUE") or "empty") if len(starts) == 1 else None
+
+    def senders_of(self, triggering: Any) -> list[str]:
+        """The stations out of whose ports a frame goes; two of one name by their paths."""
+        found = []
+        for it in triggering.iter("{*}FRAME-PORT-REF"):
+            path = str(it.text or "").strip()
+            port = self.paths.get(path)
+            if port is None or text_of(port, "COMMUNICATION-DIRECTION") != "OUT":
+                continue
+            for station in port.iterancestors("{*}ECU-INSTANCE"):
+                name = text_of(station, "SHORT-NAME") or path
+                found.append(name if self.stations.count(name) == 1 else path)
+        return list(dict.fromkeys(found))
+
+    def triggerings(self, cluster: Any) -> Iterator[Triggered]:
+        """The frames of a cluster."""
         for it in cluster.iter("{*}CAN-FRAME-TRIGGERING"):
             path = text_of(it, "FRAME-REF")
             name = (path or text_of(it, "SHORT-NAME") or "").rsplit("/", 1)[-1]
             what = f"frame {name} of bus {text_of(cluster, 'SHORT-NAME')}"
             number, is_long = self.identifier_of(it, what)
-            size, period = 0, Fraction(0)
+            size, period, offset = 0, Fraction(0), None
             if path is not None:
                 frame = self.referred(it.find("{*}FRAME-REF"), what)
                 word = text_of(frame, "FRAME-LENGTH")
@@ -102,10 +146,10 @@ class ArxmlFrames:
                         frame, f"{what} has the length {word or 'none'}: FRAME-LENGTH is a number of bytes"
                     )
                 size = int(word)
-                period = min(
-                    (at for at in self.periods_of(self.units_of(frame, what), what) if at), default=Fraction(0)
-                )
-            yield name, number, is_long, size, period
+                units = self.units_of(frame, what)
+                period = min((at for at in self.periods_of(units, what) if at), default=Fraction(0))
+                offset = self.offset_of(units)
+            yield Triggered(name, number, is_long, size, period, offset, self.senders_of(it))
 
     def lost(self) -> list[str]:
         """The frames of the file that nothing triggers; one that is triggered beside the clusters is refused."""

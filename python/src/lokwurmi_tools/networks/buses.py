@@ -7,9 +7,14 @@ from typing import Any
 
 from lokwurmi.model.limits import MOST_IN_NAME
 
-# how long a name may be in a system file; what stands behind that of a frame in its source's, and behind that of a bus
-# in those of the tasks for its errors and for the frames that go behind those that are asked for
-LONGEST, QUEUED, ERRORS, BEHIND = MOST_IN_NAME, ".queued", ".errors", ".behind"
+# how long a name may be in a system file; what stands behind that of a frame in its source's, and in that of the task
+# for it in a gateway; and behind that of a bus in those of the tasks for its errors and for the frames that go behind
+# those that are asked for
+LONGEST, QUEUED, PASSED, ERRORS, BEHIND = MOST_IN_NAME, ".queued", ".passed", ".errors", ".behind"
+# the attributes of a DBC file that tell when a frame begins, and why it is sent
+START, SEND_TYPE = "GenMsgStartDelayTime", "GenMsgSendType"
+# what a DBC file has in place of a sender where there is none
+NO_SENDER = "Vector__XXX"
 
 
 @dataclass
@@ -33,6 +38,7 @@ class Frame:
     own: frozenset[str] = field(repr=False)  # the attributes whose values aren't the database's default
     is_default: bool  # whether its cycle time, or its least distance where there is none, is the database's default
     senders: list[str] = field(default_factory=list)
+    has_one_period: bool = True  # whether the database has one period for it alone, not another when it is sent fast
 
     @property
     def order(self) -> tuple[int, bool, int]:

@@ -7,14 +7,16 @@ import os
 from fractions import Fraction
 from typing import Any, Collection, Iterable
 
-from lokwurmi_tools.networks.arxml_lines import TOO_LOW, ArxmlFrames
-from lokwurmi_tools.networks.buses import BEHIND, ERRORS, LONGEST, QUEUED, Bus, Frame, named, plain
+from lokwurmi_tools.networks.arxml_lines import SECONDS, TOO_LOW, ArxmlFrames, Triggered
+from lokwurmi_tools.networks.buses import BEHIND, ERRORS, LONGEST, QUEUED, SEND_TYPE, START, Bus, Frame, named, plain
 from lokwurmi_tools.networks.unread import check_before, check_messages, check_text, ending_of
 from lokwurmi_tools.shared.faults import Fault
 from lokwurmi_tools.shared.packages import need
 from lokwurmi_tools.shared.progress import Progress
 from lokwurmi_tools.shared.times import LEAST_RATE, UNITS
 
+# the attributes of a cycle time besides that of the period
+FASTER = ("GenMsgCycleTimeFast", "GenMsgCycleTimeActive")
 # what canmatrix has to say goes into the report, and not past it
 SAID: list[str] = []
 
@@ -78,7 +80,7 @@ def cycle_of(frame: Any, matrix: Any) -> tuple[Fraction, str, bool]:
     by_default = not found[0][0]
     if by_default:
         found.append((time("GenMsgCycleTime"), "the default of GenMsgCycleTime"))
-    for key in ("GenMsgCycleTimeFast", "GenMsgCycleTimeActive"):
+    for key in FASTER:
         found.append((time(key), key))
         by_default &= key not in frame.attributes
     if any(number_of(it.cycle_time) for it in frame.signals):
@@ -86,6 +88,12 @@ def cycle_of(frame: Any, matrix: Any) -> tuple[Fraction, str, bool]:
         by_default = False
     cycle, why = min((it for it in found if it[0]), key=lambda it: it[0], default=(Fraction(0), ""))
     return cycle * UNITS["ms"], why, by_default and bool(cycle)
+
+
+def has_one_period(frame: Any, matrix: Any) -> bool:
+    """Whether a frame has no period besides its cycle time."""
+    faster = any(number_of(attribute(frame, matrix, key)) for key in FASTER)
+    return not faster and not any(number_of(it.cycle_time) for it in frame.signals)
 
 
 def bytes_of(frame: Any) -> int:
@@ -112,6 +120,23 @@ def complete_kcd(file: str, matrices: dict[str, Any]) -> None:
                 frame.add_attribute("GenMsgSendType", "cyclic and triggered")
 
 
+def triggered(read: Any, it: Triggered) -> Any:
+    """A frame as canmatrix reads it, with what its triggering tells."""
+    frame = copy.copy(read)
+    frame.attributes = {key: value for key, value in frame.attributes.items() if key != START}
+    frame.arbitration_id = canmatrix.ArbitrationId(it.number, extended=it.is_long)
+    frame.size = max(it.size, int(frame.size))
+    frame.transmitters = it.senders
+    if it.period:
+        frame.cycle_time = int(it.period * 1000)
+        frame.attributes["GenMsgCycleTime"] = str(it.period * 1000)
+    if it.offset is not None:
+        is_time = SECONDS.fullmatch(it.offset)
+        frame.attributes[START] = str(Fraction(it.offset) * 1000) if is_time else f"{it.offset} s by TIME-OFFSET"
+        frame.attributes.setdefault(SEND_TYPE, "cyclicX")
+    return frame
+
+
 def complete_arxml(file: str, matrices: dict[str, Any]) -> list[str]:
     """Gives each cluster of an ARXML file its own frames, with their own identifiers and periods, in the order of the
     file; and answers with the frames that no cluster triggers. Of a frame that several clusters have canmatrix takes
@@ -124,20 +149,13 @@ def complete_arxml(file: str, matrices: dict[str, Any]) -> list[str]:
         if matrix is None:
             raise Fault(f"{file}: line {cluster.sourceline}: bus {told} isn't read: give it a SHORT-NAME of its own")
         read = {frame.name: frame for frame in matrix.frames}
-        for name, number, is_long, size, period in reader.triggerings(cluster):
-            if name not in read:
+        for it in reader.triggerings(cluster):
+            if it.name not in read:
                 raise Fault(
-                    f"{file}: line {cluster.sourceline}: frame {name} of bus {told} is triggered, and isn't read: give"
-                    f" it a CAN-FRAME of that name, with FRAME-LENGTH and data units. {TOO_LOW}"
+                    f"{file}: line {cluster.sourceline}: frame {it.name} of bus {told} is triggered, and isn't read:"
+                    f" give it a CAN-FRAME of that name, with FRAME-LENGTH and data units. {TOO_LOW}"
                 )
-            frame = copy.copy(read[name])
-            frame.attributes = dict(frame.attributes)
-            frame.arbitration_id = canmatrix.ArbitrationId(number, extended=is_long)
-            frame.size = max(size, int(frame.size))
-            if period:
-                frame.cycle_time = int(period * 1000)
-                frame.attributes["GenMsgCycleTime"] = str(period * 1000)
-            frames.append(frame)
+            frames.append(triggered(read[it.name], it))
         matrix.frames = frames
     return reader.lost()
 
@@ -211,6 +229,7 @@ def frame_of(frame: Any, matrix: Any, bus: str, name: str) -> Frame:
         own=frozenset(frame.attributes),
         is_default=by_default or not cycle and bool(delay) and "GenMsgDelayTime" not in frame.attributes,
         senders=list(frame.transmitters),
+        has_one_period=has_one_period(frame, matrix),
     )
 
 

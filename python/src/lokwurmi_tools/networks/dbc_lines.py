@@ -83,6 +83,7 @@ class FrameLine:
     place: int
     line: str
     size: int
+    sender: str
     signals: set[str] = field(default_factory=set)
     broken: list[tuple[int, str]] = field(default_factory=list)
     multiplexer: str = ""
@@ -197,7 +198,7 @@ class DbcLines:
                 f"is no frame that can be read, by {word}: {helps}. Without it the bounds of all other frames may be"
                 " too low",
             )
-        self.frame = FrameLine(place, line, int(found[3]))
+        self.frame = FrameLine(place, line, int(found[3]), found[4])
         self.frames.setdefault(number, []).append(self.frame)
 
     def take_signal(self, place: int, line: str) -> None:

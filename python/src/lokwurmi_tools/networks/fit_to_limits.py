@@ -5,10 +5,11 @@ from dataclasses import dataclass, field, replace
 from fractions import Fraction
 from typing import Any
 
-from lokwurmi.model.limits import DEFAULT_LIMIT, MOST_ENTRIES, MOST_LIMIT
-from lokwurmi_tools.networks.buses import BEHIND, ERRORS, LONGEST, QUEUED, named, plain, priorities
+from lokwurmi.model.limits import DEFAULT_LIMIT, MOST_ENTRIES, MOST_EXECUTION, MOST_LIMIT
+from lokwurmi_tools.networks.buses import BEHIND, ERRORS, LONGEST, PASSED, QUEUED, named, plain, priorities
 from lokwurmi_tools.networks.frames_to_tasks import Taken, Taker, first_of
 from lokwurmi_tools.networks.import_notes import names_text
+from lokwurmi_tools.networks.sender_clocks import ON_NO_CLOCK
 from lokwurmi_tools.shared.faults import Fault
 from lokwurmi_tools.shared.times import UNITS, text_of
 
@@ -41,8 +42,8 @@ def asked_frames(taker: Taker) -> set[str]:
 
 
 def needed_frames(taker: Taker, asked: set[str]) -> set[str]:
-    """These frames and what their bounds depend on: all that go before one of them on its bus, and what these come
-    after."""
+    """These frames and what their bounds depend on: all that go before one of them on its bus, what these come after,
+    and what else goes through the queue of a gateway."""
     buses = {it.frame.name: taken for taken in taker.taken.values() for it in taken}
     needed: set[str] = set()
     more = set(asked)
@@ -51,7 +52,9 @@ def needed_frames(taker: Taker, asked: set[str]) -> set[str]:
         needed.add(name)
         order = {it.frame.name: it.frame.order for it in buses[name]}
         more |= {it for it, place in order.items() if place < order[name]}
-        more |= {taker.forwards[name]} if name in taker.forwards else set()
+        if name in taker.forwards:
+            # in a queue each may be in front of any other
+            more |= {taker.forwards[name], *(taker.forwards if taker.options.gateway_queue else ())}
         more -= needed
     return needed
 
@@ -73,6 +76,7 @@ def behind(taker: Taker, bus: str, rest: list[Taken]) -> Taken:
         period=first.period,
         jitter=first.jitter,
         sporadic=first.sporadic,
+        start=ON_NO_CLOCK,
         deadline=None,
     )
 
@@ -97,7 +101,14 @@ def group_of(it: Taken, how: str) -> tuple[Any, ...]:
     """Frames of one group may have one source: they have equal event models, and with `sender` one sender."""
     if how == "none" or how == "sender" and len(it.frame.senders) != 1:
         return ("frame", it.frame.name)
-    return (it.frame.senders[0] if how == "sender" else "", it.period, it.jitter, it.sporadic)
+    return (
+        it.frame.senders[0] if how == "sender" else "",
+        it.period,
+        it.jitter,
+        it.sporadic,
+        it.start.clock,
+        it.start.offset,
+    )
 
 
 def groups(taker: Taker, how: str) -> dict[tuple[Any, ...], list[Taken]]:
@@ -143,11 +154,15 @@ def add_errors(system: SystemEntries, taker: Taker, bus: str) -> None:
     )
 
 
+def limit_of(tick: Fraction) -> int | None:
+    """The longest busy window that is looked at: a second, where that is longer than it is without a limit."""
+    second = math.ceil(UNITS["s"] / tick)
+    return None if second <= DEFAULT_LIMIT else min(second, MOST_LIMIT)
+
+
 def add_bus(system: SystemEntries, taker: Taker, bus: str) -> None:
     """Adds a bus and its frames."""
-    taken, tick = taker.taken[bus], taker.options.tick
-    second = math.ceil(UNITS["s"] / tick)
-    limit = None if second <= DEFAULT_LIMIT else min(second, MOST_LIMIT)
+    taken, limit = taker.taken[bus], limit_of(taker.options.tick)
     system.resources.append({"name": bus, "kind": "can", "bit": math.ceil(taker.rates[bus].bit), "limit": limit})
     is_told = all(it.by_payload for it in taken)
     numbers, rule = priorities([it.frame for it in taken], 1 if bus in taker.errors else 0, is_told)
@@ -160,7 +175,8 @@ def add_bus(system: SystemEntries, taker: Taker, bus: str) -> None:
         if not it.forwarded and it.after not in known:
             known.add(it.after)
             source = {"name": it.after, "period": it.period, "jitter": it.jitter or None}
-            system.sources.append(source | {"sporadic": it.sporadic or None})
+            start = {"clock": it.start.clock, "offset": it.start.offset or None}
+            system.sources.append(source | {"sporadic": it.sporadic or None} | start)
         system.tasks.append({"name": name, "on": bus, "after": it.after, **length_of(it), "priority": numbers[name]})
         if name != bus + BEHIND:
             system.notes[name] = f" # {it.frame.shown}"
@@ -168,12 +184,39 @@ def add_bus(system: SystemEntries, taker: Taker, bus: str) -> None:
             system.paths.append({"name": name, "tasks": [name], "deadline": it.deadline})
 
 
+def pass_through(taker: Taker) -> SystemEntries:
+    """The queue of a gateway, with a task on it for each frame that is passed on, which comes after that task then;
+    nothing where there is no such queue."""
+    found = SystemEntries()
+    passed = [it for taken in taker.taken.values() for it in taken if it.forwarded]
+    if taker.options.gateway_queue is None:
+        return found
+    if not taker.forwards and not taker.options.only:
+        raise Fault("--gateway-queue: no frame goes through it; --forward FROM=TO says which do")
+    (queue, time), tick = taker.options.gateway_queue, taker.options.tick
+    if queue in taker.taken:
+        raise Fault(f"--gateway-queue {queue}: a bus has this name; NAME=TIME gives the queue another")
+    worst = math.ceil(time / tick)
+    if worst > MOST_EXECUTION:
+        told = f"{text_of(time)} are {worst} ticks, and {MOST_EXECUTION} are the most"
+        raise Fault(f"--gateway-queue: {told}: take a longer --tick")
+    names = {it.frame.name + more for taken in taker.taken.values() for it in taken for more in ("", QUEUED)}
+    for it in passed:
+        name = named(it.frame.name[: LONGEST - len(PASSED)] + PASSED, names, LONGEST)
+        found.tasks.append({"name": name, "on": queue, "after": it.after, "best": 1, "worst": worst})
+        it.after = name
+    if passed:
+        found.resources.append({"name": queue, "kind": "fifo", "limit": limit_of(tick)})
+    return found
+
+
 def add_ways(system: SystemEntries, forwards: dict[str, str]) -> None:
-    """Adds a path for each chain of frames that gateways pass on."""
+    """Adds a path for each chain of frames that gateways pass on, with what they pass in between."""
+    after = {it["name"]: it["after"] for it in system.tasks}
     for name in sorted(set(forwards) - set(forwards.values())):
         chain = [name]
-        while chain[0] in forwards:
-            chain.insert(0, forwards[chain[0]])
+        while after[chain[0]] in after:
+            chain.insert(0, after[chain[0]])
         system.paths.append({"name": f"{chain[0]}-{name}"[:LONGEST], "tasks": chain})
 
 
@@ -225,9 +268,12 @@ def system_of(taker: Taker) -> SystemEntries:
     if taker.options.only:
         only(taker)
     share(taker)
+    queue = pass_through(taker)
     system = SystemEntries()
     for bus in taker.taken:
         if taker.taken[bus]:
             add_bus(system, taker, bus)
+    system.resources += queue.resources
+    system.tasks += queue.tasks
     add_ways(system, taker.forwards)
     return system

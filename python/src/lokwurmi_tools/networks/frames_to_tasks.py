@@ -26,6 +26,7 @@ from lokwurmi_tools.networks.option_checks import (
     check_used,
     is_named,
 )
+from lokwurmi_tools.networks.sender_clocks import ON_NO_CLOCK, SenderClocks, Start
 from lokwurmi_tools.shared.faults import Fault
 from lokwurmi_tools.shared.times import UNITS, common, text_of
 
@@ -47,6 +48,7 @@ class Taken:
     greatest: int
     by_payload: bool
     sporadic: bool = False  # whether its source may fall silent
+    start: Start = ON_NO_CLOCK
 
 
 @dataclass(frozen=True)
@@ -99,6 +101,7 @@ class Taker:
         # the options that concern a frame, and what wants a word of the user's: by the reason the frames
         self.used: set[str] = set()
         self.lacking: dict[str, list[str]] = {}
+        self.clocks = SenderClocks(self)
 
     def told_rate(self, bus: Bus, option: str, pairs: list[tuple[str, int]], own: int) -> int:
         """A bit rate of a bus: as told, or else the database's; 0 where neither tells it."""
@@ -242,12 +245,13 @@ class Taker:
             self.report.add(self.report.assumed, f"jitter by --jitter, as there is no {key} of its own", frame.name)
         return None
 
-    def jitter(self, frame: Frame, period: Fraction) -> int:
-        """The jitter of a frame in ticks, rounded up."""
+    def jitter(self, frame: Frame, period: Fraction, lost: Fraction) -> int:
+        """The jitter of a frame in ticks, rounded up, with what its offset is too early."""
         told = self.told_jitter(frame)
         if told is None and self.options.jitter is not None:
             self.used.add("jitter")
         exact = of_period(self.options.jitter or ("time", Fraction(0)), period) if told is None else told
+        exact += lost
         jitter = math.ceil(exact / self.options.tick)
         if Fraction(jitter) != exact / self.options.tick:
             self.report.add(
@@ -333,20 +337,25 @@ class Taker:
             )
         return least, greatest
 
-    def take(self, frame: Frame, rates: Rates) -> None:
-        """Adds a frame to those of its bus."""
+    def check_frame(self, frame: Frame) -> None:
+        """Refuses an identifier or a length that no frame has."""
         if not 0 <= frame.identifier < (1 << 29 if frame.extended else 1 << 11) or frame.size < 0:
             raise Fault(
                 f"{frame.name}: the database gives it the identifier {frame.identifier} and {frame.size} bytes, which"
                 f" no frame has: mend it, or --without {frame.name}"
             )
+
+    def take(self, frame: Frame, rates: Rates) -> None:
+        """Adds a frame to those of its bus."""
+        self.check_frame(frame)
         exact, why = self.least_period(frame)
         if frame.is_default and frame.name not in self.forwards:
             self.used.add("defaults")
             if not self.options.defaults:
                 self.lacking.setdefault("defaults", []).append(frame.name)
         self.tell_frame(frame, why)
-        period, jitter = self.period(frame, exact), self.jitter(frame, exact)
+        start = self.clocks.start_of(frame, exact)
+        period, jitter = self.period(frame, exact), self.jitter(frame, exact, start.lost)
         if frame.values:
             period, jitter = self.multiplexed(frame, period, jitter)
         forwarded = self.forwards.get(frame.name)
@@ -369,6 +378,7 @@ class Taker:
                 math.ceil(greatest),
                 rates.bit.denominator == 1 and not frame.is_fd,
                 frame.is_on_events and not forwarded,
+                start,
             )
         )
 
@@ -460,6 +470,7 @@ class Taker:
         check_patterns("--paths", self.options.paths, [it.frame for several in self.taken.values() for it in several])
         check_lacking(self)
         check_used(self)
+        self.clocks.tell()
         self.tell_forwards()
         for bus in self.buses:
             if bus.name in self.taken:
@@ -491,8 +502,16 @@ class Taker:
             for it in (before, name):
                 if it not in names:
                     raise Fault(f"--forward {before}={name}: {it} is left out")
-            what = "a gateway passes on at once; where it takes time, put a task in between"
-            self.report.add(self.report.assumed, what, f"{name} after {before}")
+            self.report.add(self.report.assumed, self.gateway_text(), f"{name} after {before}")
+
+    def gateway_text(self) -> str:
+        """What is assumed of a gateway."""
+        if self.options.gateway_queue is None:
+            return "a gateway passes on at once; where it takes time, --gateway-queue TIME"
+        name, time = self.options.gateway_queue
+        return (
+            f"a gateway passes on by its queue {name}, in the order in which frames come, each in up to {text_of(time)}"
+        )
 
     def tell_same_names(self) -> None:
         """Frames of one name on several buses may be forwarded."""

@@ -34,6 +34,10 @@ CONCERN = {
     "defaults": "there is none whose cycle time, least distance or jitter is a default",
     "multiplexed": "there is none that is multiplexed",
     "data_bitrate": "there is none of CAN FD that switches its rate",
+    "offsets": (
+        "none that its cycle time alone starts has an offset (GenMsgStartDelayTime, or TIME-OFFSET of ARXML);"
+        " --defaults takes the database's default"
+    ),
     "jitter": "each has its own by --jitter-attribute",
     "deadline": "each has its own by --deadline-attribute, or none has a path",
 }

@@ -12,7 +12,7 @@ ShareOrTime = tuple[str, Fraction]
 class NetworkOptions:
     """Databases whose buses become a system in the file `to`, None for the standard output. All times are in
     nanoseconds, and rates in bits per second, each for the bus of a name or, without a name, for all. `fast` is in
-    millionths; docs/NETWORKS.md says what each option does."""
+    millionths, and `gateway_queue` a name and how long a frame takes there; docs/NETWORKS.md says what each does."""
 
     database: list[str]
     to: str | None
@@ -31,9 +31,11 @@ class NetworkOptions:
     only: list[str]
     paths: list[str]
     forward: list[str]
+    gateway_queue: tuple[str, Fraction] | None
     without_period: Fraction | str | None
     others: Fraction | None
     defaults: bool
     longer: str | None
     multiplexed: str | None
     share: str
+    offsets: bool

@@ -3,7 +3,7 @@ import sys
 from fractions import Fraction
 
 from lokwurmi.model.formats import least_format
-from lokwurmi_tools.networks.buses import Bus
+from lokwurmi_tools.networks.buses import START, Bus
 from lokwurmi_tools.networks.databases import read_buses
 from lokwurmi_tools.networks.fit_to_limits import SystemEntries, check_size, system_of
 from lokwurmi_tools.networks.frames_to_tasks import Taker
@@ -61,6 +61,7 @@ def text_in(system: SystemEntries, report: ImportNotes, tick: Fraction) -> str:
 def write_network(options: NetworkOptions) -> None:
     """Writes the system of some databases, and tells what there is to say of it."""
     attributes = [it for it in (options.jitter_attribute, options.deadline_attribute) if it]
+    attributes += [START] if options.offsets else []
     buses = read_buses(options.database, attributes)
     taker = Taker(buses, options, forwards_of(options.forward, buses))
     taker.all()

@@ -57,6 +57,8 @@ def check_used(taker: "Taker") -> None:
     for name, _ in taker.options.data_bitrate:
         if name in taker.taken and f"data_bitrate {name}" not in taker.used:
             raise Fault(f"--data-bitrate {name}: {CONCERN['data_bitrate']} on this bus")
+    if taker.options.offsets and taker.options.fast:
+        raise Fault("--fast: periods on a clock are exact; leave --fast or --offsets out")
     if taker.options.paths and taker.options.deadline is None and not taker.options.deadline_attribute:
         raise Fault("--paths: with --deadline none there is no path; leave one of both out")
 

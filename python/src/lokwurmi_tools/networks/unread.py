@@ -8,6 +8,7 @@ from collections import Counter
 from collections.abc import Collection, Iterable
 from typing import Any
 
+from lokwurmi_tools.networks.buses import NO_SENDER
 from lokwurmi_tools.networks.dbc_lines import NO_FRAME, DbcLines, number_of_frame, text_in
 from lokwurmi_tools.shared.faults import Fault
 
@@ -57,12 +58,17 @@ def check_dbc(lines: DbcLines, frames: Iterable[Any]) -> None:
     for frame in (it for it in frames if it.name != "VECTOR__INDEPENDENT_SIG_MSG"):
         number = number_of_frame(int(frame.arbitration_id.id or 0), bool(frame.arbitration_id.extended))
         read.setdefault(number, []).append(frame)
+    senders: dict[str, str] = {}
     for number, several in lines.frames.items():
         if number != NO_FRAME and len(read.get(number, [])) != len(several):
             lines.refuse(several[0].place, several[0].line, f"isn't read by canmatrix: mend it. {TOO_LOW}")
         for it, frame in zip(several, read.get(number, [])):
             if len(frame.signals) < len(it.signals):
                 lines.refuse(it.place, it.line, "has signals that canmatrix doesn't read: mend them, or take them out")
+            # a sender may have a longer name there, and each one another
+            sender = frame.transmitters[0] if len(frame.transmitters) == 1 and it.sender != NO_SENDER else ""
+            if sender and senders.setdefault(sender, it.sender) != it.sender:
+                lines.refuse(it.place, it.line, f"has a sender that canmatrix reads as {sender}, another")
     for (name, number, signal), (place, line, _) in lines.values.items():
         if name not in lines.read or number == NO_FRAME:
             continue

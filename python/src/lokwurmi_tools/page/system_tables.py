@@ -101,10 +101,13 @@ class PageSystem:
 
     def rank(self, name: str) -> Values:
         """What tells who goes first, as a word, a number and how that is told: an identifier of a frame that takes more
-        than 11 bits is told in hexadecimal, as other tools do. A region of more than a tick stands beside it."""
+        than 11 bits is told in hexadecimal, as other tools do. A region of more than a tick stands beside it. On a
+        queue there is neither word nor number: who came first goes first."""
         task, show = self.view.tasks[name], self.scale.text
         if task.slot is not None:
             return {"by": "slot", "turn": task.slot, "told": show(task.slot), "region": None}
+        if task.priority is None:
+            return {"by": "by arrival", "turn": "", "told": "", "region": None}
         is_long = self.view.resource(name).is_bus and task.rank > MOST_SHORT
         told = f"0x{task.rank:X}" if is_long else str(task.rank)
         region = show(task.region) if task.region > 1 else None

@@ -43,6 +43,15 @@ def letters(text: str, size: float) -> float:
     return 0.6 * size * len(text)
 
 
+def which_in(job: Values) -> str:
+    """Which job a picture is of."""
+    if "window" in job:
+        return f"a job behind all that come in a window of {job['window']}"
+    return (
+        f"job {job['number']} of {job['of']} in the busy window" if job["of"] > 1 else "the one job in the busy window"
+    )
+
+
 class Bars:
     """The bars of some tasks, each with its parts one after the other, which go to a picture."""
 
@@ -130,10 +139,7 @@ class Bars:
             axes.axvline(0, color=INK, linewidth=1.2)
         axes.set_xlim(-came, 1.03 * max(it["bound"], deadline["ticks"] if is_near else 0))
         axes.set_xlabel("; ".join(told), fontsize=8)
-        job = it["job"]
-        which = f"job {job['number']} of {job['of']} in" if job["of"] > 1 else "the one job in"
-        title = f"{it['task']} on {it['on']}, {it['kind']}, {turn_of(it)}: {which} the busy window"
-        axes.set_title(title, fontsize=9, loc="left")
+        axes.set_title(f"{it['task']} on {it['on']}, {turn_of(it)}: {which_in(it['job'])}", fontsize=9, loc="left")
 
     def rows(self, tasks: list[Values], title: str, offsets: list[int], deadline: int | None = None) -> None:
         """A row a task; along a path each begins where the one before ends."""

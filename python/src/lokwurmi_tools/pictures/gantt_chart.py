@@ -12,7 +12,15 @@ from lokwurmi_tools.pictures.effect_chain_arrows import Marked, marked_in
 from lokwurmi_tools.pictures.gantt_lanes import DrawnJob, GanttChart, Longest, Overdue, drawn
 from lokwurmi_tools.pictures.plotting import save
 from lokwurmi_tools.runs.effect_chain_in_run import READINGS, RunOfJobs
-from lokwurmi_tools.runs.jobs_in_run import jobs_in, passages_in, points_in, read_schedule, read_trace, schedule_by
+from lokwurmi_tools.runs.jobs_in_run import (
+    jobs_in,
+    passages_in,
+    points_in,
+    read_schedule,
+    read_trace,
+    schedule_by,
+    waits_in,
+)
 from lokwurmi_tools.shared.chain_files import asked_chain, bounds_by, totals_of
 from lokwurmi_tools.shared.faults import Fault
 from lokwurmi_tools.shared.packages import need
@@ -104,7 +112,8 @@ def chart_of(
         if it.past < until and it.job.last > start
     ]
     points = points_in(view, schedule, trace) if trace else {}
-    return GanttChart(view, rows, jobs, late, trace[2] if trace else {}, start, until, scale, points)
+    waits = waits_in(view, schedule, trace, jobs) if trace else {}
+    return GanttChart(view, rows, jobs, late, trace[2] if trace else {}, start, until, scale, points, waits)
 
 
 def check_longest(name: str, view: SystemView) -> None:

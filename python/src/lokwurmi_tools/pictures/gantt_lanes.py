@@ -67,6 +67,8 @@ class GanttChart(NamedTuple):
     scale: Scale = Scale()
     # where jobs go on from one region to the next
     points: dict[str, list[int]] = {}
+    # from when to when the jobs of a queue waited
+    waits: dict[str, list[Segment]] = {}
 
     def lanes(self) -> list[ResourceRow]:
         """The resources that have tasks."""
@@ -76,6 +78,14 @@ class GanttChart(NamedTuple):
         """Where regions end that are marked: of the tasks that don't have too many of them."""
         found = {name: [it for it in times if self.start < it < self.until] for name, times in self.points.items()}
         return {name: times for name, times in found.items() if 0 < len(times) <= MOST_SLOTS}
+
+    def waiting(self) -> dict[str, list[Segment]]:
+        """The waits that are seen, of the tasks of queues."""
+        found = {
+            name: [it for it in several if it[0] < it[1] and it[0] < self.until and it[1] > self.start]
+            for name, several in self.waits.items()
+        }
+        return {name: several for name, several in found.items() if several}
 
     def place(self) -> dict[str, int]:
         """The lane of each task."""
@@ -169,6 +179,15 @@ def draw_jobs(axes: Any, chart: GanttChart, colour: dict[str, str]) -> None:
                 zorder=3,
                 clip_on=False,
             )
+
+
+def draw_waits(axes: Any, chart: GanttChart, colour: dict[str, str]) -> None:
+    """On a queue a line from where a job comes to where it begins. What came first begins first, so none cross."""
+    place = chart.place()
+    for name, several in chart.waiting().items():
+        y = place[name]
+        lines = [[(came, y + CAME), (began, y - BAR / 2)] for came, began in several]
+        axes.add_collection(LineCollection(lines, colors=colour[name], linewidths=0.9, zorder=2.5))
 
 
 def draw_outline(axes: Any, chart: GanttChart, job: DrawnJob, colour: str) -> None:
@@ -316,6 +335,8 @@ def marks_in_legend(chart: GanttChart) -> list[tuple[Any, str]]:
             (Line2D([], [], color=INK, marker=mark, linestyle="none", markersize=4), text)
             for mark, text in (("v", "a job comes"), ("^", "it is done"))
         ]
+    if chart.waiting():
+        entries.append((Line2D([], [], color=INK, linewidth=0.9), "it waits in a queue"))
     if chart.ends():
         line = Line2D([], [], color=PAPER, marker="|", linestyle="none", markersize=7, markeredgewidth=1.1)
         entries.append(((Patch(color=FAINT), line), "a region ends, the job goes on"))
@@ -353,6 +374,7 @@ def drawn(
     draw_slots(axes, chart, colour)
     draw_bars(axes, chart, colour, unit)
     draw_points(axes, chart)
+    draw_waits(axes, chart, colour)
     draw_jobs(axes, chart, colour)
     draw_late(axes, chart)
     if longest:

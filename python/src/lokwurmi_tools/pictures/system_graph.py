@@ -8,6 +8,7 @@ from dataclasses import dataclass
 from fractions import Fraction
 
 from lokwurmi.model.entries import Chain
+from lokwurmi.model.limits import Kind
 from lokwurmi.model.view import PathRow, ResourceRow, SourceRow, SystemView, TaskRow
 from lokwurmi.results.reports import PathReport, Report, TaskReport, Verdict
 from lokwurmi_tools.pictures.colours import HUES, hues
@@ -99,6 +100,7 @@ class Drawing:
         """A box with the tasks of a resource."""
         own = self.view.on(resource.name)
         label = f"{resource.name}: {resource.kind}"
+        label += ", first come, first served" if resource.kind == Kind.FIFO else ""
         if left_out := sum(it not in self.drawn for it in own):
             label += f", and {left_out} task{'s' if left_out > 1 else ''} of its own"
         paper = "#f6f1e7" if resource.is_bus else "#eef3f8"
@@ -108,9 +110,10 @@ class Drawing:
 
     def task(self, task: TaskRow) -> str:
         name, show, streams = task.name, self.scale.text, self.view.streams_from(task.name)
-        turn = f"priority {task.priority}" if task.slot is None else f"slot {show(task.slot)}"
+        turn = f", priority {task.priority}" if task.priority is not None else ""
+        turn += f", slot {show(task.slot)}" if task.slot is not None else ""
         region = f", region {show(task.region)}" if task.region > 1 else ""
-        text, look = f"{name}\n{show(task.best)} to {show(task.worst)}, {turn}{region}", ""
+        text, look = f"{name}\n{show(task.best)} to {show(task.worst)}{turn}{region}", ""
         if streams > 1:
             text += f"\nstreams {streams}"
         if len(task.after) > 1:

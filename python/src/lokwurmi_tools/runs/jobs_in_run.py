@@ -3,6 +3,7 @@ from collections.abc import Iterable, Sequence
 from typing import NamedTuple
 
 from lokwurmi.files import traces
+from lokwurmi.model.limits import Kind
 from lokwurmi.model.view import SystemView
 from lokwurmi_tools.shared.program import written_by
 from lokwurmi_tools.shared.types import Jobs, Schedule, Segment, Times, Trace
@@ -54,6 +55,17 @@ def points_in(view: SystemView, schedule: Schedule, trace: Trace) -> dict[str, l
             for start, end in parts:
                 found[name] += range(start + region - had % region, end, region)
                 had += end - start
+    return found
+
+
+def waits_in(view: SystemView, schedule: Schedule, trace: Trace, jobs: Jobs) -> dict[str, list[Segment]]:
+    """Of each task of a queue from when to when its jobs waited, of those that have begun: from when they came."""
+    tasks = {name: it for name, it in view.tasks.items() if view.kind(name) == Kind.FIFO}
+    segments = segments_of([row for row in schedule if row[0] in tasks], tasks)
+    found: dict[str, list[Segment]] = {}
+    for name, task in tasks.items():
+        ran = parts_in(segments[name], trace[1].get(name, []), task.worst)
+        found[name] = [(came, parts[0][0]) for (came, _), (parts, _) in zip(jobs[name], ran)]
     return found
 
 

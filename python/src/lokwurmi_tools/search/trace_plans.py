@@ -7,13 +7,16 @@ from collections.abc import Iterable, Sequence
 from dataclasses import dataclass, field
 from typing import NamedTuple
 
-from lokwurmi.model.event_models import Bounds
+from lokwurmi.model.event_models import Bounds, least_time
 from lokwurmi.model.limits import MOST_TIME, Kind
 from lokwurmi.model.view import SystemView
+from lokwurmi_tools.bounds.bound_parts import BoundParts, Tired
 from lokwurmi_tools.shared.types import Times
 
 # how many rows a trace may have that is tried, about
 MOST_ROWS = 20_000
+# how many looks at windows may be taken for the one in which the bound of a task of a queue is reached
+MOST_LOOKS = 1_000_000
 
 
 class Turn(NamedTuple):
@@ -129,12 +132,14 @@ def travel_of(view: SystemView, bounds: Bounds, way: Iterable[str], which: str) 
 
 def known_plans(view: SystemView, target: str, bounds: Bounds) -> list[TracePlan]:
     """Plans that are known to be bad for a task: its rivals come with it, jitter is used up first, all take their
-    greatest; a frame of lower priority has just begun, or a region; the slot has just ended. Where tasks come along
-    chains, these are started before, so that they arrive then, with first jobs that take long and later ones that
-    don't, or with all that take as long."""
+    greatest; a frame of lower priority has just begun, or a region; the slot has just ended; on a queue the task comes
+    last. Where tasks come along chains, these are started before, so that they arrive then, with first jobs that take
+    long and later ones that don't, or with all that take as long."""
     lower, plans = view.blockers(target), arriving(view, target, bounds)
     if lower:
         plans += [more for plan in plans for more in blocked(view, plan, bounds, target, lower)]
+    if view.kind(target) == Kind.FIFO:
+        plans = [*last_of_all(view, plans, bounds, target), *plans]
     if view.kind(target) == Kind.TDMA:
         plans += [more for plan in plans for more in turned(view, plan, target)]
     together = {name: 0 for name in view.sources}
@@ -167,6 +172,24 @@ def blocked(view: SystemView, plan: TracePlan, bounds: Bounds, target: str, lowe
                 if source not in more.start:
                     more.start[source] = -ahead - travel_of(view, bounds, way, "worst")
             found.append(more)
+    return found
+
+
+def last_of_all(view: SystemView, plans: list[TracePlan], bounds: Bounds, target: str) -> list[TracePlan]:
+    """Plans with the jobs of a task of a queue so late that the last of them comes at the end of the window in which
+    its bound is reached, where all that comes in it is in front."""
+    parts = BoundParts(view, bounds)
+    try:
+        job = parts.latest(target, most=MOST_LOOKS)
+    except Tired:
+        return []
+    if job is None:
+        return []
+    later, found = job.came - least_time(parts.inputs[target] or [], job.number), list[TracePlan]()
+    for plan in plans:
+        found.append(plan.copy())
+        for source in dict.fromkeys(view.sources_of(target)):
+            found[-1].start[source] += later
     return found
 
 
