@@ -4,6 +4,7 @@ pub mod ClockSources
 pub mod FirstLemmas
 pub mod LinkLaws
 pub mod ListLaws
+pub mod LockLaws
 pub mod Maps
 pub mod MeasureLaws
 pub mod NameLaws

@@ -15,7 +15,7 @@ use Rattle.cpa_draft.specs.declared.draft.DraftTask.{DraftTask}
 use Rattle.cpa_draft.specs.declared.draft.DraftPath.{DraftPath}
 use Rattle.cpa_draft.specs.declared.refusal.Part.{Part}
 use Rattle.cpa_draft.specs.declared.refusal.Refusal.{Refusal}
-use Rattle.cpa_draft.specs.Refusals.{◌or_else◌, refusal_at, first_with, out_of_range, no_name, known_name, unknown_name, endless, long_chain, known_priority, misfit, crossed, unlinked, too_many, misfed, is_misfed, too_long_clock, has_clock_name, by_own_names, by_links, by_chains, by_kinds, first_refusal, resource_fits, source_fits, task_fits, path_fits, rank_of, is_taken, resource_misfits, task_misfits, is_crossed, is_linked}
+use Rattle.cpa_draft.specs.Refusals.{◌or_else◌, refusal_at, first_with, out_of_range, no_name, known_name, unknown_name, endless, long_chain, known_priority, misfit, crossed, unlinked, too_many, misfed, is_misfed, too_long_clock, mislocked, is_mislocked, has_clock_name, have_lock_names, by_own_names, by_links, by_chains, by_kinds, first_refusal, resource_fits, source_fits, task_fits, path_fits, rank_of, is_taken, resource_misfits, task_misfits, is_crossed, is_linked}
 use Rattle.cpa_draft.specs.Clocks.{is_overlong, IsTicking}
 use Rattle.cpa_draft.proofs.ClockSources.{short-clocks, unmarked-clocks, fits-ticks}
 use Rattle.cpa_draft.proofs.FirstLemmas.{none_marked, all_unmarked}
@@ -31,6 +31,7 @@ pub record IsUnrefused (d : DraftLists) : Type 0 where
   pub sources_named : All (λ (r : DraftSource). is_name r.name ≡ true) d.sources
   pub clocks_named : All (λ (r : DraftSource). has_clock_name r.clock ≡ true) d.sources
   pub tasks_named : All (λ (t : DraftTask). is_name t.name ≡ true) d.tasks
+  pub locks_named : All (λ (t : DraftTask). have_lock_names t.locks ≡ true) d.tasks
   pub paths_named : All (λ (p : DraftPath). is_name p.name ≡ true) d.paths
   pub new_resources : first_known (λ (r : DraftResource). r.name) [] d.resources ≡ None
   pub new_sources : first_known (λ (r : DraftSource). r.name) [] d.sources ≡ None
@@ -51,6 +52,7 @@ pub record IsUnrefused (d : DraftLists) : Type 0 where
   pub few_paths : length d.paths ≤ most_paths d.size
   pub fed : first_place (is_misfed d) d.tasks ≡ None
   pub short_clocks : All (λ (r : DraftSource). is_overlong r.clock d.sources ≡ false) d.sources
+  pub locked : first_place (is_mislocked d) d.tasks ≡ None
 
 or_none : {X : Type 0} (a b : Option X) → (a or_else b) ≡ None → (a ≡ None) × (b ≡ None)
 or_none None b e = (refl, e)
@@ -108,9 +110,10 @@ from_few : {X : Type 0} (n : ℕ) (xs : List X) → length xs ≤ n → first_pl
 from_few n xs less = all_unmarked (λ k x. nat_le n k) xs (λ k d below. false_from_ne_true _ (λ past. absurd (omega (arith, leb-true _ _ past))))
 
 pub unrefused : (d : DraftLists) → first_refusal d ≡ None → IsUnrefused d
-unfolding first_refusal out_of_range no_name known_name unknown_name endless long_chain known_priority misfit crossed unlinked too_many misfed too_long_clock
+unfolding first_refusal out_of_range no_name known_name unknown_name endless long_chain known_priority misfit crossed unlinked too_many misfed too_long_clock mislocked
 unrefused d h =
-    let y = or_none _ (too_long_clock d) h in
+    let x = or_none _ (mislocked d) h in
+    let y = or_none _ (too_long_clock d) x.0 in
     let z = or_none _ (misfed d) y.0 in
     let a = or_none _ (too_many d) z.0 in
     let b = or_none _ (by_kinds d) a.0 in
@@ -120,6 +123,7 @@ unrefused d h =
     let g = or_none (no_name d) (known_name d) e.1 in
     let form = four _ _ _ _ g.0 in
     let named = passes 3 _ (λ (r : DraftSource). is_name r.name && has_clock_name r.clock) d.sources form.second in
+    let task_named = passes 3 _ (λ (t : DraftTask). is_name t.name && have_lock_names t.locks) d.tasks form.third in
     let fit = passes 2 _ (source_fits d.size) d.sources range.second in
     let known = four _ _ _ _ g.1 in
     let f = or_none (unknown_name d) (by_chains d) c.1 in
@@ -136,7 +140,8 @@ unrefused d h =
       resources_named = passes 3 _ (λ (r : DraftResource). is_name r.name) d.resources form.first;
       sources_named = λ k d less. (and_parts _ _ (named k d less)).0;
       clocks_named = λ k d less. (and_parts _ _ (named k d less)).1;
-      tasks_named = passes 3 _ (λ (t : DraftTask). is_name t.name) d.tasks form.third;
+      tasks_named = λ k d less. (and_parts _ _ (task_named k d less)).0;
+      locks_named = λ k d less. (and_parts _ _ (task_named k d less)).1;
       paths_named = passes 3 _ (λ (p : DraftPath). is_name p.name) d.paths form.fourth;
       new_resources = at_none 4 _ _ known.first;
       new_sources = at_none 4 _ _ known.second;
@@ -157,12 +162,14 @@ unrefused d h =
       few_paths = few (most_paths d.size) d.paths (at_none 12 _ _ many.fourth);
       fed = at_none 14 _ _ z.1;
       short_clocks = short-clocks d.sources (λ k r less. fits-ticks d.size (slice_index_or d.sources k r) (fit k r less)) (at_none 15 _ _ y.1);
+      locked = at_none 16 _ _ x.1;
     }
 
 pub not_refused : (d : DraftLists) → IsUnrefused d → first_refusal d ≡ None
-unfolding first_refusal out_of_range no_name known_name unknown_name endless long_chain known_priority misfit crossed unlinked too_many misfed too_long_clock
+unfolding first_refusal out_of_range no_name known_name unknown_name endless long_chain known_priority misfit crossed unlinked too_many misfed too_long_clock mislocked
 not_refused d u =
-    none_or _ (too_long_clock d)
+    none_or _ (mislocked d)
+    (none_or _ (too_long_clock d)
     (none_or _ (misfed d)
     (none_or _ (too_many d)
     (none_or _ (by_kinds d)
@@ -178,7 +185,7 @@ not_refused d u =
     (from_four _ _ _ _ (record {
       first = from_passes 3 _ (λ (r : DraftResource). is_name r.name) d.resources u.resources_named;
       second = from_passes 3 _ (λ (r : DraftSource). is_name r.name && has_clock_name r.clock) d.sources (λ k r less. rw (u.sources_named k r less, u.clocks_named k r less) refl);
-      third = from_passes 3 _ (λ (t : DraftTask). is_name t.name) d.tasks u.tasks_named;
+      third = from_passes 3 _ (λ (t : DraftTask). is_name t.name && have_lock_names t.locks) d.tasks (λ k t less. rw (u.tasks_named k t less, u.locks_named k t less) refl);
       fourth = from_passes 3 _ (λ (p : DraftPath). is_name p.name) d.paths u.paths_named;
     }))
     (from_four _ _ _ _ (record {
@@ -205,7 +212,8 @@ not_refused d u =
       fourth = none_at 12 _ _ (from_few (most_paths d.size) d.paths u.few_paths);
     })))
     (none_at 14 _ _ u.fed))
-    (none_at 15 _ _ (unmarked-clocks d.sources (λ k r less. fits-ticks d.size (slice_index_or d.sources k r) (u.sources_fit k r less)) u.short_clocks))
+    (none_at 15 _ _ (unmarked-clocks d.sources (λ k r less. fits-ticks d.size (slice_index_or d.sources k r) (u.sources_fit k r less)) u.short_clocks)))
+    (none_at 16 _ _ u.locked)
 
 -- the periods are in their range where reason 2 doesn't apply
 pub ticking : (d : DraftLists) → out_of_range d ≡ None → All IsTicking d.sources

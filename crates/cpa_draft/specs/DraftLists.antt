@@ -20,7 +20,7 @@ abbrev pub no_resource : DraftResource
 no_resource = record { name = []; kind = word.Preemptive; limit = None; gap = None; bit = None; rate = None }
 
 abbrev pub no_task : DraftTask
-no_task = record { name = []; on = []; after = []; best = None; worst = None; payload = None; extended = None; priority = None; slot = None; region = None }
+no_task = record { name = []; on = []; after = []; best = None; worst = None; payload = None; extended = None; priority = None; slot = None; region = None; locks = [] }
 
 -- the entries by place
 abbrev pub resource_at : DraftLists → ℕ → DraftResource

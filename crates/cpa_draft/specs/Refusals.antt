@@ -17,6 +17,9 @@ use Rattle.cpa_draft.specs.declared.ports.TheConstants.{MAX_RATE, MAX_PORT_PAYLO
 use Rattle.cpa_draft.specs.declared.draft.DraftResource.{DraftResource}
 use Rattle.cpa_draft.specs.declared.draft.DraftSource.{DraftSource}
 use Rattle.cpa_draft.specs.declared.draft.DraftTask.{DraftTask}
+use Rattle.cpa_draft.specs.declared.draft.DraftLock.{DraftLock}
+use Rattle.cpa_draft.specs.declared.draft.TheConstants.{MAX_SECTIONS}
+use Rattle.std.specs.Str.{bytes_eq}
 use Rattle.cpa_draft.specs.declared.draft.DraftPath.{DraftPath}
 use Rattle.cpa_draft.specs.declared.draft.KindWord.{KindWord}
 use Rattle.cpa_draft.specs.declared.draft.KindWord.TheVariants as word
@@ -47,16 +50,24 @@ abbrev pub is_fifo : KindWord → Bool
 is_fifo word.Fifo = true
 is_fifo _ = false
 
--- no resource of a small system is a queue
-abbrev pub queue_fits : Size → Bool → Bool
-queue_fits Small queue = not queue
-queue_fits Large queue = true
+abbrev pub is_ceiling : KindWord → Bool
+is_ceiling word.Ceiling = true
+is_ceiling _ = false
+
+-- whether the kind is one of large systems alone
+abbrev pub is_later_kind : KindWord → Bool
+is_later_kind kind = is_fifo kind || is_ceiling kind
+
+-- no resource of a small system is of such a kind
+abbrev pub kind_fits : Size → Bool → Bool
+kind_fits Small later = not later
+kind_fits Large later = true
 
 -- the numbers of an entry are in their ranges, and its distance is at most its period
 abbrev pub resource_fits : Size → DraftResource → Bool
 resource_fits z r =
     may_be_within 1 (most_limit z) r.limit && may_be_within 0 (most_gap z) r.gap && may_be_within 1 MAX_BIT r.bit
-    && may_be_within 1 MAX_RATE r.rate && queue_fits z (is_fifo r.kind)
+    && may_be_within 1 MAX_RATE r.rate && kind_fits z (is_later_kind r.kind)
 
 -- no source of a small system is sporadic
 abbrev pub sporadic_fits : Size → Bool → Bool
@@ -83,11 +94,20 @@ abbrev pub most_payload : Size → ℕ
 most_payload Small = MAX_PAYLOAD
 most_payload Large = MAX_PORT_PAYLOAD
 
+-- the numbers of a critical section are in their ranges
+abbrev pub lock_fits : DraftLock → Bool
+lock_fits l = is_within 0 (most_execution Large) l.start && is_within 1 (most_execution Large) l.length
+
+-- no task of a small system has critical sections
+abbrev pub locks_fit : Size → List DraftLock → Bool
+locks_fit Small locks = nat_le (length locks) 0
+locks_fit Large locks = list_all lock_fits locks
+
 abbrev pub task_fits : Size → DraftTask → Bool
 task_fits z t =
     (may_be_within 1 (most_execution z) t.best && may_be_within 1 (most_execution z) t.worst)
     && may_be_within 0 (most_payload z) t.payload && may_be_within 0 MAX_PRIORITY t.priority
-    && may_be_within 1 (most_execution z) t.slot && may_be_within 1 (most_region z) t.region
+    && may_be_within 1 (most_execution z) t.slot && may_be_within 1 (most_region z) t.region && locks_fit z t.locks
 
 abbrev pub path_fits : Size → DraftPath → Bool
 path_fits z p = may_be_within 1 MAX_PERIOD p.deadline
@@ -105,12 +125,16 @@ abbrev pub has_clock_name : Option (List ℕ) → Bool
 has_clock_name None = true
 has_clock_name (Some name) = is_name name
 
--- 3: an entry's own name, or that of a source's clock, hasn't the form of one
+-- the names of locks have the form of one
+abbrev pub have_lock_names : List DraftLock → Bool
+have_lock_names locks = list_all (λ (l : DraftLock). is_name l.name) locks
+
+-- 3: an entry's own name, or that of a source's clock or of a task's lock, hasn't the form of one
 unfoldable pub no_name : DraftLists → Option Refusal
 no_name d =
     first_with 3 Resource (λ (r : DraftResource). not (is_name r.name)) d.resources
     or_else first_with 3 Source (λ (r : DraftSource). not (is_name r.name && has_clock_name r.clock)) d.sources
-    or_else first_with 3 Task (λ (t : DraftTask). not (is_name t.name)) d.tasks
+    or_else first_with 3 Task (λ (t : DraftTask). not (is_name t.name && have_lock_names t.locks)) d.tasks
     or_else first_with 3 Path (λ (p : DraftPath). not (is_name p.name)) d.paths
 
 -- 4: an earlier entry has the name; all sources are earlier than all tasks
@@ -139,6 +163,7 @@ long_chain d = refusal_at 7 Task (first_longer (links_of d) MAX_CHAIN)
 abbrev pub by_priority : Option KindWord → Bool
 by_priority (Some word.Preemptive) = true
 by_priority (Some word.Can) = true
+by_priority (Some word.Ceiling) = true
 by_priority _ = false
 
 -- the resource and the priority of a task that has a priority on a resource of such a kind
@@ -186,6 +211,7 @@ resource_misfits r =
 abbrev pub turn_misfits : Option KindWord → DraftTask → Bool
 turn_misfits (Some word.Preemptive) t = is_none t.priority || is_some t.slot
 turn_misfits (Some word.Can) t = is_none t.priority || is_some t.slot
+turn_misfits (Some word.Ceiling) t = is_none t.priority || is_some t.slot
 turn_misfits (Some word.Fifo) t = is_some t.priority || is_some t.slot
 turn_misfits _ t = is_some t.priority || is_none t.slot
 
@@ -195,13 +221,22 @@ payload_misfits word.Can payload = not (may_be_within 0 MAX_PAYLOAD payload)
 payload_misfits word.Fifo payload = false
 payload_misfits _ payload = is_some payload
 
--- that, or a sort of frame where the kind isn't can, or a region where it isn't preemptive
+-- whether a job may be preempted but for its regions
+abbrev pub has_regions : KindWord → Bool
+has_regions kind = is_preemptive kind || is_ceiling kind
+
+-- critical sections where there are no ceilings
+abbrev pub locks_misfit : KindWord → List DraftLock → Bool
+locks_misfit kind locks = nat_lt 0 (length locks) && not (is_ceiling kind)
+
+-- that, or a sort of frame where the kind isn't can, a region where there are none, or critical sections where there are none
 abbrev pub task_misfits : Option KindWord → DraftTask → Bool
 task_misfits kind t =
     turn_misfits kind t
     || payload_misfits (unwrap_or kind word.Preemptive) t.payload
     || (is_some t.extended && not (is_can (unwrap_or kind word.Preemptive)))
-    || (is_some t.region && not (is_preemptive (unwrap_or kind word.Preemptive)))
+    || (is_some t.region && not (has_regions (unwrap_or kind word.Preemptive)))
+    || locks_misfit (unwrap_or kind word.Preemptive) t.locks
 
 -- 9: what an entry has doesn't fit the kind
 unfoldable pub misfit : DraftLists → Option Refusal
@@ -249,6 +284,37 @@ misfed d = first_marked 14 Task (is_misfed d) d.tasks
 unfoldable pub too_long_clock : DraftLists → Option Refusal
 too_long_clock d = first_marked 15 Source (λ k r. is_overlong r.clock (take (k + 1) d.sources)) d.sources
 
+-- the first of two critical sections, which begins before the second, ends within it: they neither nest nor are apart
+abbrev pub crosses : DraftLock → DraftLock → Bool
+crosses a b =
+    nat_lt (nat_of a.start) (nat_of b.start) && nat_lt (nat_of b.start) (nat_of a.start + nat_of a.length)
+    && nat_lt (nat_of a.start + nat_of a.length) (nat_of b.start + nat_of b.length)
+
+abbrev pub have_crossing : List DraftLock → Bool
+have_crossing locks = list_any (λ a. list_any (crosses a) locks) locks
+
+-- whether two tasks have a lock in common
+abbrev pub share_lock : List DraftLock → List DraftLock → Bool
+share_lock locks others = list_any (λ (a : DraftLock). list_any (λ (b : DraftLock). bytes_eq a.name b.name) others) locks
+
+-- an earlier task with one of these locks is on another resource
+abbrev pub is_elsewhere : DraftTask → DraftTask → Bool
+is_elsewhere t other = share_lock t.locks other.locks && not (bytes_eq t.on other.on)
+
+-- the critical sections of a task behind others are too many, or stand beside a region of more than a tick; two of them cross; or an earlier task
+-- with one of their locks is on another resource
+abbrev pub mislocked_after : List DraftTask → DraftTask → Bool
+mislocked_after earlier t =
+    nat_lt MAX_SECTIONS (length t.locks) || (nat_lt 0 (length t.locks) && nat_lt 1 (nat_or 1 t.region)) || have_crossing t.locks
+    || list_any (is_elsewhere t) earlier
+
+abbrev pub is_mislocked : DraftLists → ℕ → DraftTask → Bool
+is_mislocked d i t = mislocked_after (take i d.tasks) t
+
+-- 16: the critical sections of a task
+unfoldable pub mislocked : DraftLists → Option Refusal
+mislocked d = first_marked 16 Task (is_mislocked d) d.tasks
+
 -- the reasons in their order
 abbrev pub by_own_names : DraftLists → Option Refusal
 by_own_names d = no_name d or_else known_name d
@@ -264,4 +330,4 @@ by_kinds d = known_priority d or_else misfit d or_else crossed d or_else unlinke
 
 -- the first reason that applies, with its first place
 unfoldable pub first_refusal : DraftLists → Option Refusal
-first_refusal d = out_of_range d or_else by_own_names d or_else by_links d or_else by_kinds d or_else too_many d or_else misfed d or_else too_long_clock d
+first_refusal d = out_of_range d or_else by_own_names d or_else by_links d or_else by_kinds d or_else too_many d or_else misfed d or_else too_long_clock d or_else mislocked d

@@ -103,6 +103,7 @@ pub enum KindWord {
     Tdma,
     Can,
     Fifo,
+    Ceiling,
 }
 
 /// A resource as it was read: a field is `None` where the file lacks the key.
@@ -132,6 +133,60 @@ pub struct DraftSource {
     pub offset: Option<i64>,
 }
 
+/// The most critical sections of a task.
+pub const MAX_SECTIONS: usize = 64;
+
+/// A critical section of a task as it was read.
+#[derive(Debug, Drop)]
+pub struct DraftLock {
+    /// The name of the lock that it holds.
+    pub name: Raw,
+    /// After how many ticks of each job it begins.
+    pub start: i64,
+    /// How many ticks it takes, unless the job ends before.
+    pub length: i64,
+}
+
+/// The critical sections of a task. None take no memory.
+#[derive(Debug, Drop)]
+pub struct DraftLocks {
+    held: Option<Vec<DraftLock>>,
+}
+
+impl Model for DraftLocks {
+    ghost use Rattle.std.specs.Prelude.{List, [], option_map, unwrap_or};
+    ghost use Rattle.cpa_draft.specs.declared.draft.DraftLock.{DraftLock};
+
+    ghost Value = { List DraftLock };
+
+    ghost view = { λ l. unwrap_or (option_map (λ v. v.items) l.held) [] };
+}
+
+impl DraftLocks {
+    ghost use Rattle.std.specs.Prelude.{[]};
+
+    pub fn none() -> DraftLocks
+        ensures { result ≡ [] }
+    {
+        DraftLocks { held: None }
+    }
+
+    pub fn new(locks: Vec<DraftLock>) -> DraftLocks
+        ensures { result ≡ locks.items }
+    {
+        DraftLocks { held: Some(locks) }
+    }
+
+    pub fn sections(&self) -> &[DraftLock]
+        ensures { result.now ≡ self.now }
+    {
+        match &self.held {
+            None => &[],
+            Some(locks) => locks.as_slice(),
+        }
+    }
+}
+
 /// A task as it was read. Each of the names in `after` is an activator's.
 #[derive(Debug, Drop)]
 pub struct DraftTask {
@@ -145,6 +200,8 @@ pub struct DraftTask {
     pub priority: Option<i64>,
     pub slot: Option<i64>,
     pub region: Option<i64>,
+    /// Its critical sections, under priority ceilings.
+    pub locks: DraftLocks,
 }
 
 /// A path as it was read.

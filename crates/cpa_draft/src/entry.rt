@@ -1,11 +1,12 @@
 //! What each entry of a draft has: a name, and numbers in their ranges.
 
 ghost use Rattle.std.specs.Prelude.{◌≡◌, ◌<◌, ◌-◌, ◌^◌, ◌&&◌, nat_le, not, IfSome};
+ghost use Rattle.std.specs.List.{list_all};
 ghost use Rattle.cpa_units.specs.Name.{is_name};
 ghost use Rattle.cpa_draft.specs.First.{first_place};
-ghost use Rattle.cpa_draft.specs.Refusals.{resource_fits, is_fifo, queue_fits, most_payload, sporadic_fits, clock_fits, offset_fits, has_clock_name, source_fits, task_fits, path_fits};
+ghost use Rattle.cpa_draft.specs.Refusals.{resource_fits, is_fifo, is_ceiling, is_later_kind, kind_fits, most_payload, lock_fits, locks_fit, have_lock_names, sporadic_fits, clock_fits, offset_fits, has_clock_name, source_fits, task_fits, path_fits};
 
-use crate::draft::{DraftPath, DraftResource, DraftSource, DraftTask, KindWord, Raw};
+use crate::draft::{DraftLock, DraftPath, DraftResource, DraftSource, DraftTask, KindWord, Raw};
 use crate::numbers::{is_within, may_be_within, natural};
 use crate::ports::{MAX_PORT_PAYLOAD, MAX_RATE};
 use cpa_units::is_name;
@@ -57,7 +58,7 @@ impl Entry for DraftResource {
             && may_be_within(0, size.most_gap(), self.gap)
             && may_be_within(1, MAX_BIT, self.bit)
             && may_be_within(1, MAX_RATE, self.rate)
-            && queue_fits(size, is_fifo(self.kind))
+            && kind_fits(size, is_later_kind(self.kind))
     }
 }
 
@@ -70,12 +71,28 @@ pub(crate) fn is_fifo(kind: KindWord) -> bool
     }
 }
 
-/// No resource of a small system is a queue.
-fn queue_fits(size: Size, queue: bool) -> bool
-    ensures { result ≡ queue_fits size queue }
+pub(crate) fn is_ceiling(kind: KindWord) -> bool
+    ensures { result ≡ is_ceiling kind }
+{
+    match kind {
+        KindWord::Ceiling => true,
+        _ => false,
+    }
+}
+
+/// Whether the kind is one of large systems alone.
+fn is_later_kind(kind: KindWord) -> bool
+    ensures { result ≡ is_later_kind kind }
+{
+    is_fifo(kind) || is_ceiling(kind)
+}
+
+/// No resource of a small system is of a kind of large systems alone.
+fn kind_fits(size: Size, later: bool) -> bool
+    ensures { result ≡ kind_fits size later }
 {
     match size {
-        Size::Small => !queue,
+        Size::Small => !later,
         Size::Large => true,
     }
 }
@@ -152,6 +169,37 @@ fn has_clock_name(clock: &Option<Raw>) -> bool
     }
 }
 
+/// Whether the numbers of a critical section are in their ranges.
+fn lock_fits(lock: &DraftLock) -> bool
+    ensures { result ≡ lock_fits lock.now }
+{
+    is_within(0, Size::Large.most_execution(), lock.start)
+        && is_within(1, Size::Large.most_execution(), lock.length)
+}
+
+fn all_fit(locks: &[DraftLock]) -> bool
+    ensures { result ≡ list_all lock_fits locks.now }
+{
+    locks.iter().all(|lock| lock_fits(lock))
+}
+
+/// No task of a small system has critical sections.
+fn locks_fit(size: Size, locks: &[DraftLock]) -> bool
+    ensures { result ≡ locks_fit size locks.now }
+{
+    match size {
+        Size::Small => locks.len() <= 0,
+        Size::Large => all_fit(locks),
+    }
+}
+
+/// Whether the names of locks have the form of one.
+fn have_lock_names(locks: &[DraftLock]) -> bool
+    ensures { result ≡ have_lock_names locks.now }
+{
+    locks.iter().all(|lock| is_name(lock.name.bytes()))
+}
+
 impl Named for DraftTask {
     ghost named = { λ e. e.name };
 
@@ -170,6 +218,7 @@ impl Entry for DraftTask {
             && may_be_within(0, MAX_PRIORITY, self.priority)
             && may_be_within(1, size.most_execution(), self.slot)
             && may_be_within(1, size.most_region(), self.region)
+            && locks_fit(size, self.locks.sections())
     }
 }
 
@@ -218,6 +267,15 @@ pub(crate) fn first_unnamed_source(sources: &[DraftSource]) -> Option<usize>
 {
     sources.iter().enumerate().position(|(_, source)| !(is_name(source.name())
         && has_clock_name(&source.clock)))
+}
+
+/// The first task whose name, or that of one of its locks, hasn't the form of one.
+pub(crate) fn first_unnamed_task(tasks: &[DraftTask]) -> Option<usize>
+    ensures place { result ≡ first_place (λ k t. not (is_name t.name && have_lock_names t.locks)) tasks.now }
+    ensures within { IfSome result (λ k. k < 2 ^ 64 - 1) }
+{
+    tasks.iter().enumerate().position(|(_, task)| !(is_name(task.name())
+        && have_lock_names(task.locks.sections())))
 }
 
 /// The first entry past a limit.

@@ -12,7 +12,9 @@ ghost use Rattle.cpa_draft.specs.Refusals.{◌or_else◌, refusal_at, out_of_ran
 
 use crate::chains::{Mark, first_long, measure_chains};
 use crate::draft::{Draft, DraftPath, DraftTask, Raw};
-use crate::entry::{first_past, first_unfit, first_unnamed, first_unnamed_source};
+use crate::entry::{
+    first_past, first_unfit, first_unnamed, first_unnamed_source, first_unnamed_task,
+};
 use crate::links::{Link, Links, links_at};
 use crate::names::{Names, add_names};
 use crate::refusal::{Part, Refusal};
@@ -87,7 +89,7 @@ pub(crate) fn refuse_no_name(draft: &Draft) -> Option<Refusal>
         3,
         first_unnamed(draft.resource_entries()),
         first_unnamed_source(draft.source_entries()),
-        first_unnamed(draft.task_entries()),
+        first_unnamed_task(draft.task_entries()),
         first_unnamed(draft.path_entries()),
     )
 }

@@ -3,10 +3,10 @@
 ghost use Rattle.std.specs.Prelude.{◌≡◌, ◌<◌, ◌-◌, ◌^◌, IfSome};
 ghost use Rattle.cpa_draft.specs.First.{first_place};
 ghost use Rattle.cpa_draft.specs.Names.{AreTables, kind_of};
-ghost use Rattle.cpa_draft.specs.Refusals.{◌or_else◌, is_preemptive, is_tdma, is_can, is_fifo, resource_misfits, turn_misfits, payload_misfits, task_misfits, is_crossed, misfit, crossed};
+ghost use Rattle.cpa_draft.specs.Refusals.{◌or_else◌, is_preemptive, is_tdma, is_can, is_fifo, is_ceiling, has_regions, resource_misfits, turn_misfits, payload_misfits, locks_misfit, task_misfits, is_crossed, misfit, crossed};
 
-use crate::draft::{Draft, DraftResource, DraftTask, KindWord};
-use crate::entry::is_fifo;
+use crate::draft::{Draft, DraftLock, DraftResource, DraftTask, KindWord};
+use crate::entry::{is_ceiling, is_fifo};
 use crate::entry_checks::{refuse, refuse_at};
 use crate::numbers::{may_be_within, natural_or};
 use crate::refusal::{Part, Refusal};
@@ -62,7 +62,7 @@ fn has_wrong_turn(kind: Option<KindWord>, task: &DraftTask) -> bool
     ensures { result ≡ turn_misfits kind task.now }
 {
     match kind {
-        Some(KindWord::Preemptive | KindWord::Can) => task.priority.is_none()
+        Some(KindWord::Preemptive | KindWord::Can | KindWord::Ceiling) => task.priority.is_none()
             || task.slot.is_some(),
         Some(KindWord::Fifo) => task.priority.is_some() || task.slot.is_some(),
         _ => task.priority.is_some() || task.slot.is_none(),
@@ -79,6 +79,20 @@ fn has_wrong_payload(kind: KindWord, payload: Option<i64>) -> bool
     }
 }
 
+/// Whether a job may be preempted but for its regions.
+fn has_regions(kind: KindWord) -> bool
+    ensures { result ≡ has_regions kind }
+{
+    is_preemptive(kind) || is_ceiling(kind)
+}
+
+/// Whether there are critical sections where there are no ceilings.
+fn locks_misfit(kind: KindWord, locks: &[DraftLock]) -> bool
+    ensures { result ≡ locks_misfit kind locks.now }
+{
+    locks.len() > 0 && !is_ceiling(kind)
+}
+
 fn misfits_kind(kind: Option<KindWord>, task: &DraftTask) -> bool
     ensures { result ≡ task_misfits kind task.now }
 {
@@ -86,7 +100,8 @@ fn misfits_kind(kind: Option<KindWord>, task: &DraftTask) -> bool
     has_wrong_turn(kind, task)
         || has_wrong_payload(word, task.payload)
         || (task.extended.is_some() && !is_can(word))
-        || (task.region.is_some() && !is_preemptive(word))
+        || (task.region.is_some() && !has_regions(word))
+        || locks_misfit(word, task.locks.sections())
 }
 
 fn misfits_task(draft: &Draft, tables: &Tables, task: &DraftTask) -> bool

@@ -69,11 +69,12 @@ fn is_by_priority(kind: Option<KindWord>) -> bool
     match kind {
         Some(KindWord::Preemptive) => true,
         Some(KindWord::Can) => true,
+        Some(KindWord::Ceiling) => true,
         _ => false,
     }
 }
 
-/// The rank of a task that has a priority on a preemptive or CAN resource.
+/// The rank of a task that has a priority on a resource of such a kind.
 fn rank_of(draft: &Draft, tables: &Tables, task: &DraftTask) -> Option<(usize, u64)>
     requires { AreTables draft.now tables.now.resources tables.now.activities }
     ensures { result ≡ rank_of draft.now task.now }

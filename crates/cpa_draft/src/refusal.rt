@@ -15,7 +15,7 @@ pub enum Part {
 /// Why a system is refused, and where.
 #[derive(Clone, Copy, Debug, PartialEq, Eq)]
 pub struct Refusal {
-    /// The reason's number, 1 to 15.
+    /// The reason's number, 1 to 16.
     pub reason: u8,
     pub part: Part,
     /// The place of the entry among those of its part, from 1; 0 for the file as a whole.

@@ -13,6 +13,7 @@ use crate::entry_checks::{
 };
 use crate::kind_checks::{refuse_crossed, refuse_misfit};
 use crate::links::Links;
+use crate::locks::refuse_mislocked;
 use crate::names::Names;
 use crate::paths::refuse_unlinked;
 use crate::ranks::refuse_known_priority;
@@ -107,10 +108,13 @@ fn find_refusal(
     if let Some(refusal) = refuse_misfed(alloc, draft, links.as_slice())? {
         return Ok(Some(refusal));
     }
-    refuse_too_long_clock(alloc, draft)
+    if let Some(refusal) = refuse_too_long_clock(alloc, draft)? {
+        return Ok(Some(refusal));
+    }
+    Ok(refuse_mislocked(draft))
 }
 
-/// Refused exactly where one of reasons 2 to 12, 14 and 15 applies, with the first of them and its first place. Otherwise
+/// Refused exactly where one of reasons 2 to 12 and 14 to 16 applies, with the first of them and its first place. Otherwise
 /// the places of the names.
 pub fn validate(alloc: Global, draft: &Draft) -> Result<Tables, BuildFault>
     ensures refusal { Validates result (first_refusal draft.now) }

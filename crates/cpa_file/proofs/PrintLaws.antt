@@ -2,13 +2,13 @@
 use Rattle.std.proofs.Common.{get_or, ◌≡◌, ℕ, suc, ◌+◌, ◌≤◌, Bool, true, false, List, [], ◌∷◌, map, length, inl, inr, Option, Some, None, Ok, String, Global, Ordering, Less, Equal, Greater, string_bytes, refl, sym, subst, ◌∙◌, arith}
 use Rattle.std.specs.Prelude.{◌==◌, ◌&&◌, not, is_some, is_none}
 use Rattle.std.specs.List.{list_all}
-use Rattle.std.proofs.lemmas.Bool.{cases_Bool, and_parts, not-true, false≢true, eqb-true, eq-eqb}
+use Rattle.std.proofs.lemmas.Bool.{cases_Bool, and_parts, and_from, not-true, false≢true, eqb-true, eq-eqb}
 use Rattle.std.proofs.lemmas.List.Sums.{list_all-from_AllPass}
 use Rattle.std.proofs.lemmas.Bool.Decides.{nat_tests}
 use Rattle.std.specs.Ordering.{match_ordering}
 use Rattle.std.specs.String.{string_cmp}
 use Rattle.std.specs.BTreeMap.{insert_entry}
-use Rattle.toml.specs.Data.{Data, Members, items_depth, members_depth, depth, table, as_str, has_valid_dates, items_have_valid_dates, members_have_valid_dates}
+use Rattle.toml.specs.Data.{Data, Members, items_depth, members_depth, depth, array, table, as_str, has_valid_dates, items_have_valid_dates, members_have_valid_dates}
 use Rattle.toml.specs.View.{view, members_view, items_of}
 use Rattle.toml.specs.declared.value.Value.{Value}
 use Rattle.cpa_units.specs.declared.limits.Size.{Size}
@@ -20,33 +20,42 @@ use Rattle.cpa_model.specs.declared.entries.Source.{Source}
 use Rattle.cpa_model.specs.declared.entries.OnClock.{OnClock}
 use Rattle.cpa_model.specs.declared.entries.Task.{Task}
 use Rattle.cpa_model.specs.declared.entries.Path.{Path}
+use Rattle.cpa_model.specs.declared.locks.CriticalSection.{CriticalSection}
 use Rattle.cpa_model.specs.declared.entries.Kind.{Kind}
-use Rattle.cpa_model.specs.declared.entries.Kind.TheVariants.{Preemptive, RoundRobin, Tdma, Can, Fifo}
+use Rattle.cpa_model.specs.declared.entries.Kind.TheVariants.{Preemptive, RoundRobin, Tdma, Can, Fifo, Ceiling}
 use Rattle.cpa_model.specs.declared.entries.Turn.{Turn}
 use Rattle.cpa_model.specs.declared.entries.Turn.TheVariants.{Priority, Slot, Queued}
-use Rattle.cpa_model.specs.SystemLists.{SystemLists, resource_at, task_at, activator_name}
-use Rattle.cpa_model.specs.Kinds.{is_queue}
-use Rattle.cpa_model.specs.Rules.{IsSystem}
-use Rattle.cpa_draft.specs.Refusals.{queue_fits, sporadic_fits, clock_fits}
+use Rattle.cpa_model.specs.SystemLists.{SystemLists, no_resource, resource_at, task_at, activator_name}
+use Rattle.cpa_model.specs.Kinds.{is_later_kind}
+use Rattle.cpa_model.specs.Rules.{IsSystem, LocksFit}
+use Rattle.cpa_draft.specs.Refusals.{kind_fits, sporadic_fits, clock_fits}
 use Rattle.cpa_model.proofs.SystemLaws.{region-range}
 use Rattle.cpa_file.specs.declared.format.Format.{Format}
 use Rattle.cpa_file.specs.declared.format.Format.TheVariants.{One, Two, Four}
 use Rattle.cpa_file.specs.Fields.{required, optional, has_only}
 use Rattle.cpa_file.specs.Formats.{has_lists}
 use Rattle.cpa_file.specs.Lists.{read_all}
-use Rattle.cpa_file.specs.Entries.{resource_entry, source_fields, source_entry, as_after, task_entry, task_fields, path_entry}
+use Rattle.cpa_file.specs.Entries.{resource_entry, source_fields, source_entry, as_after, lock_entry, as_locks, task_entry, task_fields, path_entry}
 use Rattle.cpa_file.specs.Document.{draft_of, lists_of, has_form, entries_at, items_at}
 use Rattle.cpa_model.specs.declared.entries.Activator.{Activator}
-use Rattle.cpa_model.specs.Redraft.{redraft_resource, redraft_source, redraft_task, redraft_path, redraft}
-use Rattle.cpa_file.specs.Printed.{put, resource_data, source_numbers_data, source_data, activator_data, after_data, task_names_data, task_data, has_one, name_data, path_data, system_data}
+use Rattle.cpa_model.specs.Redraft.{redraft_resource, redraft_source, redraft_section, redraft_task, redraft_path, redraft}
+use Rattle.cpa_file.specs.Printed.{put, resource_data, source_numbers_data, source_data, activator_data, after_data, task_names_data, lock_data, task_data, has_one, name_data, path_data, system_data}
 
 -- a region of no more than a tick
 abbrev has_no_region : Task → Bool
 has_no_region t = t.region == 1
 
--- a resource that is no queue
-abbrev is_no_queue : Resource → Bool
-is_no_queue r = not (is_queue r.kind)
+abbrev has_no_locks : List CriticalSection → Bool
+has_no_locks [] = true
+has_no_locks (c ∷ cs) = false
+
+-- neither a region nor critical sections
+abbrev is_simple : Task → Bool
+is_simple t = has_no_region t && has_no_locks t.locks
+
+-- a resource of a kind that each format knows
+abbrev is_usual : Resource → Bool
+is_usual r = not (is_later_kind r.kind)
 
 -- a source that isn't sporadic, and on no clock
 abbrev is_plain : Source → Bool
@@ -68,14 +77,15 @@ pub read_all-printed : {X Y : Type 0} (read : Data → Option Y) (data_of : X �
 read_all-printed read data_of redraft each k [] = refl
 read_all-printed read data_of redraft each k (x ∷ xs) = rw (each x, read_all-printed read data_of redraft each (k + 1) xs) refl
 
--- a resource that is no queue is read in each format
-plain_resource_by : (format : Format) (n : List ℕ) (k : Kind) (l : ℕ) → not (is_queue k) ≡ true → let r : Resource = record { name = n; kind = k; limit = l } in resource_entry format (resource_data r) ≡ Some (redraft_resource r)
+-- such a resource is read in each format
+plain_resource_by : (format : Format) (n : List ℕ) (k : Kind) (l : ℕ) → not (is_later_kind k) ≡ true → let r : Resource = record { name = n; kind = k; limit = l } in resource_entry format (resource_data r) ≡ Some (redraft_resource r)
 unfolding resource_entry resource_data required optional has_only
 plain_resource_by format n Preemptive l h = refl
 plain_resource_by format n RoundRobin l h = refl
 plain_resource_by format n (Tdma gap) l h = refl
 plain_resource_by format n (Can bit) l h = refl
 plain_resource_by format n Fifo l h = absurd (false≢true h)
+plain_resource_by format n Ceiling l h = absurd (false≢true h)
 
 -- and any resource in format 4
 resource_by : (n : List ℕ) (k : Kind) (l : ℕ) → let r : Resource = record { name = n; kind = k; limit = l } in resource_entry Four (resource_data r) ≡ Some (redraft_resource r)
@@ -85,14 +95,15 @@ resource_by n RoundRobin l = refl
 resource_by n (Tdma gap) l = refl
 resource_by n (Can bit) l = refl
 resource_by n Fifo l = refl
+resource_by n Ceiling l = refl
 
 resource-printed : (r : Resource) → resource_entry Four (resource_data r) ≡ Some (redraft_resource r)
 resource-printed r = resource_by r.name r.kind r.limit
 
-plain_resources-printed : (format : Format) (k : ℕ) (rs : List Resource) → list_all is_no_queue rs ≡ true → read_all (resource_entry format) k (items_of (map resource_data rs)) ≡ Ok (map redraft_resource rs)
+plain_resources-printed : (format : Format) (k : ℕ) (rs : List Resource) → list_all is_usual rs ≡ true → read_all (resource_entry format) k (items_of (map resource_data rs)) ≡ Ok (map redraft_resource rs)
 plain_resources-printed format k [] h = refl
 plain_resources-printed format k (r ∷ rs) h =
-    let here = and_parts (is_no_queue r) (list_all is_no_queue rs) h in
+    let here = and_parts (is_usual r) (list_all is_usual rs) h in
     rw (plain_resource_by format r.name r.kind r.limit here.0, plain_resources-printed format (k + 1) rs here.1) refl
 
 -- a plain source is read in each format
@@ -142,39 +153,64 @@ list-printed s [] = refl
 list-printed s (a ∷ []) = refl
 list-printed s (a ∷ b ∷ after) = rw (activators-printed s (a ∷ b ∷ after)) refl
 
--- a task with no region is read in each format in which its activators are
+-- critical sections are read as they were
+lock-printed : (c : CriticalSection) → lock_entry (lock_data c) ≡ Some (redraft_section c)
+unfolding lock_entry lock_data required has_only
+lock-printed c = refl
+
+locks-printed : (cs : List CriticalSection) → as_locks (array (items_of (map lock_data cs))) ≡ Some (map redraft_section cs)
+locks-printed cs = rw (read_all-printed lock_entry lock_data redraft_section lock-printed 1 cs) refl
+
+-- a task with neither a region nor critical sections is read in each format in which its activators are
 plain_by : (format : Format) (s : SystemLists) (t : Task) (turn : Turn) → has_no_region t ≡ true → as_after (has_lists format) (after_data s t.after) ≡ Some (map (activator_name s) t.after)
-    → let u : Task = record t { turn = turn } in task_entry format (task_data s u) ≡ Some (redraft_task s u)
+    → let u : Task = record t { turn = turn; locks = [] } in task_entry format (task_data s u) ≡ Some (redraft_task s u)
 unfolding task_entry task_fields task_data task_names_data required optional has_only
 plain_by format s t (Priority number) plain after = rw (plain, after) refl
 plain_by format s t (Slot ticks) plain after = rw (plain, after) refl
 plain_by format s t Queued plain after = rw (plain, after) refl
 
--- and one with a region in format 4
-region_by : (s : SystemLists) (t : Task) (turn : Turn) → has_no_region t ≡ false → let u : Task = record t { turn = turn } in task_entry Four (task_data s u) ≡ Some (redraft_task s u)
+-- and any task in format 4
+task_by : (s : SystemLists) (t : Task) (turn : Turn) (locks : List CriticalSection) (plain : Bool) → has_no_region t ≡ plain
+    → let u : Task = record t { turn = turn; locks = locks } in task_entry Four (task_data s u) ≡ Some (redraft_task s u)
 unfolding task_entry task_fields task_data task_names_data required optional has_only
-region_by s t (Priority number) region = rw (region, list-printed s t.after) refl
-region_by s t (Slot ticks) region = rw (region, list-printed s t.after) refl
-region_by s t Queued region = rw (region, list-printed s t.after) refl
+task_by s t (Priority number) [] true is = rw (is, list-printed s t.after) refl
+task_by s t (Priority number) [] false is = rw (is, list-printed s t.after) refl
+task_by s t (Priority number) (c ∷ cs) true is = rw (is, list-printed s t.after, locks-printed (c ∷ cs)) refl
+task_by s t (Priority number) (c ∷ cs) false is = rw (is, list-printed s t.after, locks-printed (c ∷ cs)) refl
+task_by s t (Slot ticks) [] true is = rw (is, list-printed s t.after) refl
+task_by s t (Slot ticks) [] false is = rw (is, list-printed s t.after) refl
+task_by s t (Slot ticks) (c ∷ cs) true is = rw (is, list-printed s t.after, locks-printed (c ∷ cs)) refl
+task_by s t (Slot ticks) (c ∷ cs) false is = rw (is, list-printed s t.after, locks-printed (c ∷ cs)) refl
+task_by s t Queued [] true is = rw (is, list-printed s t.after) refl
+task_by s t Queued [] false is = rw (is, list-printed s t.after) refl
+task_by s t Queued (c ∷ cs) true is = rw (is, list-printed s t.after, locks-printed (c ∷ cs)) refl
+task_by s t Queued (c ∷ cs) false is = rw (is, list-printed s t.after, locks-printed (c ∷ cs)) refl
 
 task-printed : (s : SystemLists) (t : Task) → task_entry Four (task_data s t) ≡ Some (redraft_task s t)
-task-printed s t = elim (cases_Bool (has_no_region t)) [
-  | inl plain ↦ plain_by Four s t t.turn plain (list-printed s t.after)
-  | inr region ↦ region_by s t t.turn region
-]
+task-printed s t = task_by s t t.turn t.locks (has_no_region t) refl
 
-two-printed : (s : SystemLists) (k : ℕ) (ts : List Task) → list_all has_no_region ts ≡ true → read_all (task_entry Two) k (items_of (map (task_data s) ts)) ≡ Ok (map (redraft_task s) ts)
+no-locks : (cs : List CriticalSection) → has_no_locks cs ≡ true → cs ≡ []
+no-locks [] h = refl
+no-locks (c ∷ cs) h = absurd (false≢true h)
+
+simple-printed : (format : Format) (s : SystemLists) (t : Task) → is_simple t ≡ true → as_after (has_lists format) (after_data s t.after) ≡ Some (map (activator_name s) t.after) → task_entry format (task_data s t) ≡ Some (redraft_task s t)
+simple-printed format s t simple after =
+    let parts = and_parts (has_no_region t) (has_no_locks t.locks) simple in
+    let none : [] ≡ t.locks = sym (no-locks t.locks parts.1) in
+    subst (λ (cs : List CriticalSection). let u : Task = record t { locks = cs } in task_entry format (task_data s u) ≡ Some (redraft_task s u)) none (plain_by format s t t.turn parts.0 after)
+
+two-printed : (s : SystemLists) (k : ℕ) (ts : List Task) → list_all is_simple ts ≡ true → read_all (task_entry Two) k (items_of (map (task_data s) ts)) ≡ Ok (map (redraft_task s) ts)
 two-printed s k [] plain = refl
 two-printed s k (t ∷ ts) plain =
-    let here = and_parts (has_no_region t) (list_all has_no_region ts) plain in
-    rw (plain_by Two s t t.turn here.0 (list-printed s t.after), two-printed s (k + 1) ts here.1) refl
+    let here = and_parts (is_simple t) (list_all is_simple ts) plain in
+    rw (simple-printed Two s t here.0 (list-printed s t.after), two-printed s (k + 1) ts here.1) refl
 
-one_each-printed : (s : SystemLists) (k : ℕ) (ts : List Task) → list_all has_no_region ts ≡ true → list_all has_one ts ≡ true → read_all (task_entry One) k (items_of (map (task_data s) ts)) ≡ Ok (map (redraft_task s) ts)
+one_each-printed : (s : SystemLists) (k : ℕ) (ts : List Task) → list_all is_simple ts ≡ true → list_all has_one ts ≡ true → read_all (task_entry One) k (items_of (map (task_data s) ts)) ≡ Ok (map (redraft_task s) ts)
 one_each-printed s k [] plain one = refl
 one_each-printed s k (t ∷ ts) plain one =
-    let here = and_parts (has_no_region t) (list_all has_no_region ts) plain in
+    let here = and_parts (is_simple t) (list_all is_simple ts) plain in
     let own = and_parts (has_one t) (list_all has_one ts) one in
-    rw (plain_by One s t t.turn here.0 (one-printed false s t.after own.0), one_each-printed s (k + 1) ts here.1 own.1) refl
+    rw (simple-printed One s t here.0 (one-printed false s t.after own.0), one_each-printed s (k + 1) ts here.1 own.1) refl
 
 names-printed : (s : SystemLists) (ts : List TaskId) → read_all as_str 1 (items_of (map (name_data s) ts)) ≡ Ok (map (λ (i : TaskId). (task_at s i.0).name) ts)
 names-printed s ts = read_all-printed as_str (name_data s) (λ (i : TaskId). (task_at s i.0).name) (λ i. refl) 1 ts
@@ -187,16 +223,16 @@ path_by s p (Some deadline) = rw (names-printed s p.tasks) refl
 path-printed : (s : SystemLists) (p : Path) → path_entry (path_data s p) ≡ Some (redraft_path s p)
 path-printed s p = path_by s p p.deadline
 
--- the document of a system is read as its draft: that of a small one has neither a region nor a queue
-draft_by : (z : Size) (s : SystemLists) → (z ≡ Small → list_all has_no_region s.tasks ≡ true) → (z ≡ Small → list_all is_plain s.sources ≡ true) → (z ≡ Small → list_all is_no_queue s.resources ≡ true) → let u : SystemLists = record s { size = z } in draft_of (system_data u) ≡ Ok (redraft u)
+-- the document of a system is read as its draft: that of a small one has no region, no critical section, and no resource of a later kind
+draft_by : (z : Size) (s : SystemLists) → (z ≡ Small → list_all is_simple s.tasks ≡ true) → (z ≡ Small → list_all is_plain s.sources ≡ true) → (z ≡ Small → list_all is_usual s.resources ≡ true) → let u : SystemLists = record s { size = z } in draft_of (system_data u) ≡ Ok (redraft u)
 unfolding draft_of lists_of has_form entries_at items_at system_data has_only redraft
-draft_by Small s plain steady unqueued =
+draft_by Small s plain steady usual =
     let u : SystemLists = record s { size = Small } in
     elim (cases_Bool (list_all has_one s.tasks)) [
       | inl one ↦
           rw (
             one,
-            plain_resources-printed One 1 s.resources (unqueued refl),
+            plain_resources-printed One 1 s.resources (usual refl),
             plain_sources-printed One 1 s.sources (steady refl),
             one_each-printed u 1 s.tasks (plain refl) one,
             read_all-printed path_entry (path_data u) (redraft_path u) (path-printed u) 1 s.paths,
@@ -205,14 +241,14 @@ draft_by Small s plain steady unqueued =
       | inr several ↦
           rw (
             several,
-            plain_resources-printed Two 1 s.resources (unqueued refl),
+            plain_resources-printed Two 1 s.resources (usual refl),
             plain_sources-printed Two 1 s.sources (steady refl),
             two-printed u 1 s.tasks (plain refl),
             read_all-printed path_entry (path_data u) (redraft_path u) (path-printed u) 1 s.paths,
           )
           refl
     ]
-draft_by Large s plain steady unqueued =
+draft_by Large s plain steady usual =
     let u : SystemLists = record s { size = Large } in
     rw (
       read_all-printed (resource_entry Four) resource_data redraft_resource resource-printed 1 s.resources,
@@ -225,13 +261,29 @@ draft_by Large s plain steady unqueued =
 no-region : (t : Task) → 1 ≤ t.region → t.region ≤ 1 → has_no_region t ≡ true
 no-region t some few = eq-eqb t.region 1 (omega arith)
 
-no-regions : (s : SystemLists) → IsSystem s → s.size ≡ Small → list_all has_no_region s.tasks ≡ true
+-- only under ceilings has a task critical sections
+locks-none : (k : Kind) (region : ℕ) (locks : List CriticalSection) → LocksFit k region locks → not (is_later_kind k) ≡ true → has_no_locks locks ≡ true
+locks-none Preemptive region locks fits usual = rw fits refl
+locks-none RoundRobin region locks fits usual = rw fits refl
+locks-none (Tdma gap) region locks fits usual = rw fits refl
+locks-none (Can bit) region locks fits usual = rw fits refl
+locks-none Fifo region locks fits usual = rw fits refl
+locks-none Ceiling region locks fits usual = absurd (false≢true usual)
+
+usual-small : (z : Size) (later : Bool) → z ≡ Small → kind_fits z later ≡ true → not later ≡ true
+usual-small Large later small h = cc
+usual-small Small later small h = h
+
+no-regions : (s : SystemLists) → IsSystem s → s.size ≡ Small → list_all is_simple s.tasks ≡ true
 no-regions s rules small =
-    list_all-from_AllPass has_no_region s.tasks
+    list_all-from_AllPass is_simple s.tasks
     (λ k t less.
-    let most : (get_or s.tasks k t).region ≤ most_region Small = subst (λ z. (get_or s.tasks k t).region ≤ most_region z) small (rules.sized.times k t less).region in
     let u = get_or s.tasks k t in
-    no-region u (region-range (resource_at s u.res.0).kind u.region (rules.tasks k t less).region_fits).0 most)
+    let fits = rules.tasks k t less in
+    let r = resource_at s u.res.0 in
+    let most : u.region ≤ most_region Small = subst (λ z. u.region ≤ most_region z) small (rules.sized.times k t less).region in
+    let usual = usual-small s.size (is_later_kind r.kind) small (rules.sized.limits u.res.0 no_resource fits.placed).2 in
+    and_from (has_no_region u) (has_no_locks u.locks) (no-region u (region-range r.kind u.region fits.region_fits).0 most) (locks-none r.kind u.region u.locks fits.locks_fit usual))
 
 plain-small : (z : Size) (sporadic : Bool) (on : Option OnClock) → z ≡ Small → sporadic_fits z sporadic ≡ true → clock_fits z (is_some on) ≡ true → (not sporadic && is_none on) ≡ true
 plain-small Large sporadic on small p q = cc
@@ -243,17 +295,13 @@ plain-sources s rules small =
     list_all-from_AllPass is_plain s.sources
     (λ k r less. let sized = rules.sized.arrivals k r less in let u = get_or s.sources k r in plain-small s.size u.sporadic u.on_clock small sized.0 sized.1)
 
-no_queue-small : (z : Size) (queue : Bool) → z ≡ Small → queue_fits z queue ≡ true → not queue ≡ true
-no_queue-small Large queue small h = cc
-no_queue-small Small queue small h = h
-
-no-queues : (s : SystemLists) → IsSystem s → s.size ≡ Small → list_all is_no_queue s.resources ≡ true
-no-queues s rules small =
-    list_all-from_AllPass is_no_queue s.resources
-    (λ k r less. let u = get_or s.resources k r in no_queue-small s.size (is_queue u.kind) small (rules.sized.limits k r less).2)
+usual-resources : (s : SystemLists) → IsSystem s → s.size ≡ Small → list_all is_usual s.resources ≡ true
+usual-resources s rules small =
+    list_all-from_AllPass is_usual s.resources
+    (λ k r less. let u = get_or s.resources k r in usual-small s.size (is_later_kind u.kind) small (rules.sized.limits k r less).2)
 
 pub draft_of-printed : (s : SystemLists) → IsSystem s → draft_of (system_data s) ≡ Ok (redraft s)
-draft_of-printed s rules = draft_by s.size s (no-regions s rules) (plain-sources s rules) (no-queues s rules)
+draft_of-printed s rules = draft_by s.size s (no-regions s rules) (plain-sources s rules) (usual-resources s rules)
 
 -- no printed document is deep
 
@@ -269,6 +317,7 @@ resource-depth_by n RoundRobin l = omega arith
 resource-depth_by n (Tdma gap) l = omega arith
 resource-depth_by n (Can bit) l = omega arith
 resource-depth_by n Fifo l = omega arith
+resource-depth_by n Ceiling l = omega arith
 
 resource-depth : (r : Resource) → depth (resource_data r) ≤ 2
 resource-depth r = resource-depth_by r.name r.kind r.limit
@@ -294,17 +343,27 @@ after-depth s [] = omega arith
 after-depth s (a ∷ []) = omega arith
 after-depth s (a ∷ b ∷ after) = omega (arith, items-depth (activator_data s) 0 (λ a. omega arith) (a ∷ b ∷ after))
 
-task-depth_by : (s : SystemLists) (t : Task) (turn : Turn) (plain : Bool) → has_no_region t ≡ plain → let u : Task = record t { turn = turn } in depth (task_data s u) ≤ 2
-unfolding task_data task_names_data
-task-depth_by s t (Priority number) true is = rw is (omega (arith, after-depth s t.after))
-task-depth_by s t (Priority number) false is = rw is (omega (arith, after-depth s t.after))
-task-depth_by s t (Slot ticks) true is = rw is (omega (arith, after-depth s t.after))
-task-depth_by s t (Slot ticks) false is = rw is (omega (arith, after-depth s t.after))
-task-depth_by s t Queued true is = rw is (omega (arith, after-depth s t.after))
-task-depth_by s t Queued false is = rw is (omega (arith, after-depth s t.after))
+lock-depth : (c : CriticalSection) → depth (lock_data c) ≤ 1
+unfolding lock_data
+lock-depth c = omega arith
 
-task-depth : (s : SystemLists) (t : Task) → depth (task_data s t) ≤ 2
-task-depth s t = task-depth_by s t t.turn (has_no_region t) refl
+task-depth_by : (s : SystemLists) (t : Task) (turn : Turn) (locks : List CriticalSection) (plain : Bool) → has_no_region t ≡ plain → let u : Task = record t { turn = turn; locks = locks } in depth (task_data s u) ≤ 3
+unfolding task_data task_names_data
+task-depth_by s t (Priority number) [] true is = rw is (omega (arith, after-depth s t.after))
+task-depth_by s t (Priority number) [] false is = rw is (omega (arith, after-depth s t.after))
+task-depth_by s t (Priority number) (c ∷ cs) true is = rw is (omega (arith, after-depth s t.after, items-depth lock_data 1 lock-depth (c ∷ cs)))
+task-depth_by s t (Priority number) (c ∷ cs) false is = rw is (omega (arith, after-depth s t.after, items-depth lock_data 1 lock-depth (c ∷ cs)))
+task-depth_by s t (Slot ticks) [] true is = rw is (omega (arith, after-depth s t.after))
+task-depth_by s t (Slot ticks) [] false is = rw is (omega (arith, after-depth s t.after))
+task-depth_by s t (Slot ticks) (c ∷ cs) true is = rw is (omega (arith, after-depth s t.after, items-depth lock_data 1 lock-depth (c ∷ cs)))
+task-depth_by s t (Slot ticks) (c ∷ cs) false is = rw is (omega (arith, after-depth s t.after, items-depth lock_data 1 lock-depth (c ∷ cs)))
+task-depth_by s t Queued [] true is = rw is (omega (arith, after-depth s t.after))
+task-depth_by s t Queued [] false is = rw is (omega (arith, after-depth s t.after))
+task-depth_by s t Queued (c ∷ cs) true is = rw is (omega (arith, after-depth s t.after, items-depth lock_data 1 lock-depth (c ∷ cs)))
+task-depth_by s t Queued (c ∷ cs) false is = rw is (omega (arith, after-depth s t.after, items-depth lock_data 1 lock-depth (c ∷ cs)))
+
+task-depth : (s : SystemLists) (t : Task) → depth (task_data s t) ≤ 3
+task-depth s t = task-depth_by s t t.turn t.locks (has_no_region t) refl
 
 path-depth_by : (s : SystemLists) (p : Path) (deadline : Option ℕ) → let q : Path = record p { deadline = deadline } in depth (path_data s q) ≤ 2
 unfolding path_data
@@ -314,19 +373,19 @@ path-depth_by s p (Some deadline) = omega (arith, items-depth (name_data s) 0 (�
 path-depth : (s : SystemLists) (p : Path) → depth (path_data s p) ≤ 2
 path-depth s p = path-depth_by s p p.deadline
 
-system-depth : (s : SystemLists) → depth (system_data s) ≤ 4
+system-depth : (s : SystemLists) → depth (system_data s) ≤ 5
 unfolding system_data
 system-depth s =
     omega (
       arith,
       items-depth resource_data 2 resource-depth s.resources,
       items-depth source_data 2 source-depth s.sources,
-      items-depth (task_data s) 2 (task-depth s) s.tasks,
+      items-depth (task_data s) 3 (task-depth s) s.tasks,
       items-depth (path_data s) 2 (path-depth s) s.paths,
     )
 
 pub shallow : (s : SystemLists) (ms : Members) → table ms ≡ system_data s → members_depth ms ≤ 80
-shallow s ms e = let h : depth (table ms) ≤ 4 = subst (λ (d : Data). depth d ≤ 4) (sym e) (system-depth s) in omega arith
+shallow s ms e = let h : depth (table ms) ≤ 5 = subst (λ (d : Data). depth d ≤ 5) (sym e) (system-depth s) in omega arith
 
 -- no printed document has a date
 
@@ -342,6 +401,7 @@ resource-undated_by n RoundRobin l = refl
 resource-undated_by n (Tdma gap) l = refl
 resource-undated_by n (Can bit) l = refl
 resource-undated_by n Fifo l = refl
+resource-undated_by n Ceiling l = refl
 
 resource-undated : (r : Resource) → has_valid_dates (resource_data r) ≡ true
 resource-undated r = resource-undated_by r.name r.kind r.limit
@@ -367,17 +427,27 @@ after-undated s [] = refl
 after-undated s (a ∷ []) = refl
 after-undated s (a ∷ b ∷ after) = rw (items-undated (activator_data s) (λ a. refl) (a ∷ b ∷ after)) refl
 
-task-undated_by : (s : SystemLists) (t : Task) (turn : Turn) (plain : Bool) → has_no_region t ≡ plain → let u : Task = record t { turn = turn } in has_valid_dates (task_data s u) ≡ true
+lock-undated : (c : CriticalSection) → has_valid_dates (lock_data c) ≡ true
+unfolding lock_data
+lock-undated c = refl
+
+task-undated_by : (s : SystemLists) (t : Task) (turn : Turn) (locks : List CriticalSection) (plain : Bool) → has_no_region t ≡ plain → let u : Task = record t { turn = turn; locks = locks } in has_valid_dates (task_data s u) ≡ true
 unfolding task_data task_names_data
-task-undated_by s t (Priority number) true is = rw (is, after-undated s t.after) refl
-task-undated_by s t (Priority number) false is = rw (is, after-undated s t.after) refl
-task-undated_by s t (Slot ticks) true is = rw (is, after-undated s t.after) refl
-task-undated_by s t (Slot ticks) false is = rw (is, after-undated s t.after) refl
-task-undated_by s t Queued true is = rw (is, after-undated s t.after) refl
-task-undated_by s t Queued false is = rw (is, after-undated s t.after) refl
+task-undated_by s t (Priority number) [] true is = rw (is, after-undated s t.after) refl
+task-undated_by s t (Priority number) [] false is = rw (is, after-undated s t.after) refl
+task-undated_by s t (Priority number) (c ∷ cs) true is = rw (is, after-undated s t.after, items-undated lock_data lock-undated (c ∷ cs)) refl
+task-undated_by s t (Priority number) (c ∷ cs) false is = rw (is, after-undated s t.after, items-undated lock_data lock-undated (c ∷ cs)) refl
+task-undated_by s t (Slot ticks) [] true is = rw (is, after-undated s t.after) refl
+task-undated_by s t (Slot ticks) [] false is = rw (is, after-undated s t.after) refl
+task-undated_by s t (Slot ticks) (c ∷ cs) true is = rw (is, after-undated s t.after, items-undated lock_data lock-undated (c ∷ cs)) refl
+task-undated_by s t (Slot ticks) (c ∷ cs) false is = rw (is, after-undated s t.after, items-undated lock_data lock-undated (c ∷ cs)) refl
+task-undated_by s t Queued [] true is = rw (is, after-undated s t.after) refl
+task-undated_by s t Queued [] false is = rw (is, after-undated s t.after) refl
+task-undated_by s t Queued (c ∷ cs) true is = rw (is, after-undated s t.after, items-undated lock_data lock-undated (c ∷ cs)) refl
+task-undated_by s t Queued (c ∷ cs) false is = rw (is, after-undated s t.after, items-undated lock_data lock-undated (c ∷ cs)) refl
 
 task-undated : (s : SystemLists) (t : Task) → has_valid_dates (task_data s t) ≡ true
-task-undated s t = task-undated_by s t t.turn (has_no_region t) refl
+task-undated s t = task-undated_by s t t.turn t.locks (has_no_region t) refl
 
 path-undated_by : (s : SystemLists) (p : Path) (deadline : Option ℕ) → let q : Path = record p { deadline = deadline } in has_valid_dates (path_data s q) ≡ true
 unfolding path_data

@@ -3,34 +3,36 @@ use Rattle.std.specs.Prelude.{ℕ, Bool, true, false, List, [], ◌∷◌, Optio
 use Rattle.std.specs.Str.{bytes_eq}
 use Rattle.toml.specs.Data.{Data, Items, as_str, as_integer, as_bool, as_array}
 use Rattle.cpa_draft.specs.declared.draft.KindWord.{KindWord}
-use Rattle.cpa_draft.specs.declared.draft.KindWord.TheVariants.{Preemptive, RoundRobin, Tdma, Can, Fifo}
+use Rattle.cpa_draft.specs.declared.draft.KindWord.TheVariants.{Preemptive, RoundRobin, Tdma, Can, Fifo, Ceiling}
 use Rattle.cpa_draft.specs.declared.draft.DraftResource.{DraftResource}
 use Rattle.cpa_draft.specs.declared.draft.DraftSource.{DraftSource}
 use Rattle.cpa_draft.specs.declared.draft.DraftTask.{DraftTask}
+use Rattle.cpa_draft.specs.declared.draft.DraftLock.{DraftLock}
 use Rattle.cpa_draft.specs.declared.draft.DraftPath.{DraftPath}
 use Rattle.cpa_model.specs.Built.{has_executions}
 use Rattle.cpa_file.specs.declared.format.Format.{Format}
-use Rattle.cpa_file.specs.Formats.{has_lists, has_regions, has_queues, has_more_of_sources}
+use Rattle.cpa_file.specs.Formats.{has_lists, has_more_of_tasks, has_later_kinds, has_more_of_sources}
 use Rattle.cpa_file.specs.Lists.{read_all}
 use Rattle.cpa_file.specs.Fields.{◌>>=◌, optional, required, has_only}
 
--- the kind of a queue, where there are queues
-abbrev pub queue_kind : Bool → Option KindWord
-queue_kind true = Some Fifo
-queue_kind false = None
+-- a kind that only some formats know
+abbrev pub later_kind : Bool → KindWord → Option KindWord
+later_kind true kind = Some kind
+later_kind false kind = None
 
 -- the word for a kind
 abbrev pub kind_of_word : Bool → List ℕ → Option KindWord
-kind_of_word queues w =
+kind_of_word later w =
     if bytes_eq w (codes "preemptive") then Some Preemptive
     else if bytes_eq w (codes "round-robin") then Some RoundRobin
     else if bytes_eq w (codes "tdma") then Some Tdma
     else if bytes_eq w (codes "can") then Some Can
-    else if bytes_eq w (codes "fifo") then queue_kind queues
+    else if bytes_eq w (codes "fifo") then later_kind later Fifo
+    else if bytes_eq w (codes "ceiling") then later_kind later Ceiling
     else None
 
 abbrev pub as_kind : Bool → Data → Option KindWord
-as_kind queues d = as_str d >>= kind_of_word queues
+as_kind later d = as_str d >>= kind_of_word later
 
 -- texts
 abbrev pub list_or_none : {X : Type 0} → Result (List X) ℕ → Option (List X)
@@ -60,7 +62,7 @@ rate_key false = []
 
 -- the keys that a resource may have
 abbrev pub resource_keys : Format → List (List ℕ)
-resource_keys format = codes "name" ∷ codes "kind" ∷ codes "limit" ∷ codes "gap" ∷ codes "bit" ∷ rate_key (has_queues format)
+resource_keys format = codes "name" ∷ codes "kind" ∷ codes "limit" ∷ codes "gap" ∷ codes "bit" ∷ rate_key (has_later_kinds format)
 
 -- those that nearly all resources have, and no others
 abbrev pub usual_resource_keys : List (List ℕ)
@@ -70,7 +72,7 @@ usual_resource_keys = codes "name" ∷ codes "kind" ∷ codes "limit" ∷ codes 
 unfoldable pub resource_entry : Format → Data → Option DraftResource
 resource_entry format d = do
   name ← required as_str (codes "name") d
-  kind ← required (as_kind (has_queues format)) (codes "kind") d
+  kind ← required (as_kind (has_later_kinds format)) (codes "kind") d
   limit ← optional as_integer (codes "limit") d
   gap ← optional as_integer (codes "gap") d
   bit ← optional as_integer (codes "bit") d
@@ -78,15 +80,33 @@ resource_entry format d = do
   if has_only (resource_keys format) d
       then Some (record { name = name; kind = kind; limit = limit; gap = gap; bit = bit; rate = rate }) else None
 
--- the key that only some formats know
-abbrev pub region_key : Bool → List (List ℕ)
-region_key true = codes "region" ∷ []
-region_key false = []
+-- the entry, if it has the form of a critical section
+unfoldable pub lock_entry : Data → Option DraftLock
+lock_entry d = do
+  name ← required as_str (codes "name") d
+  start ← required as_integer (codes "start") d
+  length ← required as_integer (codes "length") d
+  if has_only (codes "name" ∷ codes "start" ∷ codes "length" ∷ []) d
+      then Some (record { name = name; start = start; length = length })
+      else None
+
+-- critical sections
+abbrev pub locks_of : Option Items → Option (List DraftLock)
+locks_of None = None
+locks_of (Some ds) = list_or_none (read_all lock_entry 1 ds)
+
+abbrev pub as_locks : Data → Option (List DraftLock)
+as_locks d = locks_of (as_array d)
+
+-- the keys of a task that only some formats know
+abbrev pub more_task_keys : Bool → List (List ℕ)
+more_task_keys true = codes "region" ∷ codes "locks" ∷ []
+more_task_keys false = []
 
 -- the keys that a task may have
 abbrev pub task_keys : Format → List (List ℕ)
 task_keys format =
-    codes "name" ∷ codes "on" ∷ codes "after" ∷ codes "best" ∷ codes "worst" ∷ codes "payload" ∷ codes "extended" ∷ codes "priority" ∷ codes "slot" ∷ region_key (has_regions format)
+    codes "name" ∷ codes "on" ∷ codes "after" ∷ codes "best" ∷ codes "worst" ∷ codes "payload" ∷ codes "extended" ∷ codes "priority" ∷ codes "slot" ∷ more_task_keys (has_more_of_tasks format)
 
 -- those that nearly all tasks have, and no others
 abbrev pub usual_keys : List (List ℕ)
@@ -105,8 +125,9 @@ task_fields format d = do
   priority ← optional as_integer (codes "priority") d
   slot ← optional as_integer (codes "slot") d
   region ← optional as_integer (codes "region") d
+  locks ← optional as_locks (codes "locks") d
   if has_only (task_keys format) d
-      then Some (record { name = name; on = on; after = after; best = best; worst = worst; payload = payload; extended = extended; priority = priority; slot = slot; region = region })
+      then Some (record { name = name; on = on; after = after; best = best; worst = worst; payload = payload; extended = extended; priority = priority; slot = slot; region = region; locks = unwrap_or locks [] })
       else None
 
 -- the task, if its executions stand in one of the two ways

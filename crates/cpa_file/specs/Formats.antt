@@ -17,11 +17,11 @@ has_lists One = false
 has_lists Two = true
 has_lists Four = true
 
--- in format 4 a task may have a region
-abbrev pub has_regions : Format → Bool
-has_regions One = false
-has_regions Two = false
-has_regions Four = true
+-- in format 4 a task may have a region, or critical sections
+abbrev pub has_more_of_tasks : Format → Bool
+has_more_of_tasks One = false
+has_more_of_tasks Two = false
+has_more_of_tasks Four = true
 
 -- in format 4 a source may be sporadic, and on a clock
 abbrev pub has_more_of_sources : Format → Bool
@@ -29,11 +29,11 @@ has_more_of_sources One = false
 has_more_of_sources Two = false
 has_more_of_sources Four = true
 
--- in format 4 a resource may be a queue
-abbrev pub has_queues : Format → Bool
-has_queues One = false
-has_queues Two = false
-has_queues Four = true
+-- in format 4 a resource may be a queue, or one whose locks have ceilings
+abbrev pub has_later_kinds : Format → Bool
+has_later_kinds One = false
+has_later_kinds Two = false
+has_later_kinds Four = true
 
 -- in format 4 a system may be large
 abbrev pub size_of : Format → Size

@@ -14,8 +14,9 @@ use Rattle.cpa_model.specs.declared.entries.Source.{Source}
 use Rattle.cpa_model.specs.declared.entries.OnClock.{OnClock}
 use Rattle.cpa_model.specs.declared.entries.Task.{Task}
 use Rattle.cpa_model.specs.declared.entries.Path.{Path}
+use Rattle.cpa_model.specs.declared.locks.CriticalSection.{CriticalSection}
 use Rattle.cpa_model.specs.declared.entries.Kind.{Kind}
-use Rattle.cpa_model.specs.declared.entries.Kind.TheVariants.{Preemptive, RoundRobin, Tdma, Can, Fifo}
+use Rattle.cpa_model.specs.declared.entries.Kind.TheVariants.{Preemptive, RoundRobin, Tdma, Can, Fifo, Ceiling}
 use Rattle.cpa_model.specs.declared.entries.Turn.{Turn}
 use Rattle.cpa_model.specs.declared.entries.Turn.TheVariants.{Priority, Slot, Queued}
 use Rattle.cpa_model.specs.declared.entries.Activator.{Activator}
@@ -33,6 +34,7 @@ kind_text RoundRobin = codes "round-robin"
 kind_text (Tdma gap) = codes "tdma"
 kind_text (Can bit) = codes "can"
 kind_text Fifo = codes "fifo"
+kind_text Ceiling = codes "ceiling"
 
 -- the number that goes with a kind
 abbrev pub with_kind_number : Kind → Members → Members
@@ -86,9 +88,18 @@ task_names_data s t =
 abbrev pub with_region : ℕ → Members → Members
 with_region ticks ms = if ticks == 1 then ms else put (codes "region") (integer (pos ticks)) ms
 
+-- a critical section
+unfoldable pub lock_data : CriticalSection → Data
+lock_data c = table (put (codes "length") (integer (pos c.length)) (put (codes "start") (integer (pos c.start)) (put (codes "name") (string c.lock) no_members)))
+
+-- critical sections, where there are some
+abbrev pub with_locks : List CriticalSection → Members → Members
+with_locks [] ms = ms
+with_locks (c ∷ cs) ms = put (codes "locks") (array (items_of (map lock_data (c ∷ cs)))) ms
+
 unfoldable pub task_data : SystemLists → Task → Data
 task_data s t =
-    table (with_region t.region (with_turn t.turn (put (codes "worst") (integer (pos t.worst)) (put (codes "best") (integer (pos t.best)) (task_names_data s t)))))
+    table (with_locks t.locks (with_region t.region (with_turn t.turn (put (codes "worst") (integer (pos t.worst)) (put (codes "best") (integer (pos t.best)) (task_names_data s t))))))
 
 abbrev pub with_deadline : Option ℕ → Members → Members
 with_deadline None ms = ms

@@ -1,12 +1,13 @@
 //! The entries of a system file.
 
-ghost use Rattle.std.specs.Prelude.{◌≡◌, ◌∷◌, [], Some, false, unwrap_or};
+ghost use Rattle.std.specs.Prelude.{◌≡◌, ◌∷◌, [], Some, None, false, unwrap_or};
+ghost use Rattle.std.specs.Bool.{OnTrue};
 ghost use Rattle.toml.specs.View.{view, items_view};
 ghost use Rattle.cpa_file.specs.Lists.{GivesList, read_all};
-ghost use Rattle.toml.specs.Data.{as_str};
+ghost use Rattle.toml.specs.Data.{get, as_str};
 ghost use Rattle.cpa_file.specs.Fields.{Gives, required, optional, has_only};
-ghost use Rattle.cpa_file.specs.Entries.{queue_kind, resource_keys, usual_resource_keys, resource_entry, source_keys, usual_source_keys, source_fields, has_offset_on_clock, kind_of_word, as_kind, as_texts, as_after, usual_keys, task_keys, task_fields};
-ghost use Rattle.cpa_file.specs.Formats.{has_queues};
+ghost use Rattle.cpa_file.specs.Entries.{later_kind, resource_keys, usual_resource_keys, resource_entry, source_keys, usual_source_keys, source_fields, has_offset_on_clock, kind_of_word, as_kind, as_texts, as_after, usual_keys, task_keys, as_locks, task_fields};
+ghost use Rattle.cpa_file.specs.Formats.{has_later_kinds};
 ghost use Rattle.cpa_model.specs.Built.{has_executions};
 
 use crate::fault::ReadFault;
@@ -15,39 +16,42 @@ use crate::fields::{
     optional_truth_unless, required_integer, required_text,
 };
 use crate::format::Format;
-use cpa_model::{DraftPath, DraftResource, DraftSource, DraftTask, KindWord, Raw, RawList};
+use cpa_model::{
+    DraftLock, DraftLocks, DraftPath, DraftResource, DraftSource, DraftTask, KindWord, Raw, RawList,
+};
 use std::alloc::Global;
 use toml::Value;
 
-/// The kind of a queue, where a file may have queues.
-fn queue_kind(queues: bool) -> Option<KindWord>
-    ensures { result ≡ queue_kind queues }
+/// A kind that only some formats know.
+fn later_kind(later: bool, kind: KindWord) -> Option<KindWord>
+    ensures { result ≡ later_kind later kind }
 {
-    if queues { Some(KindWord::Fifo) } else { None }
+    if later { Some(kind) } else { None }
 }
 
-fn kind_named(queues: bool, word: &str) -> Option<KindWord>
-    ensures { result ≡ kind_of_word queues word.now }
+fn kind_named(later: bool, word: &str) -> Option<KindWord>
+    ensures { result ≡ kind_of_word later word.now }
 {
     match word {
         "preemptive" => Some(KindWord::Preemptive),
         "round-robin" => Some(KindWord::RoundRobin),
         "tdma" => Some(KindWord::Tdma),
         "can" => Some(KindWord::Can),
-        "fifo" => queue_kind(queues),
+        "fifo" => later_kind(later, KindWord::Fifo),
+        "ceiling" => later_kind(later, KindWord::Ceiling),
         _ => None,
     }
 }
 
 #[tactic(auto, unfolding(crate::specs::Fields::required))]
 fn required_kind(format: Format, entry: &Value, key: &str) -> Result<KindWord, ReadFault>
-    ensures { Gives result (required (as_kind (has_queues format)) key.now (view entry.now)) }
+    ensures { Gives result (required (as_kind (has_later_kinds format)) key.now (view entry.now)) }
 {
     match entry.get(key) {
         None => Err(ReadFault::Malformed),
         Some(value) => match value.as_str() {
             None => Err(ReadFault::Malformed),
-            Some(word) => match kind_named(format.has_queues(), word) {
+            Some(word) => match kind_named(format.has_later_kinds(), word) {
                 None => Err(ReadFault::Malformed),
                 Some(kind) => Ok(kind),
             },
@@ -85,7 +89,7 @@ fn has_resource_keys(format: Format, value: &Value, usual: bool) -> bool
     if usual {
         return true;
     }
-    if format.has_queues() {
+    if format.has_later_kinds() {
         only_has(value, &["name", "kind", "limit", "gap", "bit", "rate"])
     } else {
         false
@@ -127,6 +131,78 @@ impl Entry for DraftResource {
     }
 }
 
+impl Entry for DraftLock {
+    ghost use Rattle.cpa_file.specs.Entries.{lock_entry};
+
+    ghost entry = { λ format. lock_entry };
+
+    #[tactic(auto, unfolding(crate::specs::Entries::lock_entry))]
+    fn read(alloc: Global, _format: Format, value: &Value) -> Result<DraftLock, ReadFault> {
+        let name = required_text(alloc, value, "name")?;
+        let start = required_integer(value, "start")?;
+        let length = required_integer(value, "length")?;
+        if only_has(value, &["name", "start", "length"]) {
+            Ok(DraftLock {
+                name,
+                start,
+                length,
+            })
+        } else {
+            Err(ReadFault::Malformed)
+        }
+    }
+}
+
+fn locks(alloc: Global, value: &Value) -> Result<DraftLocks, ReadFault>
+    ensures { Gives result (as_locks (view value.now)) }
+{
+    match value.as_array() {
+        None => Err(ReadFault::Malformed),
+        Some(items) => match read_entries::<DraftLock>(alloc, Format::Four, items.as_slice()) {
+            Ok(sections) => Ok(DraftLocks::new(sections)),
+            Err(ListFault::At(_)) => Err(ReadFault::Malformed),
+            Err(ListFault::Memory) => Err(ReadFault::Memory),
+        },
+    }
+}
+
+/// The critical sections at a key that may be absent.
+#[tactic(auto, unfolding(crate::specs::Fields::optional))]
+fn optional_locks(alloc: Global, entry: &Value, key: &str) -> Result<Option<DraftLocks>, ReadFault>
+    ensures { Gives result (optional as_locks key.now (view entry.now)) }
+{
+    match entry.get(key) {
+        None => Ok(None),
+        Some(value) => Ok(Some(locks(alloc, value)?)),
+    }
+}
+
+/// The same, where it may be known that the key isn't there, and then isn't looked for.
+fn optional_locks_unless(
+    absent: bool,
+    alloc: Global,
+    entry: &Value,
+    key: &str,
+) -> Result<Option<DraftLocks>, ReadFault>
+    requires { OnTrue absent (get key.now (view entry.now) ≡ None) }
+    ensures { Gives result (optional as_locks key.now (view entry.now)) }
+{
+    if absent {
+        return Ok(None);
+    }
+    optional_locks(alloc, entry, key)
+}
+
+/// Critical sections that may be absent; none where they are.
+fn sections_of(locks: Option<DraftLocks>) -> DraftLocks
+    ensures { result ≡ unwrap_or locks [] }
+{
+    match locks {
+        Some(locks) => locks,
+        None => DraftLocks::none(),
+    }
+}
+
 /// Whether a task has both executions, or a payload in place of both.
 fn has_executions(task: &DraftTask) -> bool
     ensures { result ≡ has_executions task.now }
@@ -154,10 +230,10 @@ fn has_task_keys(format: Format, value: &Value, usual: bool) -> bool
     if usual {
         return true;
     }
-    if format.has_regions() {
+    if format.has_more_of_tasks() {
         let known = [
             "name", "on", "after", "best", "worst", "payload", "extended", "priority", "slot",
-            "region",
+            "region", "locks",
         ];
         only_has(value, &known)
     } else {
@@ -183,6 +259,7 @@ fn read_task_fields(alloc: Global, format: Format, value: &Value) -> Result<Draf
     let priority = optional_integer(value, "priority")?;
     let slot = optional_integer(value, "slot")?;
     let region = optional_integer_unless(usual, value, "region")?;
+    let locks = optional_locks_unless(usual, alloc, value, "locks")?;
     if has_task_keys(format, value, usual) {
         Ok(DraftTask {
             name,
@@ -195,6 +272,7 @@ fn read_task_fields(alloc: Global, format: Format, value: &Value) -> Result<Draf
             priority,
             slot,
             region,
+            locks: sections_of(locks),
         })
     } else {
         Err(ReadFault::Malformed)
@@ -391,7 +469,7 @@ fn required_after(
 }
 
 impl Entry for Raw {
-    ghost use Rattle.toml.specs.Data.{as_str};
+    ghost use Rattle.toml.specs.Data.{get, as_str};
 
     ghost entry = { λ format. as_str };
 

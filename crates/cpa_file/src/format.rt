@@ -1,7 +1,7 @@
 //! The formats of system files.
 
 ghost use Rattle.std.specs.Prelude.{◌≡◌};
-ghost use Rattle.cpa_file.specs.Formats.{format_with, has_lists, has_regions, has_more_of_sources, has_queues, size_of};
+ghost use Rattle.cpa_file.specs.Formats.{format_with, has_lists, has_more_of_tasks, has_more_of_sources, has_later_kinds, size_of};
 
 use cpa_units::limits::Size;
 
@@ -12,7 +12,8 @@ pub enum Format {
     One,
     /// Tasks with several activators.
     Two,
-    /// Tasks with regions, sporadic sources, sources on clocks, queues, and large systems.
+    /// Tasks with regions or critical sections, sporadic sources, sources on clocks, queues, priority ceilings, and large
+    /// systems.
     Four,
 }
 
@@ -46,9 +47,9 @@ impl Format {
         }
     }
 
-    /// Whether a task may have a region.
-    pub(crate) fn has_regions(self) -> bool
-        ensures { result ≡ has_regions self }
+    /// Whether a task may have a region, or critical sections.
+    pub(crate) fn has_more_of_tasks(self) -> bool
+        ensures { result ≡ has_more_of_tasks self }
     {
         match self {
             Format::One => false,
@@ -64,9 +65,9 @@ impl Format {
         matches!(self, Format::Four)
     }
 
-    /// Whether a resource may be a queue.
-    pub(crate) fn has_queues(self) -> bool
-        ensures { result ≡ has_queues self }
+    /// Whether a resource may be a queue, or one whose locks have ceilings.
+    pub(crate) fn has_later_kinds(self) -> bool
+        ensures { result ≡ has_later_kinds self }
     {
         matches!(self, Format::Four)
     }

@@ -5,13 +5,14 @@ ghost use Rattle.std.specs.List.{list_all};
 ghost use Rattle.std.specs.Option.{ForSome};
 ghost use Rattle.toml.specs.Data.{string, integer, table};
 ghost use Rattle.toml.specs.View.{view, table_view};
-ghost use Rattle.cpa_model.specs.Rules.{IsSystem, IsResource, IsSource, IsActivator, IsTask, IsPath, KindFits};
+ghost use Rattle.cpa_model.specs.Rules.{IsSystem, IsResource, IsSource, IsActivator, IsTask, IsPath, IsSection, KindFits};
 ghost use Rattle.cpa_model.specs.SystemLists.{resource_at, source_at, task_at, path_at, task_places, slot_of, activator_name};
 ghost use Rattle.cpa_file.specs.Reading.{reading_of, Accepted};
-ghost use Rattle.cpa_file.specs.Printed.{put, kind_text, with_kind_number, resource_data, with_sporadic, with_offset, with_clock, source_numbers_data, source_data, with_turn, with_region, activator_data, after_data, task_names_data, task_data, has_one, format_of, with_deadline, name_data, path_data, system_data, IsPrinted};
+ghost use Rattle.cpa_file.specs.Printed.{put, kind_text, with_kind_number, resource_data, with_sporadic, with_offset, with_clock, source_numbers_data, source_data, with_turn, with_region, lock_data, with_locks, activator_data, after_data, task_names_data, task_data, has_one, format_of, with_deadline, name_data, path_data, system_data, IsPrinted};
 
 use cpa_model::{
-    Activator, Activators, Kind, OnClock, Path, Resource, Source, System, Task, TaskList, Turn,
+    Activator, Activators, CriticalSection, Kind, OnClock, Path, Resource, Source, System, Task,
+    TaskList, Turn,
 };
 use cpa_units::limits::Size;
 use cpa_units::{Name, NoMemory, PathId, ResId, SourceId, TaskId};
@@ -68,6 +69,7 @@ fn kind_word(kind: Kind) -> &'static str
         Kind::Tdma { .. } => "tdma",
         Kind::Can { .. } => "can",
         Kind::Fifo => "fifo",
+        Kind::Ceiling => "ceiling",
     }
 }
 
@@ -79,6 +81,7 @@ fn put_kind_number(alloc: Global, entry: &mut Table, kind: Kind) -> Result<(), N
         Kind::Preemptive => Ok(()),
         Kind::RoundRobin => Ok(()),
         Kind::Fifo => Ok(()),
+        Kind::Ceiling => Ok(()),
         Kind::Tdma { gap } => put_number(alloc, entry, "gap", gap),
         Kind::Can { bit } => put_number(alloc, entry, "bit", bit),
     }
@@ -237,6 +240,41 @@ fn put_region(alloc: Global, entry: &mut Table, ticks: u64) -> Result<(), NoMemo
     }
 }
 
+#[tactic(auto, unfolding(crate::specs::Printed::lock_data))]
+fn lock_value(alloc: Global, section: &CriticalSection) -> Result<Value, NoMemory>
+    requires { IsSection section.now }
+    ensures { IfOk result (λ v. view v ≡ lock_data section.now) }
+{
+    let mut entry = Table::new(alloc);
+    put_text(alloc, &mut entry, "name", name_text(&section.lock))?;
+    put_number(alloc, &mut entry, "start", section.start)?;
+    put_number(alloc, &mut entry, "length", section.length)?;
+    Ok(Value::Table(entry))
+}
+
+fn lock_values(alloc: Global, sections: &[CriticalSection]) -> Result<Vec<Value>, NoMemory>
+    requires { All IsSection sections.now }
+    ensures { IfOk result (λ v. map view v.items ≡ map lock_data sections.now) }
+{
+    let mut values = Vec::new(alloc);
+    for section in sections {
+        values.push(lock_value(alloc, section)?)?;
+    }
+    Ok(values)
+}
+
+/// Puts critical sections, where there are some.
+fn put_locks(alloc: Global, entry: &mut Table, sections: &[CriticalSection]) -> Result<(), NoMemory>
+    requires { All IsSection sections.now }
+    ensures { OnOk result (table_view entry.new ≡ with_locks sections.now (table_view entry.old)) }
+{
+    if sections.len() == 0 {
+        return Ok(());
+    }
+    let values = lock_values(alloc, sections)?;
+    put(alloc, entry, "locks", Value::Array(values))
+}
+
 #[tactic(auto, unfolding(crate::specs::Printed::task_data))]
 fn task_value(alloc: Global, system: &System, task: &Task) -> Result<Value, NoMemory>
     requires { IsTask system.now task.now }
@@ -247,6 +285,7 @@ fn task_value(alloc: Global, system: &System, task: &Task) -> Result<Value, NoMe
     put_number(alloc, &mut entry, "worst", task.worst)?;
     put_turn(alloc, &mut entry, task.turn)?;
     put_region(alloc, &mut entry, task.region)?;
+    put_locks(alloc, &mut entry, task.locks.sections())?;
     Ok(Value::Table(entry))
 }
 
@@ -338,7 +377,7 @@ fn have_one(system: &System) -> bool
     true
 }
 
-/// The least format that can say a system of its size: no small one has a region or a queue.
+/// The least format that can say a system of its size: no small one has a region, a queue or ceilings.
 fn format_of(system: &System) -> u64
     ensures { result ≡ format_of system.now }
 {

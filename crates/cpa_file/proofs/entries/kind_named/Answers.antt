@@ -14,4 +14,7 @@ pub returns-in-can : goal.returns-in-can
 returns-in-can c = rw (c.in-can.is) refl
 
 pub returns-in-fifo : goal.returns-in-fifo
-returns-in-fifo c = rw (c.in-fifo.is) c.queue_kind.ensures
+returns-in-fifo c = rw (c.in-fifo.is) c.later_kind.ensures
+
+pub returns-in-ceiling : goal.returns-in-ceiling
+returns-in-ceiling c = rw (c.in-ceiling.is) c.later_kind-in-ceiling.ensures
