@@ -9,7 +9,7 @@ ghost use Rattle.cpa_edit.specs.Edited.{change, refusal};
 
 use crate::edit::Numbers;
 use crate::lookups::{find_activator, resource_named, source_named, task_named};
-use cpa_model::{Activator, Activators, Kind, System, Task, Turn};
+use cpa_model::{Activator, Activators, Kind, Locks, System, Task, Turn};
 use cpa_units::{Name, NoMemory, SourceId};
 use std::alloc::Global;
 
@@ -81,7 +81,7 @@ fn turn_of(kind: Kind, number: u64) -> Turn
     ensures { result ≡ turn_of kind number }
 {
     match kind {
-        Kind::Preemptive | Kind::Can { bit: _ } => Turn::Priority(number as u32),
+        Kind::Preemptive | Kind::Can { bit: _ } | Kind::Ceiling => { Turn::Priority(number as u32) }
         Kind::RoundRobin | Kind::Tdma { gap: _ } => Turn::Slot(number),
         Kind::Fifo => Turn::Queued,
     }
@@ -110,6 +110,7 @@ pub(crate) fn make_addition(
         worst: numbers.worst,
         turn,
         region: 1,
+        locks: Locks::none(),
     };
     system.push_task(task)?;
     Ok(())

@@ -2,7 +2,7 @@
 use Rattle.std.proofs.Common.{◌≡◌, ◌≢◌, ◌<◌, ◌≤◌, ℕ, zero, suc, ◌+◌, ◌-◌, ◌*◌, ◌/◌, ◌%◌, ◌⊎◌, inl, inr, List, [], ◌∷◌, ◌++◌, length, slice_index_or, All, Bool, true, false, codes, if◌then◌else◌, nat_lt, Option, Some, IsSome, unwrap_or, max, refl, ap, ap₂, ◌∙◌, sym, subst, arith, rules}
 use Rattle.std.specs.Prelude.{◌==◌}
 use Rattle.std.specs.List.{flat_map, list_any}
-use Rattle.std.proofs.lemmas.Bool.{cases_lt, eq-eqb, or_left}
+use Rattle.std.proofs.lemmas.Bool.{cases_lt, eq-eqb, false≢true, or_left}
 use Rattle.std.proofs.lemmas.List.{append-nil}
 use Rattle.std.proofs.lemmas.List.Elements.{All-nil, All-cons}
 use Rattle.std.proofs.Math.Nat.{mod-lt}
@@ -21,7 +21,9 @@ use Rattle.cpa_model.specs.declared.entries.Turn.TheVariants as turn
 use Rattle.cpa_model.specs.Chains.{activators, chain_steps, depth_within, streams_step, streams_within}
 use Rattle.cpa_model.specs.SystemLists.{SystemLists, is_task, no_resource, no_task, priority_of, resource_at, task_at}
 use Rattle.cpa_model.proofs.SystemLaws.{tick-fits}
-use Rattle.cpa_model.specs.Rules.{AllDiffer, HaveOwnPriorities, IsActivator, IsLinked, IsPath, IsResource, IsSized, IsSizedResource, IsSizedSource, IsSizedTask, IsSource, IsSystem, IsTask, HasShortClock, TurnFits, activity_names}
+use Rattle.cpa_model.proofs.LockLaws.{no_locks-fit}
+use Rattle.cpa_model.specs.Locks.{uses_lock}
+use Rattle.cpa_model.specs.Rules.{AllDiffer, HaveLocksTogether, HaveOwnPriorities, IsActivator, IsLinked, IsPath, IsResource, IsSized, IsSizedResource, IsSizedSource, IsSizedTask, IsSource, IsSystem, IsTask, HasShortClock, TurnFits, activity_names}
 use Rattle.std.proofs.lemmas.Option.{none-some}
 use Rattle.cpa_draft.specs.Refusals.{has_clock_name}
 use Rattle.cpa_model.specs.Clocks.{clock_name}
@@ -142,6 +144,7 @@ task_fits number size zero k few l m =
       worst = omega (arith, c.first);
       turn_fits = subst (λ x. TurnFits x (turn.Priority (2 * k))) (sym (kind_low number size (k % processors size) on)) (omega (arith, m, few));
       region_fits = tick-fits (resource_at (lists number size) (k % processors size)).kind;
+      locks_fit = no_locks-fit (resource_at (lists number size) (k % processors size)).kind 1;
     }
 task_fits number size (suc zero) k few l m =
     let c = chain_fits number size k (omega (arith, m)) in
@@ -156,6 +159,7 @@ task_fits number size (suc zero) k few l m =
       worst = omega (arith, c.payload);
       turn_fits = subst (λ x. TurnFits x (turn.Priority k)) (sym (kind_high number size (processors size + k % buses size) (omega arith) (omega (arith, on)))) (omega (arith, m, few));
       region_fits = tick-fits (resource_at (lists number size) (processors size + k % buses size)).kind;
+      locks_fit = no_locks-fit (resource_at (lists number size) (processors size + k % buses size)).kind 1;
     }
 task_fits number size (suc (suc zero)) k few l m =
     let c = chain_fits number size k (omega (arith, m)) in
@@ -169,6 +173,7 @@ task_fits number size (suc (suc zero)) k few l m =
       worst = omega (arith, c.last);
       turn_fits = subst (λ x. TurnFits x (turn.Priority (2 * k + 1))) (sym (kind_low number size (chain_of number size k).processor c.processor)) (omega (arith, m, few));
       region_fits = tick-fits (resource_at (lists number size) (chain_of number size k).processor).kind;
+      locks_fit = no_locks-fit (resource_at (lists number size) (chain_of number size k).processor).kind 1;
     }
 task_fits number size (suc (suc (suc t))) k few l m = absurd (omega (arith, l))
 
@@ -228,6 +233,12 @@ priorities_differ size (suc (suc t)) zero k m c d l n o p x y less same number e
 priorities_differ size (suc (suc t)) (suc zero) k m c d l n o p x y less same number e f =
     elsewhere c.processor (processors size + m % buses size) (inl (omega (arith, x))) same
 priorities_differ size (suc (suc t)) (suc (suc u)) k m c d l n o p x y less same number e f = apart (2 * k + 1) (2 * m + 1) number (λ g. omega (arith, g, less, l, n)) e f
+
+-- no task uses a lock
+unlocked : {P : Type 0} (size t k : ℕ) (c : Chain) (lock : List ℕ) → uses_lock lock (task_of_chain t size k c) ≡ true → P
+unlocked size zero k c lock e = absurd (false≢true e)
+unlocked size (suc zero) k c lock e = absurd (false≢true e)
+unlocked size (suc (suc t)) k c lock e = absurd (false≢true e)
 
 -- paths
 
@@ -385,6 +396,7 @@ lists_keep_rules number size few = record {
       priorities_differ size (i % 3) (j % 3) (i / 3) (j / 3) (chain_of number size (i / 3)) (chain_of number size (j / 3)) (thirds i) (thirds j)
       (third size i (omega (arith, l, m))) (third size j m) (chain_fits number size (i / 3) some).processor (chain_fits number size (j / 3) some).processor
       (omega (arith, place_is i, place_is j, l)));
+  locks = pairs_table HaveLocksTogether (task_made number size) (3 * size) (λ i j l m lock first second. unlocked size (i % 3) (i / 3) (chain_of number size (i / 3)) lock first);
 }
 
 pub made_systems_keep_rules : (number size : ℕ) → size ≤ 128 → IsSystem (made_system number size)

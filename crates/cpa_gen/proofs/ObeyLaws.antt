@@ -6,7 +6,7 @@ use Rattle.std.proofs.lemmas.List.{get_or_default, get_or_past, get_or-replicate
 use Rattle.std.proofs.Math.Nat.{mod-lt}
 use Rattle.cpa_events.specs.Streams.{stream_delta_minus}
 use Rattle.cpa_model.specs.declared.entries.Kind.{Kind}
-use Rattle.cpa_model.specs.declared.entries.Kind.TheVariants.{Can, Fifo, Preemptive, RoundRobin, Tdma}
+use Rattle.cpa_model.specs.declared.entries.Kind.TheVariants.{Can, Ceiling, Fifo, Preemptive, RoundRobin, Tdma}
 use Rattle.cpa_model.specs.declared.entries.Turn.{Turn}
 use Rattle.cpa_model.specs.declared.entries.Turn.TheVariants.{Priority, Slot, Queued}
 use Rattle.cpa_model.specs.Streams.{source_stream}
@@ -202,6 +202,7 @@ tdma_gap Preemptive e = absurd (search (rules, e))
 tdma_gap RoundRobin e = absurd (search (rules, e))
 tdma_gap (Can bit) e = absurd (search (rules, e))
 tdma_gap Fifo e = absurd (search (rules, e))
+tdma_gap Ceiling e = absurd (search (rules, e))
 
 -- a resource for which a phase is drawn has a cycle
 pub phase_cycle : (s : SystemLists) → IsSystem s → (r : ℕ) → has_phase s r ≡ true → 0 < cycle_of s r

@@ -68,6 +68,7 @@ first_task size k c = record {
   worst = c.first;
   turn = turn.Priority (2 * k);
   region = 1;
+  locks = [];
 }
 
 abbrev pub frame_task : ℕ → ℕ → Chain → Task
@@ -79,6 +80,7 @@ frame_task size k c = record {
   worst = greatest_frame_bits c.payload false * 2;
   turn = turn.Priority k;
   region = 1;
+  locks = [];
 }
 
 abbrev pub last_task : ℕ → Chain → Task
@@ -90,6 +92,7 @@ last_task k c = record {
   worst = c.last;
   turn = turn.Priority (2 * k + 1);
   region = 1;
+  locks = [];
 }
 
 -- the task that stands so far after the first of its chain

@@ -9,7 +9,7 @@ ghost use Rattle.cpa_gen.specs.MadeSystems.{buses, chain_of, first_task, frame_t
 
 use crate::chains::{Chain, draw_chains, processors};
 use cpa_model::{
-    Activator, Activators, Kind, Path, Resource, Source, System, Task, TaskList, Turn,
+    Activator, Activators, Kind, Locks, Path, Resource, Source, System, Task, TaskList, Turn,
 };
 use cpa_text::Text;
 use cpa_units::limits::{DEFAULT_LIMIT, Size};
@@ -105,6 +105,7 @@ fn first_task(alloc: Global, size: u32, k: u64, chain: Chain) -> Result<Task, No
         worst: chain.first,
         turn: Turn::Priority(2 * k as u32),
         region: 1,
+        locks: Locks::none(),
     })
 }
 
@@ -124,6 +125,7 @@ fn frame_task(alloc: Global, size: u32, k: u64, chain: Chain) -> Result<Task, No
         worst: greatest * BIT,
         turn: Turn::Priority(k as u32),
         region: 1,
+        locks: Locks::none(),
     })
 }
 
@@ -141,6 +143,7 @@ fn last_task(alloc: Global, k: u64, chain: Chain) -> Result<Task, NoMemory>
         worst: chain.last,
         turn: Turn::Priority(2 * k as u32 + 1),
         region: 1,
+        locks: Locks::none(),
     })
 }
 

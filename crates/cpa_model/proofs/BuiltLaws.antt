@@ -23,7 +23,7 @@ use Rattle.cpa_draft.specs.Numbers.{nat_of, nat_or, may_be_within}
 use Rattle.cpa_draft.specs.DraftLists.{DraftLists, resource_at as draft_resource_at, task_at as draft_task_at, no_resource as no_draft_resource, no_task as no_draft_task}
 use Rattle.cpa_draft.specs.Names.{resource_names, source_names, task_names, activity_names as draft_names, place_of, kind_of, link_at, link_of, links_of, is_nothing, is_task, is_after}
 use Rattle.cpa_draft.specs.Chains.{link_step, longer, links_step, chain_within, first_longer, count_step, stream_count_within}
-use Rattle.cpa_draft.specs.Refusals.{by_priority, is_preemptive, turn_misfits, payload_misfits, task_misfits, rank_of, same_rank, is_taken, is_linked, task_fits, is_misfed, has_double}
+use Rattle.cpa_draft.specs.Refusals.{by_priority, has_regions, locks_misfit, turn_misfits, payload_misfits, task_misfits, rank_of, same_rank, is_taken, is_linked, task_fits, is_misfed, has_double}
 use Rattle.cpa_draft.specs.declared.draft.DraftResource.{DraftResource}
 use Rattle.cpa_draft.specs.declared.draft.DraftSource.{DraftSource}
 use Rattle.cpa_draft.specs.declared.draft.DraftTask.{DraftTask}
@@ -46,10 +46,11 @@ use Rattle.cpa_model.specs.declared.entries.Activator.{Activator}
 use Rattle.cpa_model.specs.declared.entries.Activator.TheVariants as activator
 use Rattle.cpa_model.specs.Chains.{chain_step, depth_within, activators, streams_step, streams_within}
 use Rattle.cpa_model.specs.SystemLists.{SystemLists, task_at, streams_of, is_task as is_the_task, no_resource, no_task}
-use Rattle.cpa_model.specs.Rules.{IsSized, IsSizedResource, IsSizedSource, IsSizedTask, IsSystem, IsResource, IsSource, IsTask, IsActivator, IsPath, IsLinked, AllDiffer, HaveOwnPriorities, TurnFits, RegionFits, activity_names}
-use Rattle.cpa_model.specs.Built.{built_kind, built_resource, built_source, built_task, built_path, built_turn, built_activator, activator_at, resource_place, activity_place, bit_time, rate_of, most_frame, task_named, has_executions, TaskFitsTypes, PathFitsTypes, system_of}
+use Rattle.cpa_model.specs.Rules.{IsSized, IsSizedResource, IsSizedSource, IsSizedTask, IsSystem, IsResource, IsSource, IsTask, IsActivator, IsPath, IsLinked, AllDiffer, HaveOwnPriorities, HaveLocksTogether, TurnFits, RegionFits, LocksFit, activity_names}
+use Rattle.cpa_model.specs.Built.{built_kind, built_resource, built_source, built_task, built_path, built_section, built_turn, built_activator, activator_at, resource_place, activity_place, bit_time, rate_of, most_frame, task_named, has_executions, TaskFitsTypes, PathFitsTypes, system_of}
 use Rattle.cpa_model.proofs.SystemLaws.{path-short, activators-few}
 use Rattle.cpa_model.proofs.DraftClocks.{built-named, built-clocks}
+use Rattle.cpa_model.proofs.DraftSections.{any-more, is_locked, sections-kept, locks-kept, locks-together}
 use Rattle.cpa_model.proofs.EntryLaws.{may-range, range, resource-kept, source-kept, place-kept, nothing-none, link-kept, task-kept, turn-kept, region-kept, payload-kept, executions-kept}
 
 -- chains
@@ -240,15 +241,16 @@ activators-differ d names differ know =
 
 -- a task that suits the kind of its resource has a turn of the right sort
 turn-suits : (d : DraftLists) (t : DraftTask) → task_misfits (kind_of d t.on) t ≡ false → turn_misfits (kind_of d t.on) t ≡ false
-turn-suits d t suit = (or_parts _ _ (or_parts _ _ (or_parts _ _ suit).0).0).0
+turn-suits d t suit = (or_parts _ _ (or_parts _ _ (or_parts _ _ (or_parts _ _ suit).0).0).0).0
 
 -- and a payload for which the frame of the kind has room
 payload-suits : (d : DraftLists) (t : DraftTask) → task_fits d.size t ≡ true → task_misfits (kind_of d t.on) t ≡ false → nat_or 0 t.payload ≤ most_frame (kind_of d t.on)
 payload-suits d t fit suit =
-    let fit-region = and_parts _ _ (larger-task d.size t fit) in
+    let fit-locks = and_parts _ _ (larger-task d.size t fit) in
+    let fit-region = and_parts _ _ fit-locks.0 in
     let fit-slot = and_parts _ _ fit-region.0 in
     let fit-priority = and_parts _ _ fit-slot.0 in
-    payload-kept (kind_of d t.on) t.payload (or_parts _ _ (or_parts _ _ (or_parts _ _ suit).0).0).1 (and_parts _ _ fit-priority.0).1
+    payload-kept (kind_of d t.on) t.payload (or_parts _ _ (or_parts _ _ (or_parts _ _ (or_parts _ _ suit).0).0).0).1 (and_parts _ _ fit-priority.0).1
 
 task-kept-at : (d : DraftLists) → IsUnrefused d → All (λ t. has_executions t ≡ true) d.tasks → (i : ℕ) (t : DraftTask) → i < length d.tasks → IsTask (system_of d) (built_task d (get_or d.tasks i t))
 unfolding system_of built_task
@@ -256,7 +258,8 @@ task-kept-at d u given i e less =
     let t = get_or d.tasks i e in
     let know : (is_none (place_of (resource_names d) t.on) ≡ false) × (list_any (λ name. is_nothing (link_of d name)) t.after ≡ false) = or_parts _ _ (u.tasks_know i e less) in
     let below : resource_place d t.on < length d.resources = omega (arith, place-kept (resource_names d) t.on know.0, length-map d.resources (λ (r : DraftResource). r.name)) in
-    let fit-region = and_parts _ _ (larger-task d.size (get_or d.tasks i e) (u.tasks_fit i e less)) in
+    let fit-locks = and_parts _ _ (larger-task d.size (get_or d.tasks i e) (u.tasks_fit i e less)) in
+    let fit-region = and_parts _ _ fit-locks.0 in
     let fit = and_parts _ _ fit-region.0 in
     let fit-priority = and_parts _ _ fit.0 in
     let fit-payload = and_parts _ _ fit-priority.0 in
@@ -264,12 +267,17 @@ task-kept-at d u given i e less =
     let run = executions-kept (kind_of d t.on) t.best t.worst t.payload t.extended (bit_time d t.on) (rate_of d t.on) (given i e less) fit-executions.0 fit-executions.1
     (payload-suits d t (u.tasks_fit i e less) (u.tasks_suit i e less)) (u.ordered i e less) (bit-kept d u t.on know.0) (rate-kept d u t.on know.0) in
     let suit = turn-suits d t (u.tasks_suit i e less) in
-    let suit-region : (is_some t.region && not (is_preemptive (unwrap_or (kind_of d t.on) word.Preemptive))) ≡ false = (or_parts _ _ (u.tasks_suit i e less)).1 in
+    let suits = or_parts _ _ (u.tasks_suit i e less) in
+    let suit-region : (is_some t.region && not (has_regions (unwrap_or (kind_of d t.on) word.Preemptive))) ≡ false = (or_parts _ _ suits.0).1 in
+    let suit-locks : locks_misfit (unwrap_or (kind_of d t.on) word.Preemptive) t.locks ≡ false = suits.1 in
     let is_kind = kind-some d t.on know.0 in
     let r = draft_resource_at d (resource_place d t.on) in
     let turn : TurnFits (built_kind r.kind r.gap r.bit) (built_turn (kind_of d t.on) t) =
     rw is_kind (turn-kept r.kind r.gap r.bit t (rw is_kind at suit) fit-priority.1 fit.1) in
     let region : RegionFits (built_kind r.kind r.gap r.bit) (nat_or 1 t.region) = region-kept r.kind r.gap r.bit t.region (rw is_kind at suit-region) fit-region.1 in
+    let some-region : 1 ≤ nat_or 1 t.region = (may-range 1 10000000 1 t.region (lit≤ tt, lit≤ tt) fit-region.1).0 in
+    let sections = sections-kept (take i d.tasks) t fit-locks.1 (u.locks_named i e less) some-region (is_locked d u i e less) in
+    let locks : LocksFit (built_kind r.kind r.gap r.bit) (nat_or 1 t.region) (map built_section t.locks) = locks-kept r.kind r.gap r.bit (nat_or 1 t.region) t.locks (rw is_kind at suit-locks) sections in
     record {
       placed = rw (length-map d.resources built_resource) below;
       some = rw (length-map t.after (built_activator d)) (is_fed d u i e less).some;
@@ -282,6 +290,7 @@ task-kept-at d u given i e less =
       worst = run.small;
       turn_fits = rw (get_or-map built_resource d.resources (resource_place d t.on) no_draft_resource no_resource below) turn;
       region_fits = rw (get_or-map built_resource d.resources (resource_place d t.on) no_draft_resource no_resource below) region;
+      locks_fit = rw (get_or-map built_resource d.resources (resource_place d t.on) no_draft_resource no_resource below) locks;
     }
 
 -- priorities
@@ -294,6 +303,7 @@ rank-from : (k : Option KindWord) (place number : ℕ) (t : DraftTask) → turn_
     → cond (by_priority k) (option_map {U = ℕ × ℕ} (λ (z : ℤ). (place, nat_of z)) t.priority) None ≡ Some (place, number)
 rank-from (Some word.Preemptive) place number t h e = rank-of number place t.priority (or_parts _ _ h).0 e
 rank-from (Some word.Can) place number t h e = rank-of number place t.priority (or_parts _ _ h).0 e
+rank-from (Some word.Ceiling) place number t h e = rank-of number place t.priority (or_parts _ _ h).0 e
 rank-from (Some word.Fifo) place number t h e = cc
 rank-from (Some word.RoundRobin) place number t h e = cc
 rank-from (Some word.Tdma) place number t h e = cc
@@ -360,14 +370,6 @@ task-activator d name h =
     let k = task-kept (length d.sources) (draft_names d) name h in
     rw (le-ltb _ _ k.past) refl
 
--- what passes one test passes another
-pub any-more : {X : Type 0} (p q : X → Bool) (xs : List X) → ((x : X) → p x ≡ true → q x ≡ true) → list_any p xs ≡ true → list_any q xs ≡ true
-any-more p q [] more h = absurd (false≢true h)
-any-more p q (x ∷ xs) more h = elim (cases_Bool (p x)) [
-  | inl here ↦ rw (more x here) refl
-  | inr there ↦ rw (any-more p q xs more (rw there at h)) (or-true (q x))
-]
-
 -- the name before another in a path names an activator of the other
 is_after-name : (d : DraftLists) (first second : List ℕ) → is_task (link_of d first) ≡ true → is_task (link_of d second) ≡ true → is_after d first (link_of d second) ≡ true
     → list_any (is_the_task (task_named d first).0) (map (built_activator d) (draft_task_at d (activity_place d second - length d.sources)).after) ≡ true
@@ -431,7 +433,8 @@ unfolding built_task
 task-sized d u i e less =
     let t = get_or d.tasks i e in
     let know : (is_none (place_of (resource_names d) t.on) ≡ false) × (list_any (λ name. is_nothing (link_of d name)) t.after ≡ false) = or_parts _ _ (u.tasks_know i e less) in
-    let region = and_parts _ _ (u.tasks_fit i e less) in
+    let locks = and_parts _ _ (u.tasks_fit i e less) in
+    let region = and_parts _ _ locks.0 in
     let slot = and_parts _ _ region.0 in
     let priority = and_parts _ _ slot.0 in
     let payload = and_parts _ _ priority.0 in
@@ -479,13 +482,15 @@ system-kept d u given = record {
   activity_names = activities-differ d u;
   path_names = paths-differ d u;
   priorities = pairs-map HaveOwnPriorities (built_task d) d.tasks (own-priorities d u);
+  locks = pairs-map HaveLocksTogether (built_task d) d.tasks (locks-together d u);
 }
 
 -- numbers that fit their types
 
 priority-small : (t : DraftTask) → task_fits Large t ≡ true → nat_or 0 t.priority ≤ 536870911
 priority-small t h =
-    let fit-region = and_parts _ _ h in
+    let fit-locks = and_parts _ _ h in
+    let fit-region = and_parts _ _ fit-locks.0 in
     let fit-slot = and_parts _ _ fit-region.0 in
     (may-range 0 536870911 0 t.priority (lit≤ tt, lit≤ tt) (and_parts _ _ fit-slot.0).1).1
 

@@ -13,7 +13,7 @@ use Rattle.cpa_units.proofs.NumberLaws.{div_ceil-le_self}
 use Rattle.cpa_draft.specs.Ports.{port_frame_bits, least_port_ticks, greatest_port_ticks}
 use Rattle.cpa_draft.specs.Numbers.{nat_of, nat_or, is_within, may_be_within}
 use Rattle.cpa_draft.specs.Names.{place_of, link_at, is_nothing, is_task}
-use Rattle.cpa_draft.specs.Refusals.{resource_fits, source_fits, offset_fits, is_preemptive, turn_misfits, payload_misfits}
+use Rattle.cpa_draft.specs.Refusals.{resource_fits, source_fits, offset_fits, has_regions, turn_misfits, payload_misfits}
 use Rattle.cpa_draft.specs.declared.draft.DraftResource.{DraftResource}
 use Rattle.cpa_draft.specs.declared.draft.DraftSource.{DraftSource}
 use Rattle.cpa_draft.specs.declared.draft.DraftTask.{DraftTask}
@@ -50,6 +50,7 @@ kind-kept word.RoundRobin gap bit g b = tt
 kind-kept word.Tdma gap bit g b = (may-range 0 10000000 0 gap (lit≤ tt, lit≤ tt) g).1
 kind-kept word.Can gap bit g b = may-range 1 1000 1 bit (lit≤ tt, lit≤ tt) b
 kind-kept word.Fifo gap bit g b = tt
+kind-kept word.Ceiling gap bit g b = tt
 
 pub resource-kept : (r : DraftResource) → resource_fits Large r ≡ true → IsResource (built_resource r)
 resource-kept r h =
@@ -121,12 +122,14 @@ turn-kept word.Preemptive gap bit t h p s = (may-range 0 536870911 0 t.priority 
 turn-kept word.Can gap bit t h p s = (may-range 0 536870911 0 t.priority (lit≤ tt, lit≤ tt) p).1
 turn-kept word.RoundRobin gap bit t h p s = there-range 1 10000000 t.slot (or_parts _ _ h).1 s
 turn-kept word.Tdma gap bit t h p s = there-range 1 10000000 t.slot (or_parts _ _ h).1 s
+turn-kept word.Ceiling gap bit t h p s = (may-range 0 536870911 0 t.priority (lit≤ tt, lit≤ tt) p).1
 turn-kept word.Fifo gap bit t h p s = tt
 
 -- regions
 
-pub region-kept : (w : KindWord) (gap bit region : Option ℤ) → (is_some region && not (is_preemptive w)) ≡ false → may_be_within 1 10000000 region ≡ true → RegionFits (built_kind w gap bit) (nat_or 1 region)
+pub region-kept : (w : KindWord) (gap bit region : Option ℤ) → (is_some region && not (has_regions w)) ≡ false → may_be_within 1 10000000 region ≡ true → RegionFits (built_kind w gap bit) (nat_or 1 region)
 region-kept word.Preemptive gap bit region h r = may-range 1 10000000 1 region (lit≤ tt, lit≤ tt) r
+region-kept word.Ceiling gap bit region h r = may-range 1 10000000 1 region (lit≤ tt, lit≤ tt) r
 region-kept word.RoundRobin gap bit None h r = refl
 region-kept word.RoundRobin gap bit (Some z) h r = absurd (true≢false h)
 region-kept word.Tdma gap bit None h r = refl
@@ -179,6 +182,7 @@ kind_frames-kept (Some word.RoundRobin) bit rate s extended h b r = frames-kept 
 kind_frames-kept (Some word.Tdma) bit rate s extended h b r = frames-kept s bit extended h b
 kind_frames-kept (Some word.Can) bit rate s extended h b r = frames-kept s bit extended h b
 kind_frames-kept (Some word.Fifo) bit rate s extended h b r = ports-kept s rate h r
+kind_frames-kept (Some word.Ceiling) bit rate s extended h b r = frames-kept s bit extended h b
 
 none-zero : (payload : Option ℤ) → is_some payload ≡ false → nat_or 0 payload ≤ 8
 none-zero None h = omega arith
@@ -190,6 +194,7 @@ payload-kept None payload h p = none-zero payload h
 payload-kept (Some word.Preemptive) payload h p = none-zero payload h
 payload-kept (Some word.RoundRobin) payload h p = none-zero payload h
 payload-kept (Some word.Tdma) payload h p = none-zero payload h
+payload-kept (Some word.Ceiling) payload h p = none-zero payload h
 payload-kept (Some word.Can) payload h p = (may-range 0 8 0 payload (lit≤ tt, lit≤ tt) (not-false _ h)).1
 payload-kept (Some word.Fifo) payload h p = (may-range 0 1500 0 payload (lit≤ tt, lit≤ tt) p).1
 

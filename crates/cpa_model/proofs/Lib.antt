@@ -4,12 +4,15 @@ pub mod ChainLaws
 pub mod ChangedLaws
 pub mod ClockLaws
 pub mod DraftClocks
+pub mod DraftSections
 pub mod EntryLaws
 pub mod KeptClocks
 pub mod KeptRules
+pub mod LockLaws
 pub mod LongestLaws
 pub mod RedraftChains
 pub mod RedraftLaws
+pub mod RedraftLocks
 pub mod RedraftNames
 pub mod RedraftNumbers
 pub mod RedraftRanks
@@ -17,3 +20,4 @@ pub mod RedraftUnrefused
 pub mod ResourceTaskLaws
 pub mod SizeLaws
 pub mod SystemLaws
+mod WorkedCases

@@ -14,15 +14,17 @@ use Rattle.cpa_model.specs.declared.entries.OnClock.{OnClock}
 use Rattle.cpa_model.specs.Clocks.{clock_name, offset_on}
 use Rattle.cpa_model.specs.declared.entries.Task.{Task}
 use Rattle.cpa_model.specs.declared.entries.Path.{Path}
+use Rattle.cpa_model.specs.declared.locks.CriticalSection.{CriticalSection}
 use Rattle.cpa_model.specs.declared.entries.Kind.{Kind}
 use Rattle.cpa_model.specs.declared.entries.Kind.TheVariants as kind
 use Rattle.cpa_model.specs.declared.entries.Turn.{Turn}
 use Rattle.cpa_model.specs.declared.entries.Turn.TheVariants as turn
 use Rattle.cpa_model.specs.SystemLists.{SystemLists, resource_at, task_at}
 use Rattle.cpa_model.specs.Rules.{IsSystem, IsTask, IsPath, TurnFits}
-use Rattle.cpa_model.specs.Built.{built_kind, built_resource, built_on_clock, built_source, built_task, built_path, built_turn, task_named, system_of}
-use Rattle.cpa_model.specs.Redraft.{word_of, gap_at, bit_at, region_at, offset_at, redraft_resource, redraft_source, redraft_task, redraft_path, redraft}
+use Rattle.cpa_model.specs.Built.{built_kind, built_resource, built_on_clock, built_source, built_task, built_path, built_section, built_turn, task_named, system_of}
+use Rattle.cpa_model.specs.Redraft.{word_of, gap_at, bit_at, region_at, offset_at, redraft_resource, redraft_source, redraft_section, redraft_task, redraft_path, redraft}
 use Rattle.cpa_model.proofs.RedraftNames.{place_of-resource, kind_of-redraft, activators-back, task-back}
+use Rattle.cpa_model.proofs.RedraftLocks.{region-back}
 use Rattle.cpa_model.proofs.RedraftUnrefused.{redraft-unrefused}
 
 -- a kind with its number comes back
@@ -32,6 +34,7 @@ kind-back kind.RoundRobin = refl
 kind-back (kind.Tdma gap) = refl
 kind-back (kind.Can bit) = refl
 kind-back kind.Fifo = refl
+kind-back kind.Ceiling = refl
 
 -- and so does a resource
 resource-back : (r : Resource) → built_resource (redraft_resource r) ≡ r
@@ -69,22 +72,22 @@ turn-back s t (kind.Can bit) turn.Queued is fits = absurd fits
 turn-back s t kind.Fifo (turn.Priority number) is fits = absurd fits
 turn-back s t kind.Fifo (turn.Slot ticks) is fits = absurd fits
 turn-back s t kind.Fifo turn.Queued is fits = refl
+turn-back s t kind.Ceiling (turn.Priority number) is fits = rw is refl
+turn-back s t kind.Ceiling (turn.Slot ticks) is fits = absurd fits
+turn-back s t kind.Ceiling turn.Queued is fits = absurd fits
 
--- a region comes back
-region-back : (ticks : ℕ) → nat_or 1 (region_at ticks) ≡ ticks
-region-back ticks = elim (cases_eq ticks 1) [
-  | inl is ↦ rw (eq-eqb ticks 1 is) (sym is)
-  | inr isn't ↦ rw (ne_eqb ticks 1 isn't) refl
-]
+-- and critical sections
+sections-back : (locks : List CriticalSection) → map built_section (map redraft_section locks) ≡ locks
+sections-back locks = map-map redraft_section built_section locks ∙ map_fixed (λ (c : CriticalSection). built_section (redraft_section c)) locks (λ k c less. refl)
 
--- and a task with its turn and its region
+-- and a task with its turn, its region and its critical sections
 task_entry-back : (s : SystemLists) → IsSystem s → (t : Task) → IsTask s t → built_task (redraft s) (redraft_task s t) ≡ t
 unfolding built_task
 task_entry-back s rules t fits =
     let is_turn : built_turn (kind_of (redraft s) (resource_at s t.res.0).name) (redraft_task s t) ≡ t.turn =
     ap (λ o. built_turn o (redraft_task s t)) (kind_of-redraft s rules t.res.0 fits.placed)
     ∙ turn-back s t (resource_at s t.res.0).kind t.turn refl fits.turn_fits in
-    rw (is_turn, place_of-resource s rules t.res.0 fits.placed, activators-back s rules t.after fits.activated, region-back t.region) refl
+    rw (is_turn, place_of-resource s rules t.res.0 fits.placed, activators-back s rules t.after fits.activated, region-back t.region, sections-back t.locks) refl
 
 -- a deadline comes back
 deadline-back : (o : Option ℕ) → option_map nat_of (option_map pos o) ≡ o

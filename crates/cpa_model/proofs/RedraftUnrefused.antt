@@ -11,7 +11,7 @@ use Rattle.cpa_units.specs.declared.places.TaskId.{TaskId}
 use Rattle.cpa_draft.specs.First.{first_place, first_known}
 use Rattle.cpa_draft.specs.Names.{source_names, resource_names, place_of, kind_of, link_of, links_of, is_nothing, is_task, is_after}
 use Rattle.cpa_draft.specs.DraftLists.{task_at as draft_task_at, no_task as no_draft_task}
-use Rattle.cpa_draft.specs.Refusals.{has_clock_name, resource_fits, source_fits, task_fits, path_fits, resource_misfits, task_misfits, is_crossed, is_linked, is_misfed, has_double}
+use Rattle.cpa_draft.specs.Refusals.{has_clock_name, have_lock_names, resource_fits, source_fits, task_fits, path_fits, resource_misfits, task_misfits, is_crossed, is_linked, is_misfed, has_double}
 use Rattle.cpa_draft.specs.Chains.{stream_count_within}
 use Rattle.cpa_draft.proofs.FirstLemmas.{all_unmarked}
 use Rattle.cpa_draft.proofs.Maps.{list_any-map}
@@ -27,13 +27,16 @@ use Rattle.cpa_model.specs.declared.entries.Task.{Task}
 use Rattle.cpa_model.specs.declared.entries.Path.{Path}
 use Rattle.cpa_model.specs.declared.entries.Activator.{Activator}
 use Rattle.cpa_model.specs.declared.entries.Activator.TheVariants as activator
-use Rattle.cpa_model.specs.SystemLists.{SystemLists, resource_at, task_at, activator_name, streams_of, is_task as is_the_task, no_task}
+use Rattle.cpa_model.specs.SystemLists.{SystemLists, resource_at, task_at, activator_name, streams_of, is_task as is_the_task, no_resource, no_task}
 use Rattle.cpa_model.specs.Chains.{activators}
 use Rattle.cpa_model.specs.Rules.{IsSystem, IsTask, IsPath}
 use Rattle.cpa_model.specs.Redraft.{redraft_resource, redraft_source, redraft_task, redraft_path, redraft}
 use Rattle.cpa_model.proofs.ActivatorLaws.{task-one}
-use Rattle.cpa_model.proofs.BuiltLaws.{link_from, any-more, streams-same}
+use Rattle.cpa_model.proofs.BuiltLaws.{link_from, streams-same}
 use Rattle.cpa_model.proofs.DraftClocks.{redraft-clocks}
+use Rattle.cpa_model.proofs.DraftSections.{any-more}
+use Rattle.cpa_model.proofs.LockLaws.{are-sections}
+use Rattle.cpa_model.proofs.RedraftLocks.{locks-named, all-locked}
 use Rattle.cpa_model.proofs.RedraftNames.{place_of-resource, link_of-task, link_of-activator, links_of-redraft, names-differ, tasks-redraft, task_at-redraft, kind_of-redraft}
 use Rattle.cpa_model.proofs.RedraftNumbers.{resource-fits, source-fits, task-fits, path-fits, resource-suits, task-suits, task-ordered}
 use Rattle.cpa_model.proofs.RedraftRanks.{ranks-own}
@@ -164,12 +167,17 @@ unfolding redraft
 redraft-unrefused s rules = record {
   resources_fit = all-map (λ r. resource_fits s.size r ≡ true) redraft_resource s.resources (λ k r less. resource-fits s.size (get_or s.resources k r) (rules.resources k r less) (rules.sized.limits k r less));
   sources_fit = all-map (λ r. source_fits s.size r ≡ true) redraft_source s.sources (λ k r less. source-fits s.size (get_or s.sources k r) (rules.sources k r less) (rules.sized.arrivals k r less));
-  tasks_fit = all-map (λ t. task_fits s.size t ≡ true) (redraft_task s) s.tasks (λ k t less. task-fits s.size s (get_or s.tasks k t) (rules.tasks k t less) (rules.sized.times k t less));
+  tasks_fit = all-map (λ t. task_fits s.size t ≡ true) (redraft_task s) s.tasks (λ k t less. task-fits s.size s (get_or s.tasks k t) (rules.tasks k t less) (rules.sized.times k t less)
+      (rules.sized.limits (get_or s.tasks k t).res.0 no_resource (rules.tasks k t less).placed).2);
   paths_fit = all-map (λ p. path_fits s.size p ≡ true) (redraft_path s) s.paths (λ k p less. path-fits s.size s (get_or s.paths k p) (rules.paths k p less));
   resources_named = all-map (λ (r : DraftResource). is_name r.name ≡ true) redraft_resource s.resources rules.resources_named;
   sources_named = all-map (λ (r : DraftSource). is_name r.name ≡ true) redraft_source s.sources rules.sources_named;
   clocks_named = all-map (λ (r : DraftSource). has_clock_name r.clock ≡ true) redraft_source s.sources rules.clocks_named;
   tasks_named = all-map (λ (t : DraftTask). is_name t.name ≡ true) (redraft_task s) s.tasks rules.tasks_named;
+  locks_named = all-map (λ (t : DraftTask). have_lock_names t.locks ≡ true) (redraft_task s) s.tasks
+      (λ k t less.
+      let u = get_or s.tasks k t in
+      locks-named u.locks (are-sections (resource_at s u.res.0).kind u.region u.locks (rules.tasks k t less).locks_fit).sections);
   paths_named = all-map (λ (p : DraftPath). is_name p.name ≡ true) (redraft_path s) s.paths rules.paths_named;
   new_resources = entries-new (λ (r : DraftResource). r.name) redraft_resource [] s.resources rules.resource_names;
   new_sources = entries-new (λ (r : DraftSource). r.name) redraft_source [] s.sources (differ-left (map (λ (r : Source). r.name) s.sources) _ rules.activity_names);
@@ -194,4 +202,5 @@ redraft-unrefused s rules = record {
   few_paths = rw (length-map s.paths (redraft_path s)) rules.sized.paths;
   fed = all-fed s rules;
   short_clocks = redraft-clocks s rules;
+  locked = all-locked s rules;
 }

@@ -1,19 +1,20 @@
 -- What a size allows is within the limits of all systems, and the tests of a draft's numbers say so of its system.
-use Rattle.std.proofs.Common.{◌≡◌, ℕ, ℤ, pos, negsuc, ◌*◌, ◌≤◌, Bool, true, false, ◌&&◌, List, Option, Some, None, is_some, unwrap_or, refl, ap, ◌∙◌, arith}
+use Rattle.std.proofs.Common.{◌≡◌, ℕ, ℤ, pos, negsuc, ◌*◌, ◌≤◌, Bool, true, false, ◌&&◌, List, ◌∷◌, [], length, Option, Some, None, is_some, unwrap_or, refl, ap, ◌∙◌, arith}
 use Rattle.std.proofs.Math.Nat.{le_trans}
 use Rattle.std.proofs.lemmas.Bool.{and_parts, and_from, false≢true, leb-true, le-leb}
 use Rattle.cpa_units.specs.declared.limits.Size.{Size}
 use Rattle.cpa_units.specs.declared.limits.Size.TheVariants.{Small, Large}
 use Rattle.cpa_units.specs.Sizes.{most_resources, most_sources, most_tasks, most_paths, most_execution, most_region, most_gap, most_limit}
 use Rattle.cpa_draft.specs.Numbers.{nat_of, nat_or, is_within, may_be_within}
-use Rattle.cpa_draft.specs.Refusals.{resource_fits, is_fifo, queue_fits, source_fits, task_fits, clock_fits}
+use Rattle.cpa_draft.specs.Refusals.{resource_fits, is_later_kind as is_later_word, kind_fits, source_fits, lock_fits, locks_fit, task_fits, clock_fits}
 use Rattle.cpa_draft.specs.declared.draft.DraftResource.{DraftResource}
 use Rattle.cpa_draft.specs.declared.draft.DraftSource.{DraftSource}
 use Rattle.cpa_draft.specs.declared.draft.DraftTask.{DraftTask}
+use Rattle.cpa_draft.specs.declared.draft.DraftLock.{DraftLock}
 use Rattle.cpa_draft.specs.declared.draft.KindWord.{KindWord}
 use Rattle.cpa_draft.specs.declared.draft.KindWord.TheVariants as word
 use Rattle.cpa_model.specs.SystemLists.{gap_of, slot_of}
-use Rattle.cpa_model.specs.Kinds.{is_queue}
+use Rattle.cpa_model.specs.Kinds.{is_later_kind}
 use Rattle.cpa_model.specs.Rules.{IsSizedResource, IsSizedSource}
 use Rattle.cpa_model.specs.Built.{built_kind, built_resource, built_on_clock, built_source, built_turn, most_frame, greatest_execution}
 use Rattle.cpa_model.proofs.EntryLaws.{may-range, kind_frames-kept}
@@ -68,10 +69,16 @@ larger-resource Small r h =
     (and_from _ _ (and_from _ _ (and_from _ _ (wider 1 10000000 100000000 r.limit (omega arith) b.0) (wider 0 1000000 10000000 r.gap (omega arith) b.1)) a.1) rate.1)
     refl
 
+-- no sections fit any size
+larger-locks : (locks : List DraftLock) → locks_fit Small locks ≡ true → locks_fit Large locks ≡ true
+larger-locks [] h = refl
+larger-locks (l ∷ locks) h = let none : length (l ∷ locks) ≤ 0 = leb-true _ _ h in absurd (omega arith)
+
 pub larger-task : (z : Size) (t : DraftTask) → task_fits z t ≡ true → task_fits Large t ≡ true
 larger-task Large t h = h
 larger-task Small t h =
-    let region = and_parts _ _ h in
+    let locks = and_parts _ _ h in
+    let region = and_parts _ _ locks.0 in
     let slot = and_parts _ _ region.0 in
     let priority = and_parts _ _ slot.0 in
     let payload = and_parts _ _ priority.0 in
@@ -79,10 +86,12 @@ larger-task Small t h =
     and_from _ _
     (and_from _ _
     (and_from _ _
+    (and_from _ _
     (and_from _ _ (and_from _ _ (wider 1 1000000 10000000 t.best (omega arith) run.0) (wider 1 1000000 10000000 t.worst (omega arith) run.1)) (wider 0 8 1500 t.payload (omega arith) payload.1))
     priority.1)
     (wider 1 1000000 10000000 t.slot (omega arith) slot.1))
-    (wider 1 1 10000000 t.region (omega arith) region.1)
+    (wider 1 1 10000000 t.region (omega arith) region.1))
+    (larger-locks t.locks locks.1)
 
 upper : (least most : ℕ) (o : Option ℤ) → may_be_within least most o ≡ true → nat_or 0 o ≤ most
 upper least most None h = omega arith
@@ -95,13 +104,15 @@ gap-sized z word.RoundRobin gap bit h = omega arith
 gap-sized z word.Tdma gap bit h = upper 0 (most_gap z) gap h
 gap-sized z word.Can gap bit h = omega arith
 gap-sized z word.Fifo gap bit h = omega arith
+gap-sized z word.Ceiling gap bit h = omega arith
 
-queue-sized : (z : Size) (w : KindWord) (gap bit : Option ℤ) → queue_fits z (is_fifo w) ≡ true → queue_fits z (is_queue (built_kind w gap bit)) ≡ true
-queue-sized z word.Preemptive gap bit h = h
-queue-sized z word.RoundRobin gap bit h = h
-queue-sized z word.Tdma gap bit h = h
-queue-sized z word.Can gap bit h = h
-queue-sized z word.Fifo gap bit h = h
+kind-sized : (z : Size) (w : KindWord) (gap bit : Option ℤ) → kind_fits z (is_later_word w) ≡ true → kind_fits z (is_later_kind (built_kind w gap bit)) ≡ true
+kind-sized z word.Preemptive gap bit h = h
+kind-sized z word.RoundRobin gap bit h = h
+kind-sized z word.Tdma gap bit h = h
+kind-sized z word.Can gap bit h = h
+kind-sized z word.Fifo gap bit h = h
+kind-sized z word.Ceiling gap bit h = h
 
 pub resource-sized : (z : Size) (r : DraftResource) → resource_fits z r ≡ true → IsSizedResource z (built_resource r)
 resource-sized z r h =
@@ -111,7 +122,7 @@ resource-sized z r h =
     let b = and_parts _ _ a.0 in (
       (may-range 1 (most_limit z) 1000000 r.limit (omega arith, limit-default z) b.0).1,
       gap-sized z r.kind r.gap r.bit b.1,
-      queue-sized z r.kind r.gap r.bit queue.1,
+      kind-sized z r.kind r.gap r.bit queue.1,
     )
 
 built-clocked : (clock : Option (List ℕ)) (offset : Option ℤ) → is_some (built_on_clock clock offset) ≡ is_some clock
@@ -137,6 +148,7 @@ slot-sized z (Some word.RoundRobin) t h = upper 1 (most_execution z) t.slot h
 slot-sized z (Some word.Tdma) t h = upper 1 (most_execution z) t.slot h
 slot-sized z (Some word.Can) t h = omega arith
 slot-sized z (Some word.Fifo) t h = omega arith
+slot-sized z (Some word.Ceiling) t h = omega arith
 
 pub region-sized : (z : Size) (region : Option ℤ) → may_be_within 1 (most_region z) region ≡ true → nat_or 1 region ≤ most_region z
 region-sized z region h = (may-range 1 (most_region z) 1 region (omega arith, region-tick z) h).1

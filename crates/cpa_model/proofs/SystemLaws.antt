@@ -284,6 +284,7 @@ slot-small kind.RoundRobin (turn.Slot ticks) h = h.1
 slot-small (kind.Tdma gap) (turn.Slot ticks) h = h.1
 slot-small (kind.Can bit) (turn.Slot ticks) h = absurd h
 slot-small kind.Fifo (turn.Slot ticks) h = absurd h
+slot-small kind.Ceiling (turn.Slot ticks) h = absurd h
 slot-small k turn.Queued h = omega arith
 
 -- a region is in its range under any kind
@@ -293,6 +294,7 @@ region-range kind.RoundRobin ticks h = (omega arith, omega arith)
 region-range (kind.Tdma gap) ticks h = (omega arith, omega arith)
 region-range (kind.Can bit) ticks h = (omega arith, omega arith)
 region-range kind.Fifo ticks h = (omega arith, omega arith)
+region-range kind.Ceiling ticks h = h
 
 -- and a region of a tick fits any kind
 pub tick-fits : (k : Kind) → RegionFits k 1
@@ -301,6 +303,7 @@ tick-fits kind.RoundRobin = refl
 tick-fits (kind.Tdma gap) = refl
 tick-fits (kind.Can bit) = refl
 tick-fits kind.Fifo = refl
+tick-fits kind.Ceiling = (omega arith, omega arith)
 
 pub gap-small : (k : Kind) → KindFits k → gap_of k ≤ 10000000
 gap-small kind.Preemptive h = omega arith
@@ -308,6 +311,7 @@ gap-small kind.RoundRobin h = omega arith
 gap-small (kind.Tdma gap) h = h
 gap-small (kind.Can bit) h = omega arith
 gap-small kind.Fifo h = omega arith
+gap-small kind.Ceiling h = omega arith
 
 pub cond-small : (b : Bool) (n most : ℕ) → n ≤ most → cond b n 0 ≤ most
 cond-small true n most h = h

@@ -12,6 +12,7 @@ use Rattle.cpa_draft.specs.declared.draft.DraftResource.{DraftResource}
 use Rattle.cpa_draft.specs.declared.draft.DraftSource.{DraftSource}
 use Rattle.cpa_draft.specs.declared.draft.DraftTask.{DraftTask}
 use Rattle.cpa_draft.specs.declared.draft.DraftPath.{DraftPath}
+use Rattle.cpa_draft.specs.declared.draft.DraftLock.{DraftLock}
 use Rattle.cpa_draft.specs.declared.draft.KindWord.{KindWord}
 use Rattle.cpa_draft.specs.declared.draft.KindWord.TheVariants as word
 use Rattle.cpa_model.specs.SystemLists.{SystemLists}
@@ -20,6 +21,7 @@ use Rattle.cpa_model.specs.declared.entries.Source.{Source}
 use Rattle.cpa_model.specs.declared.entries.OnClock.{OnClock}
 use Rattle.cpa_model.specs.declared.entries.Task.{Task}
 use Rattle.cpa_model.specs.declared.entries.Path.{Path}
+use Rattle.cpa_model.specs.declared.locks.CriticalSection.{CriticalSection}
 use Rattle.cpa_model.specs.declared.entries.Kind.{Kind}
 use Rattle.cpa_model.specs.declared.entries.Kind.TheVariants as kind
 use Rattle.cpa_model.specs.declared.entries.Activator.{Activator}
@@ -35,6 +37,7 @@ built_kind word.RoundRobin gap bit = kind.RoundRobin
 built_kind word.Tdma gap bit = kind.Tdma (nat_or 0 gap)
 built_kind word.Can gap bit = kind.Can (nat_or 1 bit)
 built_kind word.Fifo gap bit = kind.Fifo
+built_kind word.Ceiling gap bit = kind.Ceiling
 
 abbrev pub built_resource : DraftResource → Resource
 built_resource r = record { name = r.name; kind = built_kind r.kind r.gap r.bit; limit = nat_or DEFAULT_LIMIT r.limit }
@@ -91,8 +94,12 @@ greatest_execution kind (Some payload) extended bit rate given = greatest_frame 
 abbrev pub built_turn : Option KindWord → DraftTask → Turn
 built_turn (Some word.Preemptive) t = turn.Priority (nat_or 0 t.priority)
 built_turn (Some word.Can) t = turn.Priority (nat_or 0 t.priority)
+built_turn (Some word.Ceiling) t = turn.Priority (nat_or 0 t.priority)
 built_turn (Some word.Fifo) t = turn.Queued
 built_turn _ t = turn.Slot (nat_or 0 t.slot)
+
+abbrev pub built_section : DraftLock → CriticalSection
+built_section l = record { lock = l.name; start = nat_of l.start; length = nat_of l.length }
 
 unfoldable pub built_task : DraftLists → DraftTask → Task
 built_task d t = record {
@@ -103,6 +110,7 @@ built_task d t = record {
   worst = greatest_execution (kind_of d t.on) t.payload (unwrap_or t.extended false) (bit_time d t.on) (rate_of d t.on) (nat_or 0 t.worst);
   turn = built_turn (kind_of d t.on) t;
   region = nat_or 1 t.region;
+  locks = map built_section t.locks;
 }
 
 -- the place of the task with a name

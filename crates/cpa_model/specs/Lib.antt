@@ -1,6 +1,7 @@
 pub mod Built
 pub mod Chains
 pub mod Kinds
+pub mod Locks
 pub mod Rules
 pub mod SystemLists
 pub mod Redraft

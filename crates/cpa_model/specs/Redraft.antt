@@ -5,14 +5,16 @@ use Rattle.cpa_model.specs.declared.entries.Resource.{Resource}
 use Rattle.cpa_model.specs.declared.entries.Source.{Source}
 use Rattle.cpa_model.specs.declared.entries.Task.{Task}
 use Rattle.cpa_model.specs.declared.entries.Path.{Path}
+use Rattle.cpa_model.specs.declared.locks.CriticalSection.{CriticalSection}
 use Rattle.cpa_model.specs.declared.entries.Kind.{Kind}
-use Rattle.cpa_model.specs.declared.entries.Kind.TheVariants.{Preemptive, RoundRobin, Tdma, Can, Fifo}
+use Rattle.cpa_model.specs.declared.entries.Kind.TheVariants.{Preemptive, RoundRobin, Tdma, Can, Fifo, Ceiling}
 use Rattle.cpa_model.specs.declared.entries.Turn.{Turn}
 use Rattle.cpa_model.specs.declared.entries.Turn.TheVariants.{Priority, Slot, Queued}
 use Rattle.cpa_draft.specs.declared.draft.DraftResource.{DraftResource}
 use Rattle.cpa_draft.specs.declared.draft.DraftSource.{DraftSource}
 use Rattle.cpa_draft.specs.declared.draft.DraftTask.{DraftTask}
 use Rattle.cpa_draft.specs.declared.draft.DraftPath.{DraftPath}
+use Rattle.cpa_draft.specs.declared.draft.DraftLock.{DraftLock}
 use Rattle.cpa_draft.specs.declared.draft.KindWord.{KindWord}
 use Rattle.cpa_draft.specs.declared.draft.KindWord.TheVariants as word
 use Rattle.cpa_draft.specs.DraftLists.{DraftLists}
@@ -28,6 +30,7 @@ word_of RoundRobin = word.RoundRobin
 word_of (Tdma gap) = word.Tdma
 word_of (Can bit) = word.Can
 word_of Fifo = word.Fifo
+word_of Ceiling = word.Ceiling
 
 abbrev pub gap_at : Kind → Option ℤ
 gap_at (Tdma gap) = Some (pos gap)
@@ -61,6 +64,9 @@ slot_at Queued = None
 abbrev pub region_at : ℕ → Option ℤ
 region_at ticks = if ticks == 1 then None else Some (pos ticks)
 
+abbrev pub redraft_section : CriticalSection → DraftLock
+redraft_section c = record { name = c.lock; start = pos c.start; length = pos c.length }
+
 abbrev pub redraft_task : SystemLists → Task → DraftTask
 redraft_task s t = record {
   name = t.name;
@@ -73,6 +79,7 @@ redraft_task s t = record {
   priority = priority_at t.turn;
   slot = slot_at t.turn;
   region = region_at t.region;
+  locks = map redraft_section t.locks;
 }
 
 abbrev pub redraft_path : SystemLists → Path → DraftPath

@@ -1,5 +1,5 @@
 -- The rules that every system keeps.
-use Rattle.std.specs.Prelude.{◌≡◌, true, false, is_some, ◌≢◌, ℕ, ◌+◌, ◌≤◌, ◌<◌, List, ◌++◌, map, length, IsSome, slice_index_or, All}
+use Rattle.std.specs.Prelude.{◌≡◌, true, false, is_some, ◌≢◌, ℕ, ◌+◌, ◌≤◌, ◌<◌, List, [], ◌++◌, map, length, IsSome, slice_index_or, All}
 use Rattle.std.specs.List.{AllPairs}
 use Rattle.std.specs.Option.{ForSome}
 use Rattle.cpa_units.specs.declared.limits.TheConstants.{MAX_RESOURCES, MAX_SOURCES, MAX_TASKS, MAX_PATHS, MAX_PERIOD, MAX_JITTER, MAX_EXECUTION, MAX_GAP, MAX_BIT, MAX_LIMIT, MAX_PRIORITY, MAX_CHAIN}
@@ -7,7 +7,7 @@ use Rattle.cpa_units.specs.Name.{is_name}
 use Rattle.cpa_units.specs.declared.limits.Size.{Size}
 use Rattle.cpa_units.specs.Sizes.{most_resources, most_sources, most_tasks, most_paths, most_execution, most_region, most_gap, most_limit}
 use Rattle.cpa_units.specs.declared.places.TaskId.{TaskId}
-use Rattle.cpa_draft.specs.Refusals.{queue_fits, sporadic_fits, clock_fits, has_clock_name}
+use Rattle.cpa_draft.specs.Refusals.{kind_fits, sporadic_fits, clock_fits, has_clock_name}
 use Rattle.cpa_draft.specs.Clocks.{is_too_long}
 use Rattle.cpa_model.specs.declared.entries.Resource.{Resource}
 use Rattle.cpa_model.specs.declared.entries.Source.{Source}
@@ -21,7 +21,10 @@ use Rattle.cpa_model.specs.declared.entries.Activator.{Activator}
 use Rattle.cpa_model.specs.declared.entries.Activator.TheVariants as activator
 use Rattle.cpa_model.specs.Chains.{depth_within, activators}
 use Rattle.cpa_model.specs.SystemLists.{SystemLists, resource_at, is_activated_by, streams_of, slot_of, gap_of}
-use Rattle.cpa_model.specs.Kinds.{is_queue}
+use Rattle.cpa_model.specs.Kinds.{is_later_kind}
+use Rattle.cpa_model.specs.Locks.{uses_lock, HoldsWhole}
+use Rattle.cpa_model.specs.declared.locks.CriticalSection.{CriticalSection}
+use Rattle.cpa_draft.specs.declared.draft.TheConstants.{MAX_SECTIONS}
 use Rattle.cpa_model.specs.Clocks.{clock_name, clock_periods}
 use Rattle.cpa_events.specs.declared.TheConstants.{MAX_STREAMS}
 
@@ -52,6 +55,7 @@ IsActivator s (activator.Task j) = j.0 < length s.tasks
 abbrev pub TurnFits : Kind → Turn → Type 0
 TurnFits kind.Preemptive (turn.Priority number) = number ≤ MAX_PRIORITY
 TurnFits (kind.Can bit) (turn.Priority number) = number ≤ MAX_PRIORITY
+TurnFits kind.Ceiling (turn.Priority number) = number ≤ MAX_PRIORITY
 TurnFits kind.RoundRobin (turn.Slot ticks) = (1 ≤ ticks) × (ticks ≤ MAX_EXECUTION)
 TurnFits (kind.Tdma gap) (turn.Slot ticks) = (1 ≤ ticks) × (ticks ≤ MAX_EXECUTION)
 TurnFits kind.Fifo turn.Queued = Unit {0}
@@ -60,7 +64,27 @@ TurnFits _ _ = ⊥
 -- a region is in its range; only under preemptive priority is it more than a tick
 abbrev pub RegionFits : Kind → ℕ → Type 0
 RegionFits kind.Preemptive ticks = (1 ≤ ticks) × (ticks ≤ MAX_EXECUTION)
+RegionFits kind.Ceiling ticks = (1 ≤ ticks) × (ticks ≤ MAX_EXECUTION)
 RegionFits _ ticks = ticks ≡ 1
+
+-- a critical section has a name of a lock, and its numbers are in their ranges
+pub record IsSection (c : CriticalSection) : Type 0 where
+  pub named : is_name c.lock ≡ true
+  pub start : c.start ≤ MAX_EXECUTION
+  pub some : 1 ≤ c.length
+  pub length : c.length ≤ MAX_EXECUTION
+
+-- a task has few critical sections, which nest or are apart, and no regions of more than a tick beside them
+pub record AreSections (region : ℕ) (locks : List CriticalSection) : Type 0 where
+  pub sections : All IsSection locks
+  pub few : length locks ≤ MAX_SECTIONS
+  pub alone : 0 < length locks → region ≡ 1
+  pub nested : All (λ x. All (HoldsWhole x) locks) locks
+
+-- only under ceilings has a task critical sections
+abbrev pub LocksFit : Kind → ℕ → List CriticalSection → Type 0
+LocksFit kind.Ceiling region locks = AreSections region locks
+LocksFit _ region locks = locks ≡ []
 
 pub record IsTask (s : SystemLists) (t : Task) : Type 0 where
   pub placed : t.res.0 < length s.resources
@@ -72,6 +96,7 @@ pub record IsTask (s : SystemLists) (t : Task) : Type 0 where
   pub worst : t.worst ≤ MAX_EXECUTION
   pub turn_fits : TurnFits (resource_at s t.res.0).kind t.turn
   pub region_fits : RegionFits (resource_at s t.res.0).kind t.region
+  pub locks_fit : LocksFit (resource_at s t.res.0).kind t.region t.locks
 
 -- each task of a path is among the activators of the next
 abbrev pub IsLinked : SystemLists → List TaskId → Type 0
@@ -86,7 +111,7 @@ pub record IsPath (s : SystemLists) (p : Path) : Type 0 where
 
 -- the numbers of an entry are no greater than the size of its system allows
 abbrev pub IsSizedResource : Size → Resource → Type 0
-IsSizedResource z r = (r.limit ≤ most_limit z) × (gap_of r.kind ≤ most_gap z) × (queue_fits z (is_queue r.kind) ≡ true)
+IsSizedResource z r = (r.limit ≤ most_limit z) × (gap_of r.kind ≤ most_gap z) × (kind_fits z (is_later_kind r.kind) ≡ true)
 
 abbrev pub IsSizedSource : Size → Source → Type 0
 IsSizedSource z r = (sporadic_fits z r.sporadic ≡ true) × (clock_fits z (is_some r.on_clock) ≡ true)
@@ -122,6 +147,10 @@ activity_names s = map (λ (r : Source). r.name) s.sources ++ map (λ (t : Task)
 abbrev pub HaveOwnPriorities : Task → Task → Type 0
 HaveOwnPriorities t u = t.res ≡ u.res → (number : ℕ) → t.turn ≡ turn.Priority number → u.turn ≢ turn.Priority number
 
+-- two tasks with one lock are on one resource
+abbrev pub HaveLocksTogether : Task → Task → Type 0
+HaveLocksTogether t u = (lock : List ℕ) → uses_lock lock t ≡ true → uses_lock lock u ≡ true → t.res ≡ u.res
+
 -- the rules
 pub record IsSystem (s : SystemLists) : Type 0 where
   pub sized : IsSized s
@@ -145,3 +174,4 @@ pub record IsSystem (s : SystemLists) : Type 0 where
   pub activity_names : AllDiffer (activity_names s)
   pub path_names : AllDiffer (map (λ (p : Path). p.name) s.paths)
   pub priorities : AllPairs HaveOwnPriorities s.tasks
+  pub locks : AllPairs HaveLocksTogether s.tasks

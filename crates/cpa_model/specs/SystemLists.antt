@@ -35,7 +35,7 @@ abbrev pub no_source : Source
 no_source = record { name = []; period = 1; jitter = 0; distance = 0; sporadic = false; on_clock = None }
 
 abbrev pub no_task : Task
-no_task = record { name = []; res = record { 0 = 0 }; after = []; best = 0; worst = 0; turn = turn.Priority 0; region = 1 }
+no_task = record { name = []; res = record { 0 = 0 }; after = []; best = 0; worst = 0; turn = turn.Priority 0; region = 1; locks = [] }
 
 abbrev pub no_path : Path
 no_path = record { name = []; tasks = []; deadline = None }

@@ -7,6 +7,7 @@ ghost use Rattle.cpa_draft.specs.declared.draft.DraftResource.{DraftResource};
 ghost use Rattle.cpa_draft.specs.declared.draft.DraftSource.{DraftSource};
 ghost use Rattle.cpa_draft.specs.declared.draft.DraftTask.{DraftTask};
 ghost use Rattle.cpa_draft.specs.declared.draft.DraftPath.{DraftPath};
+ghost use Rattle.cpa_draft.specs.declared.draft.DraftLock.{DraftLock};
 ghost use Rattle.cpa_draft.specs.Numbers.{nat_of, nat_or};
 ghost use Rattle.cpa_draft.specs.Names.{AreTables, kind_of};
 ghost use Rattle.cpa_draft.specs.Validated.{Validates};
@@ -15,15 +16,16 @@ ghost use Rattle.cpa_draft.specs.Refusals.{has_clock_name, first_refusal};
 ghost use Rattle.cpa_draft.specs.declared.refusal.BuildFault.TheVariants.{Memory};
 ghost use Rattle.cpa_model.specs.declared.activators.TheConstants.{MAX_ACTIVATORS};
 ghost use Rattle.cpa_model.specs.declared.entries.Task.{Task};
-ghost use Rattle.cpa_model.specs.Built.{built_kind, built_resource, built_on_clock, built_source, built_task, built_path, built_turn, built_activator, activity_place, task_named, least_execution, greatest_execution, most_frame, has_executions, TaskFitsTypes, PathFitsTypes, system_of};
+ghost use Rattle.cpa_model.specs.Built.{built_kind, built_resource, built_on_clock, built_source, built_task, built_path, built_turn, built_section, built_activator, activity_place, task_named, least_execution, greatest_execution, most_frame, has_executions, TaskFitsTypes, PathFitsTypes, system_of};
 ghost use Rattle.cpa_model.specs.Redraft.{OwnDraftsAreAccepted, OwnDraftsStand};
 
 use crate::activators::Activators;
 use crate::entries::{Activator, Kind, OnClock, Path, Resource, Source, Task, TaskList, Turn};
+use crate::locks::{CriticalSection, Locks};
 use crate::system::System;
 use cpa_draft::{
-    BuildFault, Draft, DraftPath, DraftResource, DraftSource, DraftTask, KindWord, Raw, Tables,
-    natural, natural_or, port_ticks, validate,
+    BuildFault, Draft, DraftLock, DraftPath, DraftResource, DraftSource, DraftTask, KindWord, Raw,
+    Tables, natural, natural_or, port_ticks, validate,
 };
 use cpa_units::limits::DEFAULT_LIMIT;
 use cpa_units::{Name, NameFault, NoMemory, ResId, SourceId, TaskId, frame_bits};
@@ -54,6 +56,7 @@ fn build_kind(kind: KindWord, gap: Option<i64>, bit: Option<i64>) -> Kind
             bit: natural_or(1, bit),
         },
         KindWord::Fifo => Kind::Fifo,
+        KindWord::Ceiling => Kind::Ceiling,
     }
 }
 
@@ -162,12 +165,47 @@ fn build_turn(kind: Option<KindWord>, task: &DraftTask) -> Turn
     ensures { result ≡ built_turn kind task.now }
 {
     match kind {
-        Some(KindWord::Preemptive | KindWord::Can) => {
+        Some(KindWord::Preemptive | KindWord::Can | KindWord::Ceiling) => {
             Turn::Priority(natural_or(0, task.priority) as u32)
         }
         Some(KindWord::Fifo) => Turn::Queued,
         _ => Turn::Slot(natural_or(0, task.slot)),
     }
+}
+
+fn build_section(alloc: Global, draft: &DraftLock) -> Result<CriticalSection, BuildFault>
+    requires { is_name draft.now.name ≡ true }
+    ensures ok { IfOk result (λ c. c ≡ built_section draft.now) }
+    ensures err { IfErr result (λ e. e ≡ Memory) }
+{
+    Ok(CriticalSection {
+        lock: build_name(alloc, &draft.name)?,
+        start: natural(draft.start),
+        length: natural(draft.length),
+    })
+}
+
+fn build_sections(alloc: Global, drafts: &[DraftLock]) -> Result<Vec<CriticalSection>, BuildFault>
+    requires { All (λ (l : DraftLock). is_name l.name ≡ true) drafts.now }
+    ensures ok { IfOk result (λ v. v.items ≡ map built_section drafts.now) }
+    ensures err { IfErr result (λ e. e ≡ Memory) }
+{
+    let mut built = Vec::new(alloc);
+    for draft in drafts {
+        built.push(build_section(alloc, draft)?)?;
+    }
+    Ok(built)
+}
+
+fn build_locks(alloc: Global, drafts: &[DraftLock]) -> Result<Locks, BuildFault>
+    requires { All (λ (l : DraftLock). is_name l.name ≡ true) drafts.now }
+    ensures ok { IfOk result (λ l. l ≡ map built_section drafts.now) }
+    ensures err { IfErr result (λ e. e ≡ Memory) }
+{
+    if drafts.is_empty() {
+        return Ok(Locks::none());
+    }
+    Ok(Locks::new(build_sections(alloc, drafts)?))
 }
 
 fn build_task(
@@ -178,11 +216,13 @@ fn build_task(
 ) -> Result<Task, BuildFault>
     requires tables { AreTables draft.now tables.now.resources tables.now.activities }
     requires named { is_name task.now.name ≡ true }
+    requires locks { All (λ (l : DraftLock). is_name l.name ≡ true) task.now.locks }
     requires fits { TaskFitsTypes draft.now task.now }
     ensures ok { IfOk result (λ t. t ≡ built_task draft.now task.now) }
     ensures err { IfErr result (λ e. e ≡ Memory) }
 {
     let name = build_name(alloc, &task.name)?;
+    let locks = build_locks(alloc, task.locks.sections())?;
     let found = tables.resource(draft, task.on.bytes());
     let place = found.unwrap_or(0);
     let kind = draft.kind_of(found);
@@ -195,6 +235,7 @@ fn build_task(
         turn: build_turn(kind, task),
         after: build_activators(draft, tables, task.after.names()),
         region: natural_or(1, task.region),
+        locks,
     })
 }
 
@@ -289,6 +330,7 @@ fn build_tasks(
 ) -> Result<Vec<Task>, BuildFault>
     requires tables { AreTables draft.now tables.now.resources tables.now.activities }
     requires named { All (λ (t : DraftTask). is_name t.name ≡ true) tasks.now }
+    requires locks { All (λ (t : DraftTask). All (λ (l : DraftLock). is_name l.name ≡ true) t.locks) tasks.now }
     requires fits { All (TaskFitsTypes draft.now) tasks.now }
     ensures ok { IfOk result (λ v. v.items ≡ map (built_task draft.now) tasks.now) }
     ensures err { IfErr result (λ e. e ≡ Memory) }
@@ -338,7 +380,7 @@ fn build_validated(alloc: Global, draft: &Draft, tables: &Tables) -> Result<Syst
 }
 
 impl System {
-    /// The system that a draft stands for. It is refused exactly where one of reasons 2 to 12, 14 and 15 applies, with
+    /// The system that a draft stands for. It is refused exactly where one of reasons 2 to 12 and 14 to 16 applies, with
     /// the first of them and its first place.
     pub fn build(alloc: Global, draft: Draft) -> Result<System, BuildFault>
         requires executions { All (λ t. has_executions t ≡ true) draft.tasks }

@@ -57,6 +57,7 @@ fn copy_task(alloc: Global, task: &Task) -> Result<Task, NoMemory>
         turn: task.turn,
         after: task.after.duplicate(),
         region: task.region,
+        locks: task.locks.copy(alloc)?,
     })
 }
 

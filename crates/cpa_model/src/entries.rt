@@ -11,6 +11,7 @@ ghost use Rattle.cpa_model.specs.Changes.{id_without};
 
 use crate::activators::Activators;
 use crate::changes::id_without;
+use crate::locks::Locks;
 use cpa_events::Stream;
 use cpa_units::{Name, NoMemory, ResId, SourceId, TaskId};
 use std::alloc::Global;
@@ -29,6 +30,8 @@ pub enum Kind {
     Can { bit: u64 },
     /// The job that came first is served, whatever its task.
     Fifo,
+    /// As preemptive, but a job within a critical section has the ceiling of its lock as priority.
+    Ceiling,
 }
 
 /// A processor or a bus.
@@ -136,9 +139,12 @@ pub struct Task {
     pub turn: Turn,
     /// Any one of them starts a job.
     pub after: Activators,
-    /// For so many ticks a job isn't preempted once it has begun a region, 1 to 10,000,000; 1 where the resource isn't
-    /// preemptive.
+    /// For so many ticks a job isn't preempted once it has begun a region, 1 to 10,000,000; 1 where the resource is neither
+    /// preemptive nor has ceilings.
     pub region: u64,
+    /// Its critical sections, of which none cross; none where the resource has no ceilings, or beside a region of more than a
+    /// tick.
+    pub locks: Locks,
 }
 
 /// The tasks of a path, each of which is an activator of the next.

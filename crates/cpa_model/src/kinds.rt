@@ -12,7 +12,7 @@ impl Kind {
         ensures { result ≡ has_priorities self }
     {
         match self {
-            Kind::Preemptive | Kind::Can { bit: _ } => true,
+            Kind::Preemptive | Kind::Can { bit: _ } | Kind::Ceiling => true,
             Kind::RoundRobin | Kind::Tdma { gap: _ } | Kind::Fifo => false,
         }
     }
@@ -23,7 +23,11 @@ impl Kind {
     {
         match self {
             Kind::RoundRobin => true,
-            Kind::Preemptive | Kind::Tdma { gap: _ } | Kind::Can { bit: _ } | Kind::Fifo => false,
+            Kind::Preemptive
+            | Kind::Tdma { gap: _ }
+            | Kind::Can { bit: _ }
+            | Kind::Fifo
+            | Kind::Ceiling => false,
         }
     }
 
@@ -32,7 +36,11 @@ impl Kind {
         ensures { result ≡ wants_inputs self }
     {
         match self {
-            Kind::Preemptive | Kind::RoundRobin | Kind::Can { bit: _ } | Kind::Fifo => true,
+            Kind::Preemptive
+            | Kind::RoundRobin
+            | Kind::Can { bit: _ }
+            | Kind::Fifo
+            | Kind::Ceiling => true,
             Kind::Tdma { gap: _ } => false,
         }
     }
@@ -46,7 +54,7 @@ impl Kind {
         ensures in_range { result ≤ MAX_EXECUTION }
     {
         match self {
-            Kind::Preemptive => task.region.min(task.worst).saturating_sub(1),
+            Kind::Preemptive | Kind::Ceiling => task.region.min(task.worst).saturating_sub(1),
             Kind::Can { bit: _ } => task.worst,
             Kind::RoundRobin | Kind::Tdma { gap: _ } | Kind::Fifo => 0,
         }
@@ -58,8 +66,11 @@ impl Kind {
     {
         match self {
             Kind::Fifo => true,
-            Kind::Preemptive | Kind::RoundRobin | Kind::Tdma { gap: _ } | Kind::Can { bit: _ } =>
-                false,
+            Kind::Preemptive
+            | Kind::RoundRobin
+            | Kind::Tdma { gap: _ }
+            | Kind::Can { bit: _ }
+            | Kind::Ceiling => false,
         }
     }
 }

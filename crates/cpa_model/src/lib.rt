@@ -10,6 +10,7 @@ mod changes;
 pub mod clocks;
 pub mod entries;
 mod kinds;
+pub mod locks;
 pub mod system;
 mod task_lists;
 
@@ -17,8 +18,9 @@ pub use activators::{Activators, MAX_ACTIVATORS};
 pub use build::own_drafts_have_laws;
 pub use clocks::Ticking;
 pub use cpa_draft::{
-    BuildFault, Draft, DraftPath, DraftResource, DraftSource, DraftTask, KindWord, Part, Raw,
-    RawList, Refusal,
+    BuildFault, Draft, DraftLock, DraftLocks, DraftPath, DraftResource, DraftSource, DraftTask,
+    KindWord, Part, Raw, RawList, Refusal,
 };
 pub use entries::{Activator, Kind, OnClock, Path, Resource, Source, Task, TaskList, Turn};
+pub use locks::{CriticalSection, Locks};
 pub use system::System;

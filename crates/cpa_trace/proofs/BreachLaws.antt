@@ -10,7 +10,7 @@ use Rattle.std.proofs.lemmas.Option.{none-some}
 use Rattle.cpa_events.specs.declared.stream.Stream.{Stream}
 use Rattle.cpa_events.specs.Streams.{stream_delta_minus}
 use Rattle.cpa_model.specs.declared.entries.Kind.{Kind}
-use Rattle.cpa_model.specs.declared.entries.Kind.TheVariants.{Preemptive, RoundRobin, Tdma, Can, Fifo}
+use Rattle.cpa_model.specs.declared.entries.Kind.TheVariants.{Preemptive, RoundRobin, Tdma, Can, Fifo, Ceiling}
 use Rattle.cpa_model.specs.declared.entries.Task.{Task}
 use Rattle.cpa_model.specs.Rules.{IsSystem}
 use Rattle.cpa_model.specs.SystemLists.{SystemLists, resource_at, resource_of, task_at, cycle_of, no_task, no_resource}
@@ -93,6 +93,7 @@ tdma-gap RoundRobin e = absurd (false≢true e)
 tdma-gap (Tdma gap) e = (gap, refl)
 tdma-gap (Can bit) e = absurd (false≢true e)
 tdma-gap Fifo e = absurd (false≢true e)
+tdma-gap Ceiling e = absurd (false≢true e)
 
 module _ (s : SystemLists) (kept : IsSystem s) (tr : TraceLists) (fits : FitsSystem s tr) where
   apart : first_some (close_breach s tr) (length s.sources) ≡ None → (k n gap : ℕ) → n + gap < length (times_of tr k) → time_of tr k n + stream_delta_minus (source_stream s k) (gap + 1) ≤ time_of tr k (n + gap)

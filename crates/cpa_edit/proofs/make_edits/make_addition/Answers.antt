@@ -14,8 +14,8 @@ pub push_task-requires : goal.push_task-requires
 unfolding change
 push_task-requires c = record {
   rules = rw (added-same c.args.system.now c.args.name.now c.args.res.now c.args.after.now c.args.numbers.best c.args.numbers.worst c.args.numbers.number c.in_ok-copy.field-0 c.resource_named-place.result
-      c.resource.result.now.kind c.turn_of-turn.result c.one.result c.in_ok-copy.ensures c.resource_named-place.ensures.value (ap (λ (r : Resource). r.kind) c.resource.ensures.value) c.turn_of-turn.ensures
-      (c.one.ensures ∙ ap (λ a. a ∷ []) c.activator_named.ensures))
+      c.resource.result.now.kind c.turn_of-turn.result c.one.result c.none.result c.in_ok-copy.ensures c.resource_named-place.ensures.value (ap (λ (r : Resource). r.kind) c.resource.ensures.value) c.turn_of-turn.ensures
+      (c.one.ensures ∙ ap (λ a. a ∷ []) c.activator_named.ensures) c.none.ensures)
       c.requires.rules;
 }
 
@@ -24,5 +24,5 @@ unfolding change
 returns-clause-made c =
     c.in_ok-push_task.ensures.ok
     ∙ added-same c.args.system.now c.args.name.now c.args.res.now c.args.after.now c.args.numbers.best c.args.numbers.worst c.args.numbers.number c.in_ok-copy.field-0 c.resource_named-place.result
-    c.resource.result.now.kind c.turn_of-turn.result c.one.result c.in_ok-copy.ensures c.resource_named-place.ensures.value (ap (λ (r : Resource). r.kind) c.resource.ensures.value) c.turn_of-turn.ensures
-    (c.one.ensures ∙ ap (λ a. a ∷ []) c.activator_named.ensures)
+    c.resource.result.now.kind c.turn_of-turn.result c.one.result c.none.result c.in_ok-copy.ensures c.resource_named-place.ensures.value (ap (λ (r : Resource). r.kind) c.resource.ensures.value) c.turn_of-turn.ensures
+    (c.one.ensures ∙ ap (λ a. a ∷ []) c.activator_named.ensures) c.none.ensures

@@ -19,5 +19,7 @@ returns-clause-ok c =
       c.bytes.ensures,
       c.names.ensures,
       c.natural_or.ensures,
+      c.in_ok-locks.ensures.ok,
+      c.sections.ensures,
     )
     refl

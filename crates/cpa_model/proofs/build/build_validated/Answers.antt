@@ -1,4 +1,7 @@
-use Rattle.std.proofs.Common.{refl}
+use Rattle.std.proofs.Common.{refl, get_or}
+use Rattle.cpa_units.specs.Name.{is_name}
+use Rattle.cpa_draft.specs.declared.draft.DraftLock.{DraftLock}
+use Rattle.cpa_draft.proofs.ListLaws.{passes-at}
 use Rattle.cpa_draft.proofs.UnrefusedLaws.{unrefused}
 use Rattle.cpa_model.specs.Built.{system_of}
 use Rattle.cpa_model.proofs.BuiltLaws.{system-kept, tasks-fit-types, paths-fit-types}
@@ -58,3 +61,9 @@ returns-in-Ok-clause-ok c =
       c.size.ensures,
     )
     refl
+
+pub build_tasks-requires-clause-locks : goal.build_tasks-requires-clause-locks
+build_tasks-requires-clause-locks c =
+    rw (c.task_entries.ensures)
+    (λ i t less. λ k l within.
+    passes-at (λ (l : DraftLock). is_name l.name) (get_or c.args.draft.now.tasks i t).locks k l ((unrefused c.args.draft.now c.requires.refusal).locks_named i t less) within)
