@@ -1,11 +1,14 @@
--- Locks: the most urgent task stays it up to the next end of one of its critical sections.
+-- Ceilings: the task with the most urgent job stays it up to the next end of one of its sections.
 use Rattle.std.proofs.Common.{◌≡◌, ℕ, zero, suc, ◌+◌, ◌-◌, ◌<◌, ◌≤◌, ◌⊎◌, ◌||◌, min, Bool, true, false, nat_lt, cond, List, [], ◌∷◌, Some, refl, sym, ap, ◌∙◌, inl, inr, arith, subst}
 use Rattle.std.proofs.lemmas.Bool.{cases_lt, cases_Bool, cases_eq, cond-true, cond-false, lt-ltb, le-ltb, and_parts, and_from, eq-eqb, ne_eqb, false≢true}
-use Rattle.cpa_model.specs.SystemLists.{SystemLists, task_at, priority_of}
+use Rattle.std.specs.Prelude.{filter}
+use Rattle.cpa_model.specs.SystemLists.{SystemLists, task_at, tasks_on, priority_of}
+use Rattle.cpa_model.specs.Locks.{Section, sections_of}
+use Rattle.cpa_sched.specs.Least.{least_by}
 use Rattle.cpa_sched.specs.Steps.{ReadyQueue}
 use Rattle.cpa_sched.specs.States.{IsWaiting}
 use Rattle.cpa_sched.specs.Stretches.{gets, got}
-use Rattle.cpa_sched.specs.Locks.{Section, is_within, holds_lock, active_priority, urgency, urgency_of, most_active, ticks_to_release}
+use Rattle.cpa_sched.specs.Locks.{is_within, holds_lock, active_priority, urgency, urgency_of, ticks_to_release}
 use Rattle.cpa_sched.proofs.LeastLaws.{chosen-waits, least-stays}
 
 less-is : (a b : ℕ) → nat_lt a b ≡ true → a < b
@@ -111,26 +114,28 @@ received-other q j k (suc n) differs =
     let none : gets (Some j) (suc n) k ≡ 0 = cond-false _ _ _ (ne_eqb j k differs) in
     omega (arith, none)
 
-pub locks-stay : (s : SystemLists) (sections : ℕ → List Section) (r : ℕ) (q : ReadyQueue) (most j n : ℕ) → most_active s sections r q ≡ Some j
-    → n < ticks_to_release most (sections j) (q.received j) → most_active s sections r (got q (Some j) n) ≡ Some j
-locks-stay s sections r q most j n e less =
-    least-stays s r j (urgency_of s sections q) (urgency_of s sections (got q (Some j) n)) q.waits q.waits e
+-- the task with the most urgent job stays it
+pub active-stays : (s : SystemLists) (r : ℕ) (q : ReadyQueue) (most j n : ℕ) → least_by (urgency_of s q.received) (filter q.waits (tasks_on s r)) ≡ Some j
+    → n < ticks_to_release most (sections_of s j) (q.received j) → least_by (urgency_of s (got q (Some j) n).received) (filter q.waits (tasks_on s r)) ≡ Some j
+active-stays s r q most j n e less =
+    least-stays s r j (urgency_of s q.received) (urgency_of s (got q (Some j) n).received) q.waits q.waits e
     (record {
-      waits = (chosen-waits s r (urgency_of s sections q) q.waits j e).waits_now;
+      waits = (chosen-waits s r (urgency_of s q.received) q.waits j e).waits_now;
       falls = own;
       others = λ k waits. other k waits;
     })
   where
-    own : urgency_of s sections (got q (Some j) n) j ≤ urgency_of s sections q j
+    own : urgency_of s (got q (Some j) n).received j ≤ urgency_of s q.received j
     own =
-        subst (λ m. urgency (priority_of (task_at s j).turn) (sections j) m ≤ urgency_of s sections q j) (sym (received-own q j n))
-        (urgency-falls (priority_of (task_at s j).turn) (q.received j) n (sections j) (outlast-from most (q.received j) n (sections j) less))
+        subst (λ m. urgency (priority_of (task_at s j).turn) (sections_of s j) m ≤ urgency_of s q.received j) (sym (received-own q j n))
+        (urgency-falls (priority_of (task_at s j).turn) (q.received j) n (sections_of s j) (outlast-from most (q.received j) n (sections_of s j) less))
 
-    other : (k : ℕ) → IsWaiting s r q.waits k → (k ≡ j) ⊎ (((q.waits k ≡ true) × (urgency_of s sections q k ≤ urgency_of s sections (got q (Some j) n) k)) ⊎ (urgency_of s sections q j < urgency_of s sections (got q (Some j) n) k))
+    other : (k : ℕ) → IsWaiting s r q.waits k
+        → (k ≡ j) ⊎ (((q.waits k ≡ true) × (urgency_of s q.received k ≤ urgency_of s (got q (Some j) n).received k)) ⊎ (urgency_of s q.received j < urgency_of s (got q (Some j) n).received k))
     other k waits =
         elim (cases_eq j k) [
           | inl same ↦ inl (sym same)
           | inr differs ↦
-              let is : urgency_of s sections (got q (Some j) n) k ≡ urgency_of s sections q k = ap (urgency (priority_of (task_at s k).turn) (sections k)) (received-other q j k n differs) in
+              let is : urgency_of s (got q (Some j) n).received k ≡ urgency_of s q.received k = ap (urgency (priority_of (task_at s k).turn) (sections_of s k)) (received-other q j k n differs) in
               inr (inl (waits.waits_now, omega (arith, is)))
         ]

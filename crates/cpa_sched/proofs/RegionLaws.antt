@@ -4,7 +4,7 @@ use Rattle.std.specs.Prelude.{filter}
 use Rattle.std.proofs.lemmas.Bool.{cases_Bool, cond-false, eqb-true, ne_eqb}
 use Rattle.cpa_units.specs.declared.limits.TheConstants.{MAX_EXECUTION}
 use Rattle.cpa_model.specs.declared.entries.Kind.{Kind}
-use Rattle.cpa_model.specs.declared.entries.Kind.TheVariants.{Preemptive, RoundRobin, Tdma, Can, Fifo}
+use Rattle.cpa_model.specs.declared.entries.Kind.TheVariants.{Preemptive, RoundRobin, Tdma, Can, Fifo, Ceiling}
 use Rattle.cpa_model.specs.Rules.{RegionFits}
 use Rattle.cpa_model.specs.SystemLists.{SystemLists, tasks_on}
 use Rattle.cpa_sched.specs.Steps.{ResourceState, ReadyQueue, Choice, most_urgent, region_of, within_region, preemptive_step, kind_of, step}
@@ -24,6 +24,7 @@ region-some RoundRobin ticks fits = omega (arith, fits)
 region-some (Tdma gap) ticks fits = omega (arith, fits)
 region-some (Can bit) ticks fits = omega (arith, fits)
 region-some Fifo ticks fits = omega (arith, fits)
+region-some Ceiling ticks fits = fits.0
 
 pub region-few : (k : Kind) (ticks : ℕ) → RegionFits k ticks → ticks ≤ MAX_EXECUTION
 region-few Preemptive ticks fits = fits.1
@@ -31,6 +32,7 @@ region-few RoundRobin ticks fits = omega (arith, fits)
 region-few (Tdma gap) ticks fits = omega (arith, fits)
 region-few (Can bit) ticks fits = omega (arith, fits)
 region-few Fifo ticks fits = omega (arith, fits)
+region-few Ceiling ticks fits = fits.1
 
 -- ---- states
 

@@ -1,7 +1,8 @@
--- Regions of three tasks, worked.
+-- Regions of three tasks, and a lock of two, worked.
 use Rattle.std.proofs.Common.{◌≡◌, ℕ, Bool, true, false, List, [], ◌∷◌, Some, refl, get_or}
 use Rattle.cpa_units.specs.declared.limits.Size.TheVariants.{Large}
-use Rattle.cpa_model.specs.declared.entries.Kind.TheVariants.{Preemptive}
+use Rattle.cpa_model.specs.declared.entries.Kind.TheVariants.{Preemptive, Ceiling}
+use Rattle.cpa_model.specs.declared.locks.CriticalSection.{CriticalSection}
 use Rattle.cpa_model.specs.declared.entries.Turn.TheVariants.{Priority}
 use Rattle.cpa_model.specs.declared.entries.Task.{Task}
 use Rattle.cpa_model.specs.SystemLists.{SystemLists}
@@ -11,7 +12,7 @@ use Rattle.cpa_sched.proofs.StretchLaws.{choice}
 use Rattle.cpa_sched.proofs.RegionLaws.{free}
 
 abbrev task : ℕ → ℕ → ℕ → ℕ → Task
-task number best worst region = record { name = []; res = record { 0 = 0 }; after = []; best = best; worst = worst; turn = Priority number; region = region }
+task number best worst region = record { name = []; res = record { 0 = 0 }; after = []; best = best; worst = worst; turn = Priority number; region = region; locks = [] }
 
 -- regions of 1, 2 and 4 ticks
 three : SystemLists
@@ -71,3 +72,43 @@ of_a_region = refl
 -- the region ends with the job
 is_complete : completed Preemptive (within_region 2 3) ≡ free
 is_complete = refl
+
+-- ---- locks
+
+abbrev user : ℕ → List CriticalSection → Task
+user number locks = record { name = []; res = record { 0 = 0 }; after = []; best = 1; worst = 9; turn = Priority number; region = 1; locks = locks }
+
+-- the first and the last have a lock in common, whose ceiling is the priority of the first
+sharing : SystemLists
+sharing =
+    record {
+      size = Large;
+      resources = record { name = []; kind = Ceiling; limit = 1000 } ∷ [];
+      sources = [];
+      tasks = user 1 (record { lock = 98 ∷ []; start = 2; length = 3 } ∷ []) ∷ user 2 [] ∷ user 3 (record { lock = 98 ∷ []; start = 1; length = 3 } ∷ []) ∷ [];
+      paths = [];
+    }
+
+-- all three wait, whose jobs have had so many ticks
+abbrev had : List ℕ → ReadyQueue
+had ticks = record { waits = λ i. true; arrival = λ i. 0; received = λ i. get_or ticks i 0 }
+
+-- the last holds the lock after its second tick, so that neither of the others runs
+holds_on : step sharing 0 free (had (0 ∷ 0 ∷ 2 ∷ [])) 5 0 ≡ choice (Some 2) free
+unfolding step sharing
+holds_on = refl
+
+-- but not before
+not_yet : step sharing 0 free (had (0 ∷ 0 ∷ 1 ∷ [])) 5 0 ≡ choice (Some 0) free
+unfolding step sharing
+not_yet = refl
+
+-- nor after the fourth
+released : step sharing 0 free (had (0 ∷ 0 ∷ 4 ∷ [])) 5 0 ≡ choice (Some 0) free
+unfolding step sharing
+released = refl
+
+-- it runs to the end of the section
+to_its_release : length_of sharing 0 free (had (0 ∷ 0 ∷ 2 ∷ [])) 5 0 100 ≡ 2
+unfolding step length_of sharing
+to_its_release = refl

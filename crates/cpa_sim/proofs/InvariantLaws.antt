@@ -3,7 +3,7 @@ use Rattle.std.proofs.Common.{◌≡◌, ℕ, zero, suc, ◌+◌, ◌-◌, ◌<�
 use Rattle.std.specs.Option.{ForSome}
 use Rattle.std.proofs.lemmas.Bool.{cases_lt, cases_Bool, le-leb, cond-true, cond-false, eqb-true, eq-eqb, false≢true}
 use Rattle.cpa_model.specs.declared.entries.Kind.{Kind}
-use Rattle.cpa_model.specs.declared.entries.Kind.TheVariants.{Preemptive, RoundRobin, Tdma, Can, Fifo}
+use Rattle.cpa_model.specs.declared.entries.Kind.TheVariants.{Preemptive, RoundRobin, Tdma, Can, Fifo, Ceiling}
 use Rattle.cpa_model.specs.SystemLists.{SystemLists, task_at, tasks_on}
 use Rattle.cpa_trace.specs.Trace.{TraceLists, phase_of, need}
 use Rattle.cpa_sched.specs.Steps.{ResourceState, ReadyQueue, kind_of, step, completed, first_state}
@@ -11,8 +11,9 @@ use Rattle.cpa_sched.specs.States.{IsOn, FrameWaits}
 use Rattle.cpa_sched.specs.Stretches.{got, state_after}
 use Rattle.cpa_sim.specs.declared.jobs.Cause.{Cause}
 use Rattle.cpa_sim.specs.Run.{Progress, is_open, waits, ready_at, ended_count, new_jobs, arriving, settled, run}
-use Rattle.cpa_sim.proofs.JobLists.{AreInOrder, AreFresh, jobs_after}
+use Rattle.cpa_sim.proofs.JobLists.{AreInOrder, AreFresh, AreWithin, jobs_after}
 use Rattle.cpa_sim.proofs.QueueLaws.{ordered-more, ordered-last, ordered-new, ended-is, waits-is, waits-less, first-runs, length-jobs, fresh-append, fresh-after, fresh-from}
+use Rattle.cpa_sim.proofs.NeedLaws.{within-append, within-after}
 use Rattle.cpa_sim.proofs.RunLaws.{jobs-zero, state-zero}
 use Rattle.cpa_sched.proofs.StepLaws.{tasks_on-are, last_is}
 use Rattle.cpa_sched.proofs.StretchLaws.{state_after-zero}
@@ -34,10 +35,11 @@ module _ (s : SystemLists) (tr : TraceLists) where
     pub placed : (i : ℕ) → i < length s.tasks → (task_at s i).res.0 < length s.resources
     pub some : (i k : ℕ) → i < length s.tasks → 1 ≤ need s tr i k
 
-  -- a task's jobs are complete in their order, and those after the earliest pending one haven't run
+  -- a task's jobs are complete in their order, those after the earliest pending one haven't run, and none needs more than in all
   pub record JobsHold (i : ℕ) (js : List Progress) : Type 0 where
     pub ordered : AreInOrder (ended_count js) js
     pub fresh : AreFresh (need s tr i) (ended_count js) js
+    pub within : AreWithin (need s tr i) js
 
   pub record HoldsAt (t : ℕ) : Type 0 where
     pub jobs : (i : ℕ) → i < length s.tasks → JobsHold i ((run s tr t).jobs i)
@@ -45,13 +47,14 @@ module _ (s : SystemLists) (tr : TraceLists) where
     pub frames : (r : ℕ) → r < length s.resources → FrameWaits (kind_of s r) ((run s tr t).resources r) (λ i. waits ((run s tr t).jobs i))
 
   module _ (can : CanRun) where
-    hold-from : (i d : ℕ) (js : List Progress) → AreInOrder d js → AreFresh (need s tr i) d js → JobsHold i js
-    hold-from i d js order fresh = let e = ended-is d js order in record { ordered = rw e order; fresh = rw e fresh }
+    hold-from : (i d : ℕ) (js : List Progress) → AreInOrder d js → AreFresh (need s tr i) d js → AreWithin (need s tr i) js → JobsHold i js
+    hold-from i d js order fresh within = let e = ended-is d js order in record { ordered = rw e order; fresh = rw e fresh; within = within }
 
     -- also where jobs arrive
-    with-new : (i d now : ℕ) (new : List Cause) (js : List Progress) → i < length s.tasks → AreInOrder d js → AreFresh (need s tr i) d js → JobsHold i (js ++ new_jobs (need s tr i) (length js) now new)
-    with-new i d now new js there order fresh =
-        hold-from i d (js ++ new_jobs (need s tr i) (length js) now new) (ordered-new d js (need s tr i) (length js) now new order (λ k. can.some i k there)) (fresh-append (need s tr i) d now new js fresh)
+    with-new : (i d now : ℕ) (new : List Cause) (js : List Progress) → i < length s.tasks → AreInOrder d js → AreFresh (need s tr i) d js → AreWithin (need s tr i) js
+        → JobsHold i (js ++ new_jobs (need s tr i) (length js) now new)
+    with-new i d now new js there order fresh within =
+        hold-from i d (js ++ new_jobs (need s tr i) (length js) now new) (ordered-new d js (need s tr i) (length js) now new order (λ k. can.some i k there)) (fresh-append (need s tr i) d now new js fresh) (within-append (need s tr i) now new js within)
 
     first-held : (r : ℕ) (k : Kind) → ForSome (first_state s r k).holder (IsOn s r)
     first-held r Preemptive = λ x e. cc
@@ -59,6 +62,7 @@ module _ (s : SystemLists) (tr : TraceLists) where
     first-held r (Tdma gap) = λ x e. cc
     first-held r (Can bit) = λ x e. cc
     first-held r Fifo = λ x e. cc
+    first-held r Ceiling = λ x e. cc
 
     first-frames : (r : ℕ) (k : Kind) (w : ℕ → Bool) → FrameWaits k (first_state s r k) w
     first-frames r Preemptive w = λ x e. cc
@@ -66,9 +70,11 @@ module _ (s : SystemLists) (tr : TraceLists) where
     first-frames r (Tdma gap) w = tt
     first-frames r (Can bit) w = λ x e. cc
     first-frames r Fifo w = tt
+    first-frames r Ceiling w = tt
 
     -- a jump keeps it
-    module _ (t n : ℕ) (q : ReadyQueue) (d : ℕ → ℕ) (o : ℕ → Option ℕ) (g : SameTasksRun s tr t n q d o) (fresh : (i : ℕ) → i < length s.tasks → AreFresh (need s tr i) (d i) ((run s tr t).jobs i)) where
+    module _ (t n : ℕ) (q : ReadyQueue) (d : ℕ → ℕ) (o : ℕ → Option ℕ) (g : SameTasksRun s tr t n q d o) (fresh : (i : ℕ) → i < length s.tasks → AreFresh (need s tr i) (d i) ((run s tr t).jobs i))
+        (within : (i : ℕ) → i < length s.tasks → AreWithin (need s tr i) ((run s tr t).jobs i)) where
       landed-jobs-hold : (i : ℕ) → i < length s.tasks → JobsHold i ((run s tr (t + n)).jobs i)
       landed-jobs-hold i there =
           let m = arriving s tr (t + n) (numbers_by s tr t n q d o g n) i in
@@ -80,17 +86,18 @@ module _ (s : SystemLists) (tr : TraceLists) where
                 let h = chosen-pending s tr t n q d o g i there passes in
                 let same : js ≡ jobs_after n (t + n) (d i) old = cond-true (chosen s tr t n q d o i) _ _ passes in
                 let rest = fresh-after (need s tr i) n (t + n) (d i) old (fresh i there) in
+                let few = within-after (need s tr i) n (t + n) (d i) old (within i there) in
                 elim (cases_lt n (left_at s tr t n q d o i)) [
                   | inl more ↦
                       let a = ordered-more n (t + n) (d i) old (g.ordered i there) h more in
-                      rw e (with-new i (d i) (t + n) m js there (rw same a) (rw same rest))
+                      rw e (with-new i (d i) (t + n) m js there (rw same a) (rw same rest) (rw same few))
                   | inr last ↦
                       let a = ordered-last n (t + n) (d i) old (g.ordered i there) h last in
-                      rw e (with-new i (suc (d i)) (t + n) m js there (rw same a) (rw same (fresh-from (need s tr i) (d i) (suc (d i)) (jobs_after n (t + n) (d i) old) (omega arith) rest)))
+                      rw e (with-new i (suc (d i)) (t + n) m js there (rw same a) (rw same (fresh-from (need s tr i) (d i) (suc (d i)) (jobs_after n (t + n) (d i) old) (omega arith) rest)) (rw same few))
                 ]
             | inr fails ↦
                 let same : js ≡ old = cond-false (chosen s tr t n q d o i) _ _ fails in
-                rw e (with-new i (d i) (t + n) m js there (rw same (g.ordered i there)) (rw same (fresh i there)))
+                rw e (with-new i (d i) (t + n) m js there (rw same (g.ordered i there)) (rw same (fresh i there)) (rw same (within i there)))
           ]
 
       settled-holder : (k : Kind) (f : ℕ → ℕ) (st : ResourceState) (p : Option ℕ) (P : ℕ → Type 0) → ForSome st.holder P → ForSome (settled k f st p).holder P
@@ -107,6 +114,7 @@ module _ (s : SystemLists) (tr : TraceLists) where
           completed-holder (Tdma gap) st P h = h
           completed-holder (Can bit) st P h = λ x e. cc
           completed-holder Fifo st P h = h
+          completed-holder Ceiling st P h = h
 
       pub landed-held : (r : ℕ) → r < length s.resources → ForSome ((run s tr (t + n)).resources r).holder (IsOn s r)
       landed-held r there =
@@ -157,6 +165,8 @@ module _ (s : SystemLists) (tr : TraceLists) where
           ordered = λ i there. (k.jobs i there).ordered;
           waiting = λ i there. refl;
           arrived = λ i there queued waits. refl;
+          had = λ i there waits. refl;
+          within = λ i there waits. (k.jobs i there).within (d i) (waits-less (d i) ((run s tr t).jobs i) (k.jobs i there).ordered waits);
           held = k.held;
           frames = k.frames;
           runs = λ r u there less.
@@ -171,12 +181,12 @@ module _ (s : SystemLists) (tr : TraceLists) where
               let h = waits-less (d i) ((run s tr t).jobs i) (k.jobs i there).ordered waiting in
               (first-runs (d i) ((run s tr t).jobs i) (k.jobs i there).ordered h).some;
           silent = λ j u some less. absurd (omega arith);
-        }) (λ i there. (k.jobs i there).fresh)
+        }) (λ i there. (k.jobs i there).fresh) (λ i there. (k.jobs i there).within)
 
     start : HoldsAt 0
     start =
         record {
-          jobs = λ i there. rw (jobs-zero s tr i) (with-new i 0 0 (arriving s tr 0 (λ j. []) i) [] there tt (λ k later more. absurd (omega arith)));
+          jobs = λ i there. rw (jobs-zero s tr i) (with-new i 0 0 (arriving s tr 0 (λ j. []) i) [] there tt (λ k later more. absurd (omega arith)) (λ k more. absurd (omega (arith, more))));
           held = λ r there. rw (state-zero s tr r) (first-held r (kind_of s r));
           frames = λ r there. rw (state-zero s tr r) (first-frames r (kind_of s r) (λ i. waits ((run s tr 0).jobs i)));
         }

@@ -19,6 +19,10 @@ AreInOrder (suc done) (job ∷ jobs) = (is_open job ≡ false) × AreInOrder don
 abbrev pub AreFresh : (ℕ → ℕ) → ℕ → List Progress → Type 0
 AreFresh needs done jobs = (k : ℕ) → done < k → k < length jobs → (slice_index_or jobs k no_job).left ≡ needs k
 
+-- none needs more than it needs in all
+abbrev pub AreWithin : (ℕ → ℕ) → List Progress → Type 0
+AreWithin needs jobs = (k : ℕ) → k < length jobs → (slice_index_or jobs k no_job).left ≤ needs k
+
 -- a job after so many ticks more, which ends at this time if it needs no more
 abbrev pub after_ticks : ℕ → ℕ → Progress → Progress
 after_ticks ticks now job =

@@ -347,7 +347,7 @@ module _ (keeping : Keeping) (needs : ℕ → ℕ) (ticks now : ℕ) (js : List 
 
 -- ---- jobs that haven't run need all that they need
 
-fresh-new : (needs : ℕ → ℕ) (first now : ℕ) (new : List Cause) (k : ℕ) → k < length new → (get_or (new_jobs needs first now new) k no_job).left ≡ needs (first + k)
+pub fresh-new : (needs : ℕ → ℕ) (first now : ℕ) (new : List Cause) (k : ℕ) → k < length new → (get_or (new_jobs needs first now new) k no_job).left ≡ needs (first + k)
 fresh-new needs first now [] k h = absurd (omega arith)
 fresh-new needs first now (cause ∷ new) zero h = let e : first ≡ first + 0 = omega arith in ap needs e
 fresh-new needs first now (cause ∷ new) (suc k) h = let e : first + 1 + k ≡ first + suc k = omega arith in fresh-new needs (first + 1) now new k (omega arith) ∙ ap needs e

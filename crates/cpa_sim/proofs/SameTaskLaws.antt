@@ -13,7 +13,8 @@ use Rattle.cpa_sched.specs.Stretches.{got, state_after, task_after}
 use Rattle.cpa_sim.specs.Run.{no_job, Progress, waits, head_of, ready_at, ended_count, serve, new_jobs, events_at, arriving, is_chosen, choice_at, served, ends_in, ended_in, settled, run}
 use Rattle.cpa_sim.specs.Simulation.{is_queued}
 use Rattle.cpa_sim.proofs.JobLists.{AreInOrder, jobs_after}
-use Rattle.cpa_sim.proofs.HeadLaws.{head-arrival}
+use Rattle.cpa_sim.proofs.HeadLaws.{head-is, head-arrival, head-left}
+use Rattle.cpa_sim.proofs.GotLaws.{gets-chosen, gets-other, received-is}
 use Rattle.cpa_sim.proofs.QueueLaws.{length-jobs, jobs-none, serve-jobs, ordered-more, ordered-last, ended-is, waits-is, waits-less}
 use Rattle.cpa_sim.proofs.RunLaws.{jobs-next, state-next, served-is, ends-is, ended-is as numbers-are, choice-is}
 use Rattle.cpa_sim.proofs.CauseLists.{arriving-agrees, arriving-none}
@@ -44,6 +45,8 @@ module _ (s : SystemLists) (tr : TraceLists) (t n : ℕ) (q : ReadyQueue) (d : �
     pub ordered : (i : ℕ) → i < length s.tasks → AreInOrder (d i) (jobs_at i)
     pub waiting : (i : ℕ) → i < length s.tasks → waits (jobs_at i) ≡ q.waits i
     pub arrived : (i : ℕ) → i < length s.tasks → is_queued s i ≡ true → q.waits i ≡ true → (head_of (jobs_at i)).arrival ≡ q.arrival i
+    pub had : (i : ℕ) → i < length s.tasks → q.waits i ≡ true → need s tr i (d i) - (head_of (jobs_at i)).left ≡ q.received i
+    pub within : (i : ℕ) → i < length s.tasks → q.waits i ≡ true → left_at i ≤ need s tr i (d i)
     pub held : (r : ℕ) → r < length s.resources → ForSome (state_at r).holder (IsOn s r)
     pub frames : (r : ℕ) → r < length s.resources → FrameWaits (kind_of s r) (state_at r) q.waits
     pub runs : (r u : ℕ) → r < length s.resources → u < n → task_after s r (state_at r) q (o r) t (phase_of tr r) u ≡ o r
@@ -123,11 +126,44 @@ module _ (s : SystemLists) (tr : TraceLists) (t n : ℕ) (q : ReadyQueue) (d : �
           let here : (task_at s j).res.0 ≡ r = eqb-true (task_at s j).res.0 r w.on.here in
           still-arrived j w.on.task ∙ g.arrived j w.on.task (ap (λ v. is_queue (kind_of s v)) here ∙ queue) w.waits_now
 
+      -- the jobs that were complete before
+      ended-before : (i : ℕ) → i < length s.tasks → ended_count ((run s tr (t + u)).jobs i) ≡ d i
+      ended-before i there =
+          elim (cases_Bool (chosen i)) [
+            | inl passes ↦
+                let h = chosen-pending i there passes in
+                let l : u < left_at i = omega (arith, g.enough i there passes) in
+                ap ended_count (a.jobs i there ∙ cond-true (chosen i) _ _ passes) ∙ ended-is (d i) (jobs_after u (t + u) (d i) (jobs_at i)) (ordered-more u (t + u) (d i) (jobs_at i) (g.ordered i there) h l)
+            | inr fails ↦ ap ended_count (a.jobs i there ∙ cond-false (chosen i) _ _ fails) ∙ ended-is (d i) (jobs_at i) (g.ordered i there)
+          ]
+
+      -- and how many ticks they have had
+      had-first : (r j : ℕ) → IsWaiting s r q.waits j → (ready_at s tr (run s tr (t + u)).jobs).received j ≡ (got q (o r) u).received j
+      had-first r j w =
+          let there = w.on.task in
+          let here : (task_at s j).res.0 ≡ r = eqb-true (task_at s j).res.0 r w.on.here in
+          let runs : is_chosen (o r) j ≡ chosen j = ap (λ v. is_chosen (o v) j) (sym here) in
+          let needs = ap (need s tr j) (ended-before j there) in
+          let before = g.had j there w.waits_now in
+          let is = received-is q.received (o r) u j in
+          elim (cases_Bool (chosen j)) [
+            | inl passes ↦
+                let h = chosen-pending j there passes in
+                let l : u < left_at j = omega (arith, g.enough j there passes) in
+                let left = ap (λ js. (head_of js).left) (a.jobs j there ∙ cond-true (chosen j) _ _ passes) ∙ head-left u (t + u) (d j) (jobs_at j) (g.ordered j there) h l in
+                let head = ap (λ (job : Progress). job.left) (head-is (d j) (jobs_at j) (g.ordered j there)) in
+                let few = g.within j there w.waits_now in
+                omega (arith, needs, before, is, left, head, few, l, gets-chosen (o r) u j (runs ∙ passes))
+            | inr fails ↦
+                let left = ap (λ js. (head_of js).left) (a.jobs j there ∙ cond-false (chosen j) _ _ fails) in
+                omega (arith, needs, before, is, left, gets-other (o r) u j (runs ∙ fails))
+          ]
+
       pub choice : (r : ℕ) → r < length s.resources → choice_at s tr (t + u) (run s tr (t + u)) r ≡ step s r (state_after s r (state_at r) q (o r) t (phase_of tr r) u) (got q (o r) u) (t + u) (phase_of tr r)
       choice r there =
           choice-is s tr (t + u) r
           ∙ (ap (λ st. step s r st (ready_at s tr (run s tr (t + u)).jobs) (t + u) (phase_of tr r)) (a.states r there)
-          ∙ step-agrees s r (ready_at s tr (run s tr (t + u)).jobs) (got q (o r) u) (λ j on. still j on.task) (came-first r) (state_after s r (state_at r) q (o r) t (phase_of tr r) u) (t + u) (phase_of tr r) (a.holds r there))
+          ∙ step-agrees s r (ready_at s tr (run s tr (t + u)).jobs) (got q (o r) u) (λ j on. still j on.task) (came-first r) (had-first r) (state_after s r (state_at r) q (o r) t (phase_of tr r) u) (t + u) (phase_of tr r) (a.holds r there))
 
       pub task : (r : ℕ) → r < length s.resources → (choice_at s tr (t + u) (run s tr (t + u)) r).task ≡ o r
       task r there = ap (λ (c : Choice). c.task) (choice r there) ∙ g.runs r u there less
@@ -170,17 +206,6 @@ module _ (s : SystemLists) (tr : TraceLists) (t n : ℕ) (q : ReadyQueue) (d : �
                 let before = ap ended_count (a.jobs i there ∙ cond-false (chosen i) _ _ fails) in
                 let then = ap ended_count (work i there ∙ cond-false (chosen i) _ _ fails) in
                 rw fails (omega (arith, first, before, then))
-          ]
-
-      -- the jobs that were complete before
-      ended-before : (i : ℕ) → i < length s.tasks → ended_count ((run s tr (t + u)).jobs i) ≡ d i
-      ended-before i there =
-          elim (cases_Bool (chosen i)) [
-            | inl passes ↦
-                let h = chosen-pending i there passes in
-                let l : u < left_at i = omega (arith, g.enough i there passes) in
-                ap ended_count (a.jobs i there ∙ cond-true (chosen i) _ _ passes) ∙ ended-is (d i) (jobs_after u (t + u) (d i) (jobs_at i)) (ordered-more u (t + u) (d i) (jobs_at i) (g.ordered i there) h l)
-            | inr fails ↦ ap ended_count (a.jobs i there ∙ cond-false (chosen i) _ _ fails) ∙ ended-is (d i) (jobs_at i) (g.ordered i there)
           ]
 
       numbers : (i : ℕ) → i < length s.tasks → ended_in s tr (t + u) (run s tr (t + u)) i ≡ numbers_by (u + 1) i

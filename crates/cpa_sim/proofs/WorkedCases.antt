@@ -16,7 +16,7 @@ source = record { name = []; period = 100; jitter = 0; distance = 0; sporadic = 
 
 abbrev task : ℕ → ℕ → ℕ → ℕ → Task
 task place best worst region =
-    record { name = []; res = record { 0 = 0 }; after = FromSource (record { 0 = place }) ∷ []; best = best; worst = worst; turn = Priority place; region = region }
+    record { name = []; res = record { 0 = 0 }; after = FromSource (record { 0 = place }) ∷ []; best = best; worst = worst; turn = Priority place; region = region; locks = [] }
 
 -- three tasks by urgency, of regions of 1, 2 and 4 ticks
 three : SystemLists

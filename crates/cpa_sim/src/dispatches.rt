@@ -18,7 +18,7 @@ ghost use Rattle.cpa_sim.specs.Outcome.{CanReplay};
 ghost use Rattle.cpa_sim.specs.Run.{settled};
 ghost use Rattle.cpa_sim.specs.Simulation.{queue_at, dispatch_at, runner, runs_at, waiting, arrived, ready, state_by, state_now, Foresees, HasEnough, IsServed, AreEnding};
 
-use crate::job_queues::{JobQueue, work};
+use crate::job_queues::{JobQueue, need, work};
 use cpa_model::System;
 use cpa_sched::{Queue, Ranking, ResState, Stretch, WaitingRange, begin_within, completed, go_on};
 use cpa_trace::Trace;
@@ -49,6 +49,8 @@ pub(crate) struct Waiting<'a> {
     pub(crate) system: &'a System,
     pub(crate) trace: &'a Trace,
     pub(crate) queues: &'a [JobQueue],
+    ghost can: { CanReplay system.now trace.now },
+    ghost all: { length queues.now ≡ length system.now.tasks },
 }
 
 impl Queue for Waiting<'_> {
@@ -72,6 +74,11 @@ impl Queue for Waiting<'_> {
         } else {
             0
         }
+    }
+
+    fn received(&self, task: TaskId) -> u64 {
+        let queue = &self.queues[task.0 as usize];
+        need(self.system, self.trace, task, queue.done()).saturating_sub(queue.left())
     }
 }
 
@@ -105,6 +112,7 @@ fn begin_now(
     requires waiters { HasWaitingRange (places_of ranking.now.tasks.now) (waiting queues.now) waiters.old }
     requires since { CameSince system.now ranking.now.res.0 (waiting queues.now) (arrived queues.now) waiters.old.since }
     requires can { CanReplay system.now trace.now }
+    requires queues { length queues.now ≡ length system.now.tasks }
     requires belongs { Belongs system.now ranking.now.res.0 (seen state.old) }
     requires frame { FrameWaits (kind_of system.now ranking.now.res.0) (seen state.old) (waiting queues.now) }
     requires some { 1 ≤ most }
