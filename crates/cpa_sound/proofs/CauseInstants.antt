@@ -1,14 +1,14 @@
 -- A job arrives when its cause happens.
-use Rattle.std.proofs.Common.{◌≡◌, ℕ, ◌+◌, ◌<◌, ◌≤◌, length, Bool, true, Some, refl, sym, ◌∙◌, inl, inr, arith, ap}
+use Rattle.std.proofs.Common.{◌≡◌, ℕ, ◌+◌, ◌<◌, ◌≤◌, length, true, Some, refl, sym, ◌∙◌, inl, inr, arith, ap}
 use Rattle.std.proofs.lemmas.Bool.{cases_lt}
 use Rattle.cpa_model.specs.declared.entries.Activator.{Activator}
 use Rattle.cpa_model.specs.declared.entries.Activator.TheVariants.{Source, Task}
 use Rattle.cpa_model.specs.Rules.{IsSystem}
 use Rattle.cpa_model.specs.SystemLists.{SystemLists, task_at}
-use Rattle.cpa_trace.specs.Trace.{TraceLists, times_of, time_of, Obeys}
-use Rattle.cpa_sim.specs.Run.{ended_count, run}
+use Rattle.cpa_trace.specs.Trace.{TraceLists, Obeys}
+use Rattle.cpa_sim.specs.Run.{run}
 use Rattle.cpa_sim.proofs.QueueLaws.{ended-le}
-use Rattle.cpa_sound.specs.BoundsHold.{job_at, HasJob, arrival_of, causes_at, IsDoneBy}
+use Rattle.cpa_sound.specs.BoundsHold.{HasJob, arrival_of, causes_at}
 use Rattle.cpa_sound.specs.Laws.{HappensAt, AJobArrivesWithItsCause}
 use Rattle.cpa_sound.specs.RunCourse.{course_of}
 use Rattle.cpa_sound.proofs.CauseRuns.{event}

@@ -3,11 +3,13 @@ use Rattle.std.proofs.Common.{◌≡◌, ℕ, zero, suc, ◌+◌, ◌-◌, ◌%�
 use Rattle.std.specs.List.{filter}
 use Rattle.std.proofs.lemmas.Bool.{cases_Bool, eqb-true, eq-eqb, false≢true}
 use Rattle.cpa_model.specs.declared.entries.Kind.{Kind}
-use Rattle.cpa_model.specs.declared.entries.Kind.TheVariants.{Preemptive, RoundRobin, Tdma, Can, Fifo}
+use Rattle.cpa_model.specs.declared.entries.Kind.TheVariants.{Preemptive, RoundRobin, Tdma, Can, Fifo, Ceiling}
 use Rattle.cpa_model.specs.SystemLists.{SystemLists, task_at, cycle_of, tasks_on}
 use Rattle.cpa_trace.specs.Trace.{TraceLists, phase_of}
 use Rattle.cpa_sched.specs.Steps.{ResourceState, Choice, most_urgent, owner_at, if_waiting, region_of, within_region, preemptive_step, can_step, fifo_step, choose, kind_of, step}
-use Rattle.cpa_sched.specs.Least.{ComesBefore}
+use Rattle.cpa_sched.specs.Least.{ComesBefore, least_by}
+use Rattle.cpa_sched.specs.Locks.{urgency_of}
+use Rattle.cpa_sched.proofs.LeastLaws.{chosen-waits as least-waits, chosen-first as least-first, chosen-some as least-some}
 use Rattle.cpa_sim.specs.Run.{head_of, waits, ready_at, is_chosen, choice_at, runs_in, ends_in, settled, run}
 use Rattle.cpa_sound.proofs.JobLaws.{waits-less, less-waits}
 use Rattle.cpa_sim.proofs.JobCount.{ended-suc, length-suc}
@@ -264,3 +266,28 @@ module _ (s : SystemLists) (tr : TraceLists) where
     -- while a job is pending, one runs
     pub queue-busy : (t j : ℕ) → IsWaiting s r (waiting_at t) j → chosen_at t r ≡ None → ⊥
     queue-busy t j w none = fifo-busy s r (state_at t r) (ready_at s tr (run s tr t).jobs) j w (sym (queue-choice t) ∙ none)
+
+  -- ---- ceilings
+
+  module _ (r : ℕ) (kind : kind_of s r ≡ Ceiling) where
+    -- how urgent the job of each task is
+    abbrev ranked : ℕ → ℕ → ℕ
+    ranked t = urgency_of s (ready_at s tr (run s tr t).jobs).received
+
+    ceiling-choice : (t : ℕ) → chosen_at t r ≡ least_by (urgency_of s (ready_at s tr (run s tr t).jobs).received) (filter (waiting_at t) (tasks_on s r))
+    ceiling-choice t = ap (λ (c : Choice). c.task) (choice-by_kind t r Ceiling kind)
+
+    pub ceiling-waits : (t j : ℕ) → chosen_at t r ≡ Some j → IsWaiting s r (waiting_at t) j
+    ceiling-waits t j e = least-waits s r (ranked t) (waiting_at t) j (sym (ceiling-choice t) ∙ e)
+
+    -- no job that is pending is more urgent than the one that runs
+    pub ceiling-first : (t k j : ℕ) → chosen_at t r ≡ Some k → IsWaiting s r (waiting_at t) j → urgency_of s (ready_at s tr (run s tr t).jobs).received k ≤ urgency_of s (ready_at s tr (run s tr t).jobs).received j
+    ceiling-first t k j e w = no_less (ranked t) k j (least-first s r (ranked t) (waiting_at t) k j (sym (ceiling-choice t) ∙ e) w)
+      where
+        no_less : (number : ℕ → ℕ) (k j : ℕ) → ComesBefore number k j → number k ≤ number j
+        no_less number k j (inl less) = omega (arith, less)
+        no_less number k j (inr same) = omega (arith, same.0)
+
+    -- while a job is pending, one runs
+    pub ceiling-busy : (t j : ℕ) → IsWaiting s r (waiting_at t) j → chosen_at t r ≡ None → ⊥
+    ceiling-busy t j w none = least-some s r (ranked t) (waiting_at t) j w (sym (ceiling-choice t) ∙ none)

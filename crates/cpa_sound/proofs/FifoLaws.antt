@@ -19,7 +19,7 @@ use Rattle.cpa_sound.specs.Course.{Course, Arrives}
 use Rattle.cpa_sound.proofs.Serving.{work, IsPending, IsNoLater, IsQuiet, IsInOrder, ComesWithin, AnyOf}
 use Rattle.cpa_sound.proofs.CourseLaws.{work-mono, work_between, arrived-mono, ended-mono, incomplete, quiet_received, arrival_of}
 use Rattle.cpa_sound.proofs.LevelLaws.{plus-within, sum-within, sum-le, all_map}
-use Rattle.cpa_sound.proofs.BusyLaws.{InOrder, QuietAt, BusyAt, PendingAt, last_quiet, total, asked, served, window-lt}
+use Rattle.cpa_sound.proofs.BusyLaws.{InOrder, QuietAt, BusyAt, PendingAt, LosesAtMost, loses-first, last_quiet, total, asked, served, window-lt}
 
 -- ---- what a number that the bound comes to says
 
@@ -137,6 +137,9 @@ module _ (course : ℕ → Course) (best : ℕ → ℕ) (rival : ℕ → Rival) 
       serves_from : (u : ℕ) → s + 0 ≤ u → ((w : ℕ) → s ≤ w → w ≤ u → AnyOf (PendingAt course best rival w) (i ∷ hs)) → total course best rival (i ∷ hs) u < total course best rival (i ∷ hs) (u + 1)
       serves_from u h any = serves u (any u (omega arith) (omega arith))
 
+      loses : LosesAtMost course best rival (i ∷ hs) 0 s
+      loses = loses-first course best rival (i ∷ hs) orders 0 s serves_from
+
       -- the job comes in a busy window
       comes_while_busy : (l : ℕ) → 0 < l → IsAtMost (fifo_demand own (rival i).worst (map rival hs) l) (Within l) → a < s + l
       comes_while_busy l some fits =
@@ -147,7 +150,7 @@ module _ (course : ℕ → Course) (best : ℕ → ℕ) (rival : ℕ → Rival) 
                 let n : ℕ = (course i).arrived s in
                 let few : (course i).arrived (s + l) ≤ n + eta_plus own l = comes s l (omega arith) in
                 let gone : n + eta_plus own l - n ≡ eta_plus own l = omega arith in
-                let short = window-lt course best rival i hs orders k a s arrival early quiet busy 0 serves_from (a + r)
+                let short = window-lt course best rival i hs orders k a s arrival early quiet busy 0 loses (a + r)
                 (λ u. sum_by (asked course best rival (s + u)) hs - total course best rival hs s) (λ u h. omega arith)
                 (n + eta_plus own l) l (l - eta_plus own l * (rival i).worst) few some past (omega arith)
                 (omega (arith, rivals_ask s l (l - eta_plus own l * (rival i).worst) quiets (omega arith) ask.1)) in
@@ -164,7 +167,7 @@ module _ (course : ℕ → Course) (best : ℕ → ℕ) (rival : ℕ → Rival) 
           elim (cases_lt k ((course i).ended (a + r))) [
             | inl done ↦ done
             | inr still ↦
-                let up = rw there at (served course best rival i hs orders k a s arrival early quiet busy 0 serves_from (a - s + r) (inr (rw there still))) in
+                let up = rw there at (served course best rival i hs orders k a s arrival early quiet busy 0 loses (a - s + r) (inr (rw there still))) in
                 let mine = rw here at (asked-within (course i) (best i) (rival i).worst order (Some own) (a + r) s (a - s + 1) (eta_plus own (a - s + 1) * (rival i).worst) quiet comes (omega arith) (omega arith)) in
                 let theirs = rw here at (rivals_ask s (a - s + 1) (r + (a - s) - eta_plus own (a - s + 1) * (rival i).worst) quiets (omega arith) ask.1) in
                 absurd (

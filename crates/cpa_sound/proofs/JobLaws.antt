@@ -149,3 +149,9 @@ module _ (needs : ℕ → ℕ) (some : (k : ℕ) → 0 < needs k) where
   fits-open k [] received m f h = absurd (omega arith)
   fits-open k (job ∷ js) received zero f h = let e : k + 0 + 1 ≡ k + 1 = omega arith in rw e f.0.goes_on
   fits-open k (job ∷ js) received (suc m) f h = let e : k + suc m + 1 ≡ (k + 1) + m + 1 = omega arith in rw e (fits-open (k + 1) js received m f.1 (omega arith))
+
+  -- what a job still needs
+  pub fits-left : (k : ℕ) (js : List Progress) (received m : ℕ) → Fits k js received → m < length js → (get_or js m no_job).left ≡ min (needs (k + m)) (work needs (k + m + 1) - received)
+  fits-left k [] received m f h = absurd (omega arith)
+  fits-left k (job ∷ js) received zero f h = let e : k + 0 ≡ k = omega arith in rw e f.0.still
+  fits-left k (job ∷ js) received (suc m) f h = let e : k + suc m ≡ (k + 1) + m = omega arith in rw e (fits-left (k + 1) js received m f.1 (omega arith))

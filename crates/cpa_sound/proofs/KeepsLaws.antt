@@ -2,10 +2,10 @@
 use Rattle.std.specs.Prelude.{◌≡◌, ℕ, ◌+◌, ◌<◌, ◌≤◌, List, ◌∷◌, length, true}
 use Rattle.std.specs.List.{sum_by, AllByRecursion}
 use Rattle.cpa_model.specs.declared.entries.Kind.{Kind}
-use Rattle.cpa_model.specs.declared.entries.Kind.TheVariants.{Preemptive, RoundRobin, Tdma, Can, Fifo}
+use Rattle.cpa_model.specs.declared.entries.Kind.TheVariants.{Preemptive, RoundRobin, Tdma, Can, Fifo, Ceiling}
 use Rattle.cpa_model.specs.SystemLists.{SystemLists, task_at, resource_of, slot_of, shares_resource, is_higher, higher_tasks, other_tasks, cycle_of}
 use Rattle.cpa_model.specs.Kinds.{blocking_by}
-use Rattle.cpa_local.specs.Blocking.{lower_tasks}
+use Rattle.cpa_local.specs.Blocking.{lower_tasks, blocking_of}
 use Rattle.cpa_sound.specs.Course.{Course}
 use Rattle.cpa_sound.proofs.Serving.{IsPending, IsNoLater, IsStarted, IsInOrder, AnyOf}
 use Rattle.cpa_sound.proofs.Turns.{Turns, TakesTurn, AreTurns}
@@ -58,6 +58,10 @@ pub record RunsByQueue (s : SystemLists) (course : ℕ → Course) (i : ℕ) : T
   pub no_later : (j : ℕ) → j < length s.tasks → shares_resource s i j ≡ true → IsNoLater course i j
   pub serves : (t : ℕ) → AnyOf (λ j. IsPending (course j) t) (i ∷ other_tasks s i) → received_by course (i ∷ other_tasks s i) t < received_by course (i ∷ other_tasks s i) (t + 1)
 
+-- in a window in which always the task or a higher one has something to do they lose no more ticks in all than the blocking, in one stretch or not
+pub record RunsByCeilings (s : SystemLists) (course : ℕ → Course) (i : ℕ) : Type 0 where
+  pub loses : (t u : ℕ) → ((w : ℕ) → t ≤ w → w < t + u → AnyOf (λ j. IsPending (course j) w) (i ∷ higher_tasks s i)) → received_by course (i ∷ higher_tasks s i) t + u ≤ received_by course (i ∷ higher_tasks s i) (t + u) + blocking_of s Ceiling i
+
 -- the rule of each kind, as one task of the resource knows it
 abbrev pub RunsByKind : SystemLists → (ℕ → Course) → ℕ → Kind → Type 0
 RunsByKind s course i Preemptive = RunsByRegions s course i
@@ -65,6 +69,7 @@ RunsByKind s course i RoundRobin = RunsByTurns s course i
 RunsByKind s course i (Tdma gap) = RunsBySlots course i (slot_of (task_at s i).turn) (cycle_of s (task_at s i).res.0)
 RunsByKind s course i (Can bit) = RunsByFrames s course i × (0 < bit)
 RunsByKind s course i Fifo = RunsByQueue s course i
+RunsByKind s course i Ceiling = RunsByCeilings s course i
 
 -- how a run serves its tasks: each task's jobs in order, and by the rule of its resource's kind
 pub record KeepsSteps (s : SystemLists) (course : ℕ → Course) : Type 0 where

@@ -1,9 +1,9 @@
 -- In a run each kind of resource keeps its law.
-use Rattle.std.proofs.Common.{◌≡◌, ℕ, zero, suc, ◌+◌, ◌-◌, ◌<◌, ◌≤◌, length, List, [], ◌∷◌, true, false, cond, eqb, ltb, ◌&&◌, Option, Some, None, refl, sym, ◌∙◌, inl, inr, ◌⊎◌, arith, subst, ap, get_or}
+use Rattle.std.proofs.Common.{◌≡◌, ℕ, zero, suc, ◌+◌, ◌-◌, ◌<◌, ◌≤◌, length, ◌∷◌, true, false, cond, eqb, ltb, ◌&&◌, Option, Some, None, refl, sym, ◌∙◌, inl, inr, ◌⊎◌, arith, subst, ap, min, get_or}
 use Rattle.std.specs.List.{AllByRecursion, filter}
 use Rattle.std.proofs.lemmas.Bool.{cases_lt, cases_Bool, lt-ltb, and_parts, and_from, and_cases, ltb-true, ltb-false, eqb-true, eq-eqb, false≢true}
 use Rattle.cpa_model.specs.declared.entries.Kind.{Kind}
-use Rattle.cpa_model.specs.declared.entries.Kind.TheVariants.{Preemptive, RoundRobin, Tdma, Can, Fifo}
+use Rattle.cpa_model.specs.declared.entries.Kind.TheVariants.{Preemptive, RoundRobin, Tdma, Can, Fifo, Ceiling}
 use Rattle.cpa_model.specs.SystemLists.{SystemLists, task_at, resource_of, priority_of, slot_of, shares_resource, is_higher, higher_tasks, tasks_on}
 use Rattle.cpa_sound.proofs.Serving.{work, IsPending, IsStarted, IsInOrder, AnyOf}
 use Rattle.cpa_sound.proofs.Turns.{Turns, GoesOn, PassesOn, TakesTurn}
@@ -19,24 +19,18 @@ use Rattle.cpa_sched.specs.Steps.{kind_of}
 use Rattle.cpa_sound.specs.RunCourse.{received_before, course_of}
 use Rattle.cpa_sound.proofs.KeepsLaws.{received_by, RunsByRegions, RunsByFrames, IsOnRing, RunsByTurns}
 use Rattle.cpa_sound.proofs.CourseLaws.{ended-mono, work-mono, work-one}
-use Rattle.cpa_sound.proofs.LevelLaws.{sum-lt}
+use Rattle.cpa_sound.proofs.LevelLaws.{sum-lt, any_with}
 use Rattle.cpa_sound.proofs.LocalBounds.{all_tasks, any_task, shares_itself}
 use Rattle.cpa_sound.proofs.JobLaws.{less-waits}
-use Rattle.cpa_sound.proofs.RunLaws.{open-is, arrived-one, received-runs, received-idle, served-idle, course-in_order}
+use Rattle.cpa_sound.proofs.RunLaws.{open-is, left-is, arrived-one, received-runs, received-idle, served-idle, course-in_order}
 use Rattle.cpa_sim.proofs.JobCount.{ended-suc}
 use Rattle.cpa_sound.proofs.ArrivalLaws.{need-least, need-greatest, ends_in-is}
 use Rattle.cpa_sched.specs.States.{IsOn, IsWaiting, HoldsRegion}
 use Rattle.cpa_sim.proofs.RunLaws.{run-belongs}
 use Rattle.cpa_sched.proofs.OptionLaws.{some-injective}
 use Rattle.cpa_sound.proofs.StepLaws.{all_at, in_waiting, some_urgent, some_first, in_ring_after, next-nearest}
-use Rattle.cpa_sound.proofs.ChoiceLaws.{waiting_at, state_at, chosen_at, runs-chosen, chosen-runs, urgent_waits, region-goes_on, region-starts, region-next, region-first, region-held, region-waits, can-goes_on, can-starts, can-next, can-kept, can-first, can-held, can-waits, tdma-waits, queue-waits}
+use Rattle.cpa_sound.proofs.ChoiceLaws.{waiting_at, state_at, chosen_at, runs-chosen, chosen-runs, urgent_waits, region-goes_on, region-starts, region-next, region-first, region-held, region-waits, can-goes_on, can-starts, can-next, can-kept, can-first, can-held, can-waits, tdma-waits, queue-waits, ceiling-waits}
 use Rattle.cpa_sound.proofs.RingRuns.{ring-waits, held, ring_cases, next_on}
-
--- a member of a list that is so, with what holds of all
-pub any_with : (P Q : ℕ → Type 0) (js : List ℕ) → AllByRecursion P js → AnyOf Q js → (j : ℕ) × P j × Q j
-any_with P Q [] all any = absurd any
-any_with P Q (j ∷ js) all (inl h) = (j, all.0, h)
-any_with P Q (j ∷ js) all (inr h) = any_with P Q js all.1 h
 
 -- the tasks that share a resource with one are those on its resource
 pub ring_on : (s : SystemLists) (i j : ℕ) → IsOnRing s i j → IsOn s (task_at s i).res.0 j
@@ -57,6 +51,7 @@ module _ (s : SystemLists) (tr : TraceLists) (rules : IsSystem s) (obeys : Obeys
   chosen_waits_at t i h (Tdma gap) kind e = tdma-waits s tr (task_at s i).res.0 gap kind t i e
   chosen_waits_at t i h (Can bit) kind e = can-waits s tr (task_at s i).res.0 bit kind t i e
   chosen_waits_at t i h Fifo kind e = queue-waits s tr (task_at s i).res.0 kind t i e
+  chosen_waits_at t i h Ceiling kind e = ceiling-waits s tr (task_at s i).res.0 kind t i e
 
   waits_to_run : (i t : ℕ) → i < length s.tasks → runs_in s tr t (run s tr t) i ≡ true → waits ((run s tr t).jobs i) ≡ true
   waits_to_run i t h e = (chosen_waits_at t i h (kind_of s (task_at s i).res.0) refl (runs-chosen s tr t i e)).waits_now
@@ -70,6 +65,12 @@ module _ (s : SystemLists) (tr : TraceLists) (rules : IsSystem s) (obeys : Obeys
   pub open-by : (i : ℕ) → i < length s.tasks → (t k : ℕ) → k < length ((run s tr t).jobs i) → is_open (get_or ((run s tr t).jobs i) k no_job) ≡ ltb (received_before s tr i t) (work (need s tr i) (k + 1))
   open-by i h =
       open-is s tr i (task_at s i).best (task_at s i).worst (best-some s rules i h) (λ k. need-least s tr i k obeys h (best-le s rules i h)) (λ k. need-greatest s tr i k obeys h)
+      (λ t e. waits_to_run i t h e)
+
+  -- what a job still needs
+  pub left-by : (i : ℕ) → i < length s.tasks → (t k : ℕ) → k < length ((run s tr t).jobs i) → (get_or ((run s tr t).jobs i) k no_job).left ≡ min (need s tr i k) (work (need s tr i) (k + 1) - received_before s tr i t)
+  left-by i h =
+      left-is s tr i (task_at s i).best (task_at s i).worst (best-some s rules i h) (λ k. need-least s tr i k obeys h (best-le s rules i h)) (λ k. need-greatest s tr i k obeys h)
       (λ t e. waits_to_run i t h e)
 
   pub pending-waits : (i t : ℕ) → IsPending (course_of s tr i) t → waiting_at s tr t i ≡ true

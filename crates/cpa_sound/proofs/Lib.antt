@@ -42,6 +42,16 @@ pub mod KindRuns
 pub mod SlotRuns
 pub mod FieldLaws
 pub mod QueueRuns
+mod Sections
+mod UrgencyLaws
+mod OneHolder
+mod HadLaws
+mod Holding
+mod LostTicks
+mod LockWindow
+mod SectionLaws
+mod CeilingRuns
+mod Exclusion
 pub mod PathLaws
 pub mod ClockRuns
 pub mod Soundness
@@ -49,3 +59,4 @@ mod CauseInstants
 pub mod BeyondLaws
 mod WorkedCases
 mod WorkedClocks
+mod WorkedLocks

@@ -25,7 +25,7 @@ use Rattle.cpa_sound.proofs.Serving.{IsStarted, IsInOrder, ComesWithin, AnyOf}
 use Rattle.cpa_sound.proofs.CourseLaws.{arrived-mono, arrival_of, arrives-after}
 use Rattle.cpa_sound.proofs.DistanceLaws.{apart_from_within}
 use Rattle.cpa_sound.proofs.LevelLaws.{sum-le, all_map}
-use Rattle.cpa_sound.proofs.BusyLaws.{InOrder, QuietAt, PendingAt, total, ComesAtMost, others_ask}
+use Rattle.cpa_sound.proofs.BusyLaws.{InOrder, QuietAt, PendingAt, LosesAtMost, total, ComesAtMost, others_ask}
 use Rattle.cpa_sound.proofs.Parts.{of_stream, EachStream, StreamsKeepApart}
 use Rattle.cpa_sound.proofs.PriorityLaws.{FromHere, preemptive-local}
 use Rattle.cpa_sound.proofs.CanLaws.{IsLower, can-local}
@@ -204,10 +204,10 @@ module _ (course : ℕ → Course) (best : ℕ → ℕ) (rival : ℕ → Rival) 
         }
 
     -- a job of a task under preemptive priority ends within its bound by clocks, from what was known before
-    pub preemptive-clocked : (blocking : ℕ) (serves : (s u : ℕ) → s + blocking ≤ u → ((w : ℕ) → s ≤ w → w ≤ u → AnyOf (PendingAt course best rival w) (i ∷ hs)) → total course best rival (i ∷ hs) u < total course best rival (i ∷ hs) (u + 1))
+    pub preemptive-clocked : (blocking : ℕ) (loses : (s : ℕ) → LosesAtMost course best rival (i ∷ hs) blocking s)
         → IsAtMost (clocked_preemptive_bound own (anchors i) (rival i).worst blocking (map clocked hs) cycle count limit) (Within r) → k < (course i).ended (a + r)
-    preemptive-clocked blocking serves bounded =
-        preemptive-local course best rival i hs k a r limit orders arrival soon window.cycle asked_for window.earliest window.events here blocking serves
+    preemptive-clocked blocking loses bounded =
+        preemptive-local course best rival i hs k a r limit orders arrival soon window.cycle asked_for window.earliest window.events here blocking loses
         (preemptive-within (rival i).worst blocking (map clocked hs) cycle count limit r (only_anchor own (anchors i)) own bounded)
 
     -- and a frame on a CAN bus

@@ -12,13 +12,13 @@ use Rattle.cpa_sound.specs.Course.{Arrives}
 use Rattle.cpa_sound.specs.RunCourse.{received_before, course_of}
 use Rattle.cpa_sound.proofs.Serving.{work, IsPending, IsNoLater, AnyOf}
 use Rattle.cpa_sound.proofs.CourseLaws.{paid, arrives-order}
-use Rattle.cpa_sound.proofs.LevelLaws.{sum-lt}
+use Rattle.cpa_sound.proofs.LevelLaws.{sum-lt, any_with}
 use Rattle.cpa_sound.proofs.KeepsLaws.{received_by, IsOnRing, RunsByQueue}
 use Rattle.cpa_sound.proofs.LocalBounds.{all_tasks, any_task, shares_itself}
 use Rattle.cpa_sound.proofs.JobLaws.{waits-less}
 use Rattle.cpa_sound.proofs.RunLaws.{received-runs, received-idle}
 use Rattle.cpa_sound.proofs.ChoiceLaws.{waiting_at, chosen_at, since_at, runs-chosen, chosen-runs, queue-waits, queue-first, queue-busy}
-use Rattle.cpa_sound.proofs.KindRuns.{any_with, ring_on, on_ring, on_own, order, open-by, pending-waits}
+use Rattle.cpa_sound.proofs.KindRuns.{ring_on, on_ring, on_own, order, open-by, pending-waits}
 use Rattle.cpa_sound.proofs.FieldLaws.{arrival-is}
 
 -- the earliest pending job is the first one that isn't complete
@@ -30,20 +30,24 @@ first-open (job ∷ js) (suc d) closed here =
 
 module _ (s : SystemLists) (tr : TraceLists) (rules : IsSystem s) (obeys : Obeys s tr) where
   -- where a task waits, that is the job after those that are complete
-  since-is : (t j b : ℕ) → j < length s.tasks → waiting_at s tr t j ≡ true → Arrives (course_of s tr j) ((course_of s tr j).ended t) b → since_at s tr t j ≡ b
-  since-is t j b below w comes =
-      let js : List Progress = (run s tr t).jobs j in
+  pub head-is : (t j : ℕ) → j < length s.tasks → waiting_at s tr t j ≡ true → head_of ((run s tr t).jobs j) ≡ get_or ((run s tr t).jobs j) (ended_count ((run s tr t).jobs j)) no_job
+  head-is t j below w =
       let d : ℕ = ended_count ((run s tr t).jobs j) in
       let has = waits-less ((run s tr t).jobs j) w in
       let o = order s tr rules obeys j below in
-      let head : head_of ((run s tr t).jobs j) ≡ get_or ((run s tr t).jobs j) (ended_count ((run s tr t).jobs j)) no_job =
       first-open ((run s tr t).jobs j) (ended_count ((run s tr t).jobs j))
       (λ k less.
       open-by s tr rules obeys j below t k (omega (arith, less, has))
       ∙ le-ltb (received_before s tr j t) (work (need s tr j) (k + 1)) (paid (course_of s tr j) (task_at s j).best (task_at s j).worst o k t less))
-      (open-by s tr rules obeys j below t d has ∙ lt-ltb (received_before s tr j t) (work (need s tr j) (d + 1)) (o.next_unpaid t)) in
-      let same = ap (λ (job : Progress). job.arrival) head in
-      let here = arrival-is s tr t j d has in
+      (open-by s tr rules obeys j below t d has ∙ lt-ltb (received_before s tr j t) (work (need s tr j) (d + 1)) (o.next_unpaid t))
+
+  since-is : (t j b : ℕ) → j < length s.tasks → waiting_at s tr t j ≡ true → Arrives (course_of s tr j) ((course_of s tr j).ended t) b → since_at s tr t j ≡ b
+  since-is t j b below w comes =
+      let js : List Progress = (run s tr t).jobs j in
+      let d : ℕ = ended_count ((run s tr t).jobs j) in
+      let o = order s tr rules obeys j below in
+      let same = ap (λ (job : Progress). job.arrival) (head-is t j below w) in
+      let here = arrival-is s tr t j d (waits-less ((run s tr t).jobs j) w) in
       let up = arrives-order (course_of s tr j) (task_at s j).best (task_at s j).worst o d d (get_or js d no_job).arrival b here.0 comes (omega arith) in
       let down = arrives-order (course_of s tr j) (task_at s j).best (task_at s j).worst o d d b (get_or js d no_job).arrival comes here.0 (omega arith) in
       omega (arith, same, up, down)

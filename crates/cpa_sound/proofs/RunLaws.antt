@@ -1,5 +1,5 @@
 -- What a run keeps: each task's jobs are served in order.
-use Rattle.std.proofs.Common.{ap, ◌≡◌, ℕ, zero, suc, ◌+◌, ◌<◌, ◌≤◌, ◌++◌, length, List, [], true, false, cond, refl, ◌∙◌, inl, inr, ◌⊎◌, arith, add-one, length-append, get_or, ltb}
+use Rattle.std.proofs.Common.{ap, ◌≡◌, ℕ, zero, suc, ◌+◌, ◌<◌, ◌≤◌, ◌++◌, length, List, [], true, false, cond, refl, ◌∙◌, inl, inr, ◌⊎◌, arith, add-one, length-append, get_or, ltb, min, ◌-◌}
 use Rattle.std.proofs.lemmas.Bool.{cases_Bool, cond-true, cond-false}
 use Rattle.cpa_model.specs.SystemLists.{SystemLists}
 use Rattle.cpa_sound.proofs.Serving.{work, IsInOrder}
@@ -10,7 +10,7 @@ use Rattle.cpa_sim.specs.declared.jobs.Cause.{Cause}
 use Rattle.cpa_sim.specs.Run.{no_job, Progress, is_open, waits, ended_count, serve, new_jobs, arriving, runs_in, served, ended_in, run}
 use Rattle.cpa_sound.specs.RunCourse.{received_before, arrived_before, course_of}
 use Rattle.cpa_sound.proofs.CourseLaws.{work-zero, work-mono}
-use Rattle.cpa_sound.proofs.JobLaws.{Fits, fits-new, fits-append, fits-serve, ended_paid, next_unpaid, waits-less, fits-open}
+use Rattle.cpa_sound.proofs.JobLaws.{Fits, fits-new, fits-append, fits-serve, ended_paid, next_unpaid, waits-less, fits-open, fits-left}
 
 -- ---- the equations of the definitions
 
@@ -155,3 +155,9 @@ module _ (s : SystemLists) (tr : TraceLists) where
     open-is t k h =
         let e : 0 + k + 1 ≡ k + 1 = omega arith in
         rw e at (fits-open (need s tr i) some 0 ((run s tr t).jobs i) (received_before s tr i t) k (served_at t).fits h)
+
+    -- and a job still needs what lacks of all that it needs
+    pub left-is : (t k : ℕ) → k < length ((run s tr t).jobs i) → (get_or ((run s tr t).jobs i) k no_job).left ≡ min (need s tr i k) (work (need s tr i) (k + 1) - received_before s tr i t)
+    left-is t k h =
+        let e : 0 + k ≡ k = omega arith in
+        rw e at (fits-left (need s tr i) some 0 ((run s tr t).jobs i) (received_before s tr i t) k (served_at t).fits h)

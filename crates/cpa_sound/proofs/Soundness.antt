@@ -3,7 +3,7 @@ use Rattle.std.proofs.Common.{◌≡◌, ℕ, zero, suc, ◌+◌, [], ◌∷◌,
 use Rattle.std.proofs.lemmas.Bool.{cases_lt, cases_order, cases_Bool, ltb-true, ltb-false, false≢true}
 use Rattle.cpa_units.specs.declared.bound.Bound.{Bound}
 use Rattle.cpa_model.specs.declared.entries.Kind.{Kind}
-use Rattle.cpa_model.specs.declared.entries.Kind.TheVariants.{Preemptive, RoundRobin, Tdma, Can, Fifo}
+use Rattle.cpa_model.specs.declared.entries.Kind.TheVariants.{Preemptive, RoundRobin, Tdma, Can, Fifo, Ceiling}
 use Rattle.cpa_model.specs.SystemLists.{SystemLists, task_at, resource_of, streams_of, stream_at}
 use Rattle.cpa_local.specs.Solution.{IsClosed}
 use Rattle.cpa_sound.proofs.Serving.{work, EndsAfter}
@@ -29,6 +29,7 @@ use Rattle.cpa_sound.proofs.CauseRuns.{source-near, keeps-causes}
 use Rattle.cpa_sound.proofs.KindRuns.{order, open-by, preemptive-runs, can-runs, ring-runs}
 use Rattle.cpa_sound.proofs.SlotRuns.{slots-run}
 use Rattle.cpa_sound.proofs.QueueRuns.{queue-runs}
+use Rattle.cpa_sound.proofs.CeilingRuns.{ceiling-runs}
 use Rattle.cpa_sound.proofs.FieldLaws.{serve-end, old-job, end-zero, end-new, arrival-is}
 use Rattle.cpa_sound.specs.Laws.{LocalBounds, ClosedVectorsBoundEveryRun, LeastSolutionsBoundEveryRun, EachJobHasAStream, ACauseStartsOneJob}
 use Rattle.cpa_sound.proofs.LocalBounds.{local_bound}
@@ -50,6 +51,7 @@ module _ (s : SystemLists) (tr : TraceLists) (rules : IsSystem s) (obeys : Obeys
   runs-by_kind i h (Tdma gap) kind = slots-run s tr rules obeys i gap h kind
   runs-by_kind i h (Can bit) kind = (can-runs s tr rules obeys i bit h kind, bit-some s rules i bit h kind)
   runs-by_kind i h Fifo kind = queue-runs s tr rules obeys i h kind
+  runs-by_kind i h Ceiling kind = ceiling-runs s tr rules obeys i h kind
 
   pub steps : KeepsSteps s (course_of s tr)
   steps = record { order = order s tr rules obeys; runs = λ i h. runs-by_kind i h (resource_of s i).kind refl }

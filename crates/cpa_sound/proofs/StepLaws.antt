@@ -1,5 +1,5 @@
 -- Whom the step rules choose.
-use Rattle.std.proofs.Common.{◌≡◌, ℕ, zero, suc, ◌+◌, ◌-◌, ◌<◌, ◌≤◌, ◌++◌, length, List, [], ◌∷◌, Bool, true, Option, Some, None, refl, inl, inr, arith, subst}
+use Rattle.std.proofs.Common.{◌≡◌, ℕ, zero, suc, ◌+◌, ◌-◌, ◌<◌, ◌≤◌, ◌++◌, length, List, [], ◌∷◌, Bool, true, Option, Some, None, refl, sym, inl, inr, arith, subst}
 use Rattle.std.specs.List.{AllByRecursion, filter, range_with_len}
 use Rattle.std.proofs.lemmas.Bool.{cases_lt, cases_Bool, lt-ltb, le-ltb, cond-true, cond-false}
 use Rattle.cpa_model.specs.SystemLists.{SystemLists, task_at, task_places, priority_of, slot_of, is_on, tasks_on}
@@ -20,6 +20,11 @@ pub all_at : (P : ℕ → Type 0) (js : List ℕ) (j : ℕ) → AllByRecursion P
 all_at P [] j all h = absurd h
 all_at P (k ∷ js) j all (inl e) = subst P e all.0
 all_at P (k ∷ js) j all (inr h) = all_at P js j all.1 h
+
+pub any_at : (Q : ℕ → Type 0) (js : List ℕ) (j : ℕ) → IsIn j js → Q j → AnyOf Q js
+any_at Q [] j h q = absurd h
+any_at Q (k ∷ js) j (inl e) q = inl (subst Q (sym e) q)
+any_at Q (k ∷ js) j (inr h) q = inr (any_at Q js j h q)
 
 pub in_filter : (p : ℕ → Bool) (js : List ℕ) (j : ℕ) → p j ≡ true → IsIn j js → IsIn j (filter p js)
 in_filter p [] j passes h = absurd h

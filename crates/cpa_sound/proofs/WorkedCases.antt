@@ -45,7 +45,7 @@ abbrev from_task : ℕ → Activator
 from_task j = FromTask (record { 0 = j })
 
 abbrev task : ℕ → List Activator → ℕ → ℕ → Turn → Task
-task place after best worst turn = record { name = []; res = record { 0 = place }; after = after; best = best; worst = worst; turn = turn; region = 1 }
+task place after best worst turn = record { name = []; res = record { 0 = place }; after = after; best = best; worst = worst; turn = turn; region = 1; locks = [] }
 
 abbrev system : List Kind → List ℕ → List Task → SystemLists
 system kinds periods tasks = record { size = Small; resources = map resource kinds; sources = map source periods; tasks = tasks; paths = [] }

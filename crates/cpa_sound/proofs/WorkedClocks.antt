@@ -34,7 +34,7 @@ abbrev source : Option OnClock → Source
 source on = record { name = []; period = 10; jitter = 0; distance = 0; sporadic = false; on_clock = on }
 
 abbrev task : ℕ → Activator → ℕ → ℕ → Task
-task place after ticks priority = record { name = []; res = record { 0 = place }; after = after ∷ []; best = ticks; worst = ticks; turn = Priority priority; region = 1 }
+task place after ticks priority = record { name = []; res = record { 0 = place }; after = after ∷ []; best = ticks; worst = ticks; turn = Priority priority; region = 1; locks = [] }
 
 -- two tasks of 4 and 3 ticks on one processor; on a second one what the first activates, of 1 tick, and another of 2 by the second source
 abbrev system : List Source → SystemLists

@@ -2,13 +2,14 @@
 use Rattle.std.proofs.Common.{◌≡◌, ℕ, zero, suc, ◌+◌, ◌-◌, ◌*◌, ◌<◌, ◌≤◌, min, List, [], ◌∷◌, inl, inr, arith}
 use Rattle.std.specs.List.{AllByRecursion}
 use Rattle.std.proofs.lemmas.Bool.{cases_lt}
-use Rattle.cpa_sched.specs.Locks.{Section, urgency}
+use Rattle.cpa_model.specs.Locks.{Section}
+use Rattle.cpa_sched.specs.Locks.{urgency}
 use Rattle.cpa_sound.specs.Course.{Course}
 use Rattle.cpa_sound.proofs.Serving.{work, IsInOrder}
 use Rattle.cpa_sound.proofs.CourseLaws.{work-one}
-use Rattle.cpa_lock.specs.Sections.{HoldsWhole, had, Runs}
-use Rattle.cpa_lock.proofs.UrgencyLaws.{urgent-under, urgent-some}
-use Rattle.cpa_lock.proofs.HadLaws.{idle-ended, idle-had, ran-had}
+use Rattle.cpa_sound.proofs.Sections.{HoldsWhole, had, Runs}
+use Rattle.cpa_sound.proofs.UrgencyLaws.{urgent-under, urgent-some}
+use Rattle.cpa_sound.proofs.HadLaws.{idle-ended, idle-had, ran-had}
 
 -- a section that holds whole what begins in it, and blocks for no longer than this
 pub record IsKnown (sections : List Section) (p worst blocking : ℕ) (x : Section) : Type 0 where

@@ -1,20 +1,14 @@
 -- How urgent a job is by its active priority.
 use Rattle.std.proofs.Common.{◌≡◌, ℕ, zero, suc, ◌+◌, ◌*◌, ◌<◌, ◌≤◌, ◌||◌, min, Bool, true, false, nat_lt, cond, List, [], ◌∷◌, refl, sym, ◌∙◌, inl, inr, arith}
 use Rattle.std.specs.List.{AllByRecursion}
-use Rattle.std.proofs.lemmas.Bool.{cases_lt, cases_Bool, cond-true, cond-false, le-ltb, and_parts, false≢true}
-use Rattle.cpa_sched.specs.Locks.{Section, is_within, holds_lock, active_priority, urgency}
-
-pub less-is : (a b : ℕ) → nat_lt a b ≡ true → a < b
-less-is a b e =
-    elim (cases_lt a b) [
-      | inl less ↦ less
-      | inr more ↦ absurd (false≢true (sym (le-ltb a b more) ∙ e))
-    ]
+use Rattle.std.proofs.lemmas.Bool.{cases_lt, cases_Bool, cond-true, cond-false, ltb-true, and_parts, false≢true}
+use Rattle.cpa_model.specs.Locks.{Section}
+use Rattle.cpa_sched.specs.Locks.{is_within, holds_lock, active_priority, urgency}
 
 pub within-is : (received : ℕ) (x : Section) → is_within received x ≡ true → (x.start < received) × (received < x.start + x.ticks)
 within-is received x e =
     let parts = and_parts (nat_lt x.start received) (nat_lt received (x.start + x.ticks)) e in
-    (less-is x.start received parts.0, less-is received (x.start + x.ticks) parts.1)
+    (ltb-true x.start received parts.0, ltb-true received (x.start + x.ticks) parts.1)
 
 few : (b : Bool) → cond b 0 1 ≤ 1
 few true = omega arith

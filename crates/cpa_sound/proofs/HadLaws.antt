@@ -4,7 +4,7 @@ use Rattle.std.proofs.lemmas.Bool.{cases_lt}
 use Rattle.cpa_sound.specs.Course.{Course}
 use Rattle.cpa_sound.proofs.Serving.{IsPending, IsInOrder}
 use Rattle.cpa_sound.proofs.CourseLaws.{work-mono, ended-mono}
-use Rattle.cpa_lock.specs.Sections.{had, Runs}
+use Rattle.cpa_sound.proofs.Sections.{had, Runs}
 
 module _ (c : Course) (best worst : ℕ) (o : IsInOrder c best worst) where
   -- where a task doesn't run, its job is the same

@@ -1,4 +1,0 @@
-pub mod Sections
-pub mod Blocking
-pub mod Ceilings
-pub mod Laws
