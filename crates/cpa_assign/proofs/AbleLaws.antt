@@ -5,7 +5,7 @@ use Rattle.std.specs.List.{list_all, range_with_len}
 use Rattle.std.proofs.lemmas.Bool.{and_parts, not-true, cases_Bool, cases_lt, eq-eqb, eqb-true, false≢true}
 use Rattle.cpa_model.specs.SystemLists.{SystemLists, task_at, resource_at, is_on}
 use Rattle.cpa_model.specs.declared.entries.Kind.TheVariants.{Preemptive}
-use Rattle.cpa_model.specs.Kinds.{has_priorities, blocking_by}
+use Rattle.cpa_model.specs.Kinds.{has_priorities, has_ceilings, blocking_by}
 use Rattle.cpa_assign.specs.Orders.{are_sources, is_fed_by_sources, IsFedBySources, is_clocked_task, is_off_clocks, is_unblocked, is_preemptive, can_compare, IsOrderable}
 
 -- each place that passes one test passes another
@@ -88,5 +88,5 @@ compared s r can on =
     and_parts (is_preemptive (resource_at s r).kind) (is_unblocked s r) rest
 
 -- the tests tell that a resource can be given an order
-pub orderable-from : (s : SystemLists) (r : ℕ) → r < length s.resources → has_priorities (resource_at s r).kind ≡ true → is_fed_by_sources s r ≡ true → can_compare s r ≡ true → IsOrderable s r
-orderable-from s r there kind fed can = record { there = there; kind = kind; fed = fed; clocks = can }
+pub orderable-from : (s : SystemLists) (r : ℕ) → r < length s.resources → has_priorities (resource_at s r).kind ≡ true → has_ceilings (resource_at s r).kind ≡ false → is_fed_by_sources s r ≡ true → can_compare s r ≡ true → IsOrderable s r
+orderable-from s r there kind fixed fed can = record { there = there; kind = kind; fixed = fixed; fed = fed; clocks = can }

@@ -12,13 +12,14 @@ use Rattle.cpa_units.proofs.PlaceLaws.{map-all_places}
 use Rattle.cpa_model.specs.declared.entries.Task.{Task}
 use Rattle.cpa_model.specs.declared.entries.Path.{Path}
 use Rattle.cpa_model.specs.declared.entries.Kind.{Kind}
-use Rattle.cpa_model.specs.declared.entries.Kind.TheVariants.{Preemptive, RoundRobin, Tdma, Can, Fifo}
+use Rattle.cpa_model.specs.declared.entries.Kind.TheVariants.{Preemptive, RoundRobin, Tdma, Can, Fifo, Ceiling}
 use Rattle.cpa_model.specs.declared.entries.Turn.{Turn}
 use Rattle.cpa_model.specs.declared.entries.Turn.TheVariants.{Priority}
 use Rattle.cpa_model.specs.declared.entries.Activator.{Activator}
 use Rattle.cpa_model.specs.declared.entries.Activator.TheVariants.{Source as FromSource, Task as FromTask}
 use Rattle.cpa_model.specs.SystemLists.{SystemLists, task_at, resource_at, task_places, is_on, is_task, priority_of, no_task}
-use Rattle.cpa_model.specs.Rules.{IsSizedTask, IsSystem, IsTask, IsPath, IsActivator, TurnFits, HaveOwnPriorities}
+use Rattle.cpa_model.specs.Rules.{IsSizedTask, IsSystem, IsTask, IsPath, IsActivator, TurnFits, HaveOwnPriorities, HaveLocksTogether}
+use Rattle.cpa_model.proofs.LockLaws.{SameLocks, together-same}
 use Rattle.cpa_local.proofs.PassingPlaces.{map-map}
 use Rattle.cpa_model.specs.Kinds.{HasPriorities}
 use Rattle.cpa_assign.specs.Orders.{is_member, place_in, kth_priority, number_up_to, ordered_task, with_order, IsOrder}
@@ -32,6 +33,7 @@ priority-fits (Can bit) n h le = le
 priority-fits RoundRobin n h le = absurd (false≢true h)
 priority-fits (Tdma gap) n h le = absurd (false≢true h)
 priority-fits Fifo n h le = absurd (false≢true h)
+priority-fits Ceiling n h le = le
 
 same-number : (n m : ℕ) → Priority n ≡ Priority m → n ≡ m
 same-number n m e = ap priority_of e
@@ -81,10 +83,10 @@ module _ (s : SystemLists) (r : ℕ) (o : List ℕ) (rules : IsSystem s) (kind :
       elim (cases_Bool (is_on s r j)) [
         | inl on ↦
             rw on
-            (record { placed = it.placed; some = it.some; activated = All-weaker (IsActivator s) (IsActivator t) activated (task_at s j).after it.activated; different = it.different; some_best = it.some_best; ordered = it.ordered; worst = it.worst; turn_fits = turn_kept j it on; region_fits = it.region_fits })
+            (record { placed = it.placed; some = it.some; activated = All-weaker (IsActivator s) (IsActivator t) activated (task_at s j).after it.activated; different = it.different; some_best = it.some_best; ordered = it.ordered; worst = it.worst; turn_fits = turn_kept j it on; region_fits = it.region_fits; locks_fit = it.locks_fit })
         | inr off ↦
             rw off
-            (record { placed = it.placed; some = it.some; activated = All-weaker (IsActivator s) (IsActivator t) activated (task_at s j).after it.activated; different = it.different; some_best = it.some_best; ordered = it.ordered; worst = it.worst; turn_fits = it.turn_fits; region_fits = it.region_fits })
+            (record { placed = it.placed; some = it.some; activated = All-weaker (IsActivator s) (IsActivator t) activated (task_at s j).after it.activated; different = it.different; some_best = it.some_best; ordered = it.ordered; worst = it.worst; turn_fits = it.turn_fits; region_fits = it.region_fits; locks_fit = it.locks_fit })
       ]
 
   small_kept : (j : ℕ) → j < length s.tasks → IsSizedTask s.size (ordered_task s r o j)
@@ -136,6 +138,12 @@ module _ (s : SystemLists) (r : ℕ) (o : List ℕ) (rules : IsSystem s) (kind :
         ]
       ]
 
+  same_locks : (i : ℕ) → SameLocks (ordered_task s r o i) (task_at s i)
+  same_locks i = record { res = seen_same (λ (v : Task). v.res) (λ v turn. refl) i; locks = seen_same (λ (v : Task). v.locks) (λ v turn. refl) i }
+
+  locks_kept : (i j : ℕ) → i < j → j < length s.tasks → HaveLocksTogether (ordered_task s r o i) (ordered_task s r o j)
+  locks_kept i j less there = together-same (ordered_task s r o i) (ordered_task s r o j) (task_at s i) (task_at s j) (same_locks i) (same_locks j) (rules.locks i j no_task less there)
+
   pub order_keeps_rules : IsSystem (with_order s r o)
   unfolding with_order
   order_keeps_rules =
@@ -173,4 +181,7 @@ module _ (s : SystemLists) (r : ℕ) (o : List ℕ) (rules : IsSystem s) (kind :
         priorities = λ i j d less there.
             let there_s : j < length s.tasks = omega (arith, there, long) in
             rw (ordered-at s r o i d (omega (arith, less, there_s)), ordered-at s r o j d there_s) (own_kept i j less there_s);
+        locks = λ i j d less there.
+            let there_s : j < length s.tasks = omega (arith, there, long) in
+            rw (ordered-at s r o i d (omega (arith, less, there_s)), ordered-at s r o j d there_s) (locks_kept i j less there_s);
       }

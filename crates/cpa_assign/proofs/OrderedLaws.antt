@@ -2,7 +2,7 @@
 use Rattle.std.proofs.Common.{◌≡◌, ℕ, ◌<◌, ◌==◌, ◌||◌, nat_lt, max, not, slice_index_or, Bool, true, false, List, [], ◌∷◌, Option, Some, None, is_some, map, length, refl, ap, sym, ◌∙◌, subst, inl, inr, arith}
 use Rattle.std.specs.Prelude.{filter, fold}
 use Rattle.std.specs.List.{range_with_len, flat_map, list_any, AllByRecursion}
-use Rattle.std.proofs.lemmas.Bool.{cases_Bool, cases_order, and_parts, or_parts, false≢true, eqb-true, lt-ltb, le-ltb}
+use Rattle.std.proofs.lemmas.Bool.{cases_Bool, cases_order, and_parts, or_parts, false≢true, true≢false, eqb-true, lt-ltb, le-ltb}
 use Rattle.std.proofs.lemmas.List.{get_or-map}
 use Rattle.cpa_units.specs.declared.bound.Bound.{Bound}
 use Rattle.cpa_units.specs.declared.places.SourceId.{SourceId}
@@ -18,7 +18,7 @@ use Rattle.cpa_clock.specs.Clocked.{clocked_preemptive_bound}
 use Rattle.cpa_clock.specs.Wider.{AreOffClocks}
 use Rattle.cpa_model.specs.declared.entries.OnClock.{OnClock}
 use Rattle.cpa_model.specs.declared.entries.Kind.{Kind}
-use Rattle.cpa_model.specs.declared.entries.Kind.TheVariants.{Preemptive, RoundRobin, Tdma, Can, Fifo}
+use Rattle.cpa_model.specs.declared.entries.Kind.TheVariants.{Preemptive, RoundRobin, Tdma, Can, Fifo, Ceiling}
 use Rattle.cpa_model.specs.declared.entries.Turn.TheVariants.{Priority}
 use Rattle.cpa_model.specs.declared.entries.Task.{Task}
 use Rattle.cpa_model.specs.declared.entries.Activator.{Activator}
@@ -29,8 +29,9 @@ use Rattle.cpa_model.specs.declared.entries.Resource.{Resource}
 use Rattle.cpa_model.specs.SystemLists.{SystemLists, task_at, resource_at, resource_of, source_at, streams_of, task_places, is_higher, higher_tasks, no_task, is_on}
 use Rattle.cpa_model.specs.Rules.{IsSystem}
 use Rattle.cpa_model.specs.Streams.{source_model, source_stream}
-use Rattle.cpa_model.specs.Kinds.{blocking_by}
-use Rattle.cpa_local.specs.Blocking.{blocking_of, greatest_blocking}
+use Rattle.cpa_model.specs.Kinds.{has_ceilings, blocking_by}
+use Rattle.cpa_local.specs.Blocking.{blocking_between, blocking_of, greatest_blocking}
+use Rattle.cpa_local.proofs.LockLaws.{between-fixed}
 use Rattle.cpa_local.specs.Inputs.{joined, sent_by_all, input_along, input}
 use Rattle.cpa_local.specs.Local.{rival_of, bound_by_kind, response}
 use Rattle.cpa_local.specs.OnClocks.{source_anchor, anchors_step, anchors_within, anchor_list, anchors_of, clocked_rival_of}
@@ -227,6 +228,7 @@ module _ (s : SystemLists) (r : ℕ) (o : List ℕ) (rules : IsSystem s) (able :
   blocking_by-same (Tdma gap) j less = refl
   blocking_by-same (Can bit) j less = worst-same j less
   blocking_by-same Fifo j less = refl
+  blocking_by-same Ceiling j less = rw (region-same j less, worst-same j less) refl
 
   module _ (x : List Bound) (i : ℕ) (mi : is_member o i ≡ true) where
     higher-same : higher_tasks t i ≡ filter (is_before o i) (task_places s)
@@ -245,32 +247,33 @@ module _ (s : SystemLists) (r : ℕ) (o : List ℕ) (rules : IsSystem s) (able :
         rw (e, w) refl)
         ∙ sym (map-map load_of (rival_at s) (filter (is_before o i) (task_places s)))
 
-    blocking-same : (kind : Kind) → blocking_of t kind i ≡ greatest_blocking s kind (tasks_below s r (is_before o i) i)
-    blocking-same kind =
-        ap (λ (js : List ℕ). fold (λ most j. max most (blocking_by kind (task_at t j))) 0 (filter (λ j. is_higher t j i) js)) places-same
-        ∙ ap (fold (λ most j. max most (blocking_by kind (task_at t j))) 0) (filter-agree (λ j. is_higher t j i) (is_below s r (is_before o i) i) 0 (length s.tasks) (λ j low high. lower-after i mi j (omega arith)))
-        ∙ greatest-passing (is_below s r (is_before o i) i) (λ j. blocking_by kind (task_at t j)) (λ j. blocking_by kind (task_at s j)) 0 0 (length s.tasks) (λ j low high passes. blocking_by-same kind j (omega arith))
+    blocking-same : (kind : Kind) → has_ceilings kind ≡ false → blocking_of t kind i ≡ greatest_blocking s kind (tasks_below s r (is_before o i) i)
+    blocking-same kind fixed =
+        ap (λ (js : List ℕ). fold (λ most j. max most (blocking_between t kind i j)) 0 (filter (λ j. is_higher t j i) js)) places-same
+        ∙ ap (fold (λ most j. max most (blocking_between t kind i j)) 0) (filter-agree (λ j. is_higher t j i) (is_below s r (is_before o i) i) 0 (length s.tasks) (λ j low high. lower-after i mi j (omega arith)))
+        ∙ greatest-passing (is_below s r (is_before o i) i) (blocking_between t kind i) (λ j. blocking_by kind (task_at s j)) 0 0 (length s.tasks) (λ j low high passes. between-fixed t kind i j fixed ∙ blocking_by-same kind j (omega arith))
 
     higher-off : is_off_clocks s r ≡ true → AllByRecursion (λ j. AreOffClocks (anchors_of t j)) (higher_tasks t i)
     higher-off off =
         subst (λ (js : List ℕ). AllByRecursion (λ j. AreOffClocks (anchors_of t j)) js) (sym higher-same)
         (each-passing (λ j. AreOffClocks (anchors_of t j)) (is_before o i) (task_places s) (λ j before. off-own j (before-member o i j before) off))
 
-    by_kind-plainly : (kind : Kind) → HasPriorities kind → plain_by_kind t x i (sources_model s i) kind ≡ placed_by_kind s r (is_before o i) i kind
-    by_kind-plainly Preemptive h =
-        rw (worst-same i (own i mi).0, resource-own i mi, blocking-same Preemptive)
+    by_kind-plainly : (kind : Kind) → HasPriorities kind → has_ceilings kind ≡ false → plain_by_kind t x i (sources_model s i) kind ≡ placed_by_kind s r (is_before o i) i kind
+    by_kind-plainly Preemptive h fixed =
+        rw (worst-same i (own i mi).0, resource-own i mi, blocking-same Preemptive fixed)
         (preemptive_bound-same (sources_model s i) (task_at s i).worst (greatest_blocking s Preemptive (tasks_below s r (is_before o i) i)) (map (rival_of t x) (higher_tasks t i)) (rivals_at s (is_before o i)) (resource_at s r).limit
         (λ w. work_in-same (map (rival_of t x) (higher_tasks t i)) (rivals_at s (is_before o i)) w loads-same))
-    by_kind-plainly (Can bit) h =
-        rw (worst-same i (own i mi).0, resource-own i mi, blocking-same (Can bit))
+    by_kind-plainly (Can bit) h fixed =
+        rw (worst-same i (own i mi).0, resource-own i mi, blocking-same (Can bit) fixed)
         (can_bound-same (sources_model s i) (task_at s i).worst (greatest_blocking s (Can bit) (tasks_below s r (is_before o i) i)) (map (rival_of t x) (higher_tasks t i)) (rivals_at s (is_before o i)) bit (resource_at s r).limit
         (λ w. work_in-same (map (rival_of t x) (higher_tasks t i)) (rivals_at s (is_before o i)) w loads-same))
-    by_kind-plainly RoundRobin h = absurd (false≢true h)
-    by_kind-plainly (Tdma gap) h = absurd (false≢true h)
-    by_kind-plainly Fifo h = absurd (false≢true h)
+    by_kind-plainly RoundRobin h fixed = absurd (false≢true h)
+    by_kind-plainly (Tdma gap) h fixed = absurd (false≢true h)
+    by_kind-plainly Fifo h fixed = absurd (false≢true h)
+    by_kind-plainly Ceiling h fixed = absurd (true≢false fixed)
 
-    by_kind-same : is_off_clocks s r ≡ true → (kind : Kind) → HasPriorities kind → bound_by_kind t x i (sources_model s i) kind ≡ placed_by_kind s r (is_before o i) i kind
-    by_kind-same off kind h = by_kind-plain plain-bounds t x i (off-own i mi off) (higher-off off) (sources_model s i) kind ∙ by_kind-plainly kind h
+    by_kind-same : is_off_clocks s r ≡ true → (kind : Kind) → HasPriorities kind → has_ceilings kind ≡ false → bound_by_kind t x i (sources_model s i) kind ≡ placed_by_kind s r (is_before o i) i kind
+    by_kind-same off kind h fixed = by_kind-plain plain-bounds t x i (off-own i mi off) (higher-off off) (sources_model s i) kind ∙ by_kind-plainly kind h fixed
 
     -- ---- where tasks are on clocks
 
@@ -287,7 +290,7 @@ module _ (s : SystemLists) (r : ℕ) (o : List ℕ) (rules : IsSystem s) (able :
 
     blocking-none : is_unblocked s r ≡ true → blocking_of t Preemptive i ≡ 0
     blocking-none none =
-        blocking-same Preemptive
+        blocking-same Preemptive refl
         ∙ greatest-none (λ j. blocking_by Preemptive (task_at s j)) (is_below s r (is_before o i) i) (length s.tasks) (λ j less below.
         let on = there-on s r j (and_parts (is_task_on s r j) (not (is_before o i j || j == i)) below).0 in
         unblocked-each s r none j less on.1)
@@ -305,13 +308,14 @@ module _ (s : SystemLists) (r : ℕ) (o : List ℕ) (rules : IsSystem s) (able :
     by_clocks-same none (Tdma gap) p = absurd (false≢true p)
     by_clocks-same none (Can bit) p = absurd (false≢true p)
     by_clocks-same none Fifo p = absurd (false≢true p)
+    by_clocks-same none Ceiling p = absurd (false≢true p)
 
     -- the bound of a member is that of its place, at any vector
     pub response-placed : response t x i ≡ placed_bound s r (is_before o i) i
     unfolding response placed_bound
     response-placed =
         elim (cases_Bool (is_off_clocks s r)) [
-          | inl off ↦ rw (input-own i mi x, resource-own i mi, off) (by_kind-same off (resource_at s r).kind able.kind)
+          | inl off ↦ rw (input-own i mi x, resource-own i mi, off) (by_kind-same off (resource_at s r).kind able.kind able.fixed)
           | inr on ↦
               let clear = compared s r able.clocks on in
               rw (input-own i mi x, resource-own i mi, on) (by_clocks-same clear.1 (resource_at s r).kind clear.0)

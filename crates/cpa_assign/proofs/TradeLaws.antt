@@ -27,7 +27,7 @@ use Rattle.cpa_spp.specs.Preemptive.{preemptive_demand, preemptive_bound}
 use Rattle.cpa_can.specs.Can.{can_busy_demand, can_demand, can_response, can_bound, greatest_in_busy_window}
 use Rattle.cpa_model.specs.declared.entries.Task.{Task}
 use Rattle.cpa_model.specs.declared.entries.Kind.{Kind}
-use Rattle.cpa_model.specs.declared.entries.Kind.TheVariants.{Preemptive, RoundRobin, Tdma, Can, Fifo}
+use Rattle.cpa_model.specs.declared.entries.Kind.TheVariants.{Preemptive, RoundRobin, Tdma, Can, Fifo, Ceiling}
 use Rattle.cpa_model.specs.SystemLists.{SystemLists, task_at, resource_at, task_places, streams_of, no_resource, no_task}
 use Rattle.cpa_model.specs.Rules.{IsSystem, IsResource, IsTask, KindFits}
 use Rattle.cpa_model.specs.Kinds.{blocking_by}
@@ -200,6 +200,7 @@ module _ (s : SystemLists) (r i : ℕ) (fewer above : ℕ → Bool) (rules : IsS
   held_of-le (Tdma gap) j = omega arith
   held_of-le (Can bit) j = omega arith
   held_of-le Fifo j = omega arith
+  held_of-le Ceiling j = omega arith
 
   work_of : ℕ → ℕ → ℕ
   work_of w j = eta_plus (sources_model s j) w * worst_of j
@@ -276,6 +277,7 @@ module _ (s : SystemLists) (r i : ℕ) (fewer above : ℕ → Bool) (rules : IsS
   placed_by_kind-fewer RoundRobin fit = tt
   placed_by_kind-fewer (Tdma gap) fit = tt
   placed_by_kind-fewer Fifo fit = tt
+  placed_by_kind-fewer Ceiling fit = tt
 
   placed_by_clocks-fewer : (kind : Kind) → IsAtMost (placed_by_clocks s r fewer i kind) (placed_by_clocks s r above i kind)
   placed_by_clocks-fewer Preemptive =
@@ -284,6 +286,7 @@ module _ (s : SystemLists) (r i : ℕ) (fewer above : ℕ → Bool) (rules : IsS
   placed_by_clocks-fewer (Tdma gap) = tt
   placed_by_clocks-fewer (Can bit) = tt
   placed_by_clocks-fewer Fifo = tt
+  placed_by_clocks-fewer Ceiling = tt
 
   kind_fits : KindFits (resource_at s r).kind
   kind_fits =

@@ -16,8 +16,8 @@ use Rattle.cpa_model.specs.declared.entries.Activator.{Activator}
 use Rattle.cpa_model.specs.declared.entries.Activator.TheVariants.{Source as FromSource, Task as FromTask}
 use Rattle.cpa_model.specs.declared.entries.Turn.TheVariants.{Priority}
 use Rattle.cpa_model.specs.declared.entries.Kind.{Kind}
-use Rattle.cpa_model.specs.declared.entries.Kind.TheVariants.{Preemptive, RoundRobin, Tdma, Can, Fifo}
-use Rattle.cpa_model.specs.Kinds.{HasPriorities, blocking_by}
+use Rattle.cpa_model.specs.declared.entries.Kind.TheVariants.{Preemptive, RoundRobin, Tdma, Can, Fifo, Ceiling}
+use Rattle.cpa_model.specs.Kinds.{HasPriorities, has_ceilings, blocking_by}
 use Rattle.cpa_model.specs.Clocks.{is_clocked}
 use Rattle.cpa_model.specs.SystemLists.{SystemLists, task_at, source_at, path_at, resource_at, task_places, tasks_on, streams_of, priority_of, is_on, places_of}
 use Rattle.cpa_local.specs.Solution.{least_of}
@@ -130,15 +130,17 @@ is_preemptive RoundRobin = false
 is_preemptive (Tdma gap) = false
 is_preemptive (Can bit) = false
 is_preemptive Fifo = false
+is_preemptive Ceiling = false
 
 -- Whether a task on the resource is never worse off where another moves from above it to below: none is on a clock, or none keeps
 -- another waiting. Of two tasks on one clock that never meet, the lower may keep the higher waiting all the same.
 abbrev pub can_compare : SystemLists → ℕ → Bool
 can_compare s r = is_off_clocks s r || (is_preemptive (resource_at s r).kind && is_unblocked s r)
 
--- a resource that can be given an order
+-- a resource that can be given an order: its tasks have priorities, and no ceilings that follow them
 pub record IsOrderable (s : SystemLists) (r : ℕ) : Type 0 where
   pub there : r < length s.resources
   pub kind : HasPriorities (resource_at s r).kind
+  pub fixed : has_ceilings (resource_at s r).kind ≡ false
   pub fed : IsFedBySources s r
   pub clocks : can_compare s r ≡ true

@@ -1,6 +1,8 @@
 //! Which resources can be given an order.
 
 ghost use Rattle.std.specs.Prelude.{◌≡◌, ◌<◌, length};
+ghost use Rattle.cpa_model.specs.Kinds.{has_ceilings};
+ghost use Rattle.cpa_model.specs.SystemLists.{resource_at};
 ghost use Rattle.cpa_assign.specs.Orders.{is_some_source, are_sources, is_fed_by_sources, is_clocked_task, is_off_clocks, is_preemptive, is_unblocked, can_compare};
 
 use cpa_model::{Activator, Activators, Kind, System};
@@ -40,6 +42,21 @@ fn are_sources(after: &Activators) -> bool
     true
 }
 
+/// Whether locks on a resource have ceilings, which follow the priorities of its tasks. No order is looked for there.
+pub fn has_ceilings(system: &System, res: ResId) -> bool
+    requires { res.0 < length system.now.resources }
+    ensures { result ≡ has_ceilings (resource_at system.now res.0).kind }
+{
+    match system.resource(res).kind {
+        Kind::Ceiling => true,
+        Kind::Preemptive
+        | Kind::RoundRobin
+        | Kind::Tdma { gap: _ }
+        | Kind::Can { bit: _ }
+        | Kind::Fifo => false,
+    }
+}
+
 /// Whether no task of a resource is ever worse off where another moves from above it to below, which a search for an order
 /// leans on: none is on a clock, or none keeps another waiting, by a region or on a bus. Of two tasks on one clock that never
 /// meet the lower may keep the higher waiting all the same, so that the search may miss an order there.
@@ -56,7 +73,11 @@ fn is_preemptive(kind: Kind) -> bool
 {
     match kind {
         Kind::Preemptive => true,
-        Kind::RoundRobin | Kind::Tdma { gap: _ } | Kind::Can { bit: _ } | Kind::Fifo => false,
+        Kind::RoundRobin
+        | Kind::Tdma { gap: _ }
+        | Kind::Can { bit: _ }
+        | Kind::Fifo
+        | Kind::Ceiling => false,
     }
 }
 

@@ -138,7 +138,11 @@ pub(crate) fn is_lowest_by_clocks(
         Kind::Preemptive => is_preemptive_within(
             alloc, system, res, task, free, cycles, gathered, most,
         ),
-        Kind::RoundRobin | Kind::Tdma { gap: _ } | Kind::Can { bit: _ } | Kind::Fifo => Ok(false),
+        Kind::RoundRobin
+        | Kind::Tdma { gap: _ }
+        | Kind::Can { bit: _ }
+        | Kind::Fifo
+        | Kind::Ceiling => Ok(false),
     }
 }
 

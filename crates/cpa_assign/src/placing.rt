@@ -139,7 +139,7 @@ fn is_lowest_apart(
             let longest = blocking(system, res, Kind::Can { bit }, task, free);
             cpa_can::is_within(&own, worst, longest, above, bit, entry.limit, most)
         }
-        Kind::RoundRobin | Kind::Tdma { gap: _ } | Kind::Fifo => false,
+        Kind::RoundRobin | Kind::Tdma { gap: _ } | Kind::Fifo | Kind::Ceiling => false,
     }
 }
 

@@ -12,7 +12,7 @@ use Rattle.cpa_units.specs.Bounds.{bound_of, bound_plus}
 use Rattle.cpa_model.specs.declared.entries.Activator.{Activator}
 use Rattle.cpa_model.specs.declared.entries.Activator.TheVariants.{Source, Task}
 use Rattle.cpa_model.specs.declared.entries.Kind.{Kind}
-use Rattle.cpa_model.specs.declared.entries.Kind.TheVariants.{Preemptive, RoundRobin, Tdma, Can, Fifo}
+use Rattle.cpa_model.specs.declared.entries.Kind.TheVariants.{Preemptive, RoundRobin, Tdma, Can, Fifo, Ceiling}
 use Rattle.cpa_model.specs.Chains.{streams_step}
 use Rattle.cpa_model.specs.Rules.{IsSystem}
 use Rattle.cpa_model.proofs.SystemLaws.{streams_of-activators}
@@ -62,6 +62,7 @@ preemptive-is RoundRobin e = absurd (false≢true e)
 preemptive-is (Tdma gap) e = absurd (false≢true e)
 preemptive-is (Can bit) e = absurd (false≢true e)
 preemptive-is Fifo e = absurd (false≢true e)
+preemptive-is Ceiling e = absurd (false≢true e)
 
 pub record IsAbove (s : SystemLists) (p c : ℕ) : Type 0 where
   pub kind : kind_of s (task_at s c).res.0 ≡ Preemptive

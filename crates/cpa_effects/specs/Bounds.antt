@@ -13,7 +13,7 @@ use Rattle.cpa_events.specs.Events.{Model}
 use Rattle.cpa_model.specs.declared.entries.Activator.{Activator}
 use Rattle.cpa_model.specs.declared.entries.Activator.TheVariants.{Source, Task}
 use Rattle.cpa_model.specs.declared.entries.Kind.{Kind}
-use Rattle.cpa_model.specs.declared.entries.Kind.TheVariants.{Preemptive, RoundRobin, Tdma, Can, Fifo}
+use Rattle.cpa_model.specs.declared.entries.Kind.TheVariants.{Preemptive, RoundRobin, Tdma, Can, Fifo, Ceiling}
 use Rattle.cpa_model.specs.SystemLists.{SystemLists, task_at, resource_of, is_higher, is_activated_by, may_fall_silent}
 use Rattle.cpa_local.specs.Inputs.{input}
 use Rattle.cpa_effects.specs.declared.steps.Step.{Step}
@@ -33,6 +33,7 @@ is_preemptive RoundRobin = false
 is_preemptive (Tdma gap) = false
 is_preemptive (Can bit) = false
 is_preemptive Fifo = false
+is_preemptive Ceiling = false
 
 -- whether a job of task i may be preempted at each tick
 abbrev pub gives_way : SystemLists → ℕ → Bool

@@ -63,6 +63,7 @@ fn is_preemptive(kind: Kind) -> bool
         Kind::Tdma { gap: _ } => false,
         Kind::Can { bit: _ } => false,
         Kind::Fifo => false,
+        Kind::Ceiling => false,
     }
 }
 

@@ -15,13 +15,13 @@ use Rattle.cpa_rr.specs.RoundRobin.{round_robin_bound}
 use Rattle.cpa_clock.specs.Clocked.{clocked_preemptive_bound, clocked_can_bound}
 use Rattle.cpa_model.specs.Clocks.{clock_cycle}
 use Rattle.cpa_model.specs.declared.entries.Kind.{Kind}
-use Rattle.cpa_model.specs.declared.entries.Kind.TheVariants.{Preemptive, RoundRobin, Tdma, Can, Fifo}
+use Rattle.cpa_model.specs.declared.entries.Kind.TheVariants.{Preemptive, RoundRobin, Tdma, Can, Fifo, Ceiling}
 use Rattle.cpa_model.specs.SystemLists.{SystemLists, task_at, resource_at, resource_of, task_places, slot_of, is_higher, is_other, shares_resource, higher_tasks, other_tasks, no_task}
 use Rattle.cpa_model.specs.Rules.{IsSystem, IsTask}
 use Rattle.cpa_model.specs.Kinds.{has_feedback}
 use Rattle.cpa_local.specs.Blocking.{blocking_of}
 use Rattle.cpa_local.specs.Inputs.{input_along, input}
-use Rattle.cpa_local.specs.Local.{rival_of, bound_by_kind, bound_at_input, response}
+use Rattle.cpa_local.specs.Local.{rival_of, priority_bound, bound_by_kind, bound_at_input, response}
 use Rattle.cpa_local.specs.OnClocks.{anchors_of, clocked_rival_of}
 use Rattle.cpa_local.specs.Solution.{IsClosed, IsVector, least_of}
 use Rattle.cpa_local.proofs.PassingPlaces.{map-map}
@@ -75,10 +75,14 @@ module _ (s : SystemLists) (x y : List Bound) where
         (λ j p. ap (λ m. (m, (task_at s j).worst)) (own_input j (shares r i j on (and_parts _ _ p).0)))
         ∙ sym (map-map load_of (rival_of s y) (other_tasks s i))
 
+    priority_bound-same : (i : ℕ) (own : Model) (blocking : ℕ) → (task_at s i).res.0 ≡ r → priority_bound s x i own blocking ≡ priority_bound s y i own blocking
+    priority_bound-same i own blocking on =
+        ap (λ rivals. clocked_preemptive_bound own (anchors_of s i) (task_at s i).worst blocking rivals (clock_cycle s) (length s.sources) (resource_of s i).limit) (rivals-same i on)
+
     module _ (turns : (i : ℕ) (own : Model) → (task_at s i).res.0 ≡ r → (resource_of s i).kind ≡ RoundRobin → bound_by_kind s x i own RoundRobin ≡ bound_by_kind s y i own RoundRobin) where
       bound_by_kind-same : (i : ℕ) (own : Model) (kind : Kind) → (task_at s i).res.0 ≡ r → (resource_of s i).kind ≡ kind → bound_by_kind s x i own kind ≡ bound_by_kind s y i own kind
-      bound_by_kind-same i own Preemptive on e =
-          ap (λ rivals. clocked_preemptive_bound own (anchors_of s i) (task_at s i).worst (blocking_of s Preemptive i) rivals (clock_cycle s) (length s.sources) (resource_of s i).limit) (rivals-same i on)
+      bound_by_kind-same i own Preemptive on e = priority_bound-same i own (blocking_of s Preemptive i) on
+      bound_by_kind-same i own Ceiling on e = priority_bound-same i own (blocking_of s Ceiling i) on
       bound_by_kind-same i own RoundRobin on e = turns i own on e
       bound_by_kind-same i own (Tdma gap) on e = refl
       bound_by_kind-same i own Fifo on e =

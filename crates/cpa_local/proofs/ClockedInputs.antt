@@ -21,9 +21,9 @@ use Rattle.cpa_phase.specs.declared.placed.TheConstants.{MAX_OFFSET}
 use Rattle.cpa_clock.specs.declared.anchor.Anchor.{Anchor}
 use Rattle.cpa_clock.specs.Gathered.{AreCycles, IsAnchored, IsAnchoredAt, IsInputOn, added_rival, anchors_at, cycles_at}
 use Rattle.cpa_clock.specs.Clocked.{clocked_preemptive_bound, clocked_can_bound}
-use Rattle.cpa_model.specs.declared.entries.Kind.TheVariants.{Preemptive, Can}
+use Rattle.cpa_model.specs.declared.entries.Kind.TheVariants.{Can}
 use Rattle.cpa_local.specs.Blocking.{blocking_of}
-use Rattle.cpa_local.specs.Local.{bound_by_kind}
+use Rattle.cpa_local.specs.Local.{priority_bound, bound_by_kind}
 use Rattle.cpa_units.specs.declared.places.TaskId.{TaskId}
 use Rattle.cpa_model.specs.declared.entries.OnClock.{OnClock}
 use Rattle.cpa_model.specs.declared.entries.Source.{Source}
@@ -149,13 +149,12 @@ rivals-known s x i inputs known =
 -- the bounds by the lists in which this is known
 module _ (s : SystemLists) (x : List Bound) (i : ℕ) (inputs : List (Option Model)) (known : AreInputs s (task_at s i).res.0 x inputs) (cycles : List ℕ) (are : cycles ≡ map (clock_cycle s) (range_with_len 0 (length s.sources)))
     (own : Model) (anchors : List (Option Anchor)) (worst blocking limit : ℕ) (anchored : anchors ≡ anchor_list s i) (worst_is : worst ≡ (task_at s i).worst) (limit_is : limit ≡ (resource_of s i).limit) where
-  pub by-preemptive : blocking ≡ blocking_of s Preemptive i
-      → clocked_preemptive_bound own (anchors_at anchors) worst blocking (map (clocked_rival_by s inputs) (higher_tasks s i)) (cycles_at cycles) (length cycles) limit ≡ bound_by_kind s x i own Preemptive
-  by-preemptive blocking_is =
-      rw (anchored, worst_is, limit_is, blocking_is)
-      (ap (λ rivals. clocked_preemptive_bound own (anchors_of s i) (task_at s i).worst (blocking_of s Preemptive i) rivals (cycles_at cycles) (length cycles) (resource_of s i).limit) (rivals-known s x i inputs known)
-      ∙ ap (λ cycle. clocked_preemptive_bound own (anchors_of s i) (task_at s i).worst (blocking_of s Preemptive i) (map (clocked_rival_of s x) (higher_tasks s i)) cycle (length cycles) (resource_of s i).limit) (cycles-same s cycles are)
-      ∙ ap (λ count. clocked_preemptive_bound own (anchors_of s i) (task_at s i).worst (blocking_of s Preemptive i) (map (clocked_rival_of s x) (higher_tasks s i)) (clock_cycle s) count (resource_of s i).limit) (cycles-long s cycles are))
+  pub by-preemptive : clocked_preemptive_bound own (anchors_at anchors) worst blocking (map (clocked_rival_by s inputs) (higher_tasks s i)) (cycles_at cycles) (length cycles) limit ≡ priority_bound s x i own blocking
+  by-preemptive =
+      rw (anchored, worst_is, limit_is)
+      (ap (λ rivals. clocked_preemptive_bound own (anchors_of s i) (task_at s i).worst blocking rivals (cycles_at cycles) (length cycles) (resource_of s i).limit) (rivals-known s x i inputs known)
+      ∙ ap (λ cycle. clocked_preemptive_bound own (anchors_of s i) (task_at s i).worst blocking (map (clocked_rival_of s x) (higher_tasks s i)) cycle (length cycles) (resource_of s i).limit) (cycles-same s cycles are)
+      ∙ ap (λ count. clocked_preemptive_bound own (anchors_of s i) (task_at s i).worst blocking (map (clocked_rival_of s x) (higher_tasks s i)) (clock_cycle s) count (resource_of s i).limit) (cycles-long s cycles are))
 
   pub by-can : (bit : ℕ) → blocking ≡ blocking_of s (Can bit) i
       → clocked_can_bound own (anchors_at anchors) worst blocking (map (clocked_rival_by s inputs) (higher_tasks s i)) (cycles_at cycles) (length cycles) bit limit ≡ bound_by_kind s x i own (Can bit)

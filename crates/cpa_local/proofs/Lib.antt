@@ -1,4 +1,5 @@
 pub mod BlockingLaws
+pub mod LockLaws
 pub mod CycleLaws
 pub mod SentLaws
 pub mod InputLaws
@@ -16,6 +17,7 @@ pub mod TrailLaws
 pub mod VectorLaws
 pub mod WorkedCases
 pub mod WorkedClocks
+pub mod WorkedLocks
 pub mod WorkedQueues
 pub mod PlaceLists
 pub mod RaisingLaws

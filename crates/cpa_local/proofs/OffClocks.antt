@@ -19,13 +19,14 @@ use Rattle.cpa_clock.specs.Wider.{AreOffClocks, AreSameRivals}
 use Rattle.cpa_model.specs.SystemLists.{SystemLists, task_at, places_of, tasks_on, task_places, resource_of, higher_tasks, is_higher}
 use Rattle.cpa_model.specs.declared.entries.Activator.{Activator}
 use Rattle.cpa_model.specs.declared.entries.Activator.TheVariants.{Source as FromSource, Task as FromTask}
-use Rattle.cpa_model.specs.declared.entries.Kind.TheVariants.{Preemptive, Can}
+use Rattle.cpa_model.specs.declared.entries.Kind.TheVariants.{Can}
 use Rattle.cpa_model.specs.Clocks.{has_clocks, clock_of, clock_cycle, offset_of}
 use Rattle.cpa_model.specs.Rules.{IsSystem}
 use Rattle.cpa_model.proofs.ClockLaws.{no_clocks}
 use Rattle.cpa_model.proofs.ResourceTaskLaws.{on-found}
 use Rattle.cpa_model.proofs.SystemLaws.{no_id}
-use Rattle.cpa_local.specs.Local.{rival_of, bound_by_kind}
+use Rattle.cpa_local.specs.Local.{rival_of, priority_bound, bound_by_kind}
+use Rattle.cpa_local.specs.Plain.{plain_priority_bound}
 use Rattle.cpa_local.specs.Blocking.{blocking_of}
 use Rattle.cpa_local.specs.OnClocks.{source_anchor, later_anchor, anchors_step, anchors_within, anchor_list, anchors_of, clocked_rival_of}
 use Rattle.cpa_local.specs.Worked.{IsOffClocks}
@@ -95,9 +96,9 @@ module _ (s : SystemLists) (x : List Bound) (i : ℕ) (off : IsOffClocks s (task
   off-rivals = off-passing 0 (length s.tasks) (omega arith)
 
   module _ (there : i < length s.tasks) (laws : PlainBoundsAreTheSame) (own : Model) where
-    pub plain-preemptive : preemptive_bound own (task_at s i).worst (blocking_of s Preemptive i) (map (rival_of s x) (higher_tasks s i)) (resource_of s i).limit ≡ bound_by_kind s x i own Preemptive
-    plain-preemptive =
-        sym (laws own (anchors_of s i) (task_at s i).worst (blocking_of s Preemptive i) (map (clocked_rival_of s x) (higher_tasks s i)) (map (rival_of s x) (higher_tasks s i)) (clock_cycle s) (length s.sources) (resource_of s i).limit
+    pub plain-preemptive : (blocking : ℕ) → plain_priority_bound s x i own blocking ≡ priority_bound s x i own blocking
+    plain-preemptive blocking =
+        sym (laws own (anchors_of s i) (task_at s i).worst blocking (map (clocked_rival_of s x) (higher_tasks s i)) (map (rival_of s x) (higher_tasks s i)) (clock_cycle s) (length s.sources) (resource_of s i).limit
         (off i there refl) off-rivals (same-rivals s x (higher_tasks s i))).0
 
     pub plain-can : (bit : ℕ) → can_bound own (task_at s i).worst (blocking_of s (Can bit) i) (map (rival_of s x) (higher_tasks s i)) bit (resource_of s i).limit ≡ bound_by_kind s x i own (Can bit)

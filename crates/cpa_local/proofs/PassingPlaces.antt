@@ -1,10 +1,10 @@
 -- What is made of the places that pass a test: where two tests, or two functions, agree, and one place left out.
-use Rattle.std.proofs.Common.{◌≡◌, ℕ, zero, suc, ◌+◌, ◌<◌, ◌≤◌, max, Bool, true, List, [], ◌∷◌, map, refl, ap, ◌∙◌, inl, inr, arith}
+use Rattle.std.proofs.Common.{◌≡◌, ℕ, zero, suc, ◌+◌, ◌<◌, ◌≤◌, min, max, Bool, true, List, [], ◌∷◌, map, refl, ap, ◌∙◌, inl, inr, arith}
 use Rattle.std.specs.Prelude.{filter, sum_by}
 use Rattle.std.specs.List.{range_with_len}
 use Rattle.std.proofs.lemmas.Bool.{cases_Bool}
 use Rattle.std.proofs.lemmas.List.Sums.{sum_by-cons}
-use Rattle.cpa_local.proofs.PlaceLists.{greatest_over}
+use Rattle.cpa_local.proofs.PlaceLists.{greatest_over, least_over}
 
 -- tests that agree
 pub filter-agree : (p q : ℕ → Bool) (a n : ℕ) → ((j : ℕ) → a ≤ j → j < a + n → p j ≡ q j) → filter p (range_with_len a n) ≡ filter q (range_with_len a n)
@@ -62,4 +62,30 @@ greatest-passing p f g most a (suc n) h =
           let here = h a (omega arith) (omega arith) passes in
           rw passes (ap (λ m. greatest_over f (max most m) (filter p (range_with_len (a + 1) n))) here ∙ greatest-passing p f g (max most (g a)) (a + 1) n (λ j low high. h j (omega arith) (omega arith)))
       | inr fails ↦ rw fails (greatest-passing p f g most (a + 1) n (λ j low high. h j (omega arith) (omega arith)))
+    ]
+
+-- the least over those that pass a test, by their places elsewhere
+pub least-map : (p : ℕ → Bool) (f : ℕ → ℕ) (g : ℕ → ℕ) (least : ℕ) (js : List ℕ) → least_over f least (filter p (map g js)) ≡ least_over (λ j. f (g j)) least (filter (λ j. p (g j)) js)
+least-map p f g least [] = refl
+least-map p f g least (j ∷ js) =
+    elim (cases_Bool (p (g j))) [
+      | inl passes ↦ rw passes (least-map p f g (min least (f (g j))) js)
+      | inr fails ↦ rw fails (least-map p f g least js)
+    ]
+
+-- the least over those that pass a second test besides
+pub least-passing : (p q r : ℕ → Bool) (f g : ℕ → ℕ) (least a n : ℕ) → ((j : ℕ) → a ≤ j → j < a + n → p j ≡ true → (q j ≡ r j) × (f j ≡ g j))
+    → least_over f least (filter q (filter p (range_with_len a n))) ≡ least_over g least (filter r (filter p (range_with_len a n)))
+least-passing p q r f g least a zero h = refl
+least-passing p q r f g least a (suc n) h =
+    elim (cases_Bool (p a)) [
+      | inl passes ↦
+          let here = h a (omega arith) (omega arith) passes in
+          elim (cases_Bool (q a)) [
+            | inl counts ↦
+                rw (passes, ← here.0, counts)
+                (ap (λ m. least_over f (min least m) (filter q (filter p (range_with_len (a + 1) n)))) here.1 ∙ least-passing p q r f g (min least (g a)) (a + 1) n (λ j low high. h j (omega arith) (omega arith)))
+            | inr drops ↦ rw (passes, ← here.0, drops) (least-passing p q r f g least (a + 1) n (λ j low high. h j (omega arith) (omega arith)))
+          ]
+      | inr fails ↦ rw fails (least-passing p q r f g least (a + 1) n (λ j low high. h j (omega arith) (omega arith)))
     ]

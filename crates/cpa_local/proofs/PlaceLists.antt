@@ -1,5 +1,5 @@
 -- What is made of the places that pass a test, where there are more places, and more at each.
-use Rattle.std.proofs.Common.{◌≡◌, ℕ, zero, suc, ◌+◌, ◌<◌, ◌≤◌, max, Bool, List, [], ◌∷◌, map, inl, inr, arith}
+use Rattle.std.proofs.Common.{◌≡◌, ℕ, zero, suc, ◌+◌, ◌<◌, ◌≤◌, min, max, Bool, List, [], ◌∷◌, map, inl, inr, arith}
 use Rattle.std.specs.Prelude.{filter, fold, sum_by}
 use Rattle.std.specs.List.{range_with_len}
 use Rattle.std.proofs.lemmas.Bool.{cases_Bool}
@@ -12,6 +12,10 @@ use Rattle.cpa_clock.specs.Wider.{IsRivalWider, AreRivalsWider}
 -- the greatest of what f gives, from `most` on
 abbrev pub greatest_over : (ℕ → ℕ) → ℕ → List ℕ → ℕ
 greatest_over f most js = fold (λ most j. max most (f j)) most js
+
+-- the least of what f gives, from `least` on
+abbrev pub least_over : (ℕ → ℕ) → ℕ → List ℕ → ℕ
+least_over f least js = fold (λ least j. min least (f j)) least js
 
 -- ---- more places, and more at each
 
@@ -70,4 +74,31 @@ greatest-more_passing p q f g m k a (suc n) more le same h =
       | inr fails ↦
           rw (e, ← here, fails)
           (greatest-more_passing p q f g m k (a + 1) n more le (λ j low high. same j (omega arith) (omega arith)) (λ j low high. h j (omega arith) (omega arith)))
+    ]
+
+-- ---- more places, and less at each
+
+least-le : (g : ℕ → ℕ) (least : ℕ) (js : List ℕ) → least_over g least js ≤ least
+least-le g least [] = omega arith
+least-le g least (j ∷ js) = omega (arith, least-le g (min least (g j)) js)
+
+-- more places that pass two tests, and less at each
+pub least-more_passing : (p q r u : ℕ → Bool) (f g : ℕ → ℕ) (m k a n more : ℕ) → k ≤ m → ((j : ℕ) → a ≤ j → j < a + n → p j ≡ r j) → ((j : ℕ) → a ≤ j → j < a + n → q j ≡ u j)
+    → ((j : ℕ) → a ≤ j → j < a + n → g j ≤ f j) → least_over g k (filter u (filter r (range_with_len a (n + more)))) ≤ least_over f m (filter q (filter p (range_with_len a n)))
+least-more_passing p q r u f g m k a zero more le same alike h = omega (arith, least-le g k (filter u (filter r (range_with_len a (0 + more)))))
+least-more_passing p q r u f g m k a (suc n) more le same alike h =
+    let e : suc n + more ≡ suc (n + more) = omega arith in
+    let here = same a (omega arith) (omega arith) in
+    let there = alike a (omega arith) (omega arith) in
+    let rest = least-more_passing p q r u f g m k (a + 1) n more le (λ j low high. same j (omega arith) (omega arith)) (λ j low high. alike j (omega arith) (omega arith)) (λ j low high. h j (omega arith) (omega arith)) in
+    elim (cases_Bool (p a)) [
+      | inl passes ↦
+          elim (cases_Bool (q a)) [
+            | inl counts ↦
+                rw (e, ← here, passes, ← there, counts)
+                (least-more_passing p q r u f g (min m (f a)) (min k (g a)) (a + 1) n more (let down = h a (omega arith) (omega arith) in omega arith) (λ j low high. same j (omega arith) (omega arith))
+                (λ j low high. alike j (omega arith) (omega arith)) (λ j low high. h j (omega arith) (omega arith)))
+            | inr fails ↦ rw (e, ← here, passes, ← there, fails) rest
+          ]
+      | inr fails ↦ rw (e, ← here, fails) rest
     ]

@@ -12,7 +12,7 @@ use Rattle.cpa_clock.specs.Wider.{AreSameRivals, AreOffClocks}
 use Rattle.cpa_clock.specs.Laws.{PlainBoundsAreTheSame}
 use Rattle.cpa_clock.proofs.OffLaws.{preemptive-off, can-off}
 use Rattle.cpa_model.specs.declared.entries.Kind.{Kind}
-use Rattle.cpa_model.specs.declared.entries.Kind.TheVariants.{Preemptive, RoundRobin, Tdma, Can, Fifo}
+use Rattle.cpa_model.specs.declared.entries.Kind.TheVariants.{Preemptive, RoundRobin, Tdma, Can, Fifo, Ceiling}
 use Rattle.cpa_model.specs.declared.entries.Activator.{Activator}
 use Rattle.cpa_model.specs.declared.entries.Activator.TheVariants.{Source as FromSource, Task as FromTask}
 use Rattle.cpa_model.specs.Clocks.{has_clocks, clock_cycle}
@@ -20,9 +20,9 @@ use Rattle.cpa_model.specs.SystemLists.{SystemLists, task_at, resource_of, highe
 use Rattle.cpa_model.proofs.ClockLaws.{no_clocks}
 use Rattle.cpa_local.specs.Blocking.{blocking_of}
 use Rattle.cpa_local.specs.Inputs.{input}
-use Rattle.cpa_local.specs.Local.{rival_of, bound_by_kind, bound_at_input, response}
+use Rattle.cpa_local.specs.Local.{rival_of, priority_bound, bound_by_kind, bound_at_input, response}
 use Rattle.cpa_local.specs.OnClocks.{source_anchor, later_anchor, anchors_step, anchors_within, anchor_list, anchors_of, clocked_rival_of}
-use Rattle.cpa_local.specs.Plain.{plain_by_kind, plain_at_input, plain_response}
+use Rattle.cpa_local.specs.Plain.{plain_priority_bound, plain_by_kind, plain_at_input, plain_response}
 
 -- ---- no stream is on a clock
 
@@ -79,9 +79,9 @@ rivals-same s x [] = tt
 rivals-same s x (j ∷ js) = (record { model = refl; worst = refl }, rivals-same s x js)
 
 module _ (same : PlainBoundsAreTheSame) (s : SystemLists) (x : List Bound) (i : ℕ) (own_off : AreOffClocks (anchors_of s i)) (higher_off : AllByRecursion (λ j. AreOffClocks (anchors_of s j)) (higher_tasks s i)) where
-  preemptive-plain : (own : Model) → bound_by_kind s x i own Preemptive ≡ plain_by_kind s x i own Preemptive
-  preemptive-plain own =
-      (same own (anchors_of s i) (task_at s i).worst (blocking_of s Preemptive i) (map (clocked_rival_of s x) (higher_tasks s i)) (map (rival_of s x) (higher_tasks s i)) (clock_cycle s) (length s.sources) (resource_of s i).limit
+  preemptive-plain : (own : Model) (blocking : ℕ) → priority_bound s x i own blocking ≡ plain_priority_bound s x i own blocking
+  preemptive-plain own blocking =
+      (same own (anchors_of s i) (task_at s i).worst blocking (map (clocked_rival_of s x) (higher_tasks s i)) (map (rival_of s x) (higher_tasks s i)) (clock_cycle s) (length s.sources) (resource_of s i).limit
       own_off (rivals-off s x (higher_tasks s i) higher_off) (rivals-same s x (higher_tasks s i))).0
 
   can-plain : (own : Model) (bit : ℕ) → bound_by_kind s x i own (Can bit) ≡ plain_by_kind s x i own (Can bit)
@@ -91,11 +91,12 @@ module _ (same : PlainBoundsAreTheSame) (s : SystemLists) (x : List Bound) (i : 
 
   -- where the streams of the task and of those above it are on no clock
   pub by_kind-plain : (own : Model) (kind : Kind) → bound_by_kind s x i own kind ≡ plain_by_kind s x i own kind
-  by_kind-plain own Preemptive = preemptive-plain own
+  by_kind-plain own Preemptive = preemptive-plain own (blocking_of s Preemptive i)
   by_kind-plain own RoundRobin = refl
   by_kind-plain own (Tdma gap) = refl
   by_kind-plain own (Can bit) = can-plain own bit
   by_kind-plain own Fifo = refl
+  by_kind-plain own Ceiling = preemptive-plain own (blocking_of s Ceiling i)
 
   pub response-off : response s x i ≡ plain_response s x i
   unfolding response plain_response

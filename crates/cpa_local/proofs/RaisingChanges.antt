@@ -25,6 +25,7 @@ raised-same s t i sources same =
       worst = let e = ap (λ (v : Task). v.worst) same in omega arith;
       turn = ap (λ (v : Task). v.turn) same;
       region = let e = ap (λ (v : Task). v.region) same in omega arith;
+      locks = ap (λ (v : Task). v.locks) same;
     }
   where
     denser-same : (a : Activator) → IsDenserActivator s t a a
@@ -53,6 +54,7 @@ raising-exec s p best worst low high =
               worst = let e = ap (λ (v : Task). v.worst) it in omega arith;
               turn = sym (ap (λ (v : Task). v.turn) it);
               region = let e = ap (λ (v : Task). v.region) it in omega arith;
+              locks = sym (ap (λ (v : Task). v.locks) it);
             })
         | inr other ↦
             raised-same s (with_task_at s p (record (task_at s p) { best = best; worst = worst })) i refl (sym (get_or-set_other s.tasks p i (record (task_at s p) { best = best; worst = worst }) no_task other))
@@ -69,7 +71,7 @@ raising-source s k period jitter distance shorter wider closer kept =
       sources = omega (arith, length-set s.sources k given);
       cycles = cycle-kept s k given refl kept;
       more = omega arith;
-      tasks = λ i less. record { res = refl; after = each-itself (IsDenserActivator s (record s { sources = set s.sources k given })) by (task_at s i).after; best = omega arith; worst = omega arith; turn = refl; region = omega arith };
+      tasks = λ i less. record { res = refl; after = each-itself (IsDenserActivator s (record s { sources = set s.sources k given })) by (task_at s i).after; best = omega arith; worst = omega arith; turn = refl; region = omega arith; locks = refl };
     }
   where
     given : Source

@@ -18,20 +18,20 @@ use Rattle.cpa_rr.proofs.RoundRobinLaws.{round_robin_bound-mono}
 use Rattle.cpa_tdma.proofs.TdmaLaws.{tdma_bound-mono}
 use Rattle.cpa_model.specs.declared.entries.Resource.{Resource}
 use Rattle.cpa_model.specs.declared.entries.Kind.{Kind}
-use Rattle.cpa_model.specs.declared.entries.Kind.TheVariants.{Preemptive, RoundRobin, Tdma, Can, Fifo}
+use Rattle.cpa_model.specs.declared.entries.Kind.TheVariants.{Preemptive, RoundRobin, Tdma, Can, Fifo, Ceiling}
 use Rattle.cpa_model.specs.declared.entries.Activator.{Activator}
 use Rattle.cpa_model.specs.declared.entries.Activator.TheVariants.{Source as FromSource, Task as FromTask}
 use Rattle.cpa_model.specs.Clocks.{clock_cycle}
 use Rattle.cpa_model.specs.SystemLists.{SystemLists, task_at, resource_at, resource_of, task_places, slot_of, gap_of, is_higher, is_other, higher_tasks, other_tasks, cycle_of, is_task, no_resource}
 use Rattle.cpa_model.specs.Rules.{IsSystem}
 use Rattle.cpa_model.proofs.SystemLaws.{activated-there}
-use Rattle.cpa_model.specs.Kinds.{blocking_by}
-use Rattle.cpa_local.specs.Blocking.{blocking_of}
+use Rattle.cpa_local.specs.Blocking.{blocking_between, blocking_of}
 use Rattle.cpa_local.specs.Inputs.{input}
-use Rattle.cpa_local.specs.Local.{rival_of, bound_by_kind, bound_at_input, response}
+use Rattle.cpa_local.specs.Local.{rival_of, priority_bound, bound_by_kind, bound_at_input, response}
 use Rattle.cpa_local.specs.OnClocks.{anchors_of, clocked_rival_of}
 use Rattle.cpa_local.specs.Raising.{IsRaisedTask, IsRaising}
 use Rattle.cpa_local.proofs.WiderLaws.{IsSentWider, input-wider, input_wider-denser}
+use Rattle.cpa_local.proofs.LockLaws.{ceiling_blocking-up}
 use Rattle.cpa_local.proofs.PlaceLists.{rivals-passing, clocked_rivals-passing, sum-passing, greatest_over, greatest-more_passing}
 
 module _ (s t : SystemLists) (rules : IsSystem s) (up : IsRaising s t) (x y : List Bound) (sent : (j : ℕ) → j < length s.tasks → IsSentWider s t x y j) where
@@ -109,24 +109,25 @@ module _ (s t : SystemLists) (rules : IsSystem s) (up : IsRaising s t) (x y : Li
         let gap : gap_of (resource_of s i).kind ≡ gap_of (resource_of t i).kind = ap (λ (r : Resource). gap_of r.kind) resource_as in
         omega arith
 
-    blocking_by_up : (kind : Kind) (j : ℕ) → j < length s.tasks → blocking_by kind (task_at s j) ≤ blocking_by kind (task_at t j)
-    blocking_by_up Preemptive j j_less = let it = up.tasks j j_less in omega (arith, it.worst, it.region)
-    blocking_by_up RoundRobin j j_less = omega arith
-    blocking_by_up (Tdma gap) j j_less = omega arith
-    blocking_by_up (Can bit) j j_less = (up.tasks j j_less).worst
-    blocking_by_up Fifo j j_less = omega arith
+    blocking_between_up : (kind : Kind) (j : ℕ) → j < length s.tasks → blocking_between s kind i j ≤ blocking_between t kind i j
+    blocking_between_up Preemptive j j_less = let it = up.tasks j j_less in omega (arith, it.worst, it.region)
+    blocking_between_up RoundRobin j j_less = omega arith
+    blocking_between_up (Tdma gap) j j_less = omega arith
+    blocking_between_up (Can bit) j j_less = (up.tasks j j_less).worst
+    blocking_between_up Fifo j j_less = omega arith
+    blocking_between_up Ceiling j j_less = ceiling_blocking-up s t up i j less j_less
 
     blocking_up : (kind : Kind) → blocking_of s kind i ≤ blocking_of t kind i
     blocking_up kind =
-        subst (λ (n : ℕ). blocking_of s kind i ≤ greatest_over (λ j. blocking_by kind (task_at t j)) 0 (filter (λ j. is_higher t j i) (range_with_len 0 n))) all_tasks
-        (greatest-more_passing (λ j. is_higher s j i) (λ j. is_higher t j i) (λ j. blocking_by kind (task_at s j)) (λ j. blocking_by kind (task_at t j)) 0 0 0 (length s.tasks) added (omega arith)
-        (λ j low high. lower_as j (omega arith)) (λ j low high. blocking_by_up kind j (omega arith)))
+        subst (λ (n : ℕ). blocking_of s kind i ≤ greatest_over (blocking_between t kind i) 0 (filter (λ j. is_higher t j i) (range_with_len 0 n))) all_tasks
+        (greatest-more_passing (λ j. is_higher s j i) (λ j. is_higher t j i) (blocking_between s kind i) (blocking_between t kind i) 0 0 0 (length s.tasks) added (omega arith)
+        (λ j low high. lower_as j (omega arith)) (λ j low high. blocking_between_up kind j (omega arith)))
 
-    preemptive_up : (m n : Model) → AreWider (anchors_of s i) (anchors_of t i) 0 m n → IsAtMost (bound_by_kind s x i m Preemptive) (bound_by_kind t y i n Preemptive)
-    preemptive_up m n d =
-        clocked_as (λ cycle count limit. IsAtMost (bound_by_kind s x i m Preemptive) (clocked_preemptive_bound n (anchors_of t i) (task_at t i).worst (blocking_of t Preemptive i) (map (clocked_rival_of t y) (higher_tasks t i)) cycle count limit))
-        (clocked_preemptive_bound-grows (task_at s i).worst (task_at t i).worst (blocking_of s Preemptive i) (blocking_of t Preemptive i) (map (clocked_rival_of s x) (higher_tasks s i)) (map (clocked_rival_of t y) (higher_tasks t i))
-        (clock_cycle s) (length s.sources) (resource_of s i).limit own.worst (blocking_up Preemptive) higher_wider m n (anchors_of s i) (anchors_of t i) d)
+    preemptive_up : (m n : Model) (blocking more : ℕ) → blocking ≤ more → AreWider (anchors_of s i) (anchors_of t i) 0 m n → IsAtMost (priority_bound s x i m blocking) (priority_bound t y i n more)
+    preemptive_up m n blocking more longer d =
+        clocked_as (λ cycle count limit. IsAtMost (priority_bound s x i m blocking) (clocked_preemptive_bound n (anchors_of t i) (task_at t i).worst more (map (clocked_rival_of t y) (higher_tasks t i)) cycle count limit))
+        (clocked_preemptive_bound-grows (task_at s i).worst (task_at t i).worst blocking more (map (clocked_rival_of s x) (higher_tasks s i)) (map (clocked_rival_of t y) (higher_tasks t i))
+        (clock_cycle s) (length s.sources) (resource_of s i).limit own.worst longer higher_wider m n (anchors_of s i) (anchors_of t i) d)
 
     can_up : (m n : Model) (bit : ℕ) → AreWider (anchors_of s i) (anchors_of t i) 0 m n → IsAtMost (bound_by_kind s x i m (Can bit)) (bound_by_kind t y i n (Can bit))
     can_up m n bit d =
@@ -135,7 +136,7 @@ module _ (s t : SystemLists) (rules : IsSystem s) (up : IsRaising s t) (x y : Li
         (clock_cycle s) (length s.sources) (resource_of s i).limit own.worst (blocking_up (Can bit)) higher_wider m n (anchors_of s i) (anchors_of t i) bit d)
 
     by_kind_up : (m n : Model) (kind : Kind) → AreWider (anchors_of s i) (anchors_of t i) 0 m n → IsAtMost (bound_by_kind s x i m kind) (bound_by_kind t y i n kind)
-    by_kind_up m n Preemptive d = preemptive_up m n d
+    by_kind_up m n Preemptive d = preemptive_up m n (blocking_of s Preemptive i) (blocking_of t Preemptive i) (blocking_up Preemptive) d
     by_kind_up m n RoundRobin d =
         rw (← resource_as, ← own.turn)
         (round_robin_bound-mono m n (task_at s i).worst (task_at t i).worst (slot_of (task_at s i).turn) _ _ (resource_of s i).limit (wide-denser (anchors_of s i) (anchors_of t i) 0 m n d) own.worst others_heavier)
@@ -147,6 +148,7 @@ module _ (s t : SystemLists) (rules : IsSystem s) (up : IsRaising s t) (x y : Li
     by_kind_up m n Fifo d =
         rw (← resource_as)
         (fifo_bound-mono m n (task_at s i).worst (task_at t i).worst _ _ (resource_of s i).limit (wide-denser (anchors_of s i) (anchors_of t i) 0 m n d) own.worst others_heavier)
+    by_kind_up m n Ceiling d = preemptive_up m n (blocking_of s Ceiling i) (blocking_of t Ceiling i) (blocking_up Ceiling) d
 
     at_input_up : (m n : Option Model) → IsInputWider (anchors_of s i) (anchors_of t i) m n → IsAtMost (bound_at_input s x i m) (bound_at_input t y i n)
     at_input_up m None d = tt

@@ -23,7 +23,7 @@ use Rattle.cpa_clock.proofs.WiderLaws.{wide-denser}
 use Rattle.cpa_clock.proofs.RangeLaws.{OnlyReturns, clocked_preemptive_bound-low, clocked_can_bound-low, clocked_preemptive_bound-limit, clocked_can_bound-limit}
 use Rattle.cpa_model.specs.Clocks.{clock_cycle}
 use Rattle.cpa_model.specs.declared.entries.Kind.{Kind}
-use Rattle.cpa_model.specs.declared.entries.Kind.TheVariants.{Preemptive, RoundRobin, Tdma, Can, Fifo}
+use Rattle.cpa_model.specs.declared.entries.Kind.TheVariants.{Preemptive, RoundRobin, Tdma, Can, Fifo, Ceiling}
 use Rattle.cpa_model.specs.declared.entries.Activator.{Activator}
 use Rattle.cpa_model.specs.declared.entries.Activator.TheVariants.{Source as FromSource, Task as FromTask}
 use Rattle.cpa_model.specs.SystemLists.{SystemLists, task_at, source_at, resource_of, slot_of, higher_tasks, other_tasks, cycle_of, is_task, no_source, no_task}
@@ -34,7 +34,7 @@ use Rattle.cpa_local.specs.Blocking.{blocking_of}
 use Rattle.cpa_local.specs.Inputs.{output_of, sent_by, joined, sent_by_all, input_along, input}
 use Rattle.cpa_local.specs.OnClocks.{anchors_of, clocked_rival_of}
 use Rattle.cpa_local.specs.Raising.{IsDenserActivator}
-use Rattle.cpa_local.specs.Local.{rival_of, bound_by_kind, bound_at_input, response, responses}
+use Rattle.cpa_local.specs.Local.{rival_of, priority_bound, bound_by_kind, bound_at_input, response, responses}
 use Rattle.cpa_local.proofs.QueueLaws.{queue_bound-ge}
 use Rattle.cpa_local.proofs.SentLaws.{is_task-itself}
 use Rattle.cpa_local.proofs.WiderLaws.{input-wider, input_wider-denser, each-itself, denser-itself}
@@ -101,14 +101,18 @@ module _ (s : SystemLists) (x : List Bound) (rules : IsSystem s) where
   input-is_input i there = input_along-is_input MAX_CHAIN i there
 
 module _ (t : SystemLists) (n : ℕ) (y : List Bound) (whole : AreWhole t n) where
+  priority_bound-ge : (i : ℕ) (own : Model) (blocking : ℕ) → OnlyReturns (clock_cycle t) (anchors_of t i) own → IsAtMost (Within (task_at t i).worst) (priority_bound t y i own blocking)
+  priority_bound-ge i own blocking returns =
+      clocked_preemptive_bound-low (task_at t i).worst blocking (map (clocked_rival_of t y) (higher_tasks t i)) (clock_cycle t) (length t.sources) (resource_of t i).limit own (anchors_of t i) returns
+
   bound_by_kind-ge : (i : ℕ) (own : Model) (kind : Kind) → 0 < length own → OnlyReturns (clock_cycle t) (anchors_of t i) own → IsAtMost (Within (task_at t i).worst) (bound_by_kind t y i own kind)
-  bound_by_kind-ge i own Preemptive some returns =
-      clocked_preemptive_bound-low (task_at t i).worst (blocking_of t Preemptive i) (map (clocked_rival_of t y) (higher_tasks t i)) (clock_cycle t) (length t.sources) (resource_of t i).limit own (anchors_of t i) returns
+  bound_by_kind-ge i own Preemptive some returns = priority_bound-ge i own (blocking_of t Preemptive i) returns
   bound_by_kind-ge i own RoundRobin some returns = round_robin_bound-low own (task_at t i).worst (slot_of (task_at t i).turn) (map (rival_of t y) (other_tasks t i)) (resource_of t i).limit
   bound_by_kind-ge i own (Tdma gap) some returns = tdma_bound-low own (task_at t i).worst (slot_of (task_at t i).turn) (cycle_of t (task_at t i).res.0) (resource_of t i).limit
   bound_by_kind-ge i own (Can bit) some returns =
       clocked_can_bound-low (task_at t i).worst (blocking_of t (Can bit) i) (map (clocked_rival_of t y) (higher_tasks t i)) (clock_cycle t) (length t.sources) (resource_of t i).limit own (anchors_of t i) bit some returns
   bound_by_kind-ge i own Fifo some returns = queue_bound-ge own (task_at t i).worst (map (rival_of t y) (other_tasks t i)) (resource_of t i).limit some
+  bound_by_kind-ge i own Ceiling some returns = priority_bound-ge i own (blocking_of t Ceiling i) returns
 
   -- a bound of one of the first tasks of a system is at least the task's greatest execution, where sources and these start them
   pub response-ge_first : (i : ℕ) → i < n → IsAtMost (Within (task_at t i).worst) (response t y i)
@@ -126,14 +130,18 @@ response-ge s x rules = response-ge_first s (length s.tasks) x (system-whole s r
 -- ---- within the limit
 
 module _ (s : SystemLists) (x : List Bound) where
+  priority_bound-limit : (i : ℕ) (own : Model) (blocking : ℕ) → RespectsLimit (resource_of s i).limit (priority_bound s x i own blocking)
+  priority_bound-limit i own blocking =
+      clocked_preemptive_bound-limit (task_at s i).worst blocking (map (clocked_rival_of s x) (higher_tasks s i)) (clock_cycle s) (length s.sources) (resource_of s i).limit own (anchors_of s i)
+
   bound_by_kind-limit : (i : ℕ) (own : Model) (kind : Kind) → RespectsLimit (resource_of s i).limit (bound_by_kind s x i own kind)
-  bound_by_kind-limit i own Preemptive =
-      clocked_preemptive_bound-limit (task_at s i).worst (blocking_of s Preemptive i) (map (clocked_rival_of s x) (higher_tasks s i)) (clock_cycle s) (length s.sources) (resource_of s i).limit own (anchors_of s i)
+  bound_by_kind-limit i own Preemptive = priority_bound-limit i own (blocking_of s Preemptive i)
   bound_by_kind-limit i own RoundRobin = round_robin_bound-high own (task_at s i).worst (slot_of (task_at s i).turn) (map (rival_of s x) (other_tasks s i)) (resource_of s i).limit
   bound_by_kind-limit i own (Tdma gap) = tdma_bound-high own (task_at s i).worst (slot_of (task_at s i).turn) (cycle_of s (task_at s i).res.0) (resource_of s i).limit
   bound_by_kind-limit i own (Can bit) =
       clocked_can_bound-limit (task_at s i).worst (blocking_of s (Can bit) i) (map (clocked_rival_of s x) (higher_tasks s i)) (clock_cycle s) (length s.sources) (resource_of s i).limit own (anchors_of s i) bit
   bound_by_kind-limit i own Fifo = fifo_bound-limit own (task_at s i).worst (map (rival_of s x) (other_tasks s i)) (resource_of s i).limit
+  bound_by_kind-limit i own Ceiling = priority_bound-limit i own (blocking_of s Ceiling i)
 
   bound_at_input-limit : (i : ℕ) (m : Option Model) → RespectsLimit (resource_of s i).limit (bound_at_input s x i m)
   bound_at_input-limit i (Some own) = bound_by_kind-limit i own (resource_of s i).kind
@@ -165,10 +173,13 @@ module _ (s : SystemLists) (x y : List Bound) (below : IsNowhereAbove x y) where
   rivals-mono (j ∷ js) =
       (record { model = input-mono j; worst = omega arith; slot = refl; bound = below j }, rivals-mono js)
 
-  bound_by_kind-mono : (i : ℕ) (m n : Model) (kind : Kind) → AreWider (anchors_of s i) (anchors_of s i) 0 m n → IsAtMost (bound_by_kind s x i m kind) (bound_by_kind s y i n kind)
-  bound_by_kind-mono i m n Preemptive d =
-      clocked_preemptive_bound-grows (task_at s i).worst (task_at s i).worst (blocking_of s Preemptive i) (blocking_of s Preemptive i) (map (clocked_rival_of s x) (higher_tasks s i)) (map (clocked_rival_of s y) (higher_tasks s i)) (clock_cycle s) (length s.sources) (resource_of s i).limit (omega arith) (omega arith)
+  priority_bound-mono : (i : ℕ) (m n : Model) (blocking : ℕ) → AreWider (anchors_of s i) (anchors_of s i) 0 m n → IsAtMost (priority_bound s x i m blocking) (priority_bound s y i n blocking)
+  priority_bound-mono i m n blocking d =
+      clocked_preemptive_bound-grows (task_at s i).worst (task_at s i).worst blocking blocking (map (clocked_rival_of s x) (higher_tasks s i)) (map (clocked_rival_of s y) (higher_tasks s i)) (clock_cycle s) (length s.sources) (resource_of s i).limit (omega arith) (omega arith)
       (clocked_rivals-wider (higher_tasks s i)) m n (anchors_of s i) (anchors_of s i) d
+
+  bound_by_kind-mono : (i : ℕ) (m n : Model) (kind : Kind) → AreWider (anchors_of s i) (anchors_of s i) 0 m n → IsAtMost (bound_by_kind s x i m kind) (bound_by_kind s y i n kind)
+  bound_by_kind-mono i m n Preemptive d = priority_bound-mono i m n (blocking_of s Preemptive i) d
   bound_by_kind-mono i m n RoundRobin d =
       round_robin_bound-mono m n (task_at s i).worst (task_at s i).worst (slot_of (task_at s i).turn) _ _ (resource_of s i).limit (wide-denser (anchors_of s i) (anchors_of s i) 0 m n d) (omega arith) (rivals-mono (other_tasks s i))
   bound_by_kind-mono i m n (Tdma gap) d =
@@ -179,6 +190,7 @@ module _ (s : SystemLists) (x y : List Bound) (below : IsNowhereAbove x y) where
       (clocked_rivals-wider (higher_tasks s i)) m n (anchors_of s i) (anchors_of s i) bit d
   bound_by_kind-mono i m n Fifo d =
       fifo_bound-mono m n (task_at s i).worst (task_at s i).worst _ _ (resource_of s i).limit (wide-denser (anchors_of s i) (anchors_of s i) 0 m n d) (omega arith) (rivals-mono (other_tasks s i))
+  bound_by_kind-mono i m n Ceiling d = priority_bound-mono i m n (blocking_of s Ceiling i) d
 
   bound_at_input-mono : (i : ℕ) (m n : Option Model) → IsInputWider (anchors_of s i) (anchors_of s i) m n → IsAtMost (bound_at_input s x i m) (bound_at_input s y i n)
   bound_at_input-mono i m None d = tt

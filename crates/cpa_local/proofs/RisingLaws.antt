@@ -8,7 +8,7 @@ use Rattle.cpa_units.specs.declared.places.TaskId.{TaskId}
 use Rattle.cpa_units.specs.declared.limits.TheConstants.{MAX_LIMIT}
 use Rattle.cpa_units.proofs.BoundLaws.{IsAtMost_refl, IsAtMost_trans, IsNowhereAbove_trans, le-bound_max_left, le-bound_max_right, bound_max-le, bound_max-limit}
 use Rattle.cpa_model.specs.declared.entries.Kind.{Kind}
-use Rattle.cpa_model.specs.declared.entries.Kind.TheVariants.{Preemptive, RoundRobin, Tdma, Can, Fifo}
+use Rattle.cpa_model.specs.declared.entries.Kind.TheVariants.{Preemptive, RoundRobin, Tdma, Can, Fifo, Ceiling}
 use Rattle.cpa_model.specs.SystemLists.{SystemLists, task_at, resource_at, places_of, tasks_on}
 use Rattle.cpa_model.specs.Rules.{IsSystem}
 use Rattle.cpa_model.specs.Kinds.{is_queue}
@@ -118,6 +118,7 @@ queue-kind RoundRobin e = cc
 queue-kind (Tdma gap) e = cc
 queue-kind (Can bit) e = cc
 queue-kind Fifo e = refl
+queue-kind Ceiling e = cc
 
 -- ---- what the analyses share
 
@@ -141,6 +142,7 @@ prepared-raised s r i x b work apart on prepared =
     by RoundRobin inputs = known inputs
     by (Can bit) inputs = known inputs
     by Fifo inputs = known inputs
+    by Ceiling inputs = known inputs
 
 -- ---- marks of all tasks on a resource
 

@@ -36,7 +36,7 @@ from_task j = FromTask (record { 0 = j }) ∷ []
 
 abbrev pub task : ℕ → List Activator → ℕ → ℕ → ℕ → Task
 task place after best worst priority =
-    record { name = []; res = record { 0 = place }; after = after; best = best; worst = worst; turn = Priority priority; region = 1 }
+    record { name = []; res = record { 0 = place }; after = after; best = best; worst = worst; turn = Priority priority; region = 1; locks = [] }
 
 abbrev pub model : ℕ → ℕ → ℕ → Model
 model period jitter distance = record { period = period; jitter = jitter; distance = distance } ∷ []
@@ -147,7 +147,7 @@ shared_source-fixed = refl
 -- three tasks of one processor, where those of lower priority have regions
 abbrev with_region : ℕ → ℕ → ℕ → ℕ → ℕ → Task
 with_region k best worst priority region =
-    record { name = []; res = record { 0 = 0 }; after = from_source k; best = best; worst = worst; turn = Priority priority; region = region }
+    record { name = []; res = record { 0 = 0 }; after = from_source k; best = best; worst = worst; turn = Priority priority; region = region; locks = [] }
 
 regions : SystemLists
 regions =

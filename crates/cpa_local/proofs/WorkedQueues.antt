@@ -22,7 +22,7 @@ source period jitter = record { name = []; period = period; jitter = jitter; dis
 
 abbrev queued : ℕ → List Activator → ℕ → ℕ → Task
 queued place after best worst =
-    record { name = []; res = record { 0 = place }; after = after; best = best; worst = worst; turn = Queued; region = 1 }
+    record { name = []; res = record { 0 = place }; after = after; best = best; worst = worst; turn = Queued; region = 1; locks = [] }
 
 -- three tasks of a port, the second of which may come twice at once, and a task of the next port that the last one starts
 ports : SystemLists

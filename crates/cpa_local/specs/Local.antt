@@ -11,7 +11,7 @@ use Rattle.cpa_fifo.specs.Fifo.{fifo_bound}
 use Rattle.cpa_clock.specs.Clocked.{clocked_preemptive_bound, clocked_can_bound}
 use Rattle.cpa_model.specs.Clocks.{clock_cycle}
 use Rattle.cpa_model.specs.declared.entries.Kind.{Kind}
-use Rattle.cpa_model.specs.declared.entries.Kind.TheVariants.{Preemptive, RoundRobin, Tdma, Can, Fifo}
+use Rattle.cpa_model.specs.declared.entries.Kind.TheVariants.{Preemptive, RoundRobin, Tdma, Can, Fifo, Ceiling}
 use Rattle.cpa_model.specs.SystemLists.{SystemLists, task_at, resource_of, task_places, slot_of, higher_tasks, other_tasks, cycle_of}
 use Rattle.cpa_local.specs.Blocking.{blocking_of}
 use Rattle.cpa_local.specs.Inputs.{input}
@@ -27,11 +27,15 @@ rival_of s x j =
       bound = bound_of x j;
     }
 
+-- the bound under preemptive priority, of a task with a bounded input that is kept waiting for so long at most by those of lower priority
+abbrev pub priority_bound : SystemLists → List Bound → ℕ → Model → ℕ → Bound
+priority_bound s x i own blocking =
+    clocked_preemptive_bound own (anchors_of s i) (task_at s i).worst blocking (map (clocked_rival_of s x) (higher_tasks s i))
+    (clock_cycle s) (length s.sources) (resource_of s i).limit
+
 -- the bound by the rule of the resource's kind, of a task with a bounded input
 abbrev pub bound_by_kind : SystemLists → List Bound → ℕ → Model → Kind → Bound
-bound_by_kind s x i own Preemptive =
-    clocked_preemptive_bound own (anchors_of s i) (task_at s i).worst (blocking_of s Preemptive i) (map (clocked_rival_of s x) (higher_tasks s i))
-    (clock_cycle s) (length s.sources) (resource_of s i).limit
+bound_by_kind s x i own Preemptive = priority_bound s x i own (blocking_of s Preemptive i)
 bound_by_kind s x i own RoundRobin =
     round_robin_bound own (task_at s i).worst (slot_of (task_at s i).turn) (map (rival_of s x) (other_tasks s i)) (resource_of s i).limit
 bound_by_kind s x i own (Tdma gap) =
@@ -39,6 +43,7 @@ bound_by_kind s x i own (Tdma gap) =
 bound_by_kind s x i own (Can bit) =
     clocked_can_bound own (anchors_of s i) (task_at s i).worst (blocking_of s (Can bit) i) (map (clocked_rival_of s x) (higher_tasks s i))
     (clock_cycle s) (length s.sources) bit (resource_of s i).limit
+bound_by_kind s x i own Ceiling = priority_bound s x i own (blocking_of s Ceiling i)
 bound_by_kind s x i own Fifo =
     fifo_bound own (task_at s i).worst (map (rival_of s x) (other_tasks s i)) (resource_of s i).limit
 

@@ -1,5 +1,5 @@
--- A system that asks for at least as much as another: no task has a shorter execution range or a shorter region, no source is sparser,
--- and none on a clock has narrower intervals there.
+-- A system that asks for at least as much as another: no task has a shorter execution range, a shorter region or other critical sections, no
+-- source is sparser, and none on a clock has narrower intervals there.
 use Rattle.std.specs.Prelude.{ℕ, ◌≡◌, ◌<◌, ◌≤◌, length}
 use Rattle.std.specs.List.{AllZip}
 use Rattle.cpa_clock.specs.Wider.{IsWiderOn}
@@ -26,6 +26,7 @@ pub record IsRaisedTask (s t : SystemLists) (i : ℕ) : Type 0 where
   pub worst : (task_at s i).worst ≤ (task_at t i).worst
   pub turn : (task_at s i).turn ≡ (task_at t i).turn
   pub region : (task_at s i).region ≤ (task_at t i).region
+  pub locks : (task_at s i).locks ≡ (task_at t i).locks
 
 -- each task of s asks for at least as much in t, which may have more tasks at its end; both have the same clocks, with the same cycles
 pub record IsRaising (s t : SystemLists) : Type 0 where

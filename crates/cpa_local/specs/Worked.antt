@@ -10,9 +10,10 @@ use Rattle.cpa_clock.specs.Wider.{AreOffClocks}
 use Rattle.cpa_clock.specs.Gathered.{IsInputOn, added_rival}
 use Rattle.cpa_model.specs.Clocks.{clock_cycle}
 use Rattle.cpa_model.specs.declared.entries.Kind.{Kind}
-use Rattle.cpa_model.specs.declared.entries.Kind.TheVariants.{Preemptive, RoundRobin, Tdma, Can, Fifo}
+use Rattle.cpa_model.specs.declared.entries.Kind.TheVariants.{Preemptive, RoundRobin, Tdma, Can, Fifo, Ceiling}
 use Rattle.cpa_model.specs.SystemLists.{SystemLists, task_at, resource_at, cycle_of}
-use Rattle.cpa_model.specs.Kinds.{wants_inputs, blocking_by}
+use Rattle.cpa_model.specs.Kinds.{wants_inputs}
+use Rattle.cpa_local.specs.Blocking.{blocking_between}
 use Rattle.cpa_local.specs.Inputs.{AreInputs}
 use Rattle.cpa_local.specs.OnClocks.{anchor_list, anchors_of}
 
@@ -37,14 +38,20 @@ HasCycle s r cycle Preemptive = Unit {0}
 HasCycle s r cycle RoundRobin = Unit {0}
 HasCycle s r cycle (Can bit) = Unit {0}
 HasCycle s r cycle Fifo = Unit {0}
+HasCycle s r cycle Ceiling = Unit {0}
 
--- under preemptive priority, no task on r blocks another by more
+-- no task on r blocks another by more, by the rule of this kind
+abbrev pub IsLongest : SystemLists → ℕ → ℕ → Kind → Type 0
+IsLongest s r longest kind = (i j : ℕ) → j < length s.tasks → (task_at s j).res.0 ≡ r → blocking_between s kind i j ≤ longest
+
+-- the same under preemptive priority, also with ceilings
 abbrev pub HasLongest : SystemLists → ℕ → ℕ → Kind → Type 0
-HasLongest s r longest Preemptive = (i : ℕ) → i < length s.tasks → (task_at s i).res.0 ≡ r → blocking_by Preemptive (task_at s i) ≤ longest
+HasLongest s r longest Preemptive = IsLongest s r longest Preemptive
 HasLongest s r longest RoundRobin = Unit {0}
 HasLongest s r longest (Tdma gap) = Unit {0}
 HasLongest s r longest (Can bit) = Unit {0}
 HasLongest s r longest Fifo = Unit {0}
+HasLongest s r longest Ceiling = IsLongest s r longest Ceiling
 
 -- the input of each task on r at x, where by its kind one task's bound depends on the inputs of others
 abbrev pub HasInputs : SystemLists → ℕ → List Bound → List (Option Model) → Kind → Type 0
@@ -72,6 +79,7 @@ HasClocks s r clocks RoundRobin = Unit {0}
 HasClocks s r clocks (Tdma gap) = Unit {0}
 HasClocks s r clocks (Can bit) = AreAnchored s r clocks
 HasClocks s r clocks Fifo = Unit {0}
+HasClocks s r clocks Ceiling = AreAnchored s r clocks
 
 -- a task as its neighbours see it, where this list has the inputs
 abbrev pub clocked_rival_by : SystemLists → List (Option Model) → ℕ → ClockedRival

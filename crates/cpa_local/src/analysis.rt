@@ -4,20 +4,19 @@ ghost use Rattle.std.specs.Prelude.{◌≡◌, ℕ, ◌<◌, ◌≤◌, List, So
 ghost use Rattle.cpa_units.specs.declared.bound.Bound.{Bound};
 ghost use Rattle.cpa_units.specs.Numbers.{IsExecution};
 ghost use Rattle.cpa_events.specs.Events.{IsModelInRange};
-ghost use Rattle.cpa_model.specs.declared.entries.Kind.TheVariants.{Preemptive, RoundRobin, Tdma, Can, Fifo};
+ghost use Rattle.cpa_model.specs.declared.entries.Kind.TheVariants.{RoundRobin, Tdma, Can, Fifo};
 ghost use Rattle.cpa_model.specs.SystemLists.{task_at, tasks_on, resource_of, slot_of, cycle_of};
 ghost use Rattle.cpa_model.specs.Rules.{IsSystem};
-ghost use Rattle.cpa_local.specs.Local.{bound_by_kind, response};
+ghost use Rattle.cpa_local.specs.Local.{priority_bound, bound_by_kind, response};
 ghost use Rattle.cpa_local.specs.Solution.{IsVector};
 ghost use Rattle.cpa_local.specs.Inputs.{AreInputs, input};
 ghost use Rattle.cpa_local.specs.Trails.{IsKept, NewMarksAre, AreMarked};
 ghost use Rattle.cpa_local.specs.Worked.{IsPrepared, HasCycle, HasLongest, HasInputs, HasClocks, AreAnchored};
-ghost use Rattle.cpa_local.specs.Blocking.{blocking_of};
 ghost use Rattle.cpa_units.specs.declared.limits.TheConstants.{MAX_EXECUTION};
 
 use crate::by_clocks::{can_by_clocks, preemptive_by_clocks};
 use crate::clocks::Clocks;
-use crate::neighbours::{blocking, blocking_by_region, gather_higher, gather_others};
+use crate::neighbours::{blocking, blocking_within, gather_higher, gather_others};
 use crate::prepared_inputs::own_input;
 use crate::scratch::{Scratch, Shared, make_rivals};
 use crate::trail::Trail;
@@ -123,7 +122,13 @@ fn bound_by_kind(
 {
     match system.resource(system.task(task).res).kind {
         Kind::Preemptive => {
-            let blocking = blocking_by_region(system, task, shared.longest);
+            let blocking = blocking_within(system, task, Kind::Preemptive, shared.longest);
+            preemptive(
+                alloc, system, task, x, own, blocking, inputs, rivals, clocks, gathered,
+            )
+        }
+        Kind::Ceiling => {
+            let blocking = blocking_within(system, task, Kind::Ceiling, shared.longest);
             preemptive(
                 alloc, system, task, x, own, blocking, inputs, rivals, clocks, gathered,
             )
@@ -137,7 +142,7 @@ fn bound_by_kind(
     }
 }
 
-/// The bound under preemptive priority of a task that is blocked for so many ticks at most.
+/// The bound under preemptive priority, also with ceilings, of a task that is blocked for so many ticks at most.
 fn preemptive(
     alloc: Global,
     system: &System,
@@ -155,13 +160,12 @@ fn preemptive(
     requires vector { IsVector system.now x.now }
     requires own { IsModelInRange own.now }
     requires received { input system.now x.now task.0 ≡ Some own.now }
-    requires blocking { blocking ≡ blocking_of system.now Preemptive task.0 }
     requires small { blocking ≤ MAX_EXECUTION }
     requires long { length system.now.tasks ≤ length inputs.now }
     requires known { AreInputs system.now (task_at system.now task.0).res.0 x.now inputs.now }
     requires clocks { AreAnchored system.now (task_at system.now task.0).res.0 clocks.now }
     requires room { length (tasks_on system.now (task_at system.now task.0).res.0) ≤ length rivals.old }
-    ensures value { IfOk result (λ b. b ≡ bound_by_kind system.now x.now task.0 own.now Preemptive) }
+    ensures value { IfOk result (λ b. b ≡ priority_bound system.now x.now task.0 own.now blocking) }
     ensures room { length rivals.new ≡ length rivals.old }
 {
     if clocks.is_on() {

@@ -5,12 +5,12 @@ ghost use Rattle.std.specs.Result.{OnOk};
 ghost use Rattle.cpa_units.specs.declared.bound.Bound.{Bound};
 ghost use Rattle.cpa_units.specs.declared.limits.TheConstants.{MAX_EXECUTION};
 ghost use Rattle.cpa_clock.specs.Gathered.{IsInputOn, IsGathered, own_clock};
-ghost use Rattle.cpa_model.specs.declared.entries.Kind.TheVariants.{Preemptive, Can};
+ghost use Rattle.cpa_model.specs.declared.entries.Kind.TheVariants.{Can};
 ghost use Rattle.cpa_model.specs.Rules.{IsSystem};
 ghost use Rattle.cpa_model.specs.SystemLists.{task_at, resource_of, higher_tasks};
 ghost use Rattle.cpa_local.specs.Blocking.{blocking_of};
 ghost use Rattle.cpa_local.specs.Inputs.{AreInputs};
-ghost use Rattle.cpa_local.specs.Local.{bound_by_kind};
+ghost use Rattle.cpa_local.specs.Local.{priority_bound, bound_by_kind};
 ghost use Rattle.cpa_local.specs.OnClocks.{anchor_list, anchors_of};
 ghost use Rattle.cpa_local.specs.Worked.{HasAnchors, AreInputsOn, clocked_rival_by};
 
@@ -64,11 +64,10 @@ pub(crate) fn preemptive_by_clocks(
     requires there { task.0 < length system.now.tasks }
     requires long { length system.now.tasks ≤ length inputs.now }
     requires own { IsInputOn clocks.now.cycles (anchor_list system.now task.0) (Some own.now) }
-    requires blocking { blocking ≡ blocking_of system.now Preemptive task.0 }
     requires small { blocking ≤ MAX_EXECUTION }
     requires anchors { HasAnchors system.now (task_at system.now task.0).res.0 clocks.now }
     requires inputs { AreInputsOn system.now (task_at system.now task.0).res.0 clocks.now.cycles inputs.now }
-    ensures { (x : List Bound) → AreInputs system.now (task_at system.now task.0).res.0 x inputs.now → IfOk result (λ b. b ≡ bound_by_kind system.now x task.0 own.now Preemptive) }
+    ensures { (x : List Bound) → AreInputs system.now (task_at system.now task.0).res.0 x inputs.now → IfOk result (λ b. b ≡ priority_bound system.now x task.0 own.now blocking) }
 {
     gather_by_clocks(system, task, own, inputs, clocks, gathered)?;
     let entry = system.task(task);

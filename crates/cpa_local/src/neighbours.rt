@@ -1,21 +1,19 @@
 //! The other tasks of a task's resource, as its analysis sees them. All times are in ticks.
 
-ghost use Rattle.std.specs.Prelude.{◌≡◌, ◌<◌, ◌≤◌, ◌==◌, map, length, take, None, IfSome, slice_index_or};
+ghost use Rattle.std.specs.Prelude.{ℕ, ◌≡◌, ◌<◌, ◌≤◌, ◌==◌, map, length, take, None, IfSome, slice_index_or};
 ghost use Rattle.cpa_units.specs.declared.limits.TheConstants.{MAX_EXECUTION};
 ghost use Rattle.cpa_events.specs.Events.{IsModelInRange};
 ghost use Rattle.cpa_window.specs.Rivals.{IsRival, AreRivals};
-ghost use Rattle.cpa_model.specs.SystemLists.{task_at, tasks_on, higher_tasks, other_tasks};
-ghost use Rattle.cpa_model.specs.Kinds.{blocking_by};
-ghost use Rattle.cpa_local.specs.Blocking.{blocking_of};
+ghost use Rattle.cpa_model.specs.SystemLists.{SystemLists, task_at, tasks_on, higher_tasks, other_tasks};
+ghost use Rattle.cpa_local.specs.Blocking.{blocking_between, blocking_of};
 ghost use Rattle.cpa_local.specs.Inputs.{AreInputs, input};
 ghost use Rattle.cpa_local.specs.Local.{rival_of};
 ghost use Rattle.cpa_local.specs.Solution.{IsVector};
-ghost use Rattle.cpa_local.specs.Worked.{HasLongest};
-ghost use Rattle.cpa_model.specs.declared.entries.Kind.TheVariants.{Preemptive};
+ghost use Rattle.cpa_local.specs.Worked.{IsLongest};
 
 use crate::prepared_inputs::keep;
 use cpa_events::Model;
-use cpa_model::{Kind, System};
+use cpa_model::{Kind, System, Task};
 use cpa_units::{ResId, TaskId, Vector};
 use cpa_window::Rival;
 
@@ -105,6 +103,24 @@ pub(crate) fn gather_others(
     count
 }
 
+/// By how many ticks a job of the second task keeps one of the first waiting, which is more urgent, on a resource of this kind:
+/// by what the kind says, and under ceilings by critical sections besides.
+fn blocking_between(system: &System, kind: Kind, task: TaskId, other: TaskId) -> u64
+    requires task { task.0 < length system.now.tasks }
+    requires other { other.0 < length system.now.tasks }
+    ensures value { result ≡ blocking_between system.now kind task.0 other.0 }
+    ensures in_range { result ≤ MAX_EXECUTION }
+{
+    match kind {
+        Kind::Ceiling => system.ceiling_blocking(task, other),
+        Kind::Preemptive
+        | Kind::RoundRobin
+        | Kind::Tdma { gap: _ }
+        | Kind::Can { bit: _ }
+        | Kind::Fifo => kind.blocking_by(system.task(other)),
+    }
+}
+
 /// By how many ticks one of lower priority on the resource of a task, whose kind it is, keeps it waiting at most; 0 if there
 /// are none.
 pub(crate) fn blocking(system: &System, task: TaskId, kind: Kind) -> u64
@@ -115,34 +131,46 @@ pub(crate) fn blocking(system: &System, task: TaskId, kind: Kind) -> u64
     let mut most: u64 = 0;
     for other in system.tasks_on(system.task(task).res) {
         if system.is_higher(*other, task) {
-            most = most.max(kind.blocking_by(system.task(*other)));
+            most = most.max(blocking_between(system, kind, task, *other));
         }
     }
     most
 }
 
-/// The same of a region, where no task on the resource blocks others by more ticks than the longest. Where that is 0, none is
-/// looked at.
-pub(crate) fn blocking_by_region(system: &System, task: TaskId, longest: u64) -> u64
+/// The same where no task on the resource blocks another by more ticks than the longest. Where that is 0, none is looked at.
+pub(crate) fn blocking_within(system: &System, task: TaskId, kind: Kind, longest: u64) -> u64
     requires there { task.0 < length system.now.tasks }
-    requires longest { HasLongest system.now (task_at system.now task.0).res.0 longest Preemptive }
-    ensures value { result ≡ blocking_of system.now Preemptive task.0 }
+    requires longest { IsLongest system.now (task_at system.now task.0).res.0 longest kind }
+    ensures value { result ≡ blocking_of system.now kind task.0 }
     ensures in_range { result ≤ MAX_EXECUTION }
 {
     if longest == 0 {
         return 0;
     }
-    blocking(system, task, Kind::Preemptive)
+    blocking(system, task, kind)
 }
 
-/// By how many ticks the region of a task on a resource blocks others at most; 0 if each is one tick.
-pub(crate) fn longest_blocking(system: &System, res: ResId) -> u64
+/// By how many ticks a task blocks others at most on a resource of this kind: one with critical sections by less than it takes.
+fn most_blocking(kind: Kind, task: &Task) -> u64
+    requires { task.now.worst ≤ MAX_EXECUTION }
+    ensures { (s : SystemLists) (i j : ℕ) → task_at s j ≡ task.now → blocking_between s kind i j ≤ result }
+{
+    if task.locks.sections().is_empty() {
+        kind.blocking_by(task)
+    } else {
+        task.worst
+    }
+}
+
+/// By how many ticks a task on a resource of this kind blocks others at most; 0 where no task has regions of more than a tick,
+/// nor critical sections.
+pub(crate) fn longest_blocking(system: &System, res: ResId, kind: Kind) -> u64
     requires there { res.0 < length system.now.resources }
-    ensures { HasLongest system.now res.0 result Preemptive }
+    ensures { IsLongest system.now res.0 result kind }
 {
     let mut longest: u64 = 0;
     for task in system.tasks_on(res) {
-        longest = longest.max(Kind::Preemptive.blocking_by(system.task(*task)));
+        longest = longest.max(most_blocking(kind, system.task(*task)));
     }
     longest
 }

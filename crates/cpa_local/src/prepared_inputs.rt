@@ -10,7 +10,7 @@ ghost use Rattle.cpa_events.specs.Events.{IsModelInRange, HasJitterUpTo};
 ghost use Rattle.cpa_model.specs.SystemLists.{task_at, resource_at, resource_of};
 ghost use Rattle.cpa_local.specs.Inputs.{AreInputs, AreKnown, input, output_of, found_if};
 ghost use Rattle.cpa_local.specs.Solution.{IsVector};
-ghost use Rattle.cpa_local.specs.Worked.{IsPrepared, HasCycle, HasLongest, HasInputs, HasClocks};
+ghost use Rattle.cpa_local.specs.Worked.{IsPrepared, HasCycle, IsLongest, HasLongest, HasInputs, HasClocks, AreAnchored};
 
 use crate::chain_walks::only_task;
 use crate::gathering::find_along;
@@ -24,7 +24,7 @@ use cpa_units::{Bound, NoMemory, ResId, TaskId, Vector};
 impl Scratch {
     /// Works out what the analyses of a resource's tasks at a vector share, in place of what it was
     /// before: the cycle under TDMA, else the input of each task, where tasks have priorities also where their
-    /// streams are on clocks, and under preemptive priority by how much one blocks others at most.
+    /// streams are on clocks, and under preemptive priority, also with ceilings, by how much one blocks others at most.
     pub(crate) fn prepare(
         &mut self,
         system: &System,
@@ -41,11 +41,8 @@ impl Scratch {
             Kind::Tdma { gap: _ } => {
                 self.shared.cycle = system.cycle(res);
             }
-            Kind::Preemptive => {
-                self.clocks.learn(system, res)?;
-                self.shared.longest = longest_blocking(system, res);
-                learn(system, res, x, &mut self.inputs, &mut self.found);
-            }
+            Kind::Preemptive => self.prepare_preempted(system, res, Kind::Preemptive, x)?,
+            Kind::Ceiling => self.prepare_preempted(system, res, Kind::Ceiling, x)?,
             Kind::RoundRobin | Kind::Fifo => {
                 learn(system, res, x, &mut self.inputs, &mut self.found);
             }
@@ -54,6 +51,28 @@ impl Scratch {
                 learn(system, res, x, &mut self.inputs, &mut self.found);
             }
         }
+        Ok(())
+    }
+
+    /// The same on a resource of this kind, under preemptive priority, also with ceilings.
+    fn prepare_preempted(
+        &mut self,
+        system: &System,
+        res: ResId,
+        kind: Kind,
+        x: &Vector,
+    ) -> Result<(), NoMemory>
+        requires there { res.0 < length system.now.resources }
+        requires vector { IsVector system.now x.now }
+        requires room { length system.now.tasks ≤ length self.old.inputs }
+        ensures longest { OnOk result (IsLongest system.now res.0 self.new.longest kind) }
+        ensures inputs { OnOk result (AreInputs system.now res.0 x.now self.new.inputs) }
+        ensures clocks { OnOk result (AreAnchored system.now res.0 self.new.clocks) }
+        ensures room { length self.new.inputs ≡ length self.old.inputs }
+    {
+        self.clocks.learn(system, res)?;
+        self.shared.longest = longest_blocking(system, res, kind);
+        learn(system, res, x, &mut self.inputs, &mut self.found);
         Ok(())
     }
 

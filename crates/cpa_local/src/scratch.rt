@@ -33,7 +33,8 @@ pub(crate) struct Scratch {
 pub(crate) struct Shared {
     /// Under TDMA the cycle, in ticks.
     pub(crate) cycle: u64,
-    /// Under preemptive priority, by how many ticks a task blocks others at most: 0 where each region is one tick.
+    /// Under preemptive priority, also with ceilings, by how many ticks a task blocks others at most: 0 where each region is
+    /// one tick and there are no critical sections.
     pub(crate) longest: u64,
 }
 

@@ -144,6 +144,7 @@ spared-in_place s t touched h sent =
             worst = ap (λ (u : Task). u.worst) it;
             turn = ap (λ (u : Task). u.turn) it;
             region = ap (λ (u : Task). u.region) it;
+            locks = ap (λ (u : Task). u.locks) it;
           };
       listed = λ old new tests.
           let agree : (j : ℕ) → 0 ≤ j → j < 0 + length s.tasks → old j ≡ new j = λ j low high.
@@ -288,6 +289,7 @@ module _ (s : SystemLists) (u : Task) (touched : List Bool) (on : Members touche
               worst = ap (λ (v : Task). v.worst) it;
               turn = ap (λ (v : Task). v.turn) it;
               region = ap (λ (v : Task). v.region) it;
+              locks = ap (λ (v : Task). v.locks) it;
             };
         listed = λ old new tests.
             let agree : (j : ℕ) → 0 ≤ j → j < 0 + length s.tasks → old j ≡ new j = λ j low high.
@@ -378,6 +380,7 @@ module _ (s : SystemLists) (gone : TaskId) (touched : List Bool) (there : gone.0
               worst = sym (ap (λ (v : Task). v.worst) it);
               turn = sym (ap (λ (v : Task). v.turn) it);
               region = sym (ap (λ (v : Task). v.region) it);
+              locks = sym (ap (λ (v : Task). v.locks) it);
             };
         listed = λ old new tests.
             let one : length s.tasks ≡ suc (length t.tasks) = omega (arith, long-without) in

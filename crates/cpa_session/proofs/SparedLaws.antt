@@ -1,11 +1,12 @@
 -- What can't be reached by an edit keeps its bounds: each task there asks what it asked before.
-use Rattle.std.proofs.Common.{◌≡◌, ℕ, zero, suc, ◌+◌, ◌<◌, ◌≤◌, ◌++◌, ◌==◌, length, Bool, true, false, List, [], ◌∷◌, map, Option, Some, None, refl, sym, ap, ◌∙◌, inl, inr, slice_index_or, arith, subst}
+use Rattle.std.proofs.Common.{◌≡◌, ℕ, zero, suc, ◌+◌, ◌-◌, ◌<◌, ◌≤◌, min, max, ◌++◌, ◌==◌, length, Bool, true, false, List, [], ◌∷◌, map, Option, Some, None, refl, sym, ap, ◌∙◌, inl, inr, slice_index_or, arith, subst}
 use Rattle.std.specs.Prelude.{filter}
 use Rattle.std.specs.List.{AllZip, list_any, flat_map, range_with_len, sum_by}
+use Rattle.std.specs.Str.{bytes_eq}
 use Rattle.std.proofs.lemmas.Bool.{cases_Bool, false≢true, and_parts, and_left, or_cases, or_left, or_right, eqb-true, ne_eqb, eq-eqb, cases_eq}
 use Rattle.cpa_units.specs.Sets.{holds, Members}
 use Rattle.cpa_units.specs.declared.bound.Bound.{Bound}
-use Rattle.cpa_units.specs.declared.limits.TheConstants.{MAX_CHAIN}
+use Rattle.cpa_units.specs.declared.limits.TheConstants.{MAX_CHAIN, MAX_PRIORITY}
 use Rattle.cpa_units.specs.Bounds.{bound_of}
 use Rattle.cpa_events.specs.Events.{Model}
 use Rattle.cpa_clock.specs.declared.anchor.Anchor.{Anchor}
@@ -16,23 +17,24 @@ use Rattle.cpa_model.specs.Clocks.{clock_cycle}
 use Rattle.cpa_model.proofs.ClockLaws.{clock-some}
 use Rattle.cpa_model.specs.declared.entries.Resource.{Resource}
 use Rattle.cpa_model.specs.declared.entries.Kind.{Kind}
-use Rattle.cpa_model.specs.declared.entries.Kind.TheVariants.{Preemptive, RoundRobin, Tdma, Can, Fifo}
+use Rattle.cpa_model.specs.declared.entries.Kind.TheVariants.{Preemptive, RoundRobin, Tdma, Can, Fifo, Ceiling}
 use Rattle.cpa_model.specs.declared.entries.Activator.{Activator}
 use Rattle.cpa_model.specs.declared.entries.Activator.TheVariants.{Source as FromSource, Task as FromTask}
-use Rattle.cpa_model.specs.SystemLists.{SystemLists, task_at, resource_at, resource_of, task_places, slot_of, gap_of, is_higher, is_other, higher_tasks, other_tasks, cycle_of, is_task, no_resource}
+use Rattle.cpa_model.specs.SystemLists.{SystemLists, task_at, resource_at, resource_of, task_places, tasks_on, priority_of, slot_of, gap_of, is_higher, is_other, higher_tasks, other_tasks, cycle_of, is_task, no_resource}
 use Rattle.cpa_model.specs.Rules.{IsSystem}
 use Rattle.cpa_model.proofs.SystemLaws.{activated-there}
-use Rattle.cpa_model.specs.Kinds.{blocking_by}
-use Rattle.cpa_local.specs.Blocking.{blocking_of}
+use Rattle.cpa_model.specs.declared.locks.CriticalSection.{CriticalSection}
+use Rattle.cpa_model.specs.Locks.{uses_lock, ceiling_of, section_of, lock_sections, blocking_by_sections, ceiling_blocking}
+use Rattle.cpa_local.specs.Blocking.{blocking_between, blocking_of}
 use Rattle.cpa_local.specs.Inputs.{sent_by, joined, sent_by_all, input_along, input}
-use Rattle.cpa_local.specs.Local.{rival_of, bound_by_kind, bound_at_input, response}
+use Rattle.cpa_local.specs.Local.{rival_of, priority_bound, bound_by_kind, bound_at_input, response}
 use Rattle.cpa_local.specs.OnClocks.{anchors_step, anchors_within, anchor_list, anchors_of, clocked_rival_of}
 use Rattle.cpa_session.proofs.CycleLaws.{IsWholeInput, AreWholeFrom, AreWholeRivals, clocked_preemptive-same, clocked_can-same}
 use Rattle.cpa_session.proofs.WholeInputs.{both-whole}
 use Rattle.cpa_depend.specs.Cone.{Activates, LeadsTo, directly, through, Reads, earlier, IsClosedUnder}
 use Rattle.cpa_session.specs.Spared.{IsSameActivator, IsSameTask, AreSameTests, IsSpared, AgreeApart}
-use Rattle.cpa_local.proofs.PlaceLists.{greatest_over}
-use Rattle.cpa_local.proofs.PassingPlaces.{map-passing, map-map, sum_by-map, sum_by-passing, greatest-map, greatest-passing}
+use Rattle.cpa_local.proofs.PlaceLists.{greatest_over, least_over}
+use Rattle.cpa_local.proofs.PassingPlaces.{map-passing, map-map, sum_by-map, sum_by-passing, greatest-map, greatest-passing, least-map, least-passing}
 
 -- a rival by its input, its anchors and its execution
 abbrev seen_with : Option Model → List (Option Anchor) → ℕ → ClockedRival
@@ -178,19 +180,50 @@ module _ (s t : SystemLists) (touched reached : List Bool) (was : ℕ → ℕ) (
         let gap : gap_of (resource_of s (was i)).kind ≡ gap_of (resource_of t i).kind = ap (λ (r : Resource). gap_of r.kind) resource_same in
         omega arith
 
-    blocking_by_same : (kind : Kind) (j : ℕ) → IsSameTask s t was j → blocking_by kind (task_at s (was j)) ≡ blocking_by kind (task_at t j)
-    blocking_by_same Preemptive j it = rw (it.region, it.worst) refl
-    blocking_by_same RoundRobin j it = refl
-    blocking_by_same (Tdma gap) j it = refl
-    blocking_by_same (Can bit) j it = it.worst
-    blocking_by_same Fifo j it = refl
+    -- the ceilings of the locks on the resource of the task
+    ceiling_same : (lock : List ℕ) → ceiling_of s (task_at s (was i)).res.0 lock ≡ ceiling_of t (task_at t i).res.0 lock
+    ceiling_same lock =
+        ap (λ ks. least_over (λ k. priority_of (task_at s k).turn) MAX_PRIORITY (filter (λ k. uses_lock lock (task_at s k)) ks))
+        (h.spared.listed (λ k. (task_at s k).res.0 == (task_at s (was i)).res.0) (λ j. (task_at t j).res.0 == (task_at t i).res.0) cycle_tests)
+        ∙ least-map (λ k. uses_lock lock (task_at s k)) (λ k. priority_of (task_at s k).turn) was MAX_PRIORITY (tasks_on t (task_at t i).res.0)
+        ∙ least-passing (λ j. (task_at t j).res.0 == (task_at t i).res.0) (λ j. uses_lock lock (task_at s (was j))) (λ j. uses_lock lock (task_at t j))
+        (λ j. priority_of (task_at s (was j)).turn) (λ j. priority_of (task_at t j).turn) MAX_PRIORITY 0 (length t.tasks)
+        (λ j low high passes.
+        let it = same_task j (omega arith) (beside j (sym (eqb-true (task_at t j).res.0 (task_at t i).res.0 passes))) in
+        (ap (list_any (λ (c : CriticalSection). bytes_eq lock c.lock)) it.locks, ap priority_of it.turn))
+
+    sections_same : (locks : List CriticalSection) → map (section_of s (task_at s (was i)).res.0) locks ≡ map (section_of t (task_at t i).res.0) locks
+    sections_same [] = refl
+    sections_same (c ∷ locks) =
+        ap (λ ceiling. record { start = c.start; ticks = c.length; ceiling = ceiling } ∷ map (section_of s (task_at s (was i)).res.0) locks) (ceiling_same c.lock)
+        ∙ ap (λ sections. section_of t (task_at t i).res.0 c ∷ sections) (sections_same locks)
+
+    lock_sections_same : lock_sections s (was i) ≡ lock_sections t i
+    lock_sections_same = ap (map (section_of s (task_at s (was i)).res.0)) own.locks ∙ sections_same (task_at t i).locks
+
+  -- ---- blocking
+
+  module _ (i : ℕ) (less : i < length t.tasks) (off : holds reached (task_at t i).res.0 ≡ false) where
+    ceiling_blocking_same : (j : ℕ) → j < length t.tasks → holds reached (task_at t j).res.0 ≡ false → ceiling_blocking s (was i) (was j) ≡ ceiling_blocking t i j
+    ceiling_blocking_same j j_less j_off =
+        let it = same_task j j_less j_off in
+        rw (it.region, it.worst, (same_task i less off).turn)
+        (ap (λ sections. max (min (task_at t j).region (task_at t j).worst - 1) (blocking_by_sections (priority_of (task_at t i).turn) (task_at t j).worst sections)) (lock_sections_same j j_less j_off))
+
+    blocking_between_same : (kind : Kind) (j : ℕ) → j < length t.tasks → holds reached (task_at t j).res.0 ≡ false → blocking_between s kind (was i) (was j) ≡ blocking_between t kind i j
+    blocking_between_same Preemptive j j_less j_off = let it = same_task j j_less j_off in rw (it.region, it.worst) refl
+    blocking_between_same RoundRobin j j_less j_off = refl
+    blocking_between_same (Tdma gap) j j_less j_off = refl
+    blocking_between_same (Can bit) j j_less j_off = (same_task j j_less j_off).worst
+    blocking_between_same Fifo j j_less j_off = refl
+    blocking_between_same Ceiling j j_less j_off = ceiling_blocking_same j j_less j_off
 
     blocking_same : (kind : Kind) → blocking_of s kind (was i) ≡ blocking_of t kind i
     blocking_same kind =
-        ap (greatest_over (λ k. blocking_by kind (task_at s k)) 0) (h.spared.listed (λ k. is_higher s k (was i)) (λ j. is_higher t j i) lower_tests)
-        ∙ greatest-map (λ k. blocking_by kind (task_at s k)) was 0 (filter (λ j. is_higher t j i) (task_places t))
-        ∙ greatest-passing (λ j. is_higher t j i) (λ j. blocking_by kind (task_at s (was j))) (λ j. blocking_by kind (task_at t j)) 0 0 (length t.tasks)
-        (λ j low high passes. blocking_by_same kind j (same_task j (omega arith) (beside j (sym (eqb-true (task_at t j).res.0 (task_at t i).res.0 (and_parts _ _ passes).0)))))
+        ap (greatest_over (blocking_between s kind (was i)) 0) (h.spared.listed (λ k. is_higher s k (was i)) (λ j. is_higher t j i) (lower_tests i less off))
+        ∙ greatest-map (blocking_between s kind (was i)) was 0 (filter (λ j. is_higher t j i) (task_places t))
+        ∙ greatest-passing (λ j. is_higher t j i) (λ j. blocking_between s kind (was i) (was j)) (blocking_between t kind i) 0 0 (length t.tasks)
+        (λ j low high passes. blocking_between_same kind j (omega arith) (beside i less off j (sym (eqb-true (task_at t j).res.0 (task_at t i).res.0 (and_parts _ _ passes).0))))
 
   -- ---- on clocks
 
@@ -320,12 +353,15 @@ module _ (s t : SystemLists) (touched reached : List Bool) (was : ℕ → ℕ) (
       own_whole : (own : Model) → input t y i ≡ Some own → AreWholeFrom (clock_cycle s) (clock_cycle t) (anchors_of t i) 0 own
       own_whole own is = subst (IsWholeInput (clock_cycle s) (clock_cycle t) (anchors_of t i)) is (whole_same i less off)
 
-      by_kind_same : (own : Model) (kind : Kind) → input t y i ≡ Some own → bound_by_kind s x (was i) own kind ≡ bound_by_kind t y i own kind
-      by_kind_same own Preemptive is =
-          rw (higher_same, h.spared.sources, blocking_same i less off Preemptive, (same_task i less off).worst, resource_same i less off)
-          (ap (λ os. clocked_preemptive_bound own (anchors_at os) (task_at t i).worst (blocking_of t Preemptive i) (map (clocked_rival_of t y) (higher_tasks t i)) (clock_cycle s) (length t.sources) (resource_of t i).limit) (anchors_same i less off)
+      priority_bound_same : (own : Model) (blocking : ℕ) → input t y i ≡ Some own → priority_bound s x (was i) own blocking ≡ priority_bound t y i own blocking
+      priority_bound_same own blocking is =
+          rw (higher_same, h.spared.sources, (same_task i less off).worst, resource_same i less off)
+          (ap (λ os. clocked_preemptive_bound own (anchors_at os) (task_at t i).worst blocking (map (clocked_rival_of t y) (higher_tasks t i)) (clock_cycle s) (length t.sources) (resource_of t i).limit) (anchors_same i less off)
           ∙ clocked_preemptive-same (clock_cycle s) (clock_cycle t) (clock-some s) (clock-some t) (map (clocked_rival_of t y) (higher_tasks t i)) whole_rivals (length t.sources) own (anchors_of t i)
-          (task_at t i).worst (blocking_of t Preemptive i) (resource_of t i).limit (own_whole own is))
+          (task_at t i).worst blocking (resource_of t i).limit (own_whole own is))
+
+      by_kind_same : (own : Model) (kind : Kind) → input t y i ≡ Some own → bound_by_kind s x (was i) own kind ≡ bound_by_kind t y i own kind
+      by_kind_same own Preemptive is = rw (blocking_same i less off Preemptive) (priority_bound_same own (blocking_of t Preemptive i) is)
       by_kind_same own RoundRobin is = rw (others_same, (same_task i less off).worst, (same_task i less off).turn, resource_same i less off) refl
       by_kind_same own (Tdma gap) is = rw (cycle_same i less off, (same_task i less off).worst, (same_task i less off).turn, resource_same i less off) refl
       by_kind_same own (Can bit) is =
@@ -333,6 +369,7 @@ module _ (s t : SystemLists) (touched reached : List Bool) (was : ℕ → ℕ) (
           (ap (λ os. clocked_can_bound own (anchors_at os) (task_at t i).worst (blocking_of t (Can bit) i) (map (clocked_rival_of t y) (higher_tasks t i)) (clock_cycle s) (length t.sources) bit (resource_of t i).limit) (anchors_same i less off)
           ∙ clocked_can-same (clock_cycle s) (clock_cycle t) (clock-some s) (clock-some t) (map (clocked_rival_of t y) (higher_tasks t i)) whole_rivals (length t.sources) own (anchors_of t i)
           (task_at t i).worst (blocking_of t (Can bit) i) bit (resource_of t i).limit (own_whole own is))
+      by_kind_same own Ceiling is = rw (blocking_same i less off Ceiling) (priority_bound_same own (blocking_of t Ceiling i) is)
       by_kind_same own Fifo is = rw (others_same, (same_task i less off).worst, resource_same i less off) refl
 
       at_input_same : (m : Option Model) → input t y i ≡ m → bound_at_input s x (was i) m ≡ bound_at_input t y i m

@@ -33,6 +33,7 @@ pub record IsSameTask (s t : SystemLists) (was : ℕ → ℕ) (i : ℕ) : Type 0
   pub worst : (task_at s (was i)).worst ≡ (task_at t i).worst
   pub turn : (task_at s (was i)).turn ≡ (task_at t i).turn
   pub region : (task_at s (was i)).region ≡ (task_at t i).region
+  pub locks : (task_at s (was i)).locks ≡ (task_at t i).locks
 
 -- tests of the tasks of both systems that pass none on touched resources, and agree on all others
 pub record AreSameTests (s t : SystemLists) (touched : List Bool) (was : ℕ → ℕ) (old new : ℕ → Bool) : Type 0 where

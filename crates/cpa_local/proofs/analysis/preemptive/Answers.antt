@@ -30,5 +30,5 @@ returns-clause-value c =
     let s = c.args.system.now in
     let i = c.args.task.0 in
     let off : IsOffClocks s (task_at s i).res.0 = subst (λ (b : Bool). OnFalse b (IsOffClocks s (task_at s i).res.0)) (sym c.is_on.ensures ∙ c.if-is_on.false) c.requires.clocks.none in
-    rw (c.respond.ensures, c.gather_higher-count.ensures.value, c.resource.ensures.value, c.task-entry.ensures.value, c.requires.blocking)
-    (plain-preemptive s c.args.x.now i off c.requires.there c.plain_bounds_are_the_same.ensures c.args.own.now)
+    rw (c.respond.ensures, c.gather_higher-count.ensures.value, c.resource.ensures.value, c.task-entry.ensures.value)
+    (plain-preemptive s c.args.x.now i off c.requires.there c.plain_bounds_are_the_same.ensures c.args.own.now c.args.blocking)

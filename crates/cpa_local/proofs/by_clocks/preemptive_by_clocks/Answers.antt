@@ -21,5 +21,5 @@ returns c x known =
     let bound = c.respond.ensures rivals (rw (anchors, c.cycles.ensures) gathered) in
     let worst = ap (λ (t : Task). t.worst) c.task-entry.ensures.value in
     let limit = ap (λ (r : Resource). r.limit) c.resource.ensures.value ∙ ap (λ (t : Task). (resource_at s t.res.0).limit) c.task-entry.ensures.value in
-    let same = by-preemptive s x i c.args.inputs.now known c.cycles.result.now (c.cycles.ensures ∙ c.requires.anchors.cycles) c.args.own.now c.anchors.result.now c.task-entry.result.now.worst c.args.blocking c.resource.result.now.limit anchors worst limit c.requires.blocking in
+    let same = by-preemptive s x i c.args.inputs.now known c.cycles.result.now (c.cycles.ensures ∙ c.requires.anchors.cycles) c.args.own.now c.anchors.result.now c.task-entry.result.now.worst c.args.blocking c.resource.result.now.limit anchors worst limit in
     subst (λ b. IfOk c.respond.result (λ found. found ≡ b)) same bound

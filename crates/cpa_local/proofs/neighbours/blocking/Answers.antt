@@ -3,7 +3,7 @@ use Rattle.std.specs.Prelude.{filter}
 use Rattle.cpa_model.specs.declared.entries.Task.{Task}
 use Rattle.cpa_model.specs.SystemLists.{task_at, tasks_on, places_of, is_higher}
 use Rattle.cpa_model.proofs.SystemLaws.{no_id}
-use Rattle.cpa_model.specs.Kinds.{blocking_by}
+use Rattle.cpa_local.specs.Blocking.{blocking_between}
 use Rattle.cpa_local.proofs.BlockingLaws.{greatest_in, greatest-push}
 use Rattle.cpa_local.proofs.RivalLaws.{lower-on, passing-more, failing-more, found-all}
 use Rattle.cpa_local.proofs.neighbours.blocking.Goals as goal
@@ -17,17 +17,16 @@ loop-other-preserved c =
     elim c.if-is_higher.branch [
       | then-is_higher w ↦
           let lower = sym c.is_higher.ensures ∙ w.if-is_higher.true in
-          let same = w.blocking_by.ensures.value ∙ ap (blocking_by c.args.kind) w.task-then-is_higher.ensures.value in
-          let short = w.blocking_by.ensures.in_range in
+          let short = w.blocking_between.ensures.in_range in
           record {
-            found = rw (w.most-is, w.max-most.ensures, same, c.loop-other.invariant.found, passing-more (λ j. is_higher s j c.args.task.0) ids k no_id c.loop-other-test.true lower)
-                (sym (greatest-push (λ j. blocking_by c.args.kind (task_at s j)) (filter (λ j. is_higher s j c.args.task.0) (places_of (take k ids))) (get_or ids k no_id).0));
+            found = rw (w.most-is, w.max-most.ensures, w.blocking_between.ensures.value, c.loop-other.invariant.found, passing-more (λ j. is_higher s j c.args.task.0) ids k no_id c.loop-other-test.true lower)
+                (sym (greatest-push (blocking_between s c.args.kind c.args.task.0) (filter (λ j. is_higher s j c.args.task.0) (places_of (take k ids))) (get_or ids k no_id).0));
             small = omega (arith, w.most-is, w.max-most.ensures, short, c.loop-other.invariant.small);
           }
       | else-is_higher w ↦
           let higher = sym c.is_higher.ensures ∙ w.if-is_higher.false in
           record {
-            found = rw (w.most-is, c.loop-other.invariant.found) (ap (greatest_in (λ j. blocking_by c.args.kind (task_at s j))) (sym (failing-more (λ j. is_higher s j c.args.task.0) ids k no_id c.loop-other-test.true higher)));
+            found = rw (w.most-is, c.loop-other.invariant.found) (ap (greatest_in (blocking_between s c.args.kind c.args.task.0)) (sym (failing-more (λ j. is_higher s j c.args.task.0) ids k no_id c.loop-other-test.true higher)));
             small = rw w.most-is c.loop-other.invariant.small;
           }
     ]
@@ -37,5 +36,5 @@ returns-clause-value c =
     let s = c.args.system.now in
     let on = ap (λ (t : Task). t.res.0) c.task.ensures.value in
     c.loop-other.invariant.found
-    ∙ ap (greatest_in (λ j. blocking_by c.args.kind (task_at s j)))
+    ∙ ap (greatest_in (blocking_between s c.args.kind c.args.task.0))
     (found-all s (task_at s c.args.task.0).res.0 (λ j. is_higher s j c.args.task.0) c.tasks_on-other-items.result.now c.loop-other.other-index (lower-on s c.args.task.0) (c.tasks_on-other-items.ensures.places ∙ ap (tasks_on s) on) c.loop-other-test.false)
