@@ -1,4 +1,4 @@
-use cpa_assign::{Order, assign, assign_text, can_compare, is_fed_by_sources};
+use cpa_assign::{Order, assign, assign_text, can_compare, has_ceilings, is_fed_by_sources};
 use cpa_file::read_system;
 use cpa_units::ResId;
 use std::alloc::Global;
@@ -100,6 +100,9 @@ fn is_met(alloc: Global, case: &Case) -> Result<bool, Fail> {
     let res = ResId(case.res);
     if res.0 >= system.resources() || !system.resource(res).kind.has_priorities() {
         return Ok(case.text == "no priorities\n");
+    }
+    if has_ceilings(&system, res) {
+        return Ok(case.text == "ceilings\n");
     }
     if !is_fed_by_sources(&system, res) {
         return Ok(case.text == "fed by a task\n");

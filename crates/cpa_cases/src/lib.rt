@@ -143,3 +143,17 @@ task = [
 ]
 path = [{ name = "a", tasks = ["ra", "ca", "wa"], deadline = 900 }]
 "#;
+
+/// A processor with locks: the ceiling of `bus` is the priority of `control`, that of `file` is the priority of its only user, and
+/// `filter` has regions. `spare` runs on a processor without locks.
+pub const LOCKED: &str = r#"format = 4
+resource = [{ name = "cpu", kind = "ceiling", limit = 2000 }, { name = "side", kind = "preemptive" }]
+source = [{ name = "fast", period = 20 }, { name = "slow", period = 50 }, { name = "rare", period = 100 }]
+task = [
+  { name = "control", on = "cpu", after = "fast", best = 1, worst = 2, priority = 1, locks = [{ name = "bus", start = 0, length = 1 }] },
+  { name = "filter", on = "cpu", after = "slow", best = 2, worst = 6, priority = 2, region = 3 },
+  { name = "logger", on = "cpu", after = "rare", best = 5, worst = 10, priority = 3, locks = [{ name = "bus", start = 2, length = 5 }, { name = "file", start = 3, length = 2 }] },
+  { name = "spare", on = "side", after = "rare", best = 1, worst = 2, priority = 1 },
+]
+path = [{ name = "p", tasks = ["control"], deadline = 6 }]
+"#;

@@ -59,6 +59,18 @@ summary tasks 9 overload 0 missed 0
 pub const GATEWAY_TRACE: &str =
     "event,sa,0\nevent,sa,500\nevent,sb,0\nevent,sb,0\nevent,sc,230\nevent,sc,1230\n";
 
+/// The processor with locks of `cpa_cases`: `control` waits for up to 4 ticks of a section, and so does `filter`, whose region blocks it by less.
+pub const LOCKED_REPORT: &str = "task control cpu period 20 jitter 0 distance 0 best 1 worst 6
+task filter cpu period 50 jitter 0 distance 0 best 2 worst 12
+task logger cpu period 100 jitter 0 distance 0 best 5 worst 18
+task spare side period 100 jitter 0 distance 0 best 1 worst 2
+path p best 1 worst 6 deadline 6 met
+summary tasks 4 overload 0 missed 0
+";
+
+/// The others come right after the section of `logger` has begun, by which each bound is reached.
+pub const LOCKED_TRACE: &str = "event,rare,0\nevent,fast,3\nevent,slow,3\n";
+
 /// No tasks at all.
 pub const EMPTY_REPORT: &str = "summary tasks 0 overload 0 missed 0\n";
 

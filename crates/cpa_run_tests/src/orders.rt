@@ -5,7 +5,7 @@ use crate::cases::{
     CROSSING_CHAINS, CUT_NAME, DAVIS_BUS, ENDLESS_JITTER, JOINED_KINDS, REGIONS_IN_TIME, TDMA_GAP,
     TWO_ACTIVATORS,
 };
-use cpa_cases::{ENDLESS_WITHOUT_DEADLINE, GATEWAY, TWO_TASKS};
+use cpa_cases::{ENDLESS_WITHOUT_DEADLINE, GATEWAY, LOCKED, TWO_TASKS};
 
 /// The bus of Davis and others with a deadline of 250 for each message, which none meets at the lowest place.
 const LATE_BUS: &str = r#"format = 1
@@ -57,7 +57,13 @@ path = [
 "#;
 
 /// Orders of resources.
-pub const ORDERS: [Call; 11] = [
+pub const ORDERS: [Call; 12] = [
+    (
+        &["assign", "sys", "cpu"],
+        &[("sys", LOCKED)],
+        18,
+        &["assign refused 5\n"],
+    ),
     (
         &["assign", "sys", "cpu"],
         &[("sys", REGIONS_IN_TIME)],
@@ -127,7 +133,13 @@ pub const ORDERS: [Call; 11] = [
 ];
 
 /// Slacks of tasks.
-pub const GROWTHS: [Call; 10] = [
+pub const GROWTHS: [Call; 11] = [
+    (
+        &["slack", "sys", "control"],
+        &[("sys", LOCKED)],
+        0,
+        &["slack control 0 next missed\n"],
+    ),
     (
         &["slack", "sys", "c"],
         &[("sys", REGIONS_IN_TIME)],

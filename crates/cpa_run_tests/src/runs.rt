@@ -2,7 +2,7 @@
 
 use crate::calls::Call;
 use crate::cases::*;
-use cpa_cases::{GATEWAY, IDLE_TDMA, LONG_WINDOW, TWO_TASKS};
+use cpa_cases::{GATEWAY, IDLE_TDMA, LOCKED, LONG_WINDOW, TWO_TASKS};
 
 const SIMULATE: &[&str] = &["simulate", "sys", "tr"];
 
@@ -91,7 +91,15 @@ pub const RUNS: [Call; 9] = [
 ];
 
 /// Runs of systems with tasks after tasks.
-pub const RUNS_OF_SEVERAL: [Call; 5] = [
+pub const RUNS_OF_SEVERAL: [Call; 6] = [
+    (
+        SIMULATE,
+        &[("sys", LOCKED), ("tr", LOCKED_TRACE)],
+        0,
+        &[
+            "task control jobs 1 done 1 worst 6\ntask filter jobs 1 done 1 worst 12\ntask logger jobs 1 done 1 worst 18\ntask spare jobs 1 done 1 worst 2\npath p passages 1 worst 6\nsummary jobs 4 done 4 end 18\n",
+        ],
+    ),
     (
         SIMULATE,
         &[("sys", GATEWAY), ("tr", GATEWAY_TRACE)],

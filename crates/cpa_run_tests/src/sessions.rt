@@ -2,7 +2,7 @@
 
 use crate::calls::Call;
 use crate::cases::*;
-use cpa_cases::{GATEWAY, TWO_TASKS};
+use cpa_cases::{GATEWAY, LOCKED, TWO_TASKS};
 
 const SESSION: &[&str] = &["session", "sys", "scr"];
 
@@ -10,7 +10,7 @@ const SESSION: &[&str] = &["session", "sys", "scr"];
 pub const SESSION_REPORTS: &str = "report\nexec b 2 8\nreport\nexec b 2 7\n";
 
 /// Scripts whose edits are made, most of them.
-pub const EDITS: [Call; 12] = [
+pub const EDITS: [Call; 13] = [
     (
         SESSION,
         &[("sys", TWO_TASKS), ("scr", SESSION_REPORTS)],
@@ -114,6 +114,23 @@ pub const EDITS: [Call; 12] = [
             "task ra left period 500 jitter 0 distance 0 best 111 worst 230\ntask rb left period 700 jitter 900 distance 0 best 79 worst 325\ntask ca gateway period 500 jitter 119 distance 111 best 5 worst 261\ntask cb gateway period 700 jitter 1146 distance 79 best 5 worst 261\ntask log gateway period 1000 jitter 0 distance 0 best 10 worst 261\ntask wa right period 500 jitter 375 distance 5 best 111 worst 430\ntask wb right period 700 jitter 1402 distance 5 best 79 worst 410\ntask pa port period 500 jitter 375 distance 5 best 6 worst 131\ntask pl port period 1000 jitter 251 distance 10 best 123 worst 131\ntask d gateway period 500 jitter 0 distance 0 best 1 worst 261\npath a best 227 worst 921 deadline 900 missed\nsummary tasks 10 overload 0 missed 1\n",
             "line 4 refused 2\nline 5 refused 2\nline 6 refused 2\n",
             GATEWAY_REPORT,
+        ],
+    ),
+    // Ceilings follow the priorities: below `filter`, `control` gives the lock its own priority and no longer that of the first.
+    (
+        SESSION,
+        &[
+            ("sys", LOCKED),
+            (
+                "scr",
+                "priority control 9\nreport\nexec logger 5 4\nexec logger 1 3\nremove filter\n",
+            ),
+        ],
+        0,
+        &[
+            "task control cpu period 20 jitter 0 distance 0 best 1 worst 18\ntask filter cpu period 50 jitter 0 distance 0 best 2 worst 6\ntask logger cpu period 100 jitter 0 distance 0 best 5 worst 16\ntask spare side period 100 jitter 0 distance 0 best 1 worst 2\npath p best 1 worst 18 deadline 6 missed\nsummary tasks 4 overload 0 missed 1\n",
+            "line 3 refused 5\n",
+            "task control cpu period 20 jitter 0 distance 0 best 1 worst 5\ntask logger cpu period 100 jitter 0 distance 0 best 1 worst 3\ntask spare side period 100 jitter 0 distance 0 best 1 worst 2\npath p best 1 worst 5 deadline 6 met\nsummary tasks 3 overload 0 missed 0\n",
         ],
     ),
     // An overload comes, and goes.

@@ -10,7 +10,7 @@ use crate::generated::{HAMMERED, LOADS};
 use crate::orders::{GROWTHS, ORDERS};
 use crate::runs::{REFUSED_TRACES, RUNS, RUNS_OF_SEVERAL};
 use crate::sessions::{EDITS, REFUSED_EDITS, SESSION_REPORTS};
-use cpa_cases::{BURST, GATEWAY, LONG_WINDOW, TWO_TASKS};
+use cpa_cases::{BURST, GATEWAY, LOCKED, LONG_WINDOW, TWO_TASKS};
 use std::test::Fail;
 
 const ANALYSE: &[&str] = &["analyse", "sys"];
@@ -90,8 +90,8 @@ const CHAINS: [Call; 7] = [
     (ANALYSE, &[("sys", CAR_NETWORK)], 0, &[CAR_NETWORK_REPORT]),
 ];
 
-/// Systems with the largest numbers, without tasks, in format 2, and with queues.
-const FURTHER_SYSTEMS: [Call; 9] = [
+/// Systems with the largest numbers, without tasks, in format 2, with queues, and with locks.
+const FURTHER_SYSTEMS: [Call; 10] = [
     (
         ANALYSE,
         &[("sys", LARGEST_JITTER)],
@@ -121,6 +121,7 @@ const FURTHER_SYSTEMS: [Call; 9] = [
     ),
     (ANALYSE, &[("sys", JOINED_KINDS)], 0, &[JOINED_KINDS_REPORT]),
     (ANALYSE, &[("sys", GATEWAY)], 0, &[GATEWAY_REPORT]),
+    (ANALYSE, &[("sys", LOCKED)], 0, &[LOCKED_REPORT]),
 ];
 
 /// Systems that are refused.

@@ -1,13 +1,15 @@
 mod cases;
+mod locks;
 mod queues;
 mod wholes;
 
 use cases::{ADDED, BASE, Case, PLACES, Told};
 use cpa_draft::{
-    BuildFault, Draft, DraftPath, DraftResource, DraftSource, DraftTask, KindWord, Part, Raw,
-    RawList, validate,
+    BuildFault, Draft, DraftLock, DraftLocks, DraftPath, DraftResource, DraftSource, DraftTask,
+    KindWord, Part, Raw, RawList, validate,
 };
 use cpa_units::limits::Size;
+use locks::{LOCKED, LOCKS};
 use queues::{QUEUED, QUEUES};
 use std::alloc::{AllocError, Global};
 use std::slice;
@@ -43,13 +45,39 @@ fn kind(line: &str) -> KindWord {
         "tdma" => KindWord::Tdma,
         "can" => KindWord::Can,
         "fifo" => KindWord::Fifo,
+        "ceiling" => KindWord::Ceiling,
         _ => KindWord::Preemptive,
     }
 }
 
 /// The number behind the first word of a line.
 fn region(line: &str) -> Option<i64> {
-    field(line, 0).strip_prefix("task ")?.parse().ok()
+    let word = field(line, 0).split(',').last().unwrap_or("");
+    word.strip_prefix("task ")?.parse().ok()
+}
+
+/// The critical section of a text: the name of its lock, where it begins, and how long it takes.
+fn section(alloc: Global, text: &str) -> Result<DraftLock, AllocError> {
+    let mut words = text.split(' ');
+    let name = raw(alloc, words.next().unwrap_or(""))?;
+    let start = words.next().unwrap_or("").parse().unwrap_or(-1);
+    let length = words.next().unwrap_or("").parse().unwrap_or(-1);
+    Ok(DraftLock {
+        name,
+        start,
+        length,
+    })
+}
+
+/// The critical sections that stand before the first word of a line, with a comma behind each.
+fn sections(alloc: Global, line: &str) -> Result<DraftLocks, AllocError> {
+    let mut sections = Vec::new(alloc);
+    for text in field(line, 0).split(',') {
+        if text.contains(' ') && !text.starts_with("task ") {
+            sections.push(section(alloc, text)?)?;
+        }
+    }
+    Ok(DraftLocks::new(sections))
 }
 
 /// Whether a frame has an extended identifier, where the first word of a line says so.
@@ -80,6 +108,7 @@ fn task(alloc: Global, line: &str) -> Result<DraftTask, AllocError> {
         priority: number(line, 6),
         slot: number(line, 7),
         region: region(line),
+        locks: sections(alloc, line)?,
     })
 }
 
@@ -215,14 +244,15 @@ fn refuses_the_first(rt: HostRuntime) -> Result<(), Fail> {
     let alloc = rt.alloc();
     let line = wrong_line(alloc, &BASE, &ADDED)?;
     let queued = wrong_line(alloc, &QUEUES, &QUEUED)?;
+    let locked = wrong_line(alloc, &LOCKS, &LOCKED)?;
     let wrong = [
         wrong_case(alloc, &[], &WHOLES)?,
         wrong_case(alloc, PLACES, &TASKS)?,
         wrong_run(alloc)?,
     ];
     assert!(rt;
-        (line, queued) == (None, None) && wrong == [None; 3],
-        "{line:?} {queued:?} {wrong:?}"
+        (line, queued, locked) == (None, None, None) && wrong == [None; 3],
+        "{line:?} {queued:?} {locked:?} {wrong:?}"
     );
     Ok(())
 }

@@ -1,6 +1,6 @@
 pub(crate) mod systems;
 
-use cpa_cases::{GATEWAY, ON_A_CLOCK};
+use cpa_cases::{GATEWAY, LOCKED, ON_A_CLOCK};
 use cpa_edit::{EditFault, EditRefusal, ScriptFault, Step, apply, read_script};
 use cpa_file::read_system;
 use cpa_model::{Activator, System, Turn};
@@ -254,6 +254,19 @@ const QUEUE_OUTCOMES: [Row; 8] = [
     (Err(7), "add ca gateway sa 1 2 0"),
 ];
 
+/// And over the system with locks, whose processor takes what a preemptive one takes.
+const LOCK_OUTCOMES: [Row; 6] = [
+    (
+        Ok(CPU),
+        "exec logger 1 1|exec logger 5 11|priority control 9|priority logger 0|swap control logger|add d cpu rare 1 2 4|add d cpu rare 1 2 4\nremove d",
+    ),
+    (Ok(CPU), "remove logger|remove filter"),
+    (Err(2), "slot control 1|slot logger 2|swap control spare"),
+    (Err(4), "priority control 2|add d cpu rare 1 2 3"),
+    (Err(6), "remove control"),
+    (Err(7), "add control cpu rare 1 2 4"),
+];
+
 /// The first of these scripts over copies of a system of which something else comes than is wanted.
 fn wrongly_judged(alloc: Global, system: &System, row: &Row) -> Result<Option<&'static str>, Fail> {
     for text in row.1.split('|') {
@@ -268,13 +281,14 @@ fn wrongly_judged(alloc: Global, system: &System, row: &Row) -> Result<Option<&'
 #[test]
 fn accepts_and_refuses(rt: HostRuntime) -> Result<(), Fail> {
     let alloc = rt.alloc();
-    let tables: [(&str, &[Row]); 6] = [
+    let tables: [(&str, &[Row]); 7] = [
         (WORKS, &OUTCOMES),
         (JOINED, &JOINED_OUTCOMES),
         (LADDER, &LADDER_OUTCOMES),
         (CROSSING_CHAINS, CROSSING_OUTCOMES),
         (ON_A_CLOCK, &CLOCK_OUTCOMES),
         (GATEWAY, &QUEUE_OUTCOMES),
+        (LOCKED, &LOCK_OUTCOMES),
     ];
     for (file, rows) in tables {
         let system = read_system(alloc, file.as_bytes())?;

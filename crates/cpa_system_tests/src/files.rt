@@ -1,6 +1,6 @@
 pub(crate) mod systems;
 
-use cpa_cases::{GATEWAY, ON_A_CLOCK};
+use cpa_cases::{GATEWAY, LOCKED, ON_A_CLOCK};
 use cpa_file::{FileRefusal, print_system, read_system};
 use cpa_model::{Part, Refusal, System};
 use cpa_units::TaskId;
@@ -16,7 +16,7 @@ use systems::{
 type Refused = (&'static str, u8, Part, u64);
 
 /// Each way to break the form of a file, at the top and in each kind of entry: the reason, the part and the place.
-const OTHER_FORMS: [Refused; 53] = [
+const OTHER_FORMS: [Refused; 54] = [
     ("", 1, Part::File, 0),
     ("format = 1.0", 1, Part::File, 0),
     ("format = \"1\"", 1, Part::File, 0),
@@ -68,6 +68,12 @@ const OTHER_FORMS: [Refused; 53] = [
     ),
     (
         "format = 4\nresource = [{ name = \"r\", kind = \"fifo\", rate = \"1\" }]",
+        1,
+        Part::Resource,
+        1,
+    ),
+    (
+        "format = 2\nresource = [{ name = \"r\", kind = \"ceiling\" }]",
         1,
         Part::Resource,
         1,
@@ -416,7 +422,7 @@ fn refuses_other_bytes(rt: HostRuntime) -> Result<(), Fail> {
 
 /// Files, the format in which their systems are printed, which is 4 where they were read from it and else the least that can say
 /// them, and how many tasks and paths these have.
-const READ_BACK: [(&str, &str, u32, u32); 19] = [
+const READ_BACK: [(&str, &str, u32, u32); 20] = [
     ("format = 1", "format = 1\n", 0, 0),
     ("format = 2", "format = 1\n", 0, 0),
     ("format = 4", "format = 4\n", 0, 0),
@@ -427,6 +433,7 @@ const READ_BACK: [(&str, &str, u32, u32); 19] = [
     (COOPERATIVE, "format = 4\n", 3, 0),
     (ON_A_CLOCK, "format = 4\n", 2, 1),
     (GATEWAY, "format = 4\n", 9, 1),
+    (LOCKED, "format = 4\n", 4, 1),
     (LONG_WINDOW, "format = 1\n", 2, 0),
     (DAVIS_BUS, "format = 1\n", 3, 1),
     (FRAME_LENGTHS, "format = 1\n", 2, 0),
@@ -548,6 +555,34 @@ const QUEUES: [(&str, Refused); 14] = [
     ),
 ];
 
+/// Locks are read in format 4 alone, each with all three keys and no others; they stand on tasks of resources with ceilings.
+const LOCKS: [(&str, Refused); 13] = [
+    ("format = 4", ("format = 2", 1, Part::Resource, 1)),
+    ("\"ceiling\"", ("\"preemptive\"", 9, Part::Task, 1)),
+    ("start = 2, length", ("length", 1, Part::Task, 3)),
+    ("start = 2", ("start = 2.0", 1, Part::Task, 3)),
+    ("start = 2", ("start = -1", 2, Part::Task, 3)),
+    ("start = 2", ("start = 2, end = 7", 1, Part::Task, 3)),
+    ("start = 2", ("start = 4", 16, Part::Task, 3)),
+    ("length = 5", ("length = 0", 2, Part::Task, 3)),
+    ("length = 5", ("length = \"5\"", 1, Part::Task, 3)),
+    ("region = 3", ("locks = 3", 1, Part::Task, 2)),
+    ("region = 3", ("locks = [3]", 1, Part::Task, 2)),
+    (
+        "region = 3",
+        (
+            "region = 3, locks = [{ name = \"x\", start = 0, length = 1 }]",
+            16,
+            Part::Task,
+            2,
+        ),
+    ),
+    ("name = \"file\"", ("name = \"f/\"", 3, Part::Task, 3)),
+];
+
+/// What is printed of the locks of a task.
+const PRINTED_LOCKS: &str = "lock";
+
 /// What is printed of a queue, and of a frame on a port: ticks, and no rate.
 const PRINTED_QUEUE: &str = "kind = \"fifo\"\nlimit = 2000\nname = \"gateway\"\n";
 
@@ -568,6 +603,25 @@ fn reads_and_prints_queues(rt: HostRuntime) -> Result<(), Fail> {
     let text = std::str::from_utf8(bytes.as_slice()).unwrap_or("");
     assert!(rt;
         wrong.is_none() && text.contains(PRINTED_QUEUE) && text.contains(PRINTED_FRAME),
+        "{wrong:?} {text}"
+    );
+    Ok(())
+}
+
+#[test]
+fn reads_and_prints_locks(rt: HostRuntime) -> Result<(), Fail> {
+    let alloc = rt.alloc();
+    let mut wrong = None;
+    for (old, other) in &LOCKS {
+        if !is_refused(alloc, LOCKED, old, other)? {
+            wrong = Some(other.0);
+        }
+    }
+    let system = read_system(alloc, LOCKED.as_bytes())?;
+    let bytes = print_system(alloc, &system)?;
+    let text = std::str::from_utf8(bytes.as_slice()).unwrap_or("");
+    assert!(rt;
+        wrong.is_none() && text.contains(PRINTED_LOCKS),
         "{wrong:?} {text}"
     );
     Ok(())

@@ -1,5 +1,6 @@
 //! What a system built from a draft answers.
 
+use cpa_cases::LOCKED;
 use cpa_file::{FileRefusal, read_system};
 use cpa_model::{
     Activator, BuildFault, Draft, DraftSource, Kind, Part, Raw, Refusal, System, Turn,
@@ -256,6 +257,25 @@ fn builds_queues(rt: HostRuntime) -> Result<(), Fail> {
     assert!(rt;
         wrong.is_none() && port == Some((ResId(0), Kind::Fifo, 1_000_000)),
         "{wrong:?} {port:?}"
+    );
+    Ok(())
+}
+
+/// The ceilings of a processor's locks, and by how long a task keeps a more urgent one waiting: by the rest of a region or of a section.
+#[test]
+fn knows_ceilings(rt: HostRuntime) -> Result<(), Fail> {
+    let alloc = rt.alloc();
+    let system = read_system(alloc, LOCKED.as_bytes())?;
+    let copy = system.copy(alloc)?;
+    let res = ResId(0);
+    assert!(rt;
+        (copy.resources(), copy.tasks()) == (2, 4)
+            && copy.ceiling(res, "bus".as_bytes()) == 1
+            && copy.ceiling(res, "file".as_bytes()) == 3
+            && copy.ceiling(ResId(1), "bus".as_bytes()) == 536_870_911
+            && copy.ceiling_blocking(TaskId(0), TaskId(1)) == 2
+            && copy.ceiling_blocking(TaskId(0), TaskId(2)) == 4
+            && copy.ceiling_blocking(TaskId(1), TaskId(2)) == 4
     );
     Ok(())
 }

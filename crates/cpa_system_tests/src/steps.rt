@@ -48,14 +48,25 @@ task = [
 ]
 "#;
 
-/// The tasks that wait, and when their earliest pending jobs arrived.
+/// After its first tick a job of the second task holds the lock of the first one for three ticks, and for its last two ticks a lock of
+/// its own.
+const SECTIONS: &str = r#"format = 4
+resource = [{ name = "r", kind = "ceiling" }]
+source = [{ name = "s", period = 100 }]
+task = [
+  { name = "a", on = "r", after = "s", best = 2, worst = 7, priority = 1, locks = [{ name = "bus", start = 0, length = 7 }] },
+  { name = "b", on = "r", after = "s", best = 2, worst = 7, priority = 2, locks = [{ name = "bus", start = 1, length = 3 }, { name = "own", start = 5, length = 2 }] },
+]
+"#;
+
+/// The tasks that wait, when their earliest pending jobs arrived, and what these have had.
 #[derive(Drop)]
-struct Waiting([bool; 2], [u64; 2]);
+struct Waiting([bool; 2], [u64; 2], [u64; 2]);
 
 impl Queue for Waiting {
     ghost use Rattle.std.specs.Prelude.{false, slice_index_or};
 
-    ghost ready = { λ q. record { waits = λ i. slice_index_or q.0 i false; arrival = λ i. slice_index_or q.1 i 0; received = λ i. 0 } };
+    ghost ready = { λ q. record { waits = λ i. slice_index_or q.0 i false; arrival = λ i. slice_index_or q.1 i 0; received = λ i. slice_index_or q.2 i 0 } };
 
     fn waits(&self, task: TaskId) -> bool {
         if task.0 < 2 {
@@ -68,6 +79,14 @@ impl Queue for Waiting {
     fn arrival(&self, task: TaskId) -> u64 {
         if task.0 < 2 {
             self.1[task.0 as usize]
+        } else {
+            0
+        }
+    }
+
+    fn received(&self, task: TaskId) -> u64 {
+        if task.0 < 2 {
+            self.2[task.0 as usize]
         } else {
             0
         }
@@ -156,7 +175,7 @@ fn takes_turns(rt: HostRuntime) -> Result<(), Fail> {
     let alloc = rt.alloc();
     let ring = read_system(alloc, RING.as_bytes())?;
     let table = read_system(alloc, TABLE.as_bytes())?;
-    let both = Waiting([true, true], [0, 0]);
+    let both = Waiting([true, true], [0, 0], [0, 0]);
     let res = ResId(0);
     assert!(rt;
         ring.resources() == 1
@@ -173,8 +192,8 @@ fn takes_turns(rt: HostRuntime) -> Result<(), Fail> {
 fn takes_regions(rt: HostRuntime) -> Result<(), Fail> {
     let alloc = rt.alloc();
     let system = read_system(alloc, REGIONS.as_bytes())?;
-    let second = Waiting([false, true], [0, 0]);
-    let both = Waiting([true, true], [0, 0]);
+    let second = Waiting([false, true], [0, 0], [0, 0]);
+    let both = Waiting([true, true], [0, 0], [0, 0]);
     let res = ResId(0);
     assert!(rt;
         system.resources() == 1
@@ -192,10 +211,10 @@ fn takes_regions(rt: HostRuntime) -> Result<(), Fail> {
 fn takes_jobs_as_they_came(rt: HostRuntime) -> Result<(), Fail> {
     let alloc = rt.alloc();
     let system = read_system(alloc, QUEUE.as_bytes())?;
-    let second = Waiting([false, true], [9, 3]);
-    let second_first = Waiting([true, true], [4, 3]);
-    let at_once = Waiting([true, true], [3, 3]);
-    let none = Waiting([false, false], [1, 2]);
+    let second = Waiting([false, true], [9, 3], [0, 0]);
+    let second_first = Waiting([true, true], [4, 3], [0, 0]);
+    let at_once = Waiting([true, true], [3, 3], [0, 0]);
+    let none = Waiting([false, false], [1, 2], [0, 0]);
     let res = ResId(0);
     assert!(rt;
         system.resources() == 1
@@ -205,5 +224,46 @@ fn takes_jobs_as_they_came(rt: HostRuntime) -> Result<(), Fail> {
             && four_stretches(&system, res, &none, 0) == [(None, 9); 4]
             && first_turn(&system, res, &at_once) == (A, 9, 0, 0)
     );
+    Ok(())
+}
+
+/// What jobs have had, and who runs then, for how long.
+const TURNS: [([bool; 2], [u64; 2], Option<TaskId>, u64); 12] = [
+    ([true, true], [0, 0], A, 7),
+    ([true, true], [0, 1], A, 7),
+    ([true, true], [0, 2], B, 2),
+    ([true, true], [0, 3], B, 1),
+    ([true, true], [0, 4], A, 7),
+    ([true, true], [0, 6], A, 7),
+    ([true, true], [1, 2], A, 6),
+    ([false, true], [0, 0], B, 4),
+    ([false, true], [0, 1], B, 3),
+    ([false, true], [0, 4], B, 3),
+    ([false, true], [0, 6], B, 1),
+    ([false, true], [0, 7], B, 9),
+];
+
+/// The first of these turns that is another one.
+fn wrong_turn(system: &System, res: ResId) -> Option<usize>
+    requires { res.0 < length system.now.resources }
+{
+    for k in 0..TURNS.len() {
+        let (waits, received, task, ticks) = TURNS[k];
+        let queue = Waiting(waits, [0, 0], received);
+        if first_turn(system, res, &queue) != (task, ticks, 0, 0) {
+            return Some(k);
+        }
+    }
+    None
+}
+
+/// A job within a section has the ceiling of its lock as priority, and runs on before one that has the same; a stretch ends with a section.
+#[test]
+fn takes_sections(rt: HostRuntime) -> Result<(), Fail> {
+    let alloc = rt.alloc();
+    let system = read_system(alloc, SECTIONS.as_bytes())?;
+    assert!(rt; system.resources() == 1);
+    let wrong = wrong_turn(&system, ResId(0));
+    assert!(rt; wrong.is_none(), "{wrong:?}");
     Ok(())
 }

@@ -4,7 +4,7 @@ use crate::drafts::cases::{BASE, Case};
 use cpa_draft::Part;
 
 /// Drafts with more than one fault, and faults of several entries.
-pub(crate) const WHOLES: [Case; 20] = [
+pub(crate) const WHOLES: [Case; 22] = [
     (&BASE, None),
     (&[], None),
     // The greatest numbers of a large system.
@@ -41,6 +41,16 @@ pub(crate) const WHOLES: [Case; 20] = [
         Some((2, Part::Resource, 2)),
     ),
     (&["resource|port|fifo||0||1"], Some((2, Part::Resource, 1))),
+    // And neither ceilings nor sections.
+    (&["resource|cpu|ceiling"], Some((2, Part::Resource, 1))),
+    (
+        &[
+            "resource|cpu|preemptive",
+            "source|s|10",
+            "bus 0 1,task|a|cpu|1|1||1||s",
+        ],
+        Some((2, Part::Task, 1)),
+    ),
     // Sources on clocks: a cycle of as many ticks, and one of as many events, as there may be.
     (
         &[
