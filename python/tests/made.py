@@ -1,7 +1,7 @@
 """Systems at random, of all kinds, most of them accepted."""
 from random import Random
 
-from lokwurmi import Kind, Resource, System
+from lokwurmi import Kind, Lock, Resource, System
 from lokwurmi.files.documents import activators
 from lokwurmi.model.entries import keys_of
 
@@ -68,10 +68,12 @@ def add_task(draw: Random, system: System, name: str, on: Resource, priority: in
     else:
         task.best = draw.randint(1, 10)
         task.worst = task.best + draw.randint(0, 20)
-    if on.kind in (Kind.PREEMPTIVE, Kind.CAN):
+    if on.kind in (Kind.PREEMPTIVE, Kind.CAN, Kind.CEILING):
         task.priority = priority
     elif on.kind != Kind.FIFO:
         task.slot = draw.randint(1, 20)
+    if on.kind == Kind.CEILING and draw.random() < 0.7:
+        task.locks = [Lock(f"{on.name}.{draw.choice('xy')}", draw.randint(0, 10), draw.randint(1, 20))]
 
 
 def add_paths(draw: Random, system: System) -> None:

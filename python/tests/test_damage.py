@@ -5,7 +5,7 @@ import unittest
 
 from lokwurmi.files.documents import Document
 from lokwurmi.refusals.rules import first_refusal
-from tests.support.damage import with_keys, with_queues, with_regions
+from tests.support.damage import with_keys, with_locks, with_queues, with_regions
 
 WRITTEN = """format = 1
 resource = [{ name = "cpu", kind = "preemptive" }]
@@ -89,6 +89,20 @@ class Damage(unittest.TestCase):
         self.assertEqual(kinds, {"preemptive", "can", "tdma", "fifo"})
         self.assertTrue({None, 1, 100, 672} <= rates, rates)
         self.assertTrue({None, 0, 8, 46, 1500} <= payloads, payloads)
+
+    def test_locks(self) -> None:
+        """Preemptive resources of any file can have ceilings, and their tasks sections, again and again."""
+        kinds, counts = set(), set()
+        for seed in range(200):
+            draw = random.Random(seed)
+            once = with_locks(draw, WRITTEN)
+            for text in (once, with_locks(draw, once), with_queues(draw, with_regions(draw, once))):
+                document = Document(text)
+                self.assertIsNone(first_refusal(document), text)
+                kinds |= {it["kind"] for it in document.entries["resource"]}
+                counts |= {len(it.get("locks", [])) for it in document.entries["task"]}
+        self.assertEqual(kinds, {"preemptive", "ceiling", "fifo"})
+        self.assertTrue({0, 1, 2, 3} <= counts, counts)
 
 
 if __name__ == "__main__":

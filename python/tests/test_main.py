@@ -63,8 +63,8 @@ class Main(unittest.TestCase):
                     "system refused reason 13 file 0\n",
                     f"{file}: the file: another format (reason 13): the format 3 isn't known: it is 1, 2 or 4: write"
                     " `format = 1`, `format = 2` so that a task's `after` may be a list, or `format = 4` so that a task"
-                    " may have a `region`, a source be `sporadic` or on a `clock`, and a resource be a queue"
-                    " (`fifo`), too\n",
+                    " may have a `region` or `locks`, a source be `sporadic` or on a `clock`, and a resource be a"
+                    " queue (`fifo`) or have priority ceilings (`ceiling`), too\n",
                 ),
             )
             file.write_text('format = 1\nresource = [{ name = "cpu", kind = "preemptive", limit = 0 }]\n')

@@ -295,6 +295,7 @@ class Files(unittest.TestCase):
                     system.tdma("c", gap=3),
                     system.can("d", bit=2),
                     system.fifo("e", rate=8),
+                    system.ceiling("f"),
                 )
             ],
             [str(it) for it in Kind],

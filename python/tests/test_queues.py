@@ -45,7 +45,7 @@ REFUSED = [
     ("best = 3, worst = 9", "", "reason 1 task 2", "it has no execution", "on a queue 0 to 1500"),
     ("worst = 9", "payload = 9", "reason 1 task 2", "`best` stands beside `payload`", "`payload` alone"),
     ('"fifo"', '"port"', "reason 1 resource 1", 'did you mean "fifo"?', "strict priorities is can"),
-    ('"fifo"', '"FCFS"', "reason 1 resource 1", 'did you mean "fifo"?', "tdma, can and fifo"),
+    ('"fifo"', '"FCFS"', "reason 1 resource 1", 'did you mean "fifo"?', "tdma, can, fifo and ceiling"),
 ]
 
 

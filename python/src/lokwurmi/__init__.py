@@ -46,10 +46,12 @@ if TYPE_CHECKING:
         Unreadable,
         WordsRefused,
     )
+    from lokwurmi.model.clocks import Clock, Release
     from lokwurmi.model.conversion import NoticeWarning, NoUnitWarning, Rounding, RoundingWarning
-    from lokwurmi.model.entries import Chain, Path, Resource, Source, Task
+    from lokwurmi.model.entries import Chain, Lock, Path, Resource, Source, Task
     from lokwurmi.model.limits import Kind
     from lokwurmi.model.units import Time, ms, ns, s, us
+    from lokwurmi.model.view import Anchor
     from lokwurmi.results.differences import Change, Changes, Shift, changes_of
     from lokwurmi.results.effect_chains import ChainReport, ChainsReport, JudgedChain, Step
     from lokwurmi.results.reports import (
@@ -70,6 +72,7 @@ if TYPE_CHECKING:
     from lokwurmi.results.verdicts import Bound, Verdicts
 
 __all__ = [
+    "Anchor",
     "Bound",
     "Buffers",
     "CallFailed",
@@ -79,6 +82,7 @@ __all__ = [
     "ChainsReport",
     "Change",
     "Changes",
+    "Clock",
     "EditRefused",
     "Engine",
     "FileTooLong",
@@ -86,6 +90,7 @@ __all__ = [
     "JudgedChain",
     "Kind",
     "Library",
+    "Lock",
     "LokwurmiError",
     "NameRefused",
     "NoEngine",
@@ -99,6 +104,7 @@ __all__ = [
     "PathReport",
     "Program",
     "Refused",
+    "Release",
     "Report",
     "Resource",
     "Rounding",
@@ -145,6 +151,8 @@ _MODULES = (
     "model.units",
     "model.conversion",
     "model.entries",
+    "model.clocks",
+    "model.view",
     "results.reports",
     "results.effect_chains",
     "results.verdicts",

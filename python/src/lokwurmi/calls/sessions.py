@@ -115,9 +115,8 @@ class Session:
         if kind == "task" and "on" not in entry and name in self._system.tasks:
             task = self._system.tasks[name]
             entry["on"] = task.on
-            if task.region is not None:
-                # an execution that it covers has a tick more
-                entry["region"] = self._system.ticks(task, "region")
+            # an execution that one of them covers has a tick more
+            entry |= {key: self._system.ticks(task, key) for key in ("region", "locks") if getattr(task, key)}
         told = self._system._convert(kind, entry)
         if told:
             self._roundings += told
@@ -241,7 +240,7 @@ class Session:
             status, text = self._open().report()
             if not Status.is_answer(status):
                 raise CallFailed(status, text)
-            return reports.reports(text, self._system.tick, self._roundings)[-1]
+            return reports.reports(text, self._system.tick, self._roundings, self._system._phases())[-1]
 
     @property
     def verdict(self) -> Verdict:

@@ -73,7 +73,7 @@ class System(NamedEntries):
 
     def to_toml(self) -> str:
         """The system file, in whole ticks; roundings stand in comments at its head. It has format 4 where a task has a
-        region or a source is sporadic, else 2 where one has several activators, else 1."""
+        region, or a source is sporadic or on a clock, else 2 where one has several activators, else 1."""
         text, told = self._file()
         self._warn(told)
         return text
@@ -174,7 +174,14 @@ class System(NamedEntries):
         3
         """
         text, told = self._told_answer("analyse", engine=engine)
-        return reports.reports(text, self._tick, told)[-1]
+        return reports.reports(text, self._tick, told, self._phases())[-1]
+
+    def _phases(self) -> reports.Phases:
+        """Where the streams of each task are on clocks, of a system that was accepted."""
+        if not self.clocks:
+            return {}
+        view = self.view()
+        return {name: view.anchors_of(name) for name in self.tasks}
 
     @overload
     def session(self, script: None = None, *, engine: Engine | None = None) -> "Session":

@@ -22,8 +22,8 @@ def kinds_of(form: int) -> tuple[str, ...]:
 
 @dataclass(frozen=True)
 class Key:
-    """What a key holds: `text`, `integer`, `truth`, `texts` or `after`; of an integer the range; whether each entry has
-    it."""
+    """What a key holds: `text`, `integer`, `truth`, `texts`, `after` or `locks`; of an integer the range; whether each
+    entry has it."""
 
     holds: str
     least: int = 0
@@ -47,7 +47,7 @@ def keys_of(form: int) -> dict[str, dict[str, Key]]:
     later = {
         "resource": {"rate": Key("integer", 1, MOST_RATE)},
         "source": {"sporadic": Key("truth"), "clock": Key("text"), **times["source"]},
-        "task": times["task"],
+        "task": times["task"] | {"locks": Key("locks")},
     }
     added = {
         part: {key: later[part][key] for key, since in it.items() if form >= since} for part, it in KEYS_SINCE.items()
@@ -69,6 +69,13 @@ def keys_of(form: int) -> dict[str, dict[str, Key]]:
 
 KEYS = keys_of(NEWEST)
 """The keys of each list in the newest format."""
+
+
+LOCK_KEYS = {
+    "name": Key("text", is_required=True),
+    **{key: Key("integer", least, most, True) for key, (_, least, most) in times_of(LIMITS[NEWEST])["lock"].items()},
+}
+"""The keys of a critical section, each of which it has."""
 
 
 def by_word(words: dict[str, str]) -> dict[str, str]:
@@ -93,6 +100,7 @@ OTHER_KEYS = by_word(
         "period": "cycle cycletime interval t p",
         "jitter": "j",
         "distance": "d dmin mindistance minimumdistance",
+        "locks": "lock mutex mutexes semaphore semaphores critical criticalsection criticalsections sections resources",
         "sporadic": "aperiodic issporadic eventtriggered onevent",
         "clock": "timebase timer counter scheduletable oscounter",
         "offset": "offsets phase phases start startoffset startdelay releaseoffset initialoffset",
@@ -119,6 +127,10 @@ OTHER_KINDS = by_word(
         "tdma": "tt timetriggered",
         "can": "canbus can2.0 spnp fpnp npfp nonpreemptive bus",
         "fifo": "fcfs queue firstcomefirstserved firstinfirstout port switch switchport ethernet egress",
+        "ceiling": (
+            "pcp icpp ipcp icp hlp srp priorityceiling immediateceiling immediatepriorityceiling ceilings"
+            " priorityprotect ceilinglocking highestlocker stackresource"
+        ),
     }
 )
 """What others call a kind."""
@@ -129,8 +141,8 @@ WITHOUT_PREEMPTION = ("spnp", "fpnp", "npfp", "nonpreemptive")
 OF_PORTS = ("port", "switch", "switchport", "ethernet", "egress")
 # what others call CAN FD
 FLEXIBLE = ("canfd", "fd", "canflexibledatarate", "isocanfd")
-# what others call a lock of a task, or its ceiling
-LOCKS = ("lock", "locks", "ceiling", "threshold")
+# what others call the ceiling of a lock
+CEILINGS = ("ceiling", "threshold")
 
 
 def bare(word: str) -> str:
@@ -146,6 +158,15 @@ def is_texts(value: object) -> bool:
     return isinstance(value, list) and all(isinstance(it, str) for it in value)
 
 
+def is_lock(value: object) -> bool:
+    """Whether a value has the form of a critical section."""
+    return (
+        isinstance(value, dict)
+        and value.keys() == LOCK_KEYS.keys()
+        and all(holds(LOCK_KEYS[key], it, False) for key, it in value.items())
+    )
+
+
 def holds(key: Key, value: object, has_lists: bool) -> bool:
     """Whether a value is of the key's type."""
     if key.holds == "integer":
@@ -154,6 +175,8 @@ def holds(key: Key, value: object, has_lists: bool) -> bool:
         return isinstance(value, bool)
     if key.holds == "texts":
         return is_texts(value)
+    if key.holds == "locks":
+        return isinstance(value, list) and all(is_lock(it) for it in value)
     if key.holds == "after" and has_lists and is_texts(value):
         return True
     return isinstance(value, str)

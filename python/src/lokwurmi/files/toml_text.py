@@ -19,6 +19,8 @@ def value_text(it: Any) -> str:
         return str(int(it))
     if isinstance(it, (list, tuple)):
         return "[" + ", ".join(map(value_text, it)) + "]"
+    if isinstance(it, Mapping):
+        return table_text(it)
     if isinstance(it, float):
         return repr(it)
     if hasattr(it, "__index__"):
@@ -27,6 +29,11 @@ def value_text(it: Any) -> str:
     raise TypeError(f"{it!r} is no value of a system file")
 
 
+def table_text(entry: Mapping[str, Any]) -> str:
+    """A table on one line."""
+    return "{ " + ", ".join([f"{key} = {value_text(value)}" for key, value in entry.items()]) + " }"
+
+
 def entry_text(entry: Mapping[str, Any]) -> str:
     """An entry, on a line of its own."""
-    return "  { " + ", ".join([f"{key} = {value_text(value)}" for key, value in entry.items()]) + " },\n"
+    return f"  {table_text(entry)},\n"

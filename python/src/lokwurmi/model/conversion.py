@@ -3,9 +3,10 @@
 A system counts in whole ticks, so a time that isn't a whole number of them is rounded to the side that is safe for its
 key, and each rounding is reported, and each tick more. Greatest executions, regions, jitters and gaps are rounded up;
 least executions, periods, distances and deadlines down. A slot has no safe side and must be whole. A region has a tick
-more. On a clock the period must be whole, and an offset is rounded down with the jitter as much greater, so that each
-interval in which an event may come has both its ends. The proof of the bounds is about ticks. That they hold for the
-times that were rounded so is argued in docs/NETWORKS.md, "Times with units", and not proved.
+more, and so has a critical section. On a clock the period must be whole, and an offset is rounded down with the jitter
+as much greater, so that each interval in which an event may come has both its ends. The proof of the bounds is about
+ticks. That they hold for the times that were rounded so is argued in docs/NETWORKS.md, "Times with units", and not
+proved.
 """
 import math
 import re
@@ -18,6 +19,7 @@ from typing import Any
 from lokwurmi.errors import UnitsRefused
 from lokwurmi.frames import MOST_CLASSICAL, MOST_ETHERNET, frame_bits, port_bits
 from lokwurmi.model.limits import DOWN, MOST_BIT, MOST_RATE, NEITHER, TIMES, UP, Kind, TimeRanges, limits_of, times_of
+from lokwurmi.model.lock_times import set_locks
 from lokwurmi.model.units import UNITS, Time, bit_of, common, text_of
 
 # why a time has to be whole, by its key
@@ -59,6 +61,8 @@ class Rounding:
     """Whether a tick more is in it: it is a region, or an execution that is no longer than its region."""
     is_widened: bool = False
     """Whether it is a jitter that is greater by what its source's offset was rounded down."""
+    note: str = ""
+    """What else is to be said of it."""
 
     def __str__(self) -> str:
         told = f"{self.what}: {self.key} of {text_of(self.time.nanoseconds)} is"
@@ -68,7 +72,7 @@ class Rounding:
             return f"{told} {self.ticks}, the most; bounds that need more are overload"
         rounded = "" if self.side == NEITHER else f" rounded {self.side} to"
         widened = ", with what the offset is rounded down by" if self.is_widened else ""
-        return f"{told}{rounded} {self.ticks}{', with a tick more' if self.has_more else ''}{widened}"
+        return f"{told}{rounded} {self.ticks}{', with a tick more' if self.has_more else ''}{widened}{self.note}"
 
 
 def warn(told: Iterable[object], kind: type[Warning] = RoundingWarning) -> None:
@@ -154,12 +158,14 @@ class Converter:
         return rounded
 
     def more_of(self, item: WrittenEntry, key: str, time: Fraction) -> int:
-        """A tick more for a region, and for an execution that is no longer than its region is without that. A job that
-        has begun between two ticks holds up others for all of it, and in ticks it holds them up for a tick less."""
+        """A tick more for a region, and for an execution that is no longer than its region, or a critical section, is
+        without that. A job that has begun between two ticks holds up others for all of it, and in ticks it holds them
+        up for a tick less."""
         if key != "worst":
             return int(key == "region")
-        region = item.get("region")
-        return int(isinstance(region, int) and region > math.ceil(time / self.tick))
+        lengths = [it.get("length") for it in item.get("locks", []) if isinstance(it, MutableMapping)]
+        several = [it for it in (item.get("region"), *lengths) if isinstance(it, int)]
+        return int(max(several, default=0) > math.ceil(time / self.tick))
 
     def set_time(self, kind: str, item: WrittenEntry, key: str, bit: Fraction | None) -> None:
         """Replaces a time of an entry that has a unit."""
@@ -273,6 +279,8 @@ class Converter:
         """Replaces the times of an entry."""
         bit = self.bits.get(str(item.get("on", item.get("name", "")))) if kind in ("resource", "task") else None
         lost = self.lost_by_offset(item) if kind == "source" and "clock" in item else Fraction(0)
+        if kind == "task" and "locks" in item:
+            set_locks(self, item, bit)
         for key in self.times[kind]:
             if key == "jitter" and lost:
                 self.widen(item, lost)
@@ -322,7 +330,7 @@ class Converter:
     @property
     def reported(self) -> list[Rounding]:
         """The times that were rounded, and those that have a tick more."""
-        return [*self.told, *(it for it in self.longer if it.side == NEITHER)]
+        return [*self.told, *(it for it in self.longer if it.side == NEITHER and it not in self.told)]
 
     @property
     def has_units(self) -> bool:
@@ -338,7 +346,8 @@ class Converter:
     def more_text(self) -> str:
         """What is to be said of the times that have a tick more; nothing where there are none."""
         several = ", ".join(f"{it.key} of {it.what} is {it.ticks}" for it in self.longer)
-        return f"a tick more, since between ticks all of a region may go by: {several}" if several else ""
+        of = "section" if any(it.key == "length" for it in self.longer) else "region"
+        return f"a tick more, since between ticks all of a {of} may go by: {several}" if several else ""
 
     def bare_text(self) -> str:
         """What is to be said of the numbers that have no unit; nothing where there are none."""

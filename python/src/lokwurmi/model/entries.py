@@ -5,7 +5,7 @@ and on a resource with a bit rate also "84 byte" or "111 bit". It's rounded to t
 system file is written, and stays as it is here.
 """
 from collections.abc import Mapping
-from dataclasses import dataclass, fields
+from dataclasses import asdict, dataclass, fields
 from typing import Any
 
 from lokwurmi.errors import NoTick
@@ -58,6 +58,17 @@ class Source:
 
 
 @dataclass(slots=True)
+class Lock:
+    """A critical section of a task under priority ceilings: each job holds the lock from then on when it has had more
+    than `start` ticks, until it has had `length` more, or is complete. Both are in ticks or times; `start` is rounded
+    down, `length` up, and a time has a tick more."""
+
+    name: str
+    start: Ticks
+    length: Ticks
+
+
+@dataclass(slots=True)
 class Task:
     """A task, or a frame on a bus."""
 
@@ -77,14 +88,20 @@ class Task:
     extended: bool | None = None
     """Whether the frame's identifier has 29 bits; only beside `payload`, on `can`."""
     priority: int | None = None
-    """On `preemptive` and `can`: the smaller number goes first. On `fifo` there is neither this nor a slot."""
+    """On `preemptive`, `can` and `ceiling`: the smaller number goes first. On `fifo` there is neither this nor a
+    slot."""
     slot: Ticks | None = None
     """On `round-robin` and `tdma`: how long its turn lasts, in ticks or as a time, which must be a whole number of
     ticks."""
     region: Ticks | None = None
-    """On `preemptive`: for so many ticks a job isn't preempted once it has begun a region. A time is rounded up, and
-    has a tick more. None: 1 tick, so that a job may be preempted at
-    each."""
+    """On `preemptive` and `ceiling`: for so many ticks a job isn't preempted once it has begun a region. A time is
+    rounded up, and has a tick more. None: 1 tick, so that a job may be preempted at each."""
+    locks: list[Lock] | None = None
+    """On `ceiling`: its critical sections, of which two nest or are apart; none beside a region. None: it has none."""
+
+    def __post_init__(self) -> None:
+        if isinstance(self.locks, list):
+            self.locks = [Lock(**it) if isinstance(it, Mapping) else it for it in self.locks]
 
 
 @dataclass(slots=True)
@@ -124,7 +141,10 @@ def kind_name(it: Entry) -> str:
 
 def keys_of(it: Entry) -> dict[str, Any]:
     """The keys of an entry that have a value, with it."""
-    return {key: value for key in _KEYS[type(it)] if (value := getattr(it, key)) is not None}
+    found = {key: value for key in _KEYS[type(it)] if (value := getattr(it, key)) is not None}
+    if "locks" in found:
+        found["locks"] = [asdict(lock) for lock in found["locks"]]
+    return found
 
 
 def is_time(word: Any) -> bool:
@@ -145,3 +165,5 @@ def check_no_time(kind: str, entry: Mapping[str, Any]) -> None:
     for key, value in entry.items():
         if key == "bitrate" or (key in TIMES[kind] or key == "bit") and is_time(value):
             raise NoTick(f"{key} of {kind} {entry.get('name')!r} is {value}")
+    for lock in entry.get("locks", []):
+        check_no_time("lock", lock)

@@ -8,9 +8,13 @@ FORMATS = tuple(LIMITS)
 """The formats of a system file, the newest one last."""
 WITH_LISTS = 2
 """The first format in which a task's `after` may be a list."""
-KEYS_SINCE = {"resource": {"rate": 4}, "source": {"sporadic": 4, "clock": 4, "offset": 4}, "task": {"region": 4}}
+KEYS_SINCE = {
+    "resource": {"rate": 4},
+    "source": {"sporadic": 4, "clock": 4, "offset": 4},
+    "task": {"region": 4, "locks": 4},
+}
 """The keys of each list that a later format has alone, each with the first that has it."""
-KINDS_SINCE = {"fifo": 4}
+KINDS_SINCE = {"fifo": 4, "ceiling": 4}
 """The kinds of resource that a later format has alone, each with the first that has it."""
 
 

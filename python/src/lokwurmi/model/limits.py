@@ -21,12 +21,16 @@ class Kind(StrEnum):
     """The smallest priority number is next, and what has started goes on to its end."""
     FIFO = "fifo"
     """A queue: what came first is next, and goes on to its end."""
+    CEILING = "ceiling"
+    """As preemptive, and within a critical section a job has the ceiling of the lock as its priority."""
 
 
-WITH_PRIORITIES = ("preemptive", "can")
+WITH_PRIORITIES = ("preemptive", "can", "ceiling")
 """The kinds of resource whose tasks have priorities."""
 WITH_SLOTS = ("round-robin", "tdma")
 """Those whose tasks have slots; on a queue they have neither."""
+WITH_REGIONS = ("preemptive", "ceiling")
+"""Those whose tasks may have regions."""
 
 
 @dataclass(frozen=True, slots=True)
@@ -38,7 +42,7 @@ class Limits:
     file_bytes: int
     """How many bytes the file may have."""
     execution: int
-    """The longest execution, region, slot and gap."""
+    """The longest execution, region, critical section, slot and gap."""
     window: int
     """The longest busy window that may be looked at."""
 
@@ -79,6 +83,8 @@ MOST_STREAMS = 32
 """How many streams may start a task."""
 MOST_IN_NAME = 64
 """How many letters a name may have."""
+MOST_SECTIONS = 64
+"""How many critical sections a task may have."""
 MOST_STARTS = 4_096
 """How many events the sources on a clock may have in a cycle of it."""
 
@@ -127,7 +133,8 @@ ticks."""
 
 
 def times_of(limits: Limits) -> TimeRanges:
-    """The times of a format with such limits. A region stands before what depends on it."""
+    """The times of a format with such limits, and those of a task's critical sections. A region stands before what
+    depends on it."""
     execution = {key: (side, 1, limits.execution) for key, side in (("region", UP), ("best", DOWN), ("worst", UP))}
     return {
         "resource": {"limit": (UP, 1, limits.window), "gap": (UP, 0, limits.execution)},
@@ -138,6 +145,7 @@ def times_of(limits: Limits) -> TimeRanges:
             "offset": (DOWN, 0, MOST_TICKS - 1),
         },
         "task": {**execution, "slot": (NEITHER, 1, limits.execution)},
+        "lock": {"start": (DOWN, 0, limits.execution), "length": (UP, 1, limits.execution)},
         "path": {"deadline": (DOWN, 1, MOST_TICKS)},
         "chain": {key: (DOWN, 1, MOST_TICKS) for key in ("reaction", "age", "held")},
     }

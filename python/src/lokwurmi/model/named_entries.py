@@ -9,8 +9,9 @@ from typing import Any, Self, TypeVar
 
 from lokwurmi.errors import LokwurmiError
 from lokwurmi.frames import execution
+from lokwurmi.model.clocks import Clock
 from lokwurmi.model.conversion import Converter, NoUnitWarning, Rounding, warn
-from lokwurmi.model.entries import Entry, Path, Resource, Source, Task, Ticks, check_no_time, keys_of, kind_name
+from lokwurmi.model.entries import Entry, Lock, Path, Resource, Source, Task, Ticks, check_no_time, keys_of, kind_name
 from lokwurmi.model.formats import least_format
 from lokwurmi.model.limits import TIMES, Kind
 from lokwurmi.model.units import Time, tick_of
@@ -19,7 +20,7 @@ from lokwurmi.model.view import SystemView
 _Entry = TypeVar("_Entry", Resource, Source, Task, Path)
 
 
-def name_of(it: "str | Entry") -> str:
+def name_of(it: "str | Entry | Clock") -> str:
     return it if isinstance(it, str) else it.name
 
 
@@ -157,6 +158,22 @@ class NamedEntries:
         """
         return self.resource(name, Kind.FIFO, limit=limit, bitrate=bitrate, rate=rate)
 
+    def ceiling(self, name: str, *, limit: Ticks | None = None) -> Resource:
+        """Adds a processor on which the smallest priority number is next, and a task that holds a lock has the lock's
+        ceiling as its priority: the smallest number among the tasks that take the lock.
+
+        >>> from lokwurmi import Lock, System
+        >>> system = System()
+        >>> cpu, often = system.ceiling("cpu"), system.source("often", period=100)
+        >>> shared = [Lock("shared", start=0, length=2)]
+        >>> control = system.task("control", on=cpu, after=often, best=5, worst=5, priority=1, locks=shared)
+        >>> longer = [Lock("shared", start=3, length=8)]
+        >>> log = system.task("log", on=cpu, after=often, best=20, worst=20, priority=2, locks=longer)
+        >>> system.analyse().tasks["control"].worst
+        12
+        """
+        return self.resource(name, Kind.CEILING, limit=limit)
+
     def source(
         self,
         name: str,
@@ -165,12 +182,12 @@ class NamedEntries:
         jitter: Ticks | None = None,
         distance: Ticks | None = None,
         sporadic: bool | None = None,
-        clock: str | None = None,
+        clock: str | Clock | None = None,
         offset: Ticks | None = None,
     ) -> Source:
         """Adds a source of events; times are in ticks, or have a unit. One that is `sporadic` may fall silent. Those
         that name one `clock` keep their distances: event n of each comes at its `offset` and n periods after the
-        clock's start, by up to its jitter late, and none is left out.
+        clock's start, by up to its jitter late, and none is left out. `clock("timer").source` does the same.
 
         >>> from lokwurmi import System
         >>> system = System()
@@ -182,7 +199,25 @@ class NamedEntries:
         >>> system.analyse().tasks["b"].worst
         3
         """
-        return self._add(Source(name, period, jitter, distance, sporadic, clock, offset))
+        on = None if clock is None else name_of(clock)
+        return self._add(Source(name, period, jitter, distance, sporadic, on, offset))
+
+    def clock(self, name: str) -> Clock:
+        """The clock of a name: its sources, offsets and cycle, and `source`, which adds one to it.
+
+        >>> from lokwurmi import System
+        >>> system = System()
+        >>> ecu = system.clock("ecu")
+        >>> fast, slow = ecu.source("fast", period=10), ecu.source("slow", period=20, offset=5)
+        >>> ecu.cycle
+        20
+        """
+        return Clock(name, self)
+
+    @property
+    def clocks(self) -> dict[str, Clock]:
+        """The clocks that sources name, by their names, in the order of their first sources."""
+        return {it.clock: Clock(it.clock, self) for it in self.sources.values() if it.clock is not None}
 
     def task(
         self,
@@ -197,6 +232,7 @@ class NamedEntries:
         priority: int | None = None,
         slot: Ticks | None = None,
         region: Ticks | None = None,
+        locks: "Iterable[Lock] | None" = None,
     ) -> Task:
         """Adds a task; `on` and `after` are names, or what was added before. Times are in ticks, or have a unit.
 
@@ -211,7 +247,8 @@ class NamedEntries:
         """
         single = isinstance(after, (str, Source, Task))
         starts: str | list[str] = name_of(after) if single else [name_of(it) for it in after]  # type: ignore
-        return self._add(Task(name, name_of(on), starts, best, worst, payload, extended, priority, slot, region))
+        turn = (priority, slot, region, list(locks or ()) or None)
+        return self._add(Task(name, name_of(on), starts, best, worst, payload, extended, *turn))
 
     def path(self, name: str, tasks: Iterable[str | Task], *, deadline: Ticks | None = None) -> Path:
         """Adds a path over tasks, with a deadline in ticks or as a time, if there is one."""

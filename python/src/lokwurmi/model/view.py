@@ -76,12 +76,37 @@ class SourceRow:
     """How long after the start of its clock its first event comes."""
 
 
+class Block(NamedTuple):
+    """By what a task of lower priority may hold up another: for so many ticks, by a `frame`, a `region` or a `section`;
+    of a section the lock, and after how many ticks of a job it begins."""
+
+    task: str
+    ticks: int
+    under: str
+    lock: str = ""
+    start: int = 0
+
+
 class Anchor(NamedTuple):
     """Where a stream is on a clock: event number n comes from offset + n periods after the clock's start to that and
     the jitter."""
 
     clock: str
     offset: int
+
+
+@dataclass(frozen=True, slots=True)
+class LockRow:
+    """A critical section of a task: the lock, after how many ticks of each job it begins, and how many it has."""
+
+    name: str
+    start: int
+    length: int
+
+    @property
+    def end(self) -> int:
+        """After how many ticks of a job it is over, unless the job ends before."""
+        return self.start + self.length
 
 
 @dataclass(frozen=True, slots=True)
@@ -106,6 +131,8 @@ class TaskRow:
     """None where it has a priority, or queues."""
     region: int = DEFAULT_REGION
     """For how long a job isn't preempted once it has begun a region; it may be longer than the execution."""
+    locks: tuple[LockRow, ...] = ()
+    """Its critical sections, in the order of the file."""
 
     @property
     def rank(self) -> int:
@@ -142,6 +169,7 @@ def _resource_row(entry: Mapping[str, Any]) -> ResourceRow:
 def _task_row(entry: Mapping[str, Any], resource: Mapping[str, Any]) -> TaskRow:
     best, worst = execution(entry, resource)
     rest = {key: entry[key] for key in ("payload", "extended", "priority", "slot", "region") if key in entry}
+    rest["locks"] = tuple(LockRow(**it) for it in entry.get("locks", []))
     return TaskRow(entry["name"], entry["on"], tuple(activators(entry)), best, worst, **rest)
 
 
@@ -260,10 +288,44 @@ class SystemView:
         row, resource = self.tasks[task], self.resource(task)
         return row.worst if resource.is_bus or resource.is_queue else row.longest_region
 
+    def blocks(self, task: str) -> list[Block]:
+        """By what each task of lower priority may hold up this one for longest: by a frame that is under way, a region
+        that has begun, or a critical section whose ceiling is no less urgent. Those that hold it up for longest come
+        first."""
+        found = []
+        for name in self.lower(task):
+            under = "frame" if self.resource(name).is_bus else "region"
+            several = [Block(name, self.uninterrupted(name), under)]
+            several += [
+                Block(name, min(it.length, self.tasks[name].worst), "section", it.name, it.start)
+                for it in self.tasks[name].locks
+                if self.ceiling(self.tasks[name].on, it.name) <= self.tasks[task].rank
+            ]
+            found.append(max(several, key=lambda it: it.ticks))
+        return sorted(found, key=lambda it: -it.ticks)
+
     def blockers(self, task: str) -> list[str]:
-        """The tasks of lower priority that may hold up one that comes: by a frame that is under way, or by a region
-        that has begun."""
-        return [it for it in self.lower(task) if self.uninterrupted(it) > 1]
+        """The tasks of lower priority that may hold up one that comes, in the order of the file."""
+        found = {it.task for it in self.blocks(task) if it.ticks > 1}
+        return [it for it in self.lower(task) if it in found]
+
+    # ---- locks
+
+    @cached_property
+    def _users(self) -> dict[tuple[str, str], list[str]]:
+        found: dict[tuple[str, str], list[str]] = {}
+        for name, task in self.tasks.items():
+            for lock in dict.fromkeys(it.name for it in task.locks):
+                found.setdefault((task.on, lock), []).append(name)
+        return found
+
+    def locks_on(self, resource: str) -> dict[str, tuple[str, ...]]:
+        """The locks of a resource, each with the tasks that use it, in the order of the file."""
+        return {lock: tuple(several) for (on, lock), several in self._users.items() if on == resource}
+
+    def ceiling(self, resource: str, lock: str) -> int:
+        """The ceiling of a lock: the smallest priority number among the tasks that use it."""
+        return min(self.tasks[it].rank for it in self._users[resource, lock])
 
     # ---- TDMA
 
@@ -356,6 +418,16 @@ class SystemView:
             return []
         several = [it.clock for name in (task, *self.rivals(task)) for it in self.anchors_of(name) if it]
         return [it for it in dict.fromkeys(several) if several.count(it) > 1]
+
+    @cached_property
+    def clocks_in_bounds(self) -> tuple[str, ...]:
+        """The clocks that bounds use, in the order of their first sources: by each of them some bound may be below that
+        without clocks, as `clocks_at` says of a task. The task that goes last on a resource has them all."""
+        found: set[str] = set()
+        for resource, it in self.resources.items():
+            if self.clocks and it.has_priorities and self.on(resource):
+                found.update(self.clocks_at(self.ranked(resource)[-1]))
+        return tuple(clock for clock in self.clocks if clock in found)
 
     def streams_from(self, name: str) -> int:
         """How many streams come out of a source, or out of a task."""

@@ -6,10 +6,10 @@ from collections.abc import Sequence
 
 from lokwurmi.files.documents import PARTS, Document, Table
 from lokwurmi.files.system_keys import (
+    CEILINGS,
     FLEXIBLE,
     KEYS,
     KINDS,
-    LOCKS,
     OF_PORTS,
     OTHER_KEYS,
     OTHER_KINDS,
@@ -24,7 +24,9 @@ from lokwurmi.files.system_keys import (
 )
 from lokwurmi.model.formats import FORMATS, KEYS_SINCE, KINDS_SINCE, least_format
 from lokwurmi.model.limits import DOWN, MOST_TICKS, TIMES
-from lokwurmi.refusals.remark import Note, Remark, listed, nearest, page
+from lokwurmi.refusals.locks import CEILING_TOLD, IN_TASKS, LOCKS
+from lokwurmi.refusals.locks import wrong_list as wrong_locks
+from lokwurmi.refusals.remark import Note, Remark, listed, nearest
 from lokwurmi.refusals.spots import Spot, spots_in
 
 # the key of tasks, and those of sources, that format 4 has alone
@@ -47,11 +49,12 @@ TYPES = {
     "integer": "a whole number",
     "truth": "true or false",
     "texts": 'an array of texts, as ["a", "b"]',
+    "locks": "an array of tables",
     "after": "a text, or with `format = 2` or 4 an array of texts",
 }
 MISSING = {
     "name": 'give it a name of letters, digits, _, - and .: name = ".."',
-    "kind": 'write kind = "preemptive", "round-robin", "tdma" or "can", or with `format = 4` "fifo"',
+    "kind": 'write kind = "preemptive", "round-robin", "tdma" or "can", or with `format = 4` "fifo" or "ceiling"',
     "period": f"write period = N: how many ticks lie between two events, 1 to {MOST_TICKS}",
     "on": 'write on = "..": the resource that it runs on',
     "after": 'write after = "..": the source or the task that starts it',
@@ -99,7 +102,8 @@ def other_format(document: Document) -> Remark | None:
         return None
     helps = (
         "write `format = 1`, `format = 2` so that a task's `after` may be a list, or `format = 4` so that a task may"
-        " have a `region`, a source be `sporadic` or on a `clock`, and a resource be a queue (`fifo`), too"
+        " have a `region` or `locks`, a source be `sporadic` or on a `clock`, and a resource be a queue (`fifo`) or"
+        " have priority ceilings (`ceiling`), too"
     )
     return Remark(f"the format {value} isn't known: it is 1, 2 or 4", format_span(document), helps)
 
@@ -121,8 +125,8 @@ def unknown_top_key(document: Document, key: str) -> Remark:
     guess = f"; did you mean `{near}`?" if near else ""
     helps = "at the top stand format, resource, source, task and path"
     owners = [part for part in PARTS if key in KEYS[part]]
-    if bare(key) in LOCKS:
-        guess, helps = "", no_locks()
+    if OTHER_KEYS.get(bare(key), bare(key)) == LOCKS and not near:
+        helps = IN_TASKS
     elif owners and not near:
         helps = f"`{key}` is a key of {AN[owners[0]]}: it stands below its heading [[{owners[0]}]]"
     return Remark(f"the key `{key}` isn't known at the top of the file{guess}", document.root.keys[key], helps)
@@ -204,11 +208,6 @@ def key_meant(key: str, known: list[str], value: Table) -> str | None:
     return bare(key) if bare(key) in left else nearest(key, left)
 
 
-def no_locks() -> str:
-    """Where to read why a lock can't be told."""
-    return f'locks aren\'t modelled: {page("COMING_FROM.md")}, "Cooperative tasks"'
-
-
 def unknown_key(spot: Spot, key: str) -> Remark:
     if key in KEYS_SINCE.get(spot.part, {}):
         return old_format(spot, key)
@@ -223,8 +222,12 @@ def way_of(spot: Spot, key: str) -> tuple[str | None, str]:
     near, name = key_meant(key, known, spot.entry), spot.entry.get("name", "..")
     if part == "task" and key == "deadline":
         return None, f'a deadline belongs to a path: [[path]] name = "{name}", tasks = ["{name}"], deadline = ..'
-    if part == "task" and bare(key) in LOCKS:
-        return None, no_locks()
+    if part in ("task", "resource") and bare(key) in CEILINGS:
+        return None, CEILING_TOLD
+    if part == "task" and OTHER_KEYS.get(bare(key)) == LOCKS and LOCKS not in spot.entry:
+        return LOCKS, IN_TASKS
+    if part == "resource" and OTHER_KEYS.get(bare(key), bare(key)) == LOCKS:
+        return None, IN_TASKS
     if part == "task" and OTHER_KEYS.get(bare(key)) == REGION and REGION not in spot.entry:
         helps = "for so many ticks a job isn't preempted; one with a region of at least `worst` never is"
         return REGION, helps + ("" if REGION in known else "; it needs `format = 4`")
@@ -257,6 +260,8 @@ def wrong_type(spot: Spot, key: str) -> Remark:
     value, wanted = spot.entry[key], keys_of(spot.document.form)[spot.part][key].holds
     if wanted in ("texts", "after") and isinstance(value, list):
         return wrong_list(spot, key, value)
+    if wanted == LOCKS:
+        return wrong_locks(spot, kind_of(value))
     says = f"`{key}` is {kind_of(value)}, and has to be {TYPES[wanted]}"
     span = spot.value(key)
     return spot.remark(says, span, remedy(wanted, value, key, spot.document.text_of(span)))

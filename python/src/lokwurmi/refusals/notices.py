@@ -7,11 +7,12 @@ from dataclasses import replace
 from lokwurmi.files.documents import Document, activators
 from lokwurmi.model.limits import LOW_BITS, MOST_SHORT
 from lokwurmi.model.view import SystemView
+from lokwurmi.refusals.locks import name_span, place_of, sections
 from lokwurmi.refusals.remark import Note, Remark, listed, nearest
 from lokwurmi.refusals.spots import Spot, spots_in
 
 MOST = 5
-IDENTIFIERS, ORDERS, CLOCKS = "CAN identifiers", "Priority orders and slack", "Clocks"
+IDENTIFIERS, ORDERS, CLOCKS, LOCKS = "CAN identifiers", "Priority orders and slack", "Clocks", "Locks"
 
 
 def of_system(document: Document) -> list[Remark]:
@@ -19,6 +20,7 @@ def of_system(document: Document) -> list[Remark]:
     clocks = [*sporadic_on_clock(document), *lonely_clocks(document)]
     remarks = [*unused_sources(document), *(replace(it, more=IDENTIFIERS) for it in found)]
     remarks += [replace(it, more=CLOCKS) for it in clocks]
+    remarks += [replace(it, more=LOCKS) for it in (*idle_sections(document), *lonely_locks(document))]
     return [replace(it, is_notice=True) for it in remarks]
 
 
@@ -64,6 +66,34 @@ def lonely_clocks(document: Document) -> Iterator[Remark]:
         guess = f'; did you mean "{near}"?' if (near := nearest(clock, [it for it in on if it != clock])) else ""
         helps = f"a clock says how the events of several sources lie to each other{guess}"
         yield Remark(f'{spot.called} is alone on clock "{clock}", which changes no bound', spot.value("clock"), helps)
+
+
+def idle_sections(document: Document) -> Iterator[Remark]:
+    """Critical sections that no job comes to."""
+    for spot in spots_in(document, "task"):
+        several = enumerate(sections(spot))
+        found = [(item, it) for item, it in several if it["start"] >= spot.entry["worst"]]
+        for item, it in found[:1]:
+            more = f"; so it is with {len(found) - 1} more of its sections" if found[1:] else ""
+            says = (
+                f'{spot.called}: its section of "{it["name"]}" begins after {it["start"]} ticks of a job, and no job'
+                f" has more than {spot.entry['worst']}: it never begins{more}"
+            )
+            helps = "the section counts for bounds as any other: let it begin earlier, or leave it out"
+            yield Remark(says, place_of(spot, item).values["start"].span, helps)
+
+
+def lonely_locks(document: Document) -> Iterator[Remark]:
+    """Locks with one user, by which no bound changes: perhaps a name is another than was meant."""
+    users: dict[str, list[tuple[Spot, int]]] = {}
+    for spot in spots_in(document, "task"):
+        for item, it in enumerate(sections(spot)):
+            users.setdefault(it["name"], []).append((spot, item))
+    alone = [(lock, *several[0]) for lock, several in users.items() if len({it.at for it, _ in several}) == 1]
+    for lock, spot, item in alone[:MOST]:
+        guess = f'; did you mean "{near}"?' if (near := nearest(lock, [it for it in users if it != lock])) else ""
+        helps = f"a lock keeps out the other tasks that take it: name it in their `locks`, too, or leave it out{guess}"
+        yield Remark(f'{spot.called} alone has the lock "{lock}", which changes no bound', name_span(spot, item), helps)
 
 
 def buses_in(document: Document) -> list[str]:

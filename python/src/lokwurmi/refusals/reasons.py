@@ -8,6 +8,7 @@ from lokwurmi.model.limits import (
     MOST_CHAINS,
     MOST_IN_CHAIN,
     MOST_IN_NAME,
+    MOST_SECTIONS,
     MOST_STARTS,
     MOST_STREAMS,
     MOST_TICKS,
@@ -55,6 +56,11 @@ SYSTEM_REASONS = {
         "a clock that repeats too seldom",
         f"with it the cycle of its clock is above {MOST_TICKS:,} ticks, or has more than {MOST_STARTS:,} events",
     ),
+    16: Reason(
+        "critical sections that don't fit",
+        f"it has more than {MOST_SECTIONS} critical sections, some that cross or stand beside a region, or a lock that"
+        " a task on another resource has",
+    ),
 }
 """Why a system file is refused, by the reason of status 14."""
 CHAIN_REASONS = {
@@ -86,6 +92,7 @@ WORD_REASONS = {
     ("assign", 2): "its tasks have no priorities",
     ("assign", 3): "a task on it has a task among its activators",
     ("assign", 4): "a task on it comes after a source on a clock, and it is a bus, or a task on it has a region",
+    ("assign", 5): "it has priority ceilings",
     ("slack", 1): "no task has the name",
 }
 """Why the resource of `assign` or the task of `slack` is refused."""

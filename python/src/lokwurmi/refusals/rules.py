@@ -20,9 +20,10 @@ from lokwurmi.model.limits import (
     MOST_TICKS,
     NEWEST,
     WITH_PRIORITIES,
+    WITH_REGIONS,
     limits_of,
 )
-from lokwurmi.refusals import form
+from lokwurmi.refusals import form, locks
 from lokwurmi.refusals.names import Names
 from lokwurmi.refusals.reasons import section_of
 from lokwurmi.refusals.remark import Note, Remark, listed, mean
@@ -34,6 +35,18 @@ NO_REGION = {
     "round-robin": "how long a job goes on is told by its `slot`",
     "tdma": "how long a job goes on is told by its `slot`",
     "fifo": "what has begun there goes on to its end",
+}
+# what to do about locks, by the kind of the resource: on others than these the protocol is told first
+BY_CEILINGS = (
+    'write kind = "ceiling", where a task that holds a lock has its ceiling as priority, as under OSEK and AUTOSAR,'
+    " with POSIX priority protect and Ada ceiling locking; locks with priority inheritance, or with none, aren't"
+    " modelled"
+)
+NO_LOCKS = {
+    "can": "no job is preempted there: leave them out",
+    "fifo": "what has begun there goes on to its end: leave them out",
+    "round-robin": 'locks are modelled under priority ceilings alone, on a resource of the kind "ceiling"',
+    "tdma": 'locks are modelled under priority ceilings alone, on a resource of the kind "ceiling"',
 }
 OF_NAMES = f"a name has 1 to {MOST_IN_NAME} of the letters A to Z and a to z, digits, _, - and ."
 # what is told of keys that aren't times, or whose range surprises
@@ -135,6 +148,8 @@ def out_of_range(document: Document) -> Found:
             yield spot, spot.remark(says, spot.value("distance"), helps, notes)
         if spot.part == "source" and "offset" in entry and (remark := wrong_offset(spot)):
             yield spot, remark
+        if spot.part == "task":
+            yield from ((spot, it) for it in locks.out_of_range(spot))
 
 
 def wrong_offset(spot: Spot) -> Remark | None:
@@ -185,6 +200,9 @@ def no_name(document: Document) -> Found:
             fault, way = name_fault(clock)
             helps = f"{OF_NAMES}{way}"
             yield spot, spot.remark(f"the name of its clock {fault}", spot.value("clock"), helps)
+        for item, name in locks.wrong_names(spot) if spot.part == "task" else ():
+            fault, way = name_fault(name)
+            yield spot, spot.remark(f"the name of its lock {fault}", locks.name_span(spot, item), f"{OF_NAMES}{way}")
 
 
 def known_name(document: Document) -> Found:
@@ -355,9 +373,11 @@ def misfits_of(spot: Spot, names: Names) -> Misfits:
     where = f'resource "{task["on"]}" is {kind}'
     yield from wrong_turns(spot, names, where)
     yield from wrong_frames(spot, kind, where)
-    if "region" in task and kind != "preemptive":
+    if "region" in task and kind not in WITH_REGIONS:
         says = f"`region` is for preemptive resources, and {where}"
         yield says, spot.key("region"), "leave it out: " + NO_REGION[kind]
+    if task.get("locks") and kind != "ceiling":
+        yield f"`locks` are for priority ceilings, and {where}", spot.key("locks"), NO_LOCKS.get(kind, BY_CEILINGS)
 
 
 def wrong_turns(spot: Spot, names: Names, where: str) -> Misfits:
@@ -524,4 +544,5 @@ RULES: dict[int, Callable[[Document], Found]] = {
     12: too_many,
     14: misfed,
     15: too_long_clock,
+    16: locks.mislocked,
 }

@@ -10,9 +10,11 @@ from matplotlib.figure import Figure
 from matplotlib.lines import Line2D
 from matplotlib.patches import Patch
 
+from lokwurmi.model.clocks import PREMISE
 from lokwurmi.results.axes import LATE, SIDE_BY_SIDE, Scale, bare, legend_above
 
 if TYPE_CHECKING:
+    from lokwurmi.model.clocks import Clock
     from lokwurmi.model.units import Time
     from lokwurmi.results.reports import PathReport, Report, Schedule, TaskReport
 
@@ -129,4 +131,28 @@ def schedule_chart(schedule: "Schedule") -> Chart:
     axes.set_xlim(0, max(schedule.end, 1))
     _scale(schedule.tick).axis(axes, max(schedule.end, 1))
     axes.set_title("Who runs", loc="left")
+    return figure
+
+
+def clock_chart(clock: "Clock", cycles: int = 1) -> Chart:
+    """When the sources of a clock come in so many cycles: a row for each, and a bar for each event from its earliest
+    time to its latest."""
+    releases, end = clock.releases(cycles), cycles * clock.cycle
+    names = list(clock.sources)
+    last = max([end, *(it.latest for it in releases)])
+    figure, (axes,) = _parts([1], 1.5 + 0.3 * len(names))
+    for place, name in enumerate(names):
+        own = [it for it in releases if it.source == name]
+        bars = [(it.earliest, max(it.latest - it.earliest, last / 1000)) for it in own]
+        axes.broken_barh(bars, (place - 0.3, 0.6), facecolors=_LEAST)
+        axes.vlines([it.earliest for it in own], place - 0.38, place + 0.38, color=_GREATEST, linewidth=1.6)
+    for turn in range(1, cycles + 1):
+        axes.axvline(turn * clock.cycle, color=LATE, linewidth=0.8, linestyle=":")
+    _rows(axes, [f"{name} + {_scale(clock.tick).text(offset)}" for name, offset in clock.offsets.items()])
+    axes.set_xlim(-last / 100, last * 1.01)
+    _scale(clock.tick).axis(axes, last)
+    axes.set_title(f"When sources on clock {clock.name} come after its start", fontsize=9, loc="left")
+    marks = [Line2D([], [], color=_GREATEST, marker="|", linestyle="none", markersize=9), Patch(color=_LEAST)]
+    legend_above(axes, marks, ["at its offset", "up to its jitter later"])
+    figure.supxlabel(PREMISE, fontsize=7)
     return figure

@@ -4,11 +4,14 @@ from collections.abc import Iterable, Sequence
 from html import escape
 from typing import TYPE_CHECKING, Any
 
+from lokwurmi.model.clocks import PREMISE as CLOCK_PREMISE
 from lokwurmi.model.units import Time
 
 if TYPE_CHECKING:
+    from lokwurmi.model.clocks import Clock
     from lokwurmi.model.entries import Resource, Source, Task
     from lokwurmi.model.named_entries import NamedEntries
+    from lokwurmi.model.view import Anchor
     from lokwurmi.results import effect_chains as chain_results
     from lokwurmi.results import reports
 
@@ -85,15 +88,39 @@ def report(it: "reports.Report") -> str:
         stream = f"{one.streams} streams" if one.streams > 1 else plain(one.period, tick)
         jitter = None if one.streams > 1 else shown(one.jitter, tick)
         distance = None if one.streams > 1 else shown(one.distance, tick)
-        tasks.append((one.name, one.on, stream, jitter, distance, plain(one.best, tick), shown(one.worst, tick)))
+        row = (one.name, one.on, stream, jitter, distance, plain(one.best, tick), shown(one.worst, tick))
+        tasks.append(row + ((phases_text(one.phases, tick),) if it.phases else ()))
     paths = [
         (one.name, plain(one.best, tick), shown(one.worst, tick), plain(one.deadline, tick), mark(one.verdict.value))
         for one in it.paths.values()
     ]
     heads = ["task", "resource", "period", "jitter", "distance", "best", "worst-case response time"]
+    if it.phases:
+        heads.append("from the start of a clock on")
+        note += f" {CLOCK_PREMISE}"
     first = table(f"Tasks {mark(it.verdict.value)}", heads, tasks, "" if paths else note)
     heads = ["path", "best", "worst-case latency", "deadline", "verdict"]
     return first + (table("Paths", heads, paths, note) if paths else "")
+
+
+def phases_text(phases: "Sequence[Anchor | None]", tick: Time | None) -> str:
+    """Where the streams of a task are on clocks."""
+    texts = ["on none" if it is None else f"{it.clock} + {plain(it.offset, tick)}" for it in phases]
+    return ", ".join(texts) if any(phases) else ""
+
+
+def clock(it: "Clock") -> str:
+    """The sources of a clock."""
+    heads = ("source", "offset", "period", "jitter")
+    rows = [
+        (name, *(plain(it._ticks(one, key), it.tick) for key in ("offset", "period", "jitter")))
+        for name, one in it.sources.items()
+    ]
+    caption = f"Clock {escape(it.name)}"
+    if not rows:
+        return f"<div>{caption}: no source names it</div>"
+    cycle = cell_text(plain(it.cycle, it.tick))
+    return table(f"{caption}: a cycle of {cycle}", heads, rows, f"{CLOCK_PREMISE} {unit_note(it.tick)}")
 
 
 def after_text(it: "Task") -> str:
@@ -106,6 +133,11 @@ def execution_text(it: "Task") -> str:
     if it.payload is not None:
         return f"{it.payload} bytes{', 29-bit identifier' if it.extended else ''}"
     return f"{it.best} to {it.worst}"
+
+
+def locks_text(it: "Task") -> str:
+    """The critical sections of a task: each lock, from when it is held, and for how long."""
+    return "; ".join(f"{one.name} from {one.start} for {one.length}" for one in it.locks or [])
 
 
 def clock_cells(it: "Source") -> tuple[Any, Any]:
@@ -135,13 +167,15 @@ def system(it: "NamedEntries") -> str:
         + (clock_cells(one) if has_clocks else ())
         for one in it.sources.values()
     ]
-    has_regions = any(one.region is not None for one in it.tasks.values())
+    has_regions, has_locks = (any(getattr(one, key) for one in it.tasks.values()) for key in ("region", "locks"))
     tasks = [
         (one.name, one.on, after_text(one), execution_text(one), one.slot if one.priority is None else one.priority)
         + ((one.region,) if has_regions else ())
+        + ((locks_text(one),) if has_locks else ())
         for one in it.tasks.values()
     ]
     of_task = ("task", "on", "after", "execution", "priority or slot") + (("region",) if has_regions else ())
+    of_task += ("locks",) if has_locks else ()
     paths = [(one.name, " → ".join(one.tasks), one.deadline) for one in it.paths.values()]
     note = f"{unit_note(it.tick)} Numbers without a unit are ticks." if it.tick else unit_note(None)
     parts: list[tuple[str, Sequence[str], list[Any]]] = [

@@ -2,8 +2,8 @@
 
 Each object is shown as a table in a notebook (`_repr_html_`).
 """
-from collections.abc import Callable, Iterable, Iterator, Mapping
-from dataclasses import dataclass, field
+from collections.abc import Callable, Iterable, Iterator, Mapping, Sequence
+from dataclasses import dataclass, field, fields
 from enum import Enum
 from functools import partial
 from typing import TYPE_CHECKING, Any, ClassVar
@@ -12,6 +12,7 @@ from lokwurmi.errors import NoTick, NotInstalled, Unreadable
 from lokwurmi.files import report_lines as lines
 from lokwurmi.model.conversion import Rounding
 from lokwurmi.model.units import Time
+from lokwurmi.model.view import Anchor
 from lokwurmi.results import html
 
 if TYPE_CHECKING:
@@ -19,6 +20,10 @@ if TYPE_CHECKING:
     from pandas import DataFrame
 
     from lokwurmi.results.differences import Changes
+
+
+Phases = Mapping[str, tuple[Anchor | None, ...]]
+"""Of each stream of a task where it is on a clock, by the names of tasks."""
 
 
 class Verdict(Enum):
@@ -80,6 +85,10 @@ class TaskReport(Timed):
     """The jitter of its one stream, in ticks; None where it has several, or where that has no bound."""
     distance: int | None = None
     """The least distance of its one stream, in ticks; None as for the jitter."""
+    phases: tuple[Anchor | None, ...] = ()
+    """Of each stream where it is on a clock: its event number n comes from `offset` and n periods after the clock's
+    start on, in ticks, by up to the stream's jitter later. None where it is on none; empty where nobody told the system
+    of the report."""
 
     @property
     def overload(self) -> bool:
@@ -136,11 +145,11 @@ class _Entries(Mapping[str, Any]):
         return repr(dict(self))
 
 
-def _task(line: str, tick: Time | None) -> TaskReport:
+def _task(line: str, tick: Time | None, phases: Phases) -> TaskReport:
     it = lines.TASK.fullmatch(line)
     if not it:
         raise Unreadable(f"this is no line of a task: {line}")
-    return TaskReport(it["name"], **lines.task_in(it), tick=tick)
+    return TaskReport(it["name"], **lines.task_in(it), phases=phases.get(it["name"], ()), tick=tick)
 
 
 def _path(line: str, tick: Time | None) -> PathReport:
@@ -155,7 +164,7 @@ def _path(line: str, tick: Time | None) -> PathReport:
 class Report:
     """The bounds of a system: they hold in every run whose events and executions obey the system."""
 
-    __slots__ = ("text", "tasks", "paths", "refused", "overloads", "missed", "tick", "roundings")
+    __slots__ = ("text", "tasks", "paths", "refused", "overloads", "missed", "tick", "roundings", "phases")
 
     text: str
     """What the program writes of it, in ticks."""
@@ -174,6 +183,9 @@ class Report:
     """The time of a tick, where the system has one."""
     roundings: tuple[Rounding, ...]
     """The times of the system that were rounded, each to its safe side."""
+    phases: Phases
+    """Where the streams of each task are on clocks, by the names of tasks; empty where none is on one, and where nobody
+    told the system, as of a script."""
 
     def __init__(
         self,
@@ -181,6 +193,7 @@ class Report:
         refused: dict[int, int] | None = None,
         tick: Time | None = None,
         roundings: Iterable[Rounding] = (),
+        phases: Phases | None = None,
     ):
         summary = lines.SUMMARY.fullmatch(rows[-1]) if rows else None
         tasks = [row for row in rows if row.startswith("task ")]
@@ -188,8 +201,8 @@ class Report:
         if not summary or len(tasks) != int(summary[1]) or any(not row.startswith("path ") for row in others):
             raise Unreadable("there is no whole report; its last line begins with summary")
         self.text = "".join(f"{row}\n" for row in rows)
-        self.tick, self.roundings = tick, tuple(roundings)
-        self.tasks = _Entries(tasks, partial(_task, tick=tick))
+        self.tick, self.roundings, self.phases = tick, tuple(roundings), dict(phases or {})
+        self.tasks = _Entries(tasks, partial(_task, tick=tick, phases=self.phases))
         self.paths = _Entries(others, partial(_path, tick=tick))
         self.refused = refused or {}
         self.overloads, self.missed = int(summary[2]), int(summary[3])
@@ -203,7 +216,7 @@ class Report:
         return self.text == other.text and self.refused == other.refused
 
     def __reduce__(self) -> tuple[Any, ...]:
-        return Report, (self.text.splitlines(), self.refused, self.tick, self.roundings)
+        return Report, (self.text.splitlines(), self.refused, self.tick, self.roundings, self.phases)
 
     def __hash__(self) -> int:
         return hash(self.text)
@@ -232,8 +245,14 @@ class Report:
         return plots().report_chart(self)
 
     def to_dataframe(self, part: str = "tasks") -> "DataFrame":
-        """The tasks as a table of pandas, or with "paths" the paths. Times are in ticks; what has no bound is <NA>."""
-        return frame([self.tasks, self.paths][("tasks", "paths").index(part)].values(), drop=("tick",))
+        """The tasks as a table of pandas, or with "paths" the paths. Times are in ticks; what has no bound is <NA>. A
+        system with clocks has two columns more of its tasks with one stream: its clock, and its offset there."""
+        table = frame([self.tasks, self.paths][("tasks", "paths").index(part)].values(), drop=("tick", "phases"))
+        if part == "tasks" and self.phases:
+            single = [it.phases[0] if len(it.phases) == 1 else None for it in self.tasks.values()]
+            table["clock"] = [it and it.clock for it in single]
+            table["offset"] = whole_numbers([it and it.offset for it in single])
+        return table
 
 
 def plots() -> Any:
@@ -245,28 +264,46 @@ def plots() -> Any:
     return charts
 
 
-def frame(rows: Iterable[Any], drop: tuple[str, ...] = ()) -> "DataFrame":
-    """Objects as a table of pandas, whose numbers stay whole: Int64, where <NA> stands for none."""
+def _pandas() -> Any:
+    """The package pandas."""
     try:
         import pandas
     except ImportError as fault:
         raise NotInstalled("pandas", "python3-pandas") from fault
-    from dataclasses import fields
+    return pandas
 
+
+def whole_numbers(words: Sequence[int | None]) -> Any:
+    """A column of pandas whose numbers stay whole: Int64, where <NA> stands for none."""
+    return _pandas().array(words, dtype="Int64")
+
+
+def table_of(rows: Iterable[Any], names: Sequence[str]) -> "DataFrame":
+    """Attributes of objects as a table of pandas, whose numbers stay whole."""
     several = list(rows)
-    names = [it.name for it in fields(several[0]) if it.name not in drop] if several else []
-    table = pandas.DataFrame([{name: getattr(it, name) for name in names} for it in several], columns=names)
+    rows_of_names = [{name: getattr(it, name) for name in names} for it in several]
+    table: "DataFrame" = _pandas().DataFrame(rows_of_names, columns=list(names))
     for name in names:
         words = [getattr(it, name) for it in several]
         if all(it is None or isinstance(it, int) for it in words) and not any(isinstance(it, bool) for it in words):
-            table[name] = pandas.array(words, dtype="Int64")
+            table[name] = whole_numbers(words)
         elif any(isinstance(it, Enum) for it in words):
             table[name] = [it.value for it in words]
+    return table
+
+
+def frame(rows: Iterable[Any], drop: tuple[str, ...] = ()) -> "DataFrame":
+    """Dataclasses as a table of pandas, whose numbers stay whole."""
+    several = list(rows)
+    names = [it.name for it in fields(several[0]) if it.name not in drop] if several else []
+    table = table_of(several, names)
     return table.set_index("name") if "name" in names else table
 
 
-def reports(text: str, tick: Time | None = None, roundings: Iterable[Rounding] = ()) -> list[Report]:
-    """The reports in what `analyse` or `session` wrote."""
+def reports(
+    text: str, tick: Time | None = None, roundings: Iterable[Rounding] = (), phases: Phases | None = None
+) -> list[Report]:
+    """The reports in what `analyse` or `session` wrote; `phases` are those of the system of all of them."""
     found: list[Report] = []
     rows: list[str] = []
     refused: dict[int, int] = {}
@@ -276,7 +313,7 @@ def reports(text: str, tick: Time | None = None, roundings: Iterable[Rounding] =
             continue
         rows.append(line)
         if line.startswith("summary "):
-            found.append(Report(rows, refused, tick, roundings))
+            found.append(Report(rows, refused, tick, roundings, phases))
             rows, refused = [], {}
     if not found or rows or refused:
         raise Unreadable("there is no whole report; its last line begins with summary")

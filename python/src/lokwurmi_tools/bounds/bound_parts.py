@@ -5,7 +5,7 @@ done when the window has room for all that is asked for up to its end: its own e
 before it, and what goes before them. This is worked out here once more by the rules of docs/DEFINITIONS.md, at the
 bounds of a report, which are those of the least solution; so it must come to the very bound that the report has. It is
 no part of what is proved."""
-from collections.abc import Iterator
+from collections.abc import Iterator, Sequence
 from typing import NamedTuple, NotRequired, TypedDict
 
 from lokwurmi.model.event_models import Bounds, Stream, inputs_of, least_time, most_events
@@ -34,8 +34,9 @@ class Endless(Exception):
 class Part(NamedTuple):
     """What fills a part of the window: `count` times `each` ticks. The kind is `own`, `rival` (jobs of a task that goes
     before), `turns` (the turns of another, which has more to do), `blocking` (a job of lower priority that isn't
-    interrupted: by `under` a `frame` that is under way, or a `region` that has begun), `slot` (another's slot in a
-    cycle) or `gap`. Of the jobs of a rival `burst` come only because of its jitter."""
+    interrupted: by `under` a `frame` that is under way, a `region` that has begun, or a critical `section`, in which it
+    holds a `lock`), `slot` (another's slot in a cycle) or `gap`. Of the jobs of a rival `burst` come only because of
+    its jitter."""
 
     kind: str
     of: str
@@ -43,6 +44,7 @@ class Part(NamedTuple):
     each: int
     burst: int = 0
     under: str = ""
+    lock: str = ""
 
     @property
     def ticks(self) -> int:
@@ -92,6 +94,14 @@ class JobInWindow(NamedTuple):
         return self.done - self.came
 
 
+class Phase(NamedTuple):
+    """A moment of a task's clock at which its busy window may begin, and the greatest response from there; None where
+    no job of it waits."""
+
+    moment: int
+    response: int | None
+
+
 class LatestJob(NamedTuple):
     """The job of a busy window whose response is greatest: the how many-th of how many, when it came and when it is
     done, and what fills the time up to there. On a queue it comes in the last tick of a window."""
@@ -105,6 +115,12 @@ class LatestJob(NamedTuple):
     """Where its clock stands as the window begins, where its one stream is on one."""
     window: int | None = None
     """On a queue the window up to whose end all that comes is served before the job is done."""
+    counted: int = 0
+    """Elsewhere the window in which all that comes and goes before counts."""
+    moments: Moments = {}
+    """Where all clocks stand as it begins that count."""
+    phases: Sequence[Phase] = ()
+    """Each moment of its clock from which the busy window was looked at."""
 
     @property
     def response(self) -> int:
@@ -190,14 +206,13 @@ class BoundParts:
 
     def blocking(self, name: str) -> Part | None:
         """The task of lower priority that may hold one up for longest: on a bus the longest frame, that may be under
-        way, on a preemptive processor the longest region, of which a tick has gone by."""
-        is_bus = self.view.resource(name).is_bus
-        found: Part | None = None
-        for it in self.view.lower(name):
-            ticks = self.view.uninterrupted(it) - (0 if is_bus else 1)
-            if ticks > (found.each if found else 0):
-                found = Part("blocking", it, 1, ticks, under="frame" if is_bus else "region")
-        return found
+        way, on a processor the longest region, or section with a ceiling that is no less urgent, of which a tick has
+        gone by."""
+        longest = next(iter(self.view.blocks(name)), None)
+        ticks = longest.ticks - (0 if longest.under == "frame" else 1) if longest else 0
+        if longest is None or ticks == 0:
+            return None
+        return Part("blocking", longest.task, 1, ticks, under=longest.under, lock=longest.lock)
 
     def cycle(self, name: str) -> list[tuple[str, str, int]]:
         """On TDMA the slots of the others and the gap: what a cycle takes away."""
@@ -347,15 +362,17 @@ class BoundParts:
         self.until = None if most is None else self.looks + most
         rivals = self.before(name) if rivals is None else rivals
         latest: LatestJob | None = None
+        phases = list[Phase]()
         try:
             if self.view.kind(name) == Kind.FIFO:
                 return self.last_in_queue(name, rivals)
             for start in self.starts(name, rivals):
                 found = self.latest_from(name, Scene(rivals, start))
+                phases += [Phase(start.moment, found and found.response)] if start else []
                 latest = found if found and (latest is None or found.response > latest.response) else latest
         except Endless:
             return None
-        return latest
+        return latest and latest._replace(phases=phases)
 
     def latest_from(self, name: str, scene: Scene) -> LatestJob | None:
         """The same of the busy windows that begin so; None where none of the task's jobs waits in one."""
@@ -373,7 +390,11 @@ class BoundParts:
         if self.view.clocks:
             # by its clock a rival may not come at all
             waits = [it for it in waits if it.count]
-        return LatestJob(late.number, of, late.came, late.done, [own, *self.fixed(name, jobs), *waits], scene.start)
+        parts, counted = [own, *self.fixed(name, jobs), *waits], late.window + max(
+            [0, *(it.ahead for it in scene.rivals)]
+        )
+        numbers = late.number, of, late.came, late.done
+        return LatestJob(*numbers, parts, scene.start, counted=counted, moments=moments)
 
     def last_in_queue(self, name: str, rivals: list[Rival]) -> LatestJob:
         """A job that comes in the last tick of a window, behind all that came in it, where that takes longest."""

@@ -11,6 +11,7 @@ BAR, FEW = 48, 12
 NOTES = {
     "frame": "a frame of lower priority, under way",
     "region": "the rest of a region of lower priority",
+    "section": "the rest of a section of lower priority, with lock {lock}",
     "turns": "its turns, with more to do",
     "slot": "its slot in each cycle",
     "gap": "the gap of each cycle",
@@ -19,6 +20,7 @@ WAITS = {
     "own": "earlier jobs of ",
     "frame": "lower frame ",
     "region": "region of ",
+    "section": "lock {lock} of ",
     "gap": "gap of ",
     "turns": "turns of ",
     "slot": "slot of ",
@@ -71,22 +73,49 @@ def stream_text(stream: Values, scale: Scale = TICKS) -> str:
 
 
 def lines_of_clocks(told: Values, scale: Scale = TICKS) -> list[str]:
-    """Which clocks the streams of a task share with those that may go before it, and where its own stands as the
-    busy window of its latest job begins."""
+    """Which clocks the streams of a task share with those that may go before it; of each where it stands as the busy
+    window of its latest job begins, and who comes then."""
     lines = []
     for it in told.get("clocks", []):
         others = [name for name in it["tasks"] if name != told["task"]]
         shared = "shared with" if told["task"] in it["tasks"] and others else "of"
-        names = ", ".join(others[:FEW] or [told["task"]])
-        more = f" and {len(others) - FEW} more" if len(others) > FEW else ""
-        at = "" if it["start"] is None else f"; the busy window begins {scale.text(it['start'])} into one"
-        lines.append(f"clock {it['clock']}, {shared} {names}{more}: cycle {scale.text(it['cycle'])}{at}")
+        names = few(others or [told["task"]], "and")
+        lines.append(f"clock {it['clock']}, {shared} {names}: cycle {scale.text(it['cycle'])}")
+        if it["at"] is not None:
+            lines.append(f"  {at_text(it, scale)}")
+            lines.append(f"  from there come {few([comer_text(one, scale) for one in it['come']], 'and')}")
     return lines
+
+
+def few(several: list[str], word: str) -> str:
+    """Some texts, the first of them where they are many."""
+    more = f" {word} {len(several) - FEW} more" if len(several) > FEW else ""
+    return f"{', '.join(several[:FEW])}{more}"
+
+
+def at_text(clock: Values, scale: Scale) -> str:
+    """Where a clock stands as the busy window begins: by the task's own one the worst phase, beside the others from
+    which the window was looked at."""
+    if "phases" not in clock:
+        return f"it is {scale.text(clock['at'])} into one as the busy window begins, from where most comes"
+    worst = max(response or 0 for _, response in clock["phases"])
+    as_bad = [scale.text(at) for at, it in clock["phases"] if it == worst and at != clock["at"]]
+    others = [it or 0 for _, it in clock["phases"] if it != worst]
+    or_at = f", or as bad {few(as_bad, 'or')}" if as_bad else ""
+    told = f"the worst phase is {scale.text(clock['at'])}{or_at}: so far into one the busy window begins"
+    least = f"it takes {scale.text(max(others))} at most" if any(others) else "none of its jobs is in it"
+    return told + (f"; from {len(others)} other{'' if len(others) == 1 else 's'} {least}" if others else "")
+
+
+def comer_text(comer: Values, scale: Scale) -> str:
+    """How many events of a stream on a clock come in the busy window, and when the first can."""
+    when = "at once" if comer["first"] == 0 else f"after {scale.text(comer['first'])}"
+    return f"{comer['task']} {comer['events']} ({when})" if comer["events"] else f"no {comer['task']} (only {when})"
 
 
 def text_for(part: Values, texts: dict[str, str]) -> str:
     """The text for the kind of a part, or for what is under way."""
-    return texts.get(part["under"] or part["kind"], "")
+    return texts.get(part["under"] or part["kind"], "").format(lock=part.get("lock", ""))
 
 
 def note_of(part: Values) -> str:

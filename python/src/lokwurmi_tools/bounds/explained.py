@@ -9,13 +9,15 @@ from lokwurmi.model.view import SystemView
 from lokwurmi.results.reports import Report
 from lokwurmi_tools.bounds.bound_parts import BoundParts, LatestJob, Tired
 from lokwurmi_tools.bounds.overload_causes import OverloadCauses
+from lokwurmi_tools.bounds.phases import Phases
 from lokwurmi_tools.shared.report import bounds_in
 from lokwurmi_tools.shared.types import Values
 
 # how many looks at windows are taken where there may be no end
 MOST = 3_000_000
-# what a job waits for: the kind of a part, of whom it is, and what is under way where that blocks
-Wait = tuple[str, str, str]
+# what a job waits for: the kind of a part, of whom it is, what is under way where that blocks, the lock of a section
+Wait = tuple[str, str, str, str]
+WAIT = ("kind", "of", "under", "lock")
 
 
 class Explained:
@@ -69,20 +71,15 @@ class Explained:
         self.compare(name, job)
         if job is None:
             return {"job": None, "parts": []}
-        parts = [it._asdict() | {"ticks": it.ticks} for it in job.parts]
+        parts = [without_lock(it._asdict()) | {"ticks": it.ticks} for it in job.parts]
         told = {"number": job.number, "of": job.of, "came": job.came, "done": job.done}
         if job.window is not None:
             told["window"] = job.window
         return {"job": told, "parts": parts, **self.clocks_of(name, job)}
 
-    def clocks_of(self, name: str, job: LatestJob) -> Values:
+    def clocks_of(self, name: str, job: LatestJob | None) -> Values:
         """The clocks that streams of a task and of those that may go before it share; nothing where there are none."""
-        found, view = [], self.view
-        for clock in view.clocks_at(name):
-            several = (name, *view.rivals(name))
-            on = [it for it in several if any(at and at.clock == clock for at in view.anchors_of(it))]
-            start = job.start.moment % view.clock_cycle(clock) if job.start and job.start.clock == clock else None
-            found.append({"clock": clock, "cycle": view.clock_cycle(clock), "tasks": on, "start": start})
+        found = Phases(self.parts, name, job).told() if job else []
         return {"clocks": found} if found else {}
 
     def compare(self, name: str, job: LatestJob | None) -> None:
@@ -115,7 +112,7 @@ class Explained:
             "deadline": found.deadline,
             "verdict": found.verdict.value,
             "own": own,
-            "waits": [{"kind": kind, "of": of, "under": under, "ticks": ticks} for (kind, of, under), ticks in several],
+            "waits": [without_lock(dict(zip(WAIT, key))) | {"ticks": ticks} for key, ticks in several],
             "before": before,
             "tasks": tasks,
         }
@@ -201,8 +198,15 @@ def waits_of(told: Values) -> list[tuple[Wait, int]]:
     if not told.get("parts"):
         return []
     own, *others = told["parts"]
-    earlier = [(("own", own["of"], ""), own["each"] * (own["count"] - 1))] if own["count"] > 1 else []
-    return earlier + [((it["kind"], it["of"], it["under"]), it["ticks"]) for it in others]
+    earlier: list[tuple[Wait, int]] = []
+    if own["count"] > 1:
+        earlier = [(("own", own["of"], "", ""), own["each"] * (own["count"] - 1))]
+    return earlier + [((it["kind"], it["of"], it["under"], it.get("lock", "")), it["ticks"]) for it in others]
+
+
+def without_lock(told: Values) -> Values:
+    """A part or a wait as it is told, which has a lock where that is of a critical section alone."""
+    return {key: it for key, it in told.items() if key != "lock" or it}
 
 
 def cause_told(cause: Values) -> Values:

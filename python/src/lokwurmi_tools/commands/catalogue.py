@@ -46,7 +46,7 @@ COMMANDS = (
     ToolCommand(
         "curve",
         "commands.curve",
-        "draws how many events start a task in a window",
+        "draws how many events start a task, or a clock",
         "curve --to sample.svg examples/pedal.toml examples/pedal.report.txt sample",
     ),
     ToolCommand(

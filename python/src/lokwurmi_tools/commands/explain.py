@@ -2,13 +2,13 @@
 
 Of a task it tells the streams that start it and where their jitter comes from, when the latest job came, and the parts
 up to its end: its own executions and those of the jobs before it, the jobs of each rival, a frame of lower priority
-that is under way or the rest of a region, the turns of others, and what a cycle takes away; on a queue all that comes
-in the window in which the bound is reached. The parts, less the time at which the job came, are the bound. With --path
-it tells that of each task along a path, by whom the path waits in all, and what would help it most: of the numbers by
-which its tasks wait (but for regions) each is changed by a tenth, at least a tick (a priority by one place), alone, and
-the proved program reports the system with it. These are changes of the model, and no advice that they can be made. With
---all it tells of each task and each path. Of a task without a bound it tells what work its resource has, by whom, and
-with which rival its busy window has no end.
+that is under way or the rest of a region or of a critical section, the turns of others, and what a cycle takes away; on
+a queue all that comes in the window in which the bound is reached. The parts, less the time at which the job came, are
+the bound. With --path it tells that of each task along a path, by whom the path waits in all, and what would help it
+most: of the numbers by which its tasks wait (but for regions and sections) each is changed by a tenth, at least a tick
+(a priority by one place), alone, and the proved program reports the system with it. These are changes of the model, and
+no advice that they can be made. With --all it tells of each task and each path. Of a task without a bound it tells what
+work its resource has, by whom, and with which rival its busy window has no end.
 
 With --chain it tells what the bounds of an effect chain are made of, one of --chains by its name or one by its tasks:
 the waits for a job that comes next, by the period and the jitter of what starts it, where the jitter of tasks is their

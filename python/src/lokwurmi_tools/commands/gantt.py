@@ -7,10 +7,10 @@ task.
 
 With a trace, the one that the schedule is of, triangles show when jobs came (above the lane) and when they were done
 (below it), a line leads from where a job of a queue comes to where it begins, a white line stands between two regions
-of a job, and TDMA slots stand where the trace's phases put them; without one the phases are 0. With a report of
-`lokwurmi analyse` as well, a job that took longer than its bound, or that isn't done though its bound is past, is
-framed in red, with a red line from its bound on. --from and --until cut a part out. With --tick, as 1us, the times that
-are shown have units; --from and --until stay ticks.
+of a job, a dark strip in its bar where it holds a lock, and TDMA slots stand where the trace's phases put them; without
+one the phases are 0. With a report of `lokwurmi analyse` as well, a job that took longer than its bound, or that isn't
+done though its bound is past, is framed in red, with a red line from its bound on. --from and --until cut a part out.
+With --tick, as 1us, the times that are shown have units; --from and --until stay ticks.
 
 --longest marks the job of a task that took longest, or the passage of a path that did: its jobs are framed, with a line
 for each from where it came to its end, and one for the whole below. Of a path only that stretch is drawn, and of a task
@@ -19,9 +19,12 @@ the first. Where a task and a path have one name, it is the task's, and path:NAM
 
 --chain marks an effect chain, whose tasks read what the one before wrote last, or one of a file of chains by its name:
 its latest reaction in the run, in crimson, and its oldest data, dashed in green; or with --what one of these, or how
-long data was held, dotted in violet. Their jobs are framed, an arrow leads
-from the end of each, which writes, to where the next one reads, and a line below shows the whole, beside the bound that
-`lokwurmi chain` tells. When jobs read isn't in a schedule: --reading says by which rule they are taken to."""
+long data was held, dotted in violet. Their jobs are framed, an arrow leads from the end of each, which writes, to where
+the next one reads, and a line below shows the whole, beside the bound that `lokwurmi chain` tells. When jobs read isn't
+in a schedule: --reading says by which rule they are taken to.
+
+--clock draws a clock below the lanes: when the events of its sources came, the work that they brought in each part of
+the time, and where its cycles begin, as far as the events of the trace tell."""
 import argparse
 
 from lokwurmi_tools.commands.argument_parsers import add_picture, add_program, add_tick, options_of, reader_of
@@ -39,7 +42,8 @@ EXAMPLES = """examples:
   ./lokwurmi gantt FILE --trace worst.csv --longest NAME --to worst.png
       the passage of a path that takes longest in the trace that was found
   ./lokwurmi gantt FILE --trace TRACE --chain capture,detect,send --reading start --to chain.png
-  ./lokwurmi gantt FILE --trace TRACE --chains CHAINS --chain brake --to chain.png"""
+  ./lokwurmi gantt FILE --trace TRACE --chains CHAINS --chain brake --to chain.png
+  ./lokwurmi gantt examples/offsets.toml --trace examples/offsets.trace.csv --clock engine --to offsets.png"""
 
 
 def gantt_reader() -> argparse.ArgumentParser:
@@ -61,6 +65,8 @@ def gantt_reader() -> argparse.ArgumentParser:
     reader.add_argument("--what", choices=ASKED, help=says)
     says = "when jobs of the chain are taken to read (whenever)"
     reader.add_argument("--reading", choices=READINGS, default="whenever", help=says)
+    says = "draws this clock below: the events of its sources, and the work that they brought; wants --trace"
+    reader.add_argument("--clock", metavar="NAME", help=says)
     reader.add_argument("--from", metavar="T", type=int, dest="start", help="the first tick that is drawn; 0 if absent")
     says = "the tick at which the picture ends; that of the schedule if absent"
     reader.add_argument("--until", metavar="T", type=int, help=says)
@@ -73,7 +79,7 @@ def gantt_reader() -> argparse.ArgumentParser:
 def check(options: GanttOptions) -> None:
     """Refuses options that don't go together."""
     check_name(options.to)
-    for name in ("report", "longest", "chain"):
+    for name in ("report", "longest", "chain", "clock"):
         if getattr(options, name) and not options.trace:
             raise Fault(f"--{name} wants --trace, which tells when jobs came")
     if options.chains and not options.chain:

@@ -4,6 +4,7 @@
     ./lokwurmi import log examples/sae_can.log --system examples/sae_can.toml
     ./lokwurmi import log drive.asc --system car.toml --bus front=0 --bus back=1 \\
         --database front.dbc --database back.dbc
+    ./lokwurmi import log drive.asc --clocks --database car.dbc > car.toml
 
 LOG is of `candump -l` (.log), of Vector (.asc, .blf), or another file that python-can reads. The first call prints a
 source for each frame: its period, the least jitter with which that period holds all of the log, and the least distance.
@@ -23,6 +24,10 @@ A log has the times at which frames were received, and not those at which they w
 what starts a task that receives the frame; what queues it may have come by up to its response less its least length
 otherwise.
 
+With --clocks sources that keep their distance to each other over the whole log get a clock and an offset, as of one
+node; a database with senders keeps nodes apart. It is a proposal: a log shows neither that a node never begins anew nor
+that clocks never drift. What fits no clock, and why, is told on the standard error, and behind its source.
+
 It needs python-can, and canmatrix with --database: apt-get install python3-can python3-canmatrix python3-lxml
 """
 import argparse
@@ -32,6 +37,9 @@ from lokwurmi_tools.commands.argument_parsers import add_program, options_of, re
 from lokwurmi_tools.logs.log_options import LogOptions
 from lokwurmi_tools.shared.packages import need
 from lokwurmi_tools.shared.times import time_of
+
+# by how many millionths a clock may be wrong
+MOST_DRIFT = 100_000
 
 
 def bus_of(word: str) -> tuple[str, str]:
@@ -64,7 +72,16 @@ def add_words(reader: argparse.ArgumentParser) -> None:
     reader.add_argument("--sort", action="store_true", help=what)
     what = "by how much the times of the log may be late; 0 if absent"
     reader.add_argument("--rough", metavar="TICKS", type=int, default=0, help=what)
-    what = "by how many millionths the clock of the recorder may be slower than that of a sender; 0 if absent"
+    what = (
+        "puts sources that keep their distance over the whole log on clocks, each with its offset and a jitter that"
+        " covers the log (format 4). A proposal: only where one timer queues them, and none is left out; on no clock if"
+        " absent"
+    )
+    reader.add_argument("--clocks", action="store_true", help=what)
+    what = (
+        "by how many millionths the clock of the recorder may be slower than that of a sender, or with --clocks is, and"
+        " below 0 is faster; 0 if absent"
+    )
     reader.add_argument("--drift", metavar="PPM", type=float, default=0, help=what)
     add_program(reader)
 
@@ -77,8 +94,10 @@ def main(arguments: list[str] | None = None) -> int:
         reader.error("--report wants --system, of which it is")
     if options.period == "database" and not options.database:
         reader.error("--period database wants --database")
-    if options.rough < 0 or not 0 <= options.drift <= 100_000:
-        reader.error("--rough is at least 0, and --drift from 0 to 100000")
+    if options.rough < 0 or not (-MOST_DRIFT if options.clocks else 0) <= options.drift <= MOST_DRIFT:
+        reader.error("--rough is at least 0, and --drift from 0 to 100000, or with --clocks from -100000")
+    if options.clocks and options.system:
+        reader.error("--clocks concerns nothing beside --system: no sources are written then")
     # these need python-can, and --help doesn't
     need("can")
     from lokwurmi_tools.logs.log_lines import tell_log

@@ -2,12 +2,14 @@
 `overload`.
 
 It moves the greatest execution of each task (longer), the period (shorter) and the jitter (longer) of each source, the
-greatest executions on each resource (all longer by one share, regions as they are), the region of each task that has
-one (longer, up to its greatest execution) and each deadline (shorter), and shows the tightest first. With --only region
-tasks without one have one of a tick. What is first missed, or without a bound, beyond that stands beside it. Each is
-moved alone: two that both move as far as is told may miss a deadline together. With --goal a path is held against
-another deadline than that of the file, or against one where the file has none. With --deadlines paths with a deadline
-count alone, as for `lokwurmi slack`, and a bound that is `overload` only where such a path goes through its task.
+greatest executions on each resource (all longer by one share, regions and sections as they are), the region of each
+task that has one (longer, up to its greatest execution), each critical section (longer, up to that or the next
+section), each offset on a clock that bounds use (later, and earlier, round the period of its source) and each deadline
+(shorter), and shows the tightest first. With --only region tasks without one have one of a tick. What is first missed,
+or without a bound, beyond that stands beside it. Each is moved alone: two that both move as far as is told may miss a
+deadline together. With --goal a path is held against another deadline than that of the file, or against one where the
+file has none. With --deadlines paths with a deadline count alone, as for `lokwurmi slack`, and a bound that is
+`overload` only where such a path goes through its task.
 
 Without --chains the deadlines are those of paths alone: a number that moves as far as is told may have an effect chain
 miss its deadline. With --chains the deadlines of that file count too, and what a chain doesn't allow stands beside the
@@ -18,27 +20,30 @@ that falls silent voids it.
 
 Both ends of each answer are reports of the proved program: with the number at the value that is told all holds, and one
 step beyond it doesn't. In between the tool halves the range. That nothing holds further on is proved of each single
-step for executions, regions, periods, jitters and speeds, since no bound falls where more is asked for; that the
-halving follows from it is argued in docs/SENSITIVITY.md, and not proved. Of executions under --deadlines `lokwurmi
-slack` is proved to give the very number.
+step for executions, regions, periods, jitters and speeds, since no bound falls where more is asked for; of critical
+sections it is argued, as blocking grows with them. That the halving follows from it is argued in docs/SENSITIVITY.md,
+and not proved. Of offsets no law says so: a deadline that is missed may be met again further on. What is told is up to
+the first offset that fails; up to there they are looked at by stretches, of which one has all its offsets as jitter. Of
+executions under --deadlines `lokwurmi slack` is proved to give the very number.
 
 Edits of many numbers go in one script of `lokwurmi session`, so that there are few calls, --jobs of them at a time; for
-a region, which no edit changes, a file is analysed each time. The status is 0, and 3 where a deadline is missed
-already, or a bound `overload`.
+a region or a section, which no edit changes, a file is analysed each time. The status is 0, and 3 where a deadline is
+missed already, or a bound `overload`.
 """
 import os
 
 from lokwurmi.model.limits import MOST_TICKS
 from lokwurmi_tools.commands.argument_parsers import add_program, options_of, reader_of
 from lokwurmi_tools.pictures.plotting import check_name
+from lokwurmi_tools.search.margin_question import KINDS, LAWS
 from lokwurmi_tools.search.margin_texts import MarginOptions, tell_margins
-from lokwurmi_tools.search.margins import KINDS, LAWS
 from lokwurmi_tools.shared.faults import Fault
 
 EXAMPLES = """examples:
   ./lokwurmi sensitivity examples/car_network.toml --to car.svg
   ./lokwurmi sensitivity examples/sae_can.toml --only execution --deadlines
   ./lokwurmi sensitivity examples/pedal.toml --goal pedal_to_motor=4000 --json
+  ./lokwurmi sensitivity examples/offsets.toml --only offset
   ./lokwurmi sensitivity examples/camera_brake.toml --chains examples/camera_brake.chains.toml --only longer-period
 
 docs/SENSITIVITY.md tells how to read it, and why it is right.

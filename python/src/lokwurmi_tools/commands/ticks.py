@@ -6,9 +6,9 @@
 A time may be a text, as "16.667 ms" or "250us", with ns, us, ms or s. On a resource with a bit rate, as `bitrate =
 500000`, it may be of bits or bytes too: "84 byte" is the time of 672 bits. Greatest executions, regions, jitters and
 gaps are rounded up; least executions, periods, distances and deadlines down; a slot has no safe side and must be a
-whole number of ticks. A region has a tick more, and so has an execution that it covers. Each rounding is told on the
-standard error and at the head of the file. A number without a unit stays a number of ticks. Comments and the order of
-entries stay.
+whole number of ticks. A region has a tick more, and so has an execution that it covers; so has the length of a critical
+section, which begins a tick later where it would come into the one before. Each rounding is told on the standard error
+and at the head of the file. A number without a unit stays a number of ticks. Comments and the order of entries stay.
 
 With --system the file is one of chains over that system. Its deadlines are rounded down, and have a tick less for each
 wait that the bound counts: the bounds of `lokwurmi chains` hold at ticks, and between them a wait is up to a tick

@@ -17,6 +17,9 @@ lasted, and its jobs. With --all, --keep writes as few and as short traces as do
 FOLDER/NAME.worst1.csv and so on for NAME.toml. A row that was bettered by the search for another is written once more
 at the end.
 
+Where the bound of a task uses clocks, traces begin at the worst phase: so that the clocks stand as the bound has them
+when the busy window begins. A line `phase` tells where that is, and how near traces from there came.
+
 With --chain it looks for a late reaction of an effect chain, whose tasks read what the one before wrote last, or with
 --what age for old data, beside the bound of `lokwurmi chain`. All its traces have sources that stay near, as that bound
 wants it.

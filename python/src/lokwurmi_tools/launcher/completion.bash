@@ -10,6 +10,24 @@
 _lokwurmi_names() {
   awk -v wanted="$1" '
     { sub(/(^|[ \t])#.*$/, "") }
+    # the names of locks are no names of tasks
+    {
+      rest = $0
+      left = ""
+      while (rest != "") {
+        if (depth == 0 && match(rest, /(^|[{, \t])locks[ \t]*=[ \t]*\[/)) {
+          left = left substr(rest, 1, RSTART - 1) " "
+          depth = 1
+        } else if (depth > 0 && match(rest, /[][]/)) {
+          depth += substr(rest, RSTART, 1) == "[" ? 1 : -1
+        } else {
+          if (depth == 0) left = left rest
+          break
+        }
+        rest = substr(rest, RSTART + RLENGTH)
+      }
+      $0 = left
+    }
     /^[ \t]*\[\[/ { part = $0; gsub(/[][ \t\r]/, "", part); next }
     /^[ \t]*[a-z]+[ \t]*=[ \t]*\[/ && !/^[ \t]*tasks[ \t]*=/ { part = $0; sub(/[ \t]*=.*$/, "", part); sub(/^[ \t]*/, "", part) }
     part == wanted {

@@ -1,7 +1,7 @@
 # Writes a line where a system file that is accepted may deserve a notice: a source that no `after` names, a frame on a CAN
 # resource whose priority is above that of 11 bits without `extended`, or with it where other frames have 11 bits; a clock that
-# one source names, or any clock beside a sporadic source; and, where `unbounded` tells of a chain without a bound, a sporadic
-# source. Where the layout is uncommon it may miss one.
+# one source names, or any clock beside a sporadic source; critical sections; and, where `unbounded` tells of a chain without a
+# bound, a sporadic source. Where the layout is uncommon it may miss one.
 { sub(/(^|[ \t])#.*$/, "") }
 /^[ \t]*\[\[/ { part = $0; gsub(/[][ \t\r]/, "", part); end_frame(); next }
 /^[ \t]*[a-z]+[ \t]*=[ \t]*\[/ && !/^[ \t]*(tasks|after)[ \t]*=/ { part = $0; sub(/[ \t]*=.*$/, "", part); sub(/^[ \t]*/, "", part) }
@@ -33,6 +33,7 @@ part == "source" {
   if (number ~ /^[0-9]+/ && number + 0 <= 2047 && number !~ /^0[xob]/) long = 0
 }
 /sporadic["' \t]*=[ \t]*true/ { sporadic = 1 }
+/(^|[{, \t])locks[ \t]*=/ { locks = 1 }
 /extended[ \t]*=[ \t]*true/ { extended = 1 }
 /payload[ \t]*=/ { payload = 1 }
 /priority[ \t]*=/ && /[{}]/ { end_frame() }
@@ -41,6 +42,7 @@ END {
   for (name in sources) if (!(name in named)) { print "source"; exit }
   for (name in on_clock) if (on_clock[name] == 1) { print "clock"; exit }
   if (clocked && sporadic) { print "clock"; exit }
+  if (locks) { print "lock"; exit }
   if (can && (some_long || (some_extended && some_short))) { print "priority"; exit }
   if (unbounded && sporadic) print "sporadic"
 }

@@ -6,8 +6,11 @@ from dataclasses import dataclass
 from itertools import pairwise
 
 from lokwurmi.model.event_models import Bounds, Stream, inputs_of
+from lokwurmi.model.formats import KEYS_SINCE
 from lokwurmi.model.limits import MOST_SHORT, MOST_TICKS
 from lokwurmi.model.view import SystemView, TaskRow
+from lokwurmi_tools.logs.clock_proposals import head_lines, propose_clocks
+from lokwurmi_tools.logs.log_clocks import FoundClocks, Place
 from lokwurmi_tools.logs.log_options import LogOptions
 from lokwurmi_tools.logs.recorded_logs import (
     NOTES,
@@ -23,12 +26,15 @@ from lokwurmi_tools.logs.recorded_logs import (
     read_log,
     shown,
 )
-from lokwurmi_tools.networks.buses import BEHIND, ERRORS
+from lokwurmi_tools.networks.buses import BEHIND, ERRORS, Frame
 from lokwurmi_tools.shared.faults import Fault
 from lokwurmi_tools.shared.program import written_by
 from lokwurmi_tools.shared.progress import Progress
 from lokwurmi_tools.shared.report import bounds_in, read_report, reports_in
 from lokwurmi_tools.shared.system_file import read_system
+
+# the first format with clocks
+WITH_CLOCKS = KEYS_SINCE["source"]["clock"]
 
 
 def check_used(options: LogOptions, log: Log) -> None:
@@ -43,16 +49,32 @@ def check_used(options: LogOptions, log: Log) -> None:
         raise Fault("--rough concerns nothing without --system: it is for what is held against one")
 
 
+def keys_text(keys: Mapping[str, int]) -> str:
+    """Keys of an entry that aren't 0."""
+    return "".join(f", {key} = {value}" for key, value in keys.items() if value)
+
+
 def source_line(name: str, key: Key, seen: SeenFrame, told_period: int | None, told: int | None) -> str:
     """An entry of a system file for a frame of a log."""
     gaps = gaps_of(seen.times)
     period = min(told_period or period_of(seen.times), MOST_TICKS)
-    jitter, distance = ahead(seen.times, period), min(min(gaps), period)
-    rest = "".join(f", {word} = {value}" for word, value in (("jitter", jitter), ("distance", distance)) if value)
+    rest = keys_text({"jitter": ahead(seen.times, period), "distance": min(min(gaps), period)})
     cycle = f", cycle time {told}" if told else ""
     return (
         f'  {{ name = "{name}", period = {period}{rest} }}, # {shown(key)}, {len(seen.times)} frames, gaps'
         f" {min(gaps)} to {max(gaps)}, later by up to {behind(seen.times, period)}{cycle}"
+    )
+
+
+def placed_line(name: str, key: Key, seen: SeenFrame, place: Place, told: int | None) -> str:
+    """The entry of a frame on a clock."""
+    gaps, it = gaps_of(seen.times), place.schedule
+    cycle = f", cycle time {told}" if told else ""
+    rest = keys_text({"jitter": it.jitter, "distance": min(min(gaps), it.period)})
+    return (
+        f'  {{ name = "{name}", period = {it.period}{rest}, clock = "{place.clock}", offset = {place.offset} }}, #'
+        f" {shown(key)}, {len(seen.times)} frames from {seen.times[0]} to {seen.times[-1]}, gaps {min(gaps)} to"
+        f" {max(gaps)}{cycle}"
     )
 
 
@@ -62,6 +84,7 @@ class FrameNames:
     def __init__(self, options: LogOptions, log: Log):
         self.found: dict[tuple[str, Key], str] = {}
         self.cycles: dict[str, int] = {}
+        self.frames: dict[str, Frame] = {}
         self.by_bus: dict[str, dict[Key, str]] = {}
         self.several = len(log.channels) > 1
         if not options.database:
@@ -79,6 +102,7 @@ class FrameNames:
                         " doesn't tell them apart: take one out of the database"
                     )
                 self.cycles[frame.name] = min(int(frame.cycle / options.tick), MOST_TICKS)
+                self.frames[frame.name] = frame
         # what a system's buses are is told by its resources
         for bus, channel in ({} if options.system else channels_of(options, log, list(self.by_bus))).items():
             self.found.update({(channel, key): name for key, name in self.by_bus[bus].items()})
@@ -144,29 +168,36 @@ def sorted_keys(frames: dict[Key, SeenFrame]) -> list[Key]:
     return sorted(frames, key=lambda it: (it[0] >> 18, True, it[0]) if it[1] else (it[0], False, 0))
 
 
-def line_of(options: LogOptions, names: FrameNames, channel: str, key: Key, seen: SeenFrame) -> str:
+def line_of(
+    options: LogOptions, names: FrameNames, channel: str, key: Key, seen: SeenFrame, clocks: FoundClocks
+) -> str:
     """The line of a frame of a log."""
     name = names.of(channel, key)
     told = names.cycles.get(name)
     if len(seen.times) < 3:
         return f"  # {name}, {shown(key)}: {len(seen.times)} frames tell no period"
+    if name in clocks.places:
+        return placed_line(f"{name}.seen", key, seen, clocks.places[name], told)
+    why = f"; on no clock: {clocks.why[name]}" if name in clocks.why else ""
     if options.period == "database" and not told:
         print(f"{name}: the database has no cycle time of it, and so it has the period of the log", file=sys.stderr)
-    return source_line(f"{name}.seen", key, seen, told if options.period == "database" else None, told)
+    return source_line(f"{name}.seen", key, seen, told if options.period == "database" else None, told) + why
 
 
 def made(options: LogOptions, log: Log, names: FrameNames) -> None:
     """Prints sources for what the log has."""
+    keys = [(channel, key) for channel, frames in sorted(log.channels.items()) for key in sorted_keys(frames)]
+    clocks = propose_clocks(options, log, names, keys) if options.clocks else FoundClocks()
     print(
         f"# The frames of {options.log.encode('ascii', 'backslashreplace').decode()} as they were received. A tick is"
         f" {float(options.tick):.12g} ns; the log has {log.last} of them."
     )
+    print("\n".join([*head_lines(clocks, options.drift), f"format = {WITH_CLOCKS}", ""]) * options.clocks, end="")
     print("source = [")
     progress = Progress("lokwurmi import log")
-    keys = [(channel, key) for channel, frames in sorted(log.channels.items()) for key in sorted_keys(frames)]
     for place, (channel, key) in enumerate(keys, 1):
         progress.show(f"frame {place} of {len(keys)}")
-        line = line_of(options, names, channel, key, log.channels[channel][key])
+        line = line_of(options, names, channel, key, log.channels[channel][key], clocks)
         progress.clear()
         print(line)
     print("]")

@@ -8,7 +8,8 @@ class LogOptions:
     """A log, and the system, None where sources are made of it, that it is held against by its report. Databases name
     the frames, and pairs in `bus` say which channel each bus is; `tick` is in nanoseconds. By `period` sources get the
     periods of the log or of the database. The times of the log may be late by `rough` ticks, and its clock slower by
-    `drift` millionths; `classical` takes frames in lines of CAN FD as classical ones, and `sort` sorts all."""
+    `drift` millionths; `classical` takes frames in lines of CAN FD as classical ones, and `sort` sorts all. `clocks`
+    puts sources that keep their distance on clocks."""
 
     log: str
     program: str
@@ -22,3 +23,4 @@ class LogOptions:
     sort: bool
     rough: int
     drift: float
+    clocks: bool

@@ -9,8 +9,9 @@ from lokwurmi.results.reports import PathReport, Report, TaskReport
 from lokwurmi_tools.page.system_tables import PageSystem, told_of_path
 from lokwurmi_tools.search.chain_goals import ChainGoals
 from lokwurmi_tools.search.helpful_changes import WARNING, change_text, helps_for, less_text, regions_text
-from lokwurmi_tools.search.margin_texts import REGIONS, name_of, share_text, then_of, value_of
-from lokwurmi_tools.search.margins import KINDS, MarginQuestion, rows_of
+from lokwurmi_tools.search.margin_question import KINDS, MarginQuestion
+from lokwurmi_tools.search.margin_texts import OFFSETS, REGIONS, name_of, share_text, then_of, value_of
+from lokwurmi_tools.search.margins import rows_of
 from lokwurmi_tools.search.priorities import PriorityOptions, PrioritySearch
 from lokwurmi_tools.search.priority_texts import above, chains_told
 from lokwurmi_tools.shared.analysed import Analysed
@@ -93,10 +94,11 @@ def margins_of(known: Analysed, scale: Scale, chains: ChainGoals | None) -> Valu
         for it in rows
     ]
     regions = REGIONS if question.has_regions() else ""
+    offsets = OFFSETS if any(it["kind"] == "offset" for it in rows) else ""
     # a deadline is stopped by its own path or chain; paths and tasks come before chains in what is told
     others = [it["is_chain"] for it in told if it["kind"] != "deadline"]
     counts = {"with_chains": chains is not None, "by_chains": sum(others), "others": len(others)}
-    return {"rows": told, "missed": now.first(), "regions": regions} | counts
+    return {"rows": told, "missed": now.first(), "regions": regions, "offsets": offsets} | counts
 
 
 def priorities_of(known: Analysed, chains: ChainGoals | None) -> Values:

@@ -8,6 +8,7 @@ from typing import TYPE_CHECKING
 
 from lokwurmi.model.statuses import Status
 from lokwurmi_tools.page.chains_on_page import chains_of
+from lokwurmi_tools.page.clocks_on_page import clocks_of
 from lokwurmi_tools.page.page_on_request import changes_of, helps_of, margins_of, priorities_of
 from lokwurmi_tools.page.page_options import PageOptions
 from lokwurmi_tools.page.run_pictures import picture_of_graph, seen_run, told_of_run
@@ -112,6 +113,7 @@ def page_of(options: PageOptions, system: PageSystem) -> str:
             causes=causes,
             over=over,
             run=run,
+            clocks=clocks_of(system),
             chains_told=effects,
             made=system.made_of(),
             **told_on_request(options, system),

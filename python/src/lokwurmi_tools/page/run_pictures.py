@@ -39,6 +39,13 @@ def with_letters(svg: str) -> str:
     return svg.replace("<svg ", f'<svg style="min-width:{least:.0f}px" ', 1)
 
 
+def with_words(svg: str) -> str:
+    """A picture whose ink, paper and faint lines are those of the page."""
+    for colour, word in ((INK, "currentColor"), (PAPER, "var(--card)"), (FAINT, "var(--faint)")):
+        svg = svg.replace(colour, word)
+    return svg
+
+
 def picture_of_graph(system: PageSystem, registers: Sequence[Chain]) -> tuple[str, bool]:
     """The graph, with who reads what whom wrote in some chains, and whether tasks that stand alone are left out."""
     chains = len(system.view.tasks) > MOST_DRAWN
@@ -71,9 +78,7 @@ def picture_of_run(system: PageSystem, seen: SeenRun, start: int | None, until: 
     width = min(40.0, max(12.0, len(chart.rows) / max(1, len(chart.lanes())) / 3))
     to = io.StringIO()
     drawn(chart, width).savefig(to, format="svg", transparent=True, metadata={"Date": None})
-    svg = inline(to.getvalue())
-    for colour, word in ((INK, "currentColor"), (PAPER, "var(--card)"), (FAINT, "var(--faint)")):
-        svg = svg.replace(colour, word)
+    svg = with_words(inline(to.getvalue()))
     came = sum(chart.start <= time <= chart.until for several in chart.jobs.values() for time, _ in several)
     return {
         "svg": svg,

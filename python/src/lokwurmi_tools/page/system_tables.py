@@ -101,17 +101,25 @@ class PageSystem:
 
     def rank(self, name: str) -> Values:
         """What tells who goes first, as a word, a number and how that is told: an identifier of a frame that takes more
-        than 11 bits is told in hexadecimal, as other tools do. A region of more than a tick stands beside it. On a
-        queue there is neither word nor number: who came first goes first."""
+        than 11 bits is told in hexadecimal, as other tools do. A region of more than a tick stands beside it, and so do
+        critical sections. On a queue there is neither word nor number: who came first goes first."""
         task, show = self.view.tasks[name], self.scale.text
         if task.slot is not None:
-            return {"by": "slot", "turn": task.slot, "told": show(task.slot), "region": None}
+            return {"by": "slot", "turn": task.slot, "told": show(task.slot), "region": None, "locks": []}
         if task.priority is None:
-            return {"by": "by arrival", "turn": "", "told": "", "region": None}
+            return {"by": "by arrival", "turn": "", "told": "", "region": None, "locks": []}
         is_long = self.view.resource(name).is_bus and task.rank > MOST_SHORT
         told = f"0x{task.rank:X}" if is_long else str(task.rank)
         region = show(task.region) if task.region > 1 else None
-        return {"by": "priority", "turn": task.rank, "told": told, "region": region}
+        return {"by": "priority", "turn": task.rank, "told": told, "region": region, "locks": self.locks(name)}
+
+    def locks(self, name: str) -> list[str]:
+        """The locks of a task with their ceilings, each with how long it is held at most."""
+        on, longest = self.view.tasks[name].on, dict[str, int]()
+        for it in self.view.tasks[name].locks:
+            longest[it.name] = max(longest.get(it.name, 0), it.length)
+        show = self.scale.text
+        return [f"lock {it} {show(ticks)}, ceiling {self.view.ceiling(on, it)}" for it, ticks in longest.items()]
 
     def task_rows(self, run: Run | None) -> list[Values]:
         hue = hues(self.view)

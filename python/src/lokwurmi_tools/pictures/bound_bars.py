@@ -17,6 +17,7 @@ LEGEND = {
     "rival": ("jobs of others", {"facecolor": "#9aa5b1"}),
     "frame": ("a lower frame, under way", {"facecolor": PALE, "hatch": HATCHES["blocking"]}),
     "region": ("the rest of a lower region", {"facecolor": PALE, "hatch": HATCHES["blocking"]}),
+    "section": ("the rest of a lower section, with its lock", {"facecolor": PALE, "hatch": HATCHES["blocking"]}),
     "turns": ("turns of others", {"facecolor": PALE, "hatch": HATCHES["turns"]}),
     "slot": ("slots of others", {"facecolor": GREY, "hatch": HATCHES["slot"]}),
     "gap": ("gap of the cycle", {"facecolor": GREY, "hatch": HATCHES["gap"]}),

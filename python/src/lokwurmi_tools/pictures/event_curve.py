@@ -1,10 +1,13 @@
-"""How many events at most start a task in a window of each length: its streams one on the other."""
+"""How many events at most start a task in a window of each length, its streams one on the other; or a clock over its
+cycle."""
 from dataclasses import dataclass
 from fractions import Fraction
 
 from lokwurmi.model.event_models import first_windows, input_of, label_of, most_events
 from lokwurmi.results.axes import SIDE_BY_SIDE
+from lokwurmi_tools.pictures.clock_curve import drawn_clock
 from lokwurmi_tools.pictures.plotting import bare, begun, check_name, save
+from lokwurmi_tools.runs.clock_cycle import clock_of
 from lokwurmi_tools.shared.faults import Fault
 from lokwurmi_tools.shared.packages import need
 from lokwurmi_tools.shared.report import bounds_in, read_report
@@ -16,11 +19,12 @@ from lokwurmi_tools.shared.types import Stream
 @dataclass(frozen=True, slots=True)
 class CurveOptions:
     """The task of a system whose streams are drawn, at the bounds of a report, up to a window in ticks, None for twice
-    the longest period; `beside` is a stream more, and `tick` in nanoseconds."""
+    the longest period; `beside` is a stream more, and `tick` in nanoseconds. Or the `clock` that is drawn."""
 
     file: str
-    report: str
-    task: str
+    report: str | None = None
+    task: str | None = None
+    clock: str | None = None
     to: str | None = None
     window: int | None = None
     beside: list[int] | None = None
@@ -61,11 +65,21 @@ def draw(
 
 
 def draw_curve(options: CurveOptions) -> None:
-    """Writes the picture of the streams that start a task."""
+    """Writes the picture of the streams that start a task, or that of a clock."""
     need("matplotlib")
-    name, picture = options.task, options.to or options.task + ".svg"
+    name = options.clock or options.task or ""
+    picture = options.to or name + ".svg"
     check_name(picture)
-    view, report = read_system(options.file), read_report(options.report)
+    if options.clock is None:
+        draw_streams(options, name, picture)
+        return
+    clock = clock_of(read_system(options.file), name, options.file)
+    save(drawn_clock(clock, Scale(options.tick)), picture)
+
+
+def draw_streams(options: CurveOptions, name: str, picture: str) -> None:
+    """Writes the picture of the streams that start a task."""
+    view, report = read_system(options.file), read_report(options.report or "")
     if name not in view.tasks or name not in report.tasks:
         raise Fault(f"{name}: no task of {options.file} and {options.report} has this name")
     if options.window is not None and options.window < 1 or options.beside and options.beside[0] < 1:

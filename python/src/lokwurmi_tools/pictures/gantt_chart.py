@@ -8,11 +8,14 @@ from fractions import Fraction
 
 from lokwurmi.model.view import SystemView
 from lokwurmi.results.effect_chains import between_ticks
+from lokwurmi_tools.pictures.clock_lanes import ClockInRun
 from lokwurmi_tools.pictures.effect_chain_arrows import Marked, marked_in
 from lokwurmi_tools.pictures.gantt_lanes import DrawnJob, GanttChart, Longest, Overdue, drawn
 from lokwurmi_tools.pictures.plotting import save
+from lokwurmi_tools.runs.clock_cycle import clock_of, leads_in
 from lokwurmi_tools.runs.effect_chain_in_run import READINGS, RunOfJobs
 from lokwurmi_tools.runs.jobs_in_run import (
+    held_in,
     jobs_in,
     passages_in,
     points_in,
@@ -41,7 +44,7 @@ class GanttOptions:
     """Which run is drawn into the picture `to`: `schedule` is a file of rows, None for what the program writes of the
     trace. It is drawn from the tick `start` until the tick `until`; `longest` is the task or the path that is marked,
     `chain` the effect chain, by its tasks or by its name in the file `chains`, and `what` the one of its times that is;
-    `tick` is in nanoseconds."""
+    `tick` is in nanoseconds. The `clock` is drawn below."""
 
     file: str
     program: str
@@ -54,6 +57,7 @@ class GanttOptions:
     chains: str | None = None
     what: str | None = None
     reading: str = "whenever"
+    clock: str | None = None
     start: int | None = None
     until: int | None = None
     tick: Fraction | None = None
@@ -113,7 +117,8 @@ def chart_of(
     ]
     points = points_in(view, schedule, trace) if trace else {}
     waits = waits_in(view, schedule, trace, jobs) if trace else {}
-    return GanttChart(view, rows, jobs, late, trace[2] if trace else {}, start, until, scale, points, waits)
+    held = held_in(view, schedule, trace) if trace else {}
+    return GanttChart(view, rows, jobs, late, trace[2] if trace else {}, start, until, scale, points, waits, held)
 
 
 def check_longest(name: str, view: SystemView) -> None:
@@ -158,6 +163,14 @@ def stretch(longest: Longest | None, start: int | None, until: int | None, last:
     return max(0, longest.came - more), min(last, longest.done + more)
 
 
+def clock_in_run(options: GanttOptions, view: SystemView, trace: Trace | None) -> ClockInRun | None:
+    """The clock that is asked for, with the events of the trace."""
+    if options.clock is None or trace is None:
+        return None
+    clock = clock_of(view, options.clock, options.file)
+    return ClockInRun(clock, trace[0], leads_in(clock, trace[0]))
+
+
 def draw_gantt(options: GanttOptions) -> None:
     """Writes the picture of a run."""
     need("matplotlib")
@@ -186,4 +199,4 @@ def draw_gantt(options: GanttOptions) -> None:
             f"{options.schedule or options.trace}: there are {len(chart.rows)} segments in this time,"
             f" and a picture takes {MOST_SEGMENTS}: cut a part out by --from and --until"
         )
-    save(drawn(chart, longest=longest, run=run, marked=marked), options.to)
+    save(drawn(chart, longest=longest, run=run, marked=marked, clock=clock_in_run(options, view, trace)), options.to)

@@ -5,16 +5,20 @@ from typing import Any, NamedTuple
 
 from lokwurmi.model.view import ResourceRow, SystemView
 from lokwurmi.results.axes import LATE
+from lokwurmi_tools.pictures.clock_lanes import ClockInRun, draw_clock_in_run
 from lokwurmi_tools.pictures.colours import FAINT, INK, PALE, PAPER, hues, letters_on, shades
 from lokwurmi_tools.pictures.effect_chain_arrows import Marked, draw_marked
 from lokwurmi_tools.pictures.plotting import Line2D, LineCollection, Patch, PatchCollection, Rectangle, begun
 from lokwurmi_tools.runs.effect_chain_in_run import RunOfJobs
+from lokwurmi_tools.runs.jobs_in_run import Held
 from lokwurmi_tools.shared.times import Scale
 from lokwurmi_tools.shared.types import Jobs, Schedule, Segment
 
 MOST_SLOTS, MOST_NAMES = 400, 24
 # the bars, the slots behind them, and where the marks of jobs are, in parts of a lane
 BAR, BAND, CAME, DONE, BELOW = 0.44, 0.68, -0.34, 0.34, 0.5
+# how high the strip of a critical section is, and how many are drawn one within the other
+STRIP, MOST_STRIPS = 0.11, 2
 
 
 class DrawnJob(NamedTuple):
@@ -69,6 +73,8 @@ class GanttChart(NamedTuple):
     points: dict[str, list[int]] = {}
     # from when to when the jobs of a queue waited
     waits: dict[str, list[Segment]] = {}
+    # when jobs ran within critical sections
+    held: dict[str, list[Held]] = {}
 
     def lanes(self) -> list[ResourceRow]:
         """The resources that have tasks."""
@@ -86,6 +92,14 @@ class GanttChart(NamedTuple):
             for name, several in self.waits.items()
         }
         return {name: several for name, several in found.items() if several}
+
+    def holding(self) -> dict[str, list[Held]]:
+        """The parts within critical sections that are seen, of the tasks that don't have too many of them."""
+        found = {
+            name: [it for it in several if it.start < self.until and it.end > self.start]
+            for name, several in self.held.items()
+        }
+        return {name: several for name, several in found.items() if 0 < len(several) <= MOST_SLOTS}
 
     def place(self) -> dict[str, int]:
         """The lane of each task."""
@@ -159,6 +173,22 @@ def draw_points(axes: Any, chart: GanttChart) -> None:
         y = place[name]
         lines = [[(it, y - BAR / 2), (it, y + BAR / 2)] for it in times]
         axes.add_collection(LineCollection(lines, colors=PAPER, linewidths=1.1, zorder=3))
+
+
+def draw_sections(axes: Any, chart: GanttChart, unit: float) -> None:
+    """Within the bar of a job a dark strip for each critical section, from its lower edge on, an inner one above an
+    outer one, with the name of the lock where there is room: a letter is about 3 points wide."""
+    place = chart.place()
+    for name, several in chart.holding().items():
+        for it in several:
+            start, end = max(it.start, chart.start), min(it.end, chart.until)
+            y = place[name] + BAR / 2 - STRIP * (1 + min(it.depth, MOST_STRIPS - 1))
+            axes.add_patch(
+                Rectangle((start, y), end - start, STRIP, facecolor=INK, edgecolor=PAPER, linewidth=0.4, zorder=3)
+            )
+            if end - start > (3 * len(it.lock) + 3) * unit:
+                look = {"ha": "center", "va": "center", "fontsize": 4.6, "color": PAPER, "zorder": 4, "clip_on": True}
+                axes.text((start + end) / 2, y + STRIP / 2, it.lock, **look)
 
 
 def draw_jobs(axes: Any, chart: GanttChart, colour: dict[str, str]) -> None:
@@ -340,6 +370,8 @@ def marks_in_legend(chart: GanttChart) -> list[tuple[Any, str]]:
     if chart.ends():
         line = Line2D([], [], color=PAPER, marker="|", linestyle="none", markersize=7, markeredgewidth=1.1)
         entries.append(((Patch(color=FAINT), line), "a region ends, the job goes on"))
+    if chart.holding():
+        entries.append((Patch(color=INK), "it holds a lock"))
     if any(chart.view.resources[it].gap for it in chart.view.rings()):
         entries.append((Patch(facecolor="none", edgecolor=FAINT, hatch="////", linewidth=0), "gap"))
     if chart.late:
@@ -359,21 +391,35 @@ def draw_legend(axes: Any, chart: GanttChart, colour: dict[str, str], width: flo
     axes.legend(*zip(*entries), fontsize=7, ncols=columns, **where, **look)
 
 
+def begun_with(chart: GanttChart, width: float, below: float, clock: ClockInRun | None) -> tuple[Any, list[Any]]:
+    """The figure of a chart with room for so many parts of a lane below it, and its axes: those of the lanes, and with
+    a clock two more."""
+    height = 0.62 * (max(1, len(chart.lanes())) + below) + 1.25
+    if clock is None:
+        figure, axes = begun(figsize=(width, height))
+        return figure, [axes]
+    heights = [height, *clock.heights()]
+    figure, several = begun(3, 1, sharex=True, height_ratios=heights, figsize=(width, sum(heights) + 0.4))
+    return figure, list(several)
+
+
 def drawn(
     chart: GanttChart,
     width: float = 10.0,
     longest: Longest | None = None,
     run: RunOfJobs | None = None,
     marked: Sequence[Marked] = (),
+    clock: ClockInRun | None = None,
 ) -> Any:
-    """The figure of a chart, with what took longest in it, and what is marked of a chain in its run."""
+    """The figure of a chart, with what took longest in it, what is marked of a chain in its run, and a clock below."""
     colour = shades(chart.view)
     unit = (chart.until - chart.start) / (width * 72)
     below = (0.5 if longest and longest.is_path else 0.0) + 0.45 * len(marked)
-    figure, axes = begun(figsize=(width, 0.62 * (max(1, len(chart.lanes())) + below) + 1.25))
+    figure, (axes, *others) = begun_with(chart, width, below, clock)
     draw_slots(axes, chart, colour)
     draw_bars(axes, chart, colour, unit)
     draw_points(axes, chart)
+    draw_sections(axes, chart, unit)
     draw_waits(axes, chart, colour)
     draw_jobs(axes, chart, colour)
     draw_late(axes, chart)
@@ -384,4 +430,9 @@ def drawn(
         draw_marked(axes, chart.place(), run, marked, first, chart.scale)
     draw_frame(axes, chart, below)
     draw_legend(axes, chart, colour, width)
+    if clock:
+        draw_clock_in_run(others, clock, chart.start, chart.until, chart.scale)
+        # the times stand below all
+        others[-1].set_xlabel(axes.get_xlabel(), fontsize=8, color=INK)
+        axes.set_xlabel("")
     return figure

@@ -2,8 +2,8 @@
 from typing import Any
 
 from lokwurmi_tools.pictures.plotting import Patch, bare, begun, legend_above, save
+from lokwurmi_tools.search.margin_question import KINDS
 from lokwurmi_tools.search.margin_texts import name_of, share_text, shares_of, value_of
-from lokwurmi_tools.search.margins import KINDS
 from lokwurmi_tools.shared.types import Values
 
 # the tightest that are drawn
@@ -15,6 +15,8 @@ HUES = {
     "jitter": "#a3862a",
     "speed": "#7b4fa3",
     "region": "#2a8c8c",
+    "section": "#7a8c2a",
+    "offset": "#a83254",
     "deadline": "#b5541c",
 }
 

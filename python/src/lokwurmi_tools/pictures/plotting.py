@@ -41,6 +41,11 @@ def begun(*numbers: int, **look: Any) -> tuple[Any, Any]:
     return figure, axes
 
 
+def closed(figure: Any) -> None:
+    """Lets go of a figure that is written, where there are many."""
+    plt.close(figure)
+
+
 def save(figure: Any, picture: str) -> None:
     """Writes a picture, without the date."""
     try:

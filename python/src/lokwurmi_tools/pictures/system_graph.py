@@ -20,6 +20,8 @@ from lokwurmi_tools.shared.system_file import read_system
 from lokwurmi_tools.shared.times import Scale
 
 OVERLOADED, MISSED = "#f5b7b1", "#fbe3b5"
+# how many locks are named at a resource and at a task
+FEW = 6
 HEAD = (
     "digraph system {",
     '  rankdir = "LR"; newrank = true; ranksep = 1.6; nodesep = 0.12; outputorder = "edgesfirst"; labeljust = "l";',
@@ -101,6 +103,8 @@ class Drawing:
         own = self.view.on(resource.name)
         label = f"{resource.name}: {resource.kind}"
         label += ", first come, first served" if resource.kind == Kind.FIFO else ""
+        if ceilings := [f"{it} {self.view.ceiling(resource.name, it)}" for it in self.view.locks_on(resource.name)]:
+            label += f": {', '.join(ceilings[:FEW])}{' and more' if len(ceilings) > FEW else ''}"
         if left_out := sum(it not in self.drawn for it in own):
             label += f", and {left_out} task{'s' if left_out > 1 else ''} of its own"
         paper = "#f6f1e7" if resource.is_bus else "#eef3f8"
@@ -114,6 +118,8 @@ class Drawing:
         turn += f", slot {show(task.slot)}" if task.slot is not None else ""
         region = f", region {show(task.region)}" if task.region > 1 else ""
         text, look = f"{name}\n{show(task.best)} to {show(task.worst)}{turn}{region}", ""
+        if locks := list(dict.fromkeys(it.name for it in task.locks)):
+            text += f"\nlocks {', '.join(locks[:FEW])}{' and more' if len(locks) > FEW else ''}"
         if streams > 1:
             text += f"\nstreams {streams}"
         if len(task.after) > 1:

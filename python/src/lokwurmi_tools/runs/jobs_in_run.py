@@ -4,7 +4,7 @@ from typing import NamedTuple
 
 from lokwurmi.files import traces
 from lokwurmi.model.limits import Kind
-from lokwurmi.model.view import SystemView
+from lokwurmi.model.view import LockRow, SystemView
 from lokwurmi_tools.shared.program import written_by
 from lokwurmi_tools.shared.types import Jobs, Schedule, Segment, Times, Trace
 
@@ -56,6 +56,39 @@ def points_in(view: SystemView, schedule: Schedule, trace: Trace) -> dict[str, l
                 found[name] += range(start + region - had % region, end, region)
                 had += end - start
     return found
+
+
+class Held(NamedTuple):
+    """A part of a job in which it has ticks of a critical section: from when to when, the lock, and within how many
+    others of its sections it is."""
+
+    start: int
+    end: int
+    lock: str
+    depth: int
+
+
+def held_in(view: SystemView, schedule: Schedule, trace: Trace) -> dict[str, list[Held]]:
+    """Of each task with locks when its jobs ran within critical sections."""
+    tasks = {name: it for name, it in view.tasks.items() if it.locks}
+    segments = segments_of([row for row in schedule if row[0] in tasks], tasks)
+    found: dict[str, list[Held]] = {name: [] for name in tasks}
+    for name, task in tasks.items():
+        depths = [sum(is_within(it, other) for other in task.locks) for it in task.locks]
+        for parts, _ in parts_in(segments[name], trace[1].get(name, []), task.worst):
+            had = 0
+            for start, end in parts:
+                for it, depth in zip(task.locks, depths):
+                    first, last = max(it.start, had), min(it.end, had + end - start)
+                    if first < last:
+                        found[name].append(Held(start + first - had, start + last - had, it.name, depth))
+                had += end - start
+    return found
+
+
+def is_within(one: LockRow, other: LockRow) -> bool:
+    """Whether a critical section is within another one, which is longer."""
+    return other.start <= one.start and one.end <= other.end and one.length < other.length
 
 
 def waits_in(view: SystemView, schedule: Schedule, trace: Trace, jobs: Jobs) -> dict[str, list[Segment]]:

@@ -89,7 +89,7 @@ class ModelChanges:
 
     def blocker(self, name: str) -> list[str]:
         """The task of lower priority that holds one up, where less of an execution makes that less. No edit of a script
-        makes a region shorter."""
+        makes a region or a critical section shorter."""
         blocked = self.parts.blocking(name)
         if blocked is None:
             return []
@@ -190,13 +190,23 @@ def lines_of_helps(several: list[Help], scale: Scale = TICKS) -> list[str]:
 
 
 def regions_text(path: Values, file: str) -> str:
-    """Whose regions a path that is late waits for, which no change shortens; nothing where there are none."""
-    of = [it["of"] for it in path["waits"] if it["under"] == "region"]
-    if not of or path["verdict"] not in ("missed", "unknown"):
+    """Whose regions and sections a path that is late waits for, which no change shortens; nothing where there are
+    none."""
+    if path["verdict"] not in ("missed", "unknown"):
         return ""
-    which = f"the region of {of[0]}, which is" if len(of) == 1 else f"the regions of {', '.join(of)}, which are"
+    told = [waited_text(path, file, *it) for it in (("region", "the key left out"), ("section", "`length = 1`"))]
+    return "; ".join(filter(None, told))
+
+
+def waited_text(path: Values, file: str, under: str, way: str) -> str:
+    """The same of what is under way there."""
+    waits = [it for it in path["waits"] if it["under"] == under]
+    of = [f"{it['of']} with lock {it['lock']}" if "lock" in it else it["of"] for it in waits]
+    if not of:
+        return ""
+    which = f"the {under} of {of[0]}, which is" if len(of) == 1 else f"the {under}s of {', '.join(of)}, which are"
     long = "it may be" if len(of) == 1 else "each may be"
-    says = f"with the key left out, lokwurmi sensitivity {file} --only region says how long {long}"
+    says = f"with {way}, lokwurmi sensitivity {file} --only {under} says how long {long}"
     return f"it waits for {which} not among these changes; {says}"
 
 

@@ -5,13 +5,16 @@ import sys
 import time
 from dataclasses import dataclass
 
-from lokwurmi.results.verdicts import CLOCK_PREMISE, CLOCK_WORDS, PREMISE
+from lokwurmi.results.verdicts import CLOCK_PREMISE, PREMISE
 from lokwurmi_tools.bounds.bound_texts import shown
 from lokwurmi_tools.search.chain_goals import PREMISE_WORDS, ChainGoals
-from lokwurmi_tools.search.margins import LAWS, MOST_TRIES, PARTS, MarginQuestion, rows_of
+from lokwurmi_tools.search.margin_question import KINDS, LAWS, PARTS, MarginQuestion
+from lokwurmi_tools.search.margins import rows_of
+from lokwurmi_tools.search.offset_margins import MOST_TRIES
 from lokwurmi_tools.shared.analysed import analysed
 from lokwurmi_tools.shared.faults import Fault
 from lokwurmi_tools.shared.packages import need
+from lokwurmi_tools.shared.system_file import clock_words_of
 from lokwurmi_tools.shared.tables import columns
 from lokwurmi_tools.shared.times import TICKS, Scale
 from lokwurmi_tools.shared.types import Values
@@ -25,7 +28,16 @@ PERIODS = (
 )
 # what has to be said of periods where there are clocks
 CLOCKS = "periods of sources on a clock aren't moved: with another one all that comes by the clock would lie otherwise"
-# what has to be said beside what doesn't hold already, where there are regions
+# what has to be said of offsets
+OFFSETS = (
+    "an offset moves round the period of its source, later and earlier: a whole period on, it lies where it was. Up to"
+    " where it may move all holds; beyond that it may hold again"
+)
+# what has to be said beside what doesn't hold already, where there are critical sections, and where there are regions
+SECTIONS = (
+    "critical sections can't be shorter than now in this search: write length = 1, "
+    "and --only section says how long each may be"
+)
 REGIONS = (
     "regions can't be shorter than now in this search: leave the key region out, "
     "and --only region says how long each may be"
@@ -37,10 +49,23 @@ WORDS = {
     "jitter": "jitter of",
     "speed": "executions on",
     "region": "region of",
+    "section": "section of",
+    "offset": "offset of",
     "deadline": "deadline of",
 }
+# what it is to be moved as far as can be
+LIMITS = {
+    "region": "it is never preempted",
+    "section": "the job ends there, or another section of it",
+    "offset": "all round the period",
+}
 # of what the share of a number is where it isn't of the number itself
-WHOLES = {"jitter": "the period of its source", "region": "the greatest execution"}
+WHOLES = {
+    "jitter": "the period of its source",
+    "offset": "the period of its source",
+    "region": "the greatest execution",
+    "section": "the greatest execution",
+}
 
 
 @dataclass(frozen=True, slots=True)
@@ -71,7 +96,7 @@ def name_of(row: Values) -> str:
 def share_text(row: Values) -> str:
     if not row["by"]:
         return "0 %"
-    sign = "-" if row["kind"] in ("period", "deadline") else "+"
+    sign = "-" if row["kind"] in ("period", "deadline") or row.get("way") == "earlier" else "+"
     share = 100 * row["share"]
     return f"{sign}{share:.1f} %" if share < 1000 else f"{sign}{share:.0f} %"
 
@@ -81,7 +106,7 @@ def then_of(row: Values) -> str:
     if not row["first"] and not row["limit"]:
         return f"not known: {MOST_TRIES} values were tried"
     if row["limit"]:
-        return "nothing: " + ("it is never preempted" if row["kind"] == "region" else "as far as the number goes")
+        return f"nothing: {LIMITS.get(row['kind'], 'as far as the number goes')}"
     more = len(row["first"]) - 2
     return ", ".join(row["first"][:2]) + (f" and {more} more" if more > 0 else "")
 
@@ -97,7 +122,8 @@ def lines_of(rows: list[Values]) -> list[str]:
 def shares_of(rows: list[Values]) -> list[str]:
     """Which numbers have a share that isn't of themselves."""
     kinds = {it["kind"] for it in rows}
-    return [f"a {kind} in % of {whole}" for kind, whole in WHOLES.items() if kind in kinds]
+    several = [(kind, whole) for kind, whole in WHOLES.items() if kind in kinds]
+    return [f"{'an' if kind == 'offset' else 'a'} {kind} in % of {whole}" for kind, whole in several]
 
 
 def lines_of_shares(rows: list[Values]) -> list[str]:
@@ -110,7 +136,7 @@ def json_text(options: MarginOptions, question: MarginQuestion, rows: list[Value
     """All that is told, as JSON."""
     asked = {"file": options.file, "goals": options.goals, "deadlines": options.deadlines}
     asked |= {"chains_file": options.chains, "premise": PREMISE if options.chains else None}
-    if question.view.clocks:
+    if question.view.clocks_in_bounds:
         asked["clock_premise"] = CLOCK_PREMISE
     cost = {"calls": question.calls, "reports": question.probes, "seconds": round(seconds, 3)}
     laws = LAWS if options.chains is None else LAWS | {"period": f"{LAWS['period']}; what chains allow is argued"}
@@ -122,16 +148,18 @@ def lines_of_chains(question: MarginQuestion) -> list[str]:
     return [PERIODS, PREMISE_WORDS] if question.chains else []
 
 
-def lines_of_clocks(question: MarginQuestion) -> list[str]:
+def lines_of_clocks(question: MarginQuestion, rows: list[Values]) -> list[str]:
     """What has to be said where sources are on clocks."""
-    return [CLOCKS, CLOCK_WORDS] if question.view.clocks else []
+    offsets = [OFFSETS] if any(it["kind"] == "offset" for it in rows) else []
+    return offsets + ([CLOCKS] if question.view.clocks else []) + clock_words_of(question.view)
 
 
 def tell_nothing(question: MarginQuestion) -> int:
     """Says what doesn't hold already, of chains with their lines in the file."""
-    regions = f"; {REGIONS}" if question.has_regions() else ""
     now = question.now()
-    print(f"nothing may move, as this doesn't hold now: {', '.join(now.first())}{regions}", file=sys.stderr)
+    stay = [REGIONS] * question.has_regions() + [SECTIONS] * question.has_sections()
+    told = "; ".join([f"nothing may move, as this doesn't hold now: {', '.join(now.first())}", *stay])
+    print(told, file=sys.stderr)
     for line in question.chains.lines_of(now.late) if question.chains else ():
         print(line, file=sys.stderr)
     for it in question.chains.silences() if question.chains else ():
@@ -146,6 +174,11 @@ def question_of(options: MarginOptions) -> MarginQuestion:
     for name in options.goals:
         if name not in paths:
             raise Fault(f"{options.file}: there is no path {name}; it has {', '.join(paths) or 'none'}")
+    if "offset" in options.only and options.only != KINDS and not known.view.clocks_in_bounds:
+        raise Fault(
+            f"{options.file}: --only offset: no bound depends on an offset: that takes two tasks of one preemptive,"
+            " ceiling or can resource whose sources are on one clock"
+        )
     return MarginQuestion(known, options.goals, options.deadlines, chains)
 
 
@@ -160,7 +193,7 @@ def tell_margins(options: MarginOptions) -> int:
     if options.json:
         print(json_text(options, question, rows, time.monotonic() - start))
     else:
-        notes = [NOTE, *lines_of_shares(rows), *lines_of_chains(question), *lines_of_clocks(question)]
+        notes = [NOTE, *lines_of_shares(rows), *lines_of_chains(question), *lines_of_clocks(question, rows)]
         print(shown("\n".join([*lines_of(rows), "", *notes])))
     if options.to:
         from lokwurmi_tools.pictures.margin_bars import draw_margins

@@ -65,17 +65,13 @@ def free_in(known: Analysed, options: OffsetOptions) -> list[str]:
     check_names(known, options)
     view = known.view
     clocks = options.clock or tuple(view.clocks)
-    of_use: set[str] = set()
-    for task in reversed(list(view.tasks)):
-        of_use.update(it for it in view.clocks_at(task) if it in clocks)
-        if len(of_use) == len(clocks):
-            break
+    of_use = [it for it in view.clocks_in_bounds if it in clocks]
     if not of_use:
         raise Fault(
             f"{known.file}: no bound depends on offsets on {' and '.join(clocks)}: that takes two tasks of one"
-            " preemptive or can resource whose sources are on one clock"
+            " preemptive, ceiling or can resource whose sources are on one clock"
         )
-    free = [it for clock in view.clocks if clock in of_use for it in view.clocks[clock] if it not in options.keep]
+    free = [it for clock in of_use for it in view.clocks[clock] if it not in options.keep]
     if not free:
         raise Fault(f"{known.file}: all sources on {' and '.join(clocks)} are kept: name fewer by --keep")
     return free

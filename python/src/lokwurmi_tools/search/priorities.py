@@ -9,7 +9,7 @@ from typing import Any, NamedTuple
 
 from lokwurmi.model.event_models import Bounds, Stream, inputs_of
 from lokwurmi.model.formats import FORMATS
-from lokwurmi.model.limits import DEFAULT_REGION, MOST_ENTRIES, MOST_PRIORITY, MOST_TICKS
+from lokwurmi.model.limits import DEFAULT_REGION, MOST_ENTRIES, MOST_PRIORITY, MOST_TICKS, Kind
 from lokwurmi.model.view import SystemView
 from lokwurmi.results import reports
 from lokwurmi.results.reports import Report, Verdict
@@ -234,6 +234,9 @@ class PrioritySearch:
         limits = {it: max(1, min(MOST_TICKS, int(parts[it]))) for it in reversed(names) if it in parts}
         paths = [{"name": f"p.{k}", "tasks": [it], "deadline": limits[it]} for k, it in enumerate(limits)]
         resource = [it for it in self.view.values["resource"] if it["name"] == on]
+        if self.view.resources[on].kind == Kind.CEILING:
+            # `assign` takes no locks: an order without them is one to begin with
+            resource = [it | {"kind": Kind.PREEMPTIVE.value} for it in resource]
         return {"format": FORMATS[-1], "resource": resource, "source": sources, "task": tasks, "path": paths}
 
     def rounds(self, count: int) -> None:

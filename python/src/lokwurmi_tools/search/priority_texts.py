@@ -4,10 +4,11 @@ import sys
 import tempfile
 from fractions import Fraction
 
-from lokwurmi.results.verdicts import CLOCK_PREMISE, CLOCK_WORDS, PREMISE, Bound
+from lokwurmi.results.verdicts import CLOCK_PREMISE, PREMISE, Bound
 from lokwurmi_tools.search.chain_goals import PREMISE_WORDS, ChainGoals
 from lokwurmi_tools.search.priorities import OrderVerdict, PriorityOptions, PrioritySearch
 from lokwurmi_tools.shared.analysed import analysed
+from lokwurmi_tools.shared.system_file import clock_words_of
 from lokwurmi_tools.shared.tables import columns, numbered
 from lokwurmi_tools.shared.types import Values
 
@@ -49,7 +50,7 @@ def json_text(search: PrioritySearch, verdict: OrderVerdict) -> str:
     loads = {on: float(share) for on, share in search.overloaded().items()}
     late = {"late": verdict.late, "overload": verdict.over, "overloaded": loads}
     chains = {"chains": chains_told(search, verdict), "premise": PREMISE if search.chains else None}
-    if search.view.clocks:
+    if search.view.clocks_in_bounds:
         chains["clock_premise"] = CLOCK_PREMISE
     return json.dumps({**found, **late, "order": search.changed(), "edits": search.script(), **chains}, indent=1)
 
@@ -74,9 +75,13 @@ def lines_of(search: PrioritySearch, verdict: OrderVerdict) -> list[str]:
         lines.append("no order can do: no two tasks of a resource have priorities that could change places")
     elif not verdict.holds and not search.overloaded() and not search.silences():
         lines.append("there may be an order still: the search proves nothing about what it didn't try")
-        if any("region" in it for it in search.view.values["task"]):
-            lines.append("regions stay as they are: lokwurmi explain says whether a late path waits for one")
-    return lines + lines_of_chains(search, verdict) + ([CLOCK_WORDS] if search.view.clocks else [])
+        stay = {key: any(it.get(key) for it in search.view.values["task"]) for key in ("region", "locks")}
+        if any(stay.values()):
+            what = " and ".join(
+                word for key, word in (("region", "regions"), ("locks", "critical sections")) if stay[key]
+            )
+            lines.append(f"{what} stay as they are: lokwurmi explain says whether a late path waits for one")
+    return lines + lines_of_chains(search, verdict) + clock_words_of(search.view)
 
 
 def searched_until(search: PrioritySearch) -> bool:

@@ -132,9 +132,9 @@ def travel_of(view: SystemView, bounds: Bounds, way: Iterable[str], which: str) 
 
 def known_plans(view: SystemView, target: str, bounds: Bounds) -> list[TracePlan]:
     """Plans that are known to be bad for a task: its rivals come with it, jitter is used up first, all take their
-    greatest; a frame of lower priority has just begun, or a region; the slot has just ended; on a queue the task comes
-    last. Where tasks come along chains, these are started before, so that they arrive then, with first jobs that take
-    long and later ones that don't, or with all that take as long."""
+    greatest; a frame of lower priority has just begun, or a region or a section; the slot has just ended; on a queue
+    the task comes last. Where tasks come along chains, these are started before, so that they arrive then, with first
+    jobs that take long and later ones that don't, or with all that take as long."""
     lower, plans = view.blockers(target), arriving(view, target, bounds)
     if lower:
         plans += [more for plan in plans for more in blocked(view, plan, bounds, target, lower)]
@@ -163,12 +163,12 @@ def arriving(view: SystemView, target: str, bounds: Bounds) -> list[TracePlan]:
 
 
 def blocked(view: SystemView, plan: TracePlan, bounds: Bounds, target: str, lower: list[str]) -> list[TracePlan]:
-    """The plan with a frame of lower priority that has just begun, or a region."""
+    """The plan with a frame of lower priority that has just begun, or a region, or a critical section."""
     found = []
-    for blocker in sorted(lower, key=lambda one: -view.uninterrupted(one))[:3]:
-        for ahead in {1, view.resource(target).bit}:
+    for block in [it for it in view.blocks(target) if it.task in lower][:3]:
+        for ahead in {1, view.resource(target).bit, block.start + 1}:
             more = plan.copy()
-            for source, *way in view.ways_to(blocker):
+            for source, *way in view.ways_to(block.task):
                 if source not in more.start:
                     more.start[source] = -ahead - travel_of(view, bounds, way, "worst")
             found.append(more)
@@ -208,18 +208,18 @@ def path_plan(
     view: SystemView, links: Sequence[str], bounds: Bounds, busy: set[str], which: str, late: bool
 ) -> tuple[dict[str, int], set[str]]:
     """A plan in which the passage of a path finds those tasks of it that are busy at their worst: their rivals come
-    with it, and a frame or a region of lower priority a tick before; or the rivals come late, just before that has
-    ended. What is already bound to come elsewhere stays there."""
+    with it, and a frame, a region or a section of lower priority begins a tick before; or the rivals come late, just
+    before that has ended. What is already bound to come elsewhere stays there."""
     source, *before = view.ways_to(links[0])[0]
     start, at, ways = {source: -travel_of(view, bounds, before, "worst")}, 0, set(before)
     for name in links:
         if name not in busy:
             at += view.tasks[name].worst
             continue
-        free = [it for it in view.blockers(name) if not any(source in start for source in view.sources_of(it))]
-        lower = sorted(free, key=lambda one: -view.uninterrupted(one))
-        later = max(0, view.uninterrupted(lower[0]) - 2) if late and lower else 0
-        for rival, ahead in [(one, 1) for one in lower[:1]] + [(one, -later) for one in view.rivals(name)]:
+        blocks = [it for it in view.blocks(name) if it.ticks > 1]
+        lower = [it for it in blocks if not any(source in start for source in view.sources_of(it.task))][:1]
+        later = max(0, lower[0].ticks - 2) if late and lower else 0
+        for rival, ahead in [(it.task, it.start + 1) for it in lower] + [(one, -later) for one in view.rivals(name)]:
             for source, *way in view.ways_to(rival):
                 start.setdefault(source, at - ahead - travel_of(view, bounds, way, which))
                 ways.update(way)

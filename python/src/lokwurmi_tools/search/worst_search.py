@@ -18,6 +18,7 @@ from lokwurmi.model.limits import MOST_TIME
 from lokwurmi.model.view import SystemView
 from lokwurmi.results.reports import Report
 from lokwurmi_tools.runs.jobs_in_run import jobs_in, read_trace, schedule_by
+from lokwurmi_tools.search.phase_plans import PhasePlans, phase_plans
 from lokwurmi_tools.search.trace_plans import TracePlan, change, known_plans, path_plans, rows_of
 from lokwurmi_tools.shared.analysed import Analysed
 from lokwurmi_tools.shared.faults import OwnFault
@@ -191,14 +192,26 @@ class Scope:
         """What is tried first: what is known to be bad, and for a path what was found for its tasks and for itself by
         then."""
         plans = path_plans(view, self.links, self.bounds) if len(self.links) > 1 else []
-        plans += [
-            plan
-            for task in dict.fromkeys([self.links[-1], *self.links])
-            for plan in known_plans(view, task, self.bounds)
-        ]
+        for task in dict.fromkeys([self.links[-1], *self.links]):
+            # those of a task by itself come before all others
+            plans += phase_plans(view, task, self.bounds).plans if target[0] == "path" else []
+            plans += known_plans(view, task, self.bounds)
         if target[0] == "path":
             plans += [best.found[it][1] for it in (target, *(("task", one) for one in self.links)) if it in best.found]
         return plans
+
+
+class SeenByPhase:
+    """What was seen of tasks where the busy window begins at the worst phase of their clocks, and which that is."""
+
+    def __init__(self) -> None:
+        self.found: dict[Target, tuple[PhasePlans, int]] = {}
+
+    def take(self, target: Target, phases: PhasePlans, answers: list[Shown]) -> None:
+        """Keeps the latest of the answers, of which the first are those of its plans."""
+        seen = [answer[target] for _, answer in zip(phases.plans, answers) if target in answer]
+        if seen:
+            self.found[target] = phases, max(seen)
 
 
 class WorstSearch:
@@ -208,6 +221,7 @@ class WorstSearch:
         self.view, self.judge, self.options, self.targets = judge.view, judge, options, targets
         self.bounds = targets_in(judge.known.report)
         self.best, self.progress, self.cut, self.place = Best(), Progress("lokwurmi worst"), 0, 0
+        self.phased = SeenByPhase()
 
     def show(self, target: Target, made: int, tries: int, ends: float) -> None:
         """How far it is."""
@@ -234,7 +248,8 @@ class WorstSearch:
         pool: list[tuple[int, TracePlan]] = []
         # of its own, so that a target is looked for alike whatever else is asked for
         rng = random.Random(f"{self.options.seed} {' '.join(target)}")
-        plans = scope.first_plans(self.view, target, self.best)
+        phases = phase_plans(self.view, target[1], scope.bounds) if target[0] == "task" else PhasePlans()
+        plans = phases.plans + scope.first_plans(self.view, target, self.best)
         while not self.is_over(target, made, ends) and (plans or made < self.options.tries):
             self.show(target, made, max(self.options.tries, made + len(plans)), last)
             if not plans:
@@ -243,6 +258,8 @@ class WorstSearch:
             some, plans = plans[:TOGETHER], plans[TOGETHER:]
             # what is known to be bad may take the time of others
             answers = self.judge.all(some, scope.span, ends if made else last)
+            if not made:
+                self.phased.take(target, phases, answers)
             made += len(some)
             self.best.take(some, answers, scope.span)
             pool += [(answer.get(target, -1), plan) for plan, answer in zip(some, answers)]

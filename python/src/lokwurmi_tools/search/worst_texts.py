@@ -62,6 +62,15 @@ def line(what: Target, seen: int, bound: int | None) -> str:
     return f"{kind} {name} seen {seen} bound {bound} ratio {ratio_text(seen, bound)}"
 
 
+def tell_phase(search: WorstSearch, target: Target) -> None:
+    """What was seen of a task where the busy window begins at the worst phase of its clocks."""
+    if target not in search.phased.found:
+        return
+    phases, seen = search.phased.found[target]
+    where = ",".join(f"{clock}:{at}" for clock, at in phases.moments.items())
+    say(f"phase {line(target, seen, search.bounds[target])} clocks {where}")
+
+
 def targets_of(
     options: WorstOptions, bounds: dict[Target, int | None], view: SystemView
 ) -> tuple[list[Target], list[Target]]:
@@ -93,6 +102,7 @@ def tell(search: WorstSearch, told: list[Target]) -> Shown:
         if target in told and target in search.best.found:
             rows[target] = search.best.found[target][0]
             say(line(target, rows[target], search.bounds[target]))
+            tell_phase(search, target)
     for target, seen in rows.items():
         if search.best.found[target][0] > seen:
             rows[target] = search.best.found[target][0]

@@ -45,7 +45,7 @@ def read_system(name: str) -> SystemView:
 
 
 def noticed_in(name: str) -> list[str]:
-    """The notices on a system file that is accepted, and what its bounds presume where it has clocks, a sentence
+    """The notices on a system file that is accepted, and what its bounds presume where they use clocks, a sentence
     each."""
     with open(name, "rb") as it:
         text = decoded(it.read()).replace("\r\n", "\n")
@@ -53,14 +53,18 @@ def noticed_in(name: str) -> list[str]:
 
 
 def clock_words_on(text: str) -> list[str]:
-    """What bounds presume of a system file that is accepted, where it has clocks."""
+    """What bounds presume of a system file that is accepted, where they use clocks."""
     if "clock" not in text:
         return []
     try:
-        sources = Document(text).entries["source"]
+        return clock_words_of(SystemView.of(Document(text).values))
     except (tomllib.TOMLDecodeError, RecursionError):
         return []
-    return [CLOCK_WORDS] if any(isinstance(it, dict) and "clock" in it for it in sources) else []
+
+
+def clock_words_of(view: SystemView) -> list[str]:
+    """What bounds of a system presume, where they use clocks."""
+    return [CLOCK_WORDS] if view.clocks_in_bounds else []
 
 
 def silences_in(name: str, chains: Sequence[AskedChain], while_running: bool = False) -> list[str]:
