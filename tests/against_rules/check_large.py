@@ -12,7 +12,7 @@ import tempfile
 from tests.rules.bounds import System
 from tests.rules.bounds_of_many import LargeSystem
 from tests.support.calls import NEEDS_PROGRAM, add_number, built, hold, outcome, reader_of, tell, written
-from tests.support.large_systems import buses, one_bus, one_processor, queueing, taking_turns
+from tests.support.large_systems import buses, one_bus, one_processor, queueing, taking_turns, with_locks
 from tests.support.systems import random_file
 
 PROGRAM = built("cpa_cli")
@@ -29,6 +29,7 @@ SYSTEMS = {
     "8,000 tasks on one processor": lambda: one_processor(8000),
     "1,000 tasks under round robin": lambda: taking_turns(1000, "round-robin"),
     "8,000 tasks under TDMA": lambda: taking_turns(8000, "tdma"),
+    "4,000 tasks with locks": lambda: with_locks(4000),
     "1,000 frames in queues": lambda: queueing(1000),
     "1,000 frames in queues that are nearly or too full": lambda: queueing(1000, 0.97),
 }

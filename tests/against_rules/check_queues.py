@@ -22,7 +22,7 @@ from tests.support.systems import file_of, near_trace, random_trace, rows_of
 
 PROGRAM, SCHEDULE = built("cpa_cli"), built("cpa_schedule_cli")
 MOST_EXECUTION, MOST_PRIORITY, MOST_TICKS = 10_000_000, 536_870_911, 1_000_000_000
-BY_PRIORITY, BY_SLOT = ("preemptive", "can"), ("round-robin", "tdma")
+BY_PRIORITY, BY_SLOT = ("preemptive", "can", "ceiling"), ("round-robin", "tdma")
 
 
 def queue_file(tasks, sources=("period = 10",), resource="", form=4, kind="fifo", more=""):
@@ -164,8 +164,9 @@ def check_refused(folder):
         hold((line, status == 14) == (refused, bool(refused)), f"{text}: {line!r}, and not {refused!r}", "files")
 
 
-def check_runs(folder, draw, number, system, report, tally):
-    """Runs of traces that obey, and what is written of them."""
+def check_runs(folder, draw, number, system, report, tally, kind="fifo"):
+    """Runs of traces that obey, and what is written of them; counts bounds on a kind of resource, and those that a run
+    reaches."""
     bounds, seen = bounds_in(report), dict.fromkeys(bounds_in(report), 0)
     names, file = list(bounds), f"{folder}/system.toml"
     for way in (random_trace, near_trace, random_trace):
@@ -188,9 +189,9 @@ def check_runs(folder, draw, number, system, report, tally):
             wrote = outcome(program, *called)
             hold(wrote == told, f"system {number}: {words[0]}: {wrote} and not {told}:\n{rows_of(trace)}", "answers")
     kinds = {it["name"]: it["kind"] for it in system["resource"]}
-    queued = [it["name"] for it in system["task"] if kinds[it["on"]] == "fifo" and bounds[it["name"]] != OVERLOAD]
-    tally["bounds"] += len(queued)
-    tally["reached"] += sum(seen[it] == bounds[it] for it in queued)
+    several = [it["name"] for it in system["task"] if kinds[it["on"]] == kind and bounds[it["name"]] != OVERLOAD]
+    tally["bounds"] += len(several)
+    tally["reached"] += sum(seen[it] == bounds[it] for it in several)
 
 
 class Edited:

@@ -41,7 +41,7 @@ from lokwurmi.refusals import edits, front, notices, schedule, script
 from lokwurmi.refusals.toml_faults import fault_in
 from lokwurmi.refusals.trace import TraceOfSystem
 from tests.support.calls import TOP, example_systems, reader_of
-from tests.support.damage import damaged, damaged_rows, damaged_script, with_queues, with_regions
+from tests.support.damage import damaged, damaged_rows, damaged_script, with_locks, with_queues, with_regions
 
 CASES = os.path.join(TOP, "tests", "messages")
 PROGRAMS = {it: os.path.join(TOP, "crates", it, "out", it) for it in ("cpa_cli", "cpa_schedule_cli", "cpa_effect_cli")}
@@ -198,7 +198,7 @@ class Room:
         paths.append(os.path.join(CASES, "base", "system.toml"))
         self.systems = [read(it) for it in paths]
         self.systems += ["\n".join(wrote("generate", str(number), str(number % 5))) + "\n" for number in range(8)]
-        self.systems += [by(self.draw, it) for it in self.systems for by in (with_regions, with_queues)]
+        self.systems += [by(self.draw, it) for it in self.systems for by in (with_regions, with_queues, with_locks)]
 
     def attempt(self, sort: str, trial: Callable[[], None]) -> None:
         """A trial. Whatever it raises is told, with the files that it looked at, as what differs is."""

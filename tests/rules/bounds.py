@@ -7,6 +7,8 @@ import tomllib
 
 from tests.rules.clocks import OnClocks, clocks_of
 from tests.rules.curves import OVERLOAD, ceiling, least_time, least_window, longest_in_queue, most_events
+from tests.rules.locks import blocking as lock_blocking
+from tests.rules.locks import ceilings_of
 
 
 def activators_of(task):
@@ -99,8 +101,9 @@ class System:
         if model is None:
             return OVERLOAD
         mates = [n for n, t in self.tasks.items() if t["on"] == task["on"]]
-        kinds = ("preemptive", "round-robin", "tdma", "can", "fifo")
-        analyse = dict(zip(kinds, (self.preemptive, self.round_robin, self.tdma, self.can, self.fifo)))
+        kinds = ("preemptive", "round-robin", "tdma", "can", "fifo", "ceiling")
+        rules = (self.preemptive, self.round_robin, self.tdma, self.can, self.fifo, self.with_locks)
+        analyse = dict(zip(kinds, rules))
         return analyse[resource["kind"]](name, task, resource, model, mates, bounds)
 
     def busy_window(self, model, limit, demand):
@@ -119,6 +122,15 @@ class System:
         lower = [n for n in mates if self.tasks[n]["priority"] > task["priority"]]
         # of a region that has begun before a tick has gone by
         blocking = max((stretch_of(self.tasks[n]) - 1 for n in lower), default=0)
+        return self.by_priority(name, task, resource, model, higher, blocking, bounds)
+
+    def with_locks(self, name, task, resource, model, mates, bounds):
+        higher = [n for n in mates if self.tasks[n]["priority"] < task["priority"]]
+        lower = [self.tasks[n] for n in mates if self.tasks[n]["priority"] > task["priority"]]
+        blocking = lock_blocking(task, lower, ceilings_of([self.tasks[n] for n in mates]))
+        return self.by_priority(name, task, resource, model, higher, blocking, bounds)
+
+    def by_priority(self, name, task, resource, model, higher, blocking, bounds):
         if self.clocks:
             return OnClocks(self, name, higher, bounds).preemptive(blocking)
         return self.busy_window(

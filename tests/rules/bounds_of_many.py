@@ -10,6 +10,7 @@ from itertools import accumulate
 import numpy as np
 
 from tests.rules.bounds import OVERLOAD, System, ceiling, least_time, most_events, stretch_of
+from tests.rules.locks import ceilings_of, sections_of
 
 
 class Streams:
@@ -40,6 +41,18 @@ class Streams:
         return int(self.events(0, end, window) @ self.worst[:end])
 
 
+def lock_blocking(tasks, behind):
+    """By how long tasks, the most urgent first, are kept waiting under ceilings: by the regions of those behind each,
+    and by their sections, each of which counts from the most urgent of its lock's users on."""
+    found, ceilings = np.array(behind, dtype=np.int64), ceilings_of(tasks)
+    first = {task["priority"]: place for place, task in enumerate(tasks)}
+    for place, task in enumerate(tasks):
+        for lock, begin, end in sections_of(task):
+            held = found[first[ceilings[lock]] : place]
+            np.maximum(held, min(end - begin, task["worst"]) - 1, out=held)
+    return found.tolist()
+
+
 class Shared:
     """What the analyses of a resource's tasks share; on resources with priorities the most urgent comes first."""
 
@@ -47,11 +60,13 @@ class Shared:
         self.resource, self.tasks = resource, tasks
         self.limit = resource.get("limit", 1_000_000)
         self.streams = Streams(models, [it["worst"] for it in tasks])
-        if resource["kind"] in ("preemptive", "can"):
-            one = (lambda it: stretch_of(it) - 1) if resource["kind"] == "preemptive" else (lambda it: it["worst"])
+        if resource["kind"] in ("preemptive", "can", "ceiling"):
+            one = (lambda it: it["worst"]) if resource["kind"] == "can" else (lambda it: stretch_of(it) - 1)
             # by the tasks behind each
             behind = [0, *accumulate((one(it) for it in reversed(tasks)), max)]
             self.blocking = behind[-2::-1]
+            if resource["kind"] == "ceiling":
+                self.blocking = lock_blocking(tasks, self.blocking)
             return
         if resource["kind"] == "fifo":
             # of all tasks the same, once it is known
@@ -112,8 +127,9 @@ class LargeSystem(System):
         """The bounds of a resource's tasks."""
         resource, names = self.resources[on], self.names[on]
         asked = {"preemptive": self.under_priority, "can": self.on_bus, "tdma": self.in_slots, "fifo": self.in_queue}
+        asked["ceiling"] = self.under_priority
         analyse = asked.get(resource["kind"], self.by_turns)
-        if resource["kind"] in ("preemptive", "can"):
+        if resource["kind"] in ("preemptive", "can", "ceiling"):
             names = sorted(names, key=lambda it: self.tasks[it]["priority"])
         models = [self.input_of(it, bounds) for it in names]
         shared = Shared(resource, [self.tasks[it] for it in names], [bounds[it] for it in names], models)

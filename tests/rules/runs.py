@@ -6,7 +6,7 @@ Regions go by the ticks that a job has had. Times are ticks.
 import csv
 import tomllib
 
-from tests.rules import bounds
+from tests.rules import bounds, locks
 
 
 def least_apart(source, count):
@@ -24,6 +24,7 @@ class Run:
             it["name"]: [task["name"] for task in system["task"] if task["on"] == it["name"]]
             for it in system["resource"]
         }
+        self.ceilings = locks.ceilings_of(system["task"])
         self.holder = {name: several[-1] if several else None for name, several in self.on.items()}
         self.left = dict.fromkeys(self.on, 0)
         self.frame = dict.fromkeys(self.on)
@@ -78,6 +79,8 @@ class Run:
             return self.holder[name]
         if resource["kind"] == "fifo":
             return min(waiting, key=self.since)
+        if resource["kind"] == "ceiling":
+            return min(waiting, key=self.rank)
         if resource["kind"] == "can" and self.frame[name]:
             return self.frame[name]
         if resource["kind"] == "preemptive" and (within := [task for task in waiting if self.is_within(task)]):
@@ -90,9 +93,37 @@ class Run:
         """When the earliest job of a task that is pending came."""
         return self.jobs[task][self.pending(task)[0]]["arrival"]
 
+    def had(self, task):
+        """The ticks that the job of a task that is next has had."""
+        return self.jobs[task][self.pending(task)[0]]["had"]
+
     def is_within(self, task):
         """Whether the job of a task that is next is within a region: it has had a part of one."""
-        return self.jobs[task][self.pending(task)[0]]["had"] % self.tasks[task].get("region", 1) > 0
+        return self.had(task) % self.tasks[task].get("region", 1) > 0
+
+    def rank(self, task):
+        """By what the next job of a task goes first under ceilings: its active priority, and of equal ones that of a
+        job within a section or a region. Of two such it would be the first in the file, but there never are."""
+        it, had = self.tasks[task], self.had(task)
+        is_within = bool(locks.held_by(it, had)) or locks.is_in_region(it, had)
+        return locks.active_priority(it, had, self.ceilings), not is_within
+
+    def hold_locks(self):
+        """Each lock is held by one task at most."""
+        held = [
+            (it["on"], lock)
+            for name, it in self.tasks.items()
+            if self.pending(name)
+            for lock in set(locks.held_by(it, self.had(name)))
+        ]
+        assert len(held) == len(set(held)), f"at {self.time}: {held}"
+
+    def hold_alone(self, task):
+        """While another task holds a lock, one that uses it doesn't run."""
+        used = {lock for lock, _, _ in locks.sections_of(self.tasks[task])}
+        for other in self.on[self.tasks[task]["on"]] if used else ():
+            held = locks.held_by(self.tasks[other], self.had(other)) if other != task and self.pending(other) else []
+            assert not used.intersection(held), f"at {self.time}: {task} runs, and {other} has {held}"
 
     def see(self):
         for task in self.tasks:
@@ -120,6 +151,7 @@ class Run:
             else:
                 going.pop(name, None)
             if job:
+                self.hold_alone(task)
                 it = self.jobs[task][job[1]]
                 it["needs"], it["had"] = it["needs"] - 1, it["had"] + 1
                 if it["needs"] == 0:
@@ -132,6 +164,8 @@ class Run:
             self.activate(task, self.jobs[task].index(it))
         self.come()
         self.see()
+        if self.ceilings:
+            self.hold_locks()
 
     def go(self):
         going = {}

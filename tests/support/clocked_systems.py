@@ -1,6 +1,6 @@
 """Random systems whose sources are on clocks, and traces that come by them."""
 from tests.rules.clocks import clocks_of
-from tests.support.systems import draw_priorities, draw_regions, path_of, some_phases, some_resources
+from tests.support.systems import draw_ceilings, draw_priorities, draw_regions, path_of, some_phases, some_resources
 
 # of what the periods of a clock are multiples
 MULTIPLES = ((1,), (1, 2), (1, 2, 4), (1, 3), (2, 3), (1, 2, 3))
@@ -35,6 +35,7 @@ def system_on_clocks(draw, kinds=KINDS):
         tasks[-1] |= {"best": draw.randint(1, worst), "worst": worst, "priority": k, "slot": draw.randint(1, 4)}
     draw_priorities(draw, tasks)
     draw_regions(draw, tasks)
+    draw_ceilings(resources, tasks)
     for it in resources:
         it["limit"] = draw.choice((40, 200, 2000))
     paths = [path_of(draw, tasks, k) for k in range(draw.randint(0, 2))]

@@ -12,12 +12,15 @@ from lokwurmi.files.toml_spans import Place
 
 KEYS = (
     "name kind limit gap bit period jitter distance on after best worst payload extended"
-    " priority slot region sporadic clock offset rate tasks deadline wcet format nane"
+    " priority slot region sporadic clock offset rate tasks deadline wcet format nane locks start length locks"
 ).split()
 VALUES = [
     *"0 1 2 -1 3 7 10 672 673 1500 1000001 1000000 536870912 2_000 0x10 1.5 10.0 99999999999 1979-05-27".split(),
-    *'true false [] {} "" "s" "a" "can" "tdma" "preemptive" "round-robin" "fifo" "fifo" "spp" ["a"]'.split(),
+    *'true false [] {} "" "s" "a" "can" "tdma" "preemptive" "round-robin" "fifo" "fifo" "spp" ["a"] "ceiling"'.split(),
     *('"a b"', '["s", "s"]', "'x'", '"ü"'),
+    '[{ name = "x", start = 0, length = 2 }]',
+    '[{ name = "x", start = 0, length = 2 }, { name = "y", start = 1, length = 2 }]',
+    '[{ name = "x", start = 0 }]',
 ]
 
 
@@ -115,13 +118,46 @@ def with_queues(draw: random.Random, text: str) -> str:
     for at, it in enumerate(document.entries["task"]):
         if it["on"] in chosen:
             place = document.place("task", at)
-            changes += dropped(text, place, ("priority", "slot", "region", "extended"))
+            changes += dropped(text, place, ("priority", "slot", "region", "extended", "locks"))
             if "payload" in it:
                 changes.append((*place.values["payload"].span, str(draw.choice([0, 46, draw.randint(0, 1500), 1500]))))
     text = changed_spans(text, changes)
     at_queues = [at for at, it in enumerate(document.entries["resource"]) if it["name"] in chosen and "rate" not in it]
     rates = [(at, [f"rate = {draw.choice([1, 100, 672])}"]) for at in at_queues if draw.random() < 0.5]
     return with_keys(text, [("resource", at, "kind", told) for at, told in rates])
+
+
+def locks_told(draw: random.Random, worst: int, on: str) -> str:
+    """Sections of a task, each behind the one before it or within that."""
+    told, start, end = list[str](), 0, worst + 3
+    for _ in range(draw.choice([0, 1, 2, 3])):
+        if end - start < 1:
+            break
+        first = draw.randint(start, end - 1)
+        length = draw.randint(1, end - first)
+        name = draw.choice([f"{on[:40]}.a", f"{on[:40]}.b"])
+        told.append(f'{{ name = "{name}", start = {first}, length = {length} }}')
+        start, end = draw.choice([(first, first + length), (first + length, end)])
+    return f"locks = [{', '.join(told)}]"
+
+
+def with_locks(draw: random.Random, text: str) -> str:
+    """A system file some of whose preemptive resources have priority ceilings, where tasks without a region have
+    sections."""
+    text = re.sub(r"^format = [12]$", "format = 4", text, count=1, flags=re.M)
+    document = Document(text)
+    several = document.entries["resource"]
+    chosen = {it["name"] for it in several if it["kind"] == "preemptive" and draw.random() < 0.7}
+    changes: list[tuple[int, int, str]] = []
+    for at, it in enumerate(several):
+        if it["name"] in chosen:
+            changes.append((*document.place("resource", at).values["kind"].span, '"ceiling"'))
+    added = [
+        ("task", at, "worst", [locks_told(draw, it["worst"], it["on"])])
+        for at, it in enumerate(document.entries["task"])
+        if it["on"] in chosen and it.get("region", 1) == 1 and "locks" not in it and draw.random() < 0.7
+    ]
+    return with_keys(changed_spans(text, changes), added)
 
 
 def words_of(text: str) -> list[tuple[int, int]]:

@@ -74,6 +74,24 @@ def one_processor(count):
     return document([processor("p")], [source(k, times[k]) for k in range(count)], tasks)
 
 
+def with_locks(count):
+    """Tasks on 16 processors under priority ceilings; each takes up to three of the 40 locks of its processor."""
+    draw = random.Random(f"locks {count}")
+    costs = [draw.randrange(10, 500) for _ in range(count)]
+    times = periods(count, costs, 0.55 * 16)
+    ranks = ranked(times)
+    tasks = []
+    for k, cost in enumerate(costs):
+        # one section after the other, from a part of the job each
+        parts = sorted(draw.sample(range(cost), 2 * min(draw.randrange(4), cost // 2)))
+        spans = zip(parts[::2], parts[1::2])
+        locks = [f'{{ name = "p{k % 16}.{draw.randrange(40)}", start = {a}, length = {b - a} }}' for a, b in spans]
+        told = runs(f"t{k}", f"p{k % 16}", f"s{k}", cost, ranks[k])
+        tasks.append(told.replace(" }", f", locks = [{', '.join(locks)}] }}"))
+    resources = [f'{{ name = "p{k}", kind = "ceiling", limit = {LIMIT} }}' for k in range(16)]
+    return document(resources, [source(k, times[k]) for k in range(count)], tasks)
+
+
 def buses(count):
     """Frames on 10 buses, with a task before each: on a processor, or on a gateway that has it from another bus."""
     sent = count - count // 3

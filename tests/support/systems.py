@@ -28,6 +28,39 @@ def resource_lines(pick, count, kinds):
     return lines, drawn
 
 
+def with_ceilings(pick, lines, kinds):
+    """Gives every other preemptive resource priority ceilings."""
+    chosen = [kind == "preemptive" and pick.random() < 0.5 for kind in kinds]
+    lines = [it.replace('"preemptive"', '"ceiling"') if here else it for it, here in zip(lines, chosen)]
+    return lines, ["ceiling" if here else kind for kind, here in zip(kinds, chosen)]
+
+
+def crosses(one, other):
+    """Whether the second of two sections begins within the first, and ends behind it."""
+    start, end = one["start"], one["start"] + one["length"]
+    return start < other["start"] < end < other["start"] + other["length"]
+
+
+def some_locks(draw, on, worst, names=("a", "b", "c")):
+    """Sections of a task that nest or are apart; some begin where its jobs are done, or go on from there."""
+    found = []
+    for _ in range(draw.choice((0, 1, 1, 2, 2, 3, 5))):
+        start = draw.choice((0, draw.randint(0, worst), draw.randint(0, worst + 1)))
+        length = draw.choice((1, 2, draw.randint(1, worst), worst, worst + 2))
+        one = {"name": f"{on}_{draw.choice(names)}", "start": start, "length": length}
+        if not any(crosses(it, one) or crosses(one, it) for it in found):
+            found.append(one)
+    return found
+
+
+def lock_lines(pick, on, worst):
+    """The sections of a task, or its region, in lines of a file."""
+    if pick.random() < 0.2:
+        return f"\nregion = {some_region(pick, worst)}"
+    locks = some_locks(pick, on, worst)
+    return f"\nlocks = {quoted_locks(locks)}" if locks else ""
+
+
 def source_lines(pick, tasks, silent):
     """Three sources in lines of a file, the slower the more tasks there are; `silent` draws which are sporadic."""
     for s in range(3):
@@ -67,13 +100,15 @@ def execution_lines(pick, kind, task):
 
 def random_file(number):
     """A random system: its size grows with the number. In two of four tasks on preemptive resources have regions,
-    sources are sporadic, and resources may be queues."""
+    sources are sporadic, and resources may be queues, or have priority ceilings."""
     pick, regions = random.Random(number), random.Random(f"regions of {number}")
-    has_regions = number // 2 % 2 == 1
+    has_regions, locks = number // 2 % 2 == 1, random.Random(f"locks of {number}")
     silent = random.Random(f"sporadic sources of {number}") if has_regions else None
     resources, tasks = pick.randint(1, 2 + number % 7), pick.randint(1, 3 + number % 25)
     lines, chains, streams = [f"format = {4 if has_regions else 1 + number % 2}"], [], []
     of_resources, on_kind = resource_lines(pick, resources, KINDS if has_regions else IN_EACH_FORMAT)
+    if has_regions:
+        of_resources, on_kind = with_ceilings(locks, of_resources, on_kind)
     lines += [*of_resources, *source_lines(pick, tasks, silent)]
     for t in range(tasks):
         r = pick.randrange(resources)
@@ -95,6 +130,8 @@ def random_file(number):
         if has_regions and on_kind[r] == "preemptive" and regions.random() < 0.8:
             worst = tomllib.loads(told)["worst"]
             lines[-1] += f"\nregion = {some_region(regions, worst)}"
+        if on_kind[r] == "ceiling":
+            lines[-1] += lock_lines(locks, f"r{r}", tomllib.loads(told)["worst"])
     lines += path_lines(pick, tomllib.loads("\n".join(lines))["task"])
     return "\n".join(lines) + "\n"
 
@@ -120,6 +157,19 @@ def draw_regions(draw, tasks):
     has_regions = draw.random() < 0.5
     for task in tasks:
         task["region"] = some_region(draw, task["worst"]) if has_regions else 1
+
+
+def draw_ceilings(resources, tasks):
+    """Gives every other preemptive resource priority ceilings, and its tasks sections, or the regions that they have,
+    by numbers that are drawn apart."""
+    apart = random.Random(repr((resources, tasks)))
+    chosen = [it for it in resources if it["kind"] == "preemptive" and apart.random() < 0.5]
+    for it in chosen:
+        it["kind"] = "ceiling"
+    for task in tasks:
+        if task["on"] in [it["name"] for it in chosen] and apart.random() < 0.8:
+            task["locks"] = some_locks(apart, task["on"], task["worst"])
+            task["region"] = 1 if task["locks"] else task["region"]
 
 
 def draw_sporadic(draw, sources):
@@ -180,6 +230,7 @@ def random_system(draw):
     draw_priorities(draw, tasks)
     draw_regions(draw, tasks)
     draw_sporadic(draw, sources)
+    draw_ceilings(resources, tasks)
     return {
         "resource": resources,
         "source": sources,
@@ -204,11 +255,18 @@ def quoted(names):
     return "[" + ", ".join(f'"{name}"' for name in names) + "]"
 
 
+def quoted_locks(locks):
+    rows = (f'{{ name = "{it["name"]}", start = {it["start"]}, length = {it["length"]} }}' for it in locks)
+    return "[" + ", ".join(rows) + "]"
+
+
 def file_of(system):
     kinds = {it["name"]: it["kind"] for it in system["resource"]}
-    has_region = {it["name"] for it in system["task"] if kinds[it["on"]] == "preemptive" and it["region"] > 1}
-    is_newest = any(it.get("sporadic") or it.get("clock") for it in system["source"]) or "fifo" in kinds.values()
-    is_newest = is_newest or has_region
+    has_region = {
+        it["name"] for it in system["task"] if kinds[it["on"]] in ("preemptive", "ceiling") and it["region"] > 1
+    }
+    is_newest = any(it.get("sporadic") or it.get("clock") for it in system["source"])
+    is_newest = is_newest or has_region or {"fifo", "ceiling"}.intersection(kinds.values())
     rows = [f"format = {4 if is_newest else 1 if all(len(it['after']) == 1 for it in system['task']) else 2}"]
     for it in system["resource"]:
         rows += ["[[resource]]", f"name = \"{it['name']}\"", f"kind = \"{it['kind']}\""]
@@ -222,13 +280,15 @@ def file_of(system):
             *([f"clock = \"{it['clock']}\"", f"offset = {it['offset']}"] if it.get("clock") else []),
         ]
     for it in system["task"]:
-        turn = {"preemptive": ["priority"], "can": ["priority"], "fifo": []}.get(kinds[it["on"]], ["slot"])
+        by_priority = ("preemptive", "can", "ceiling")
+        turn = ["priority"] * (kinds[it["on"]] in by_priority) or ["slot"] * (kinds[it["on"]] != "fifo")
         rows += [
             "[[task]]",
             *(f'{key} = "{it[key]}"' for key in ("name", "on")),
             *(f"{key} = {it[key]}" for key in ("best", "worst", *turn, *(["region"] * (it["name"] in has_region)))),
         ]
         rows.append(f"after = {quoted(it['after'])}" if len(it["after"]) > 1 else f"after = \"{it['after'][0]}\"")
+        rows += [f"locks = {quoted_locks(it['locks'])}"] if it.get("locks") else []
     for it in system["path"]:
         rows += ["[[path]]", f"name = \"{it['name']}\"", f"tasks = {quoted(it['tasks'])}"]
     return "\n".join(rows) + "\n"
@@ -276,6 +336,7 @@ def small_system(draw, kinds=KINDS):
     draw_priorities(draw, tasks)
     draw_regions(draw, tasks)
     draw_sporadic(draw, sources)
+    draw_ceilings(resources, tasks)
     return {"resource": resources, "source": sources, "task": tasks, "path": []}
 
 

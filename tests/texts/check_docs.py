@@ -95,7 +95,7 @@ def check_figures(page, text, known, wide):
 def follow(page, text, room):
     """Follows a page: each file that it writes, adds to or changes, and each call."""
     # the launcher has folders beside it
-    for it in ("lokwurmi", "python"):
+    for it in ("lokwurmi", "python", "examples"):
         os.symlink(os.path.abspath(it), os.path.join(room, it))
     files = {}
     for how, name, block in BLOCK.findall(text):

@@ -73,6 +73,7 @@ for reason, text in re.findall(r"### (\d+): [^\n]*\n\n```toml\n(.*?)```", page, 
         second = page.split("### 1: ")[1].split("```toml\n")[2].split("```")[0]
         hold(not validator.is_valid(tomllib.loads(second)), "docs/FILES.md: the second example of reason 1")
 
+LOCK = {"name": "x", "start": 0, "length": 1}
 # one entry of each kind that is accepted, with all keys that go together
 WHOLE = {
     "resource": [
@@ -80,6 +81,7 @@ WHOLE = {
         {"name": "c", "kind": "can", "bit": 1, "limit": 1},
         {"name": "p", "kind": "preemptive"},
         {"name": "q", "kind": "fifo", "rate": 1},
+        {"name": "l", "kind": "ceiling"},
     ],
     "source": [
         {"name": "s", "period": 1000000000, "jitter": 1, "distance": 1, "sporadic": True, "clock": "c", "offset": 1}
@@ -89,6 +91,7 @@ WHOLE = {
         {"name": "f", "on": "c", "after": "s", "payload": 1, "extended": True, "priority": 1},
         {"name": "g", "on": "p", "after": "s", "best": 1, "worst": 1, "priority": 1, "region": 1},
         {"name": "h", "on": "q", "after": "s", "payload": 1},
+        {"name": "i", "on": "l", "after": "s", "best": 1, "worst": 1, "priority": 1, "locks": [dict(LOCK)]},
     ],
     "path": [{"name": "p", "tasks": ["t"], "deadline": 1}],
 }
@@ -114,7 +117,7 @@ def in_format(number):
     """A file with all keys that a format has."""
     file = {"format": number, **copy.deepcopy(WHOLE)}
     if number < 3:
-        del file["task"][3], file["resource"][3], file["task"][2]["region"]
+        del file["task"][3:], file["resource"][3:], file["task"][2]["region"]
         for key in OF_SOURCES:
             del file["source"][0][key]
     return file
@@ -122,14 +125,20 @@ def in_format(number):
 
 for number in (1, 2, 4):
     hold(validator.is_valid(in_format(number)), f"format {number}: a file with all keys isn't accepted")
-    for part, key in (("task", "region"), *(("source", it) for it in OF_SOURCES)):
+    for part, key in (("task", "region"), ("task", "locks"), *(("source", it) for it in OF_SOURCES)):
         later, place = in_format(number), next(k for k, entry in enumerate(WHOLE[part]) if key in entry)
-        later[part][place][key] = WHOLE[part][place][key]
+        # beside a priority in each format
+        place = place if place < len(later[part]) else 2
+        later[part][place][key] = WHOLE[part][-1][key] if key == "locks" else WHOLE[part][place][key]
         if key == "offset":
             hold(not validator.is_valid(later) or number == 4, f"format {number}: an offset without a clock")
             later[part][place]["clock"] = "c"
         hold(validator.is_valid(later) == (number == 4), f"format {number}: the key {key} of a {part}")
-    for entry in ({"name": "r2", "kind": "fifo"}, {"name": "r2", "kind": "fifo", "rate": 672}):
+    for entry in (
+        {"name": "r2", "kind": "fifo"},
+        {"name": "r2", "kind": "fifo", "rate": 672},
+        {"name": "r2", "kind": "ceiling"},
+    ):
         later = in_format(number)
         later["resource"].append(entry)
         hold(validator.is_valid(later) == (number == 4), f"format {number}: {entry}")
@@ -138,7 +147,22 @@ for number in (1, 2, 4):
     hold(validator.is_valid(later) == (number == 4), f"format {number}: a task with neither priority nor slot")
 for place, beside in ((0, "slot"), (1, "payload"), (3, "payload alone")):
     hold(not accepts("task", place, "region", 1), f"a region beside {beside} is accepted")
-for place in (0, 1, 2):
+    hold(not accepts("task", place, "locks", [LOCK]), f"locks beside {beside} are accepted")
+    hold(accepts("task", place, "locks", []), f"no locks beside {beside} aren't accepted")
+for changed, is_in in (
+    ({"region": 1}, True),
+    ({"region": 2}, False),
+    ({"region": 2, "locks": []}, True),
+    *(({"locks": it}, False) for it in ("x", ["x"], {}, [{}], [LOCK | {"ceiling": 1}])),
+    *(({"locks": [{key: it for key, it in LOCK.items() if key != gone}]}, False) for gone in LOCK),
+    *(({"locks": [LOCK | it]}, False) for it in ({"name": "a b"}, {"start": -1}, {"length": 0}, {"start": 1.5})),
+    *(({"locks": [LOCK | {key: 10_000_000 + more}]}, not more) for key in ("start", "length") for more in (0, 1)),
+    *(({"locks": [LOCK] * count}, count == 64) for count in (64, 65)),
+):
+    file = in_format(4)
+    file["task"][4].update(changed)
+    hold(validator.is_valid(file) == is_in, f"a task with {str(changed)[:80]}")
+for place in (0, 1, 2, 4):
     hold(not accepts("resource", place, "rate", 1), f"a rate on {WHOLE['resource'][place]['kind']} is accepted")
 for place, key in ((0, "priority"), (1, "slot"), (3, "slot")):
     hold(not accepts("task", place, key, 1), f"a {key} beside {sorted(WHOLE['task'][place])} is accepted")
@@ -163,6 +187,9 @@ for row in re.findall(r"^\| (\w*) ?\| (`.*?) \| (.*?) \| (.*?) \| (.*?) \|$", pa
     part = row[0] or part
     for key in re.findall(r"`(\w+)`", row[1]):
         told.setdefault(part, {})[key] = row[2:]
+of_lock = {key: it[:2] for key, it in told.pop("lock", {}).items()}
+wanted = {"name": ("text", "name"), "start": ("integer", "0 to 10,000,000"), "length": ("integer", "1 to 10,000,000")}
+hold(of_lock == wanted, f"docs/FILES.md: the keys of a lock are {of_lock}")
 hold(set(told) == set(WHOLE), "docs/FILES.md: the table of keys wasn't found")
 for part, keys in told.items():
     said = schema["definitions"][part]["properties"]
@@ -212,10 +239,11 @@ TIMES = {
     "resource": ("limit", "gap", "bit"),
     "source": ("period", "jitter", "distance", "offset"),
     "task": ("best", "worst", "slot", "region"),
+    "lock": ("start", "length"),
     "path": ("deadline",),
 }
 # what a time may be beside a number of ticks; of bits only where a resource has a bit rate
-ON_RESOURCES = {"resource": ("limit", "gap"), "task": ("best", "worst", "slot", "region")}
+ON_RESOURCES = {"resource": ("limit", "gap"), "task": ("best", "worst", "slot", "region"), "lock": ("start", "length")}
 
 
 def with_units(whole):
@@ -262,9 +290,17 @@ for name in with_unit:
         hold(False, f"examples/units/{name}: {error.json_path}: {error.message}")
 for name in examples:
     hold(validator.is_valid(tomllib.loads(read("examples", name))), f"examples/{name} isn't accepted by {UNITS_FILE}")
+
+
+def accepts_time(part, key, value):
+    """Whether an entry, or a lock of a task, may have a value."""
+    if part == "lock":
+        return accepts("task", 4, "locks", [LOCK | {key: value}])
+    return accepts(part, next(k for k, entry in enumerate(WHOLE[part]) if key in entry), key, value)
+
+
 for part, keys in TIMES.items():
     for key in keys:
-        place = next(k for k, entry in enumerate(WHOLE[part]) if key in entry)
         for value, is_in in (
             ("250 us", True),
             ("16.667ms", True),
@@ -278,7 +314,7 @@ for part, keys in TIMES.items():
             ("84 bytes", key in ON_RESOURCES.get(part, ())),
         ):
             hold(
-                accepts(part, place, key, value) == is_in,
+                accepts_time(part, key, value) == is_in,
                 f"{UNITS_FILE}: {part}.{key} = {value!r}: should be {'accepted' if is_in else 'refused'}",
             )
 hold(not accepts("resource", 1, "bitrate", 500000), "bit and bitrate together are accepted")

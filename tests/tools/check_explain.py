@@ -28,6 +28,7 @@ from lokwurmi_tools.bounds.explained import Explained
 from lokwurmi_tools.shared.analysed import analysed
 from lokwurmi_tools.shared.system_text import toml_of
 from tests.rules import bounds as plain
+from tests.rules import locks
 from tests.support import systems
 from tests.support.calls import (
     NEEDS_PROGRAMS,
@@ -48,6 +49,9 @@ from tests.tools.explained_chains import check_chain_faults, check_chain_picture
 
 PROGRAM = built("cpa_cli")
 TOOL = "explain"
+RANKED = ("preemptive", "can", "ceiling")
+# by what a task of lower priority may hold up others, by the kind of the resource
+UNDER = {"can": ("frame",), "preemptive": ("region",), "ceiling": ("region", "section")}
 
 
 def mates_of(told, rules):
@@ -56,14 +60,18 @@ def mates_of(told, rules):
 
 
 def blocked_by(told, rules):
-    """The tasks of lower priority that may hold up a task, and for how long: a frame on a bus, or a region after its
-    first tick."""
+    """The tasks of lower priority that may hold up a task, and for how long: a frame on a bus, or a region or a section
+    after its first tick."""
     mates, mine = {it: rules.tasks[it] for it in mates_of(told, rules)}, rules.tasks[told["task"]].get("priority")
-    if told["kind"] not in ("preemptive", "can"):
+    if told["kind"] not in RANKED:
         return {}
     lower = {it: task for it, task in mates.items() if task["priority"] > mine}
     if told["kind"] == "can":
         return {it: task["worst"] for it, task in lower.items()}
+    if told["kind"] == "ceiling":
+        own, ceilings = rules.tasks[told["task"]], locks.ceilings_of([*mates.values(), rules.tasks[told["task"]]])
+        several = {it: locks.blocking(own, [task], ceilings) for it, task in lower.items()}
+        return {it: ticks for it, ticks in several.items() if ticks}
     return {it: plain.stretch_of(task) - 1 for it, task in lower.items() if plain.stretch_of(task) > 1}
 
 
@@ -100,7 +108,7 @@ def wanted_parts(told, rules, bounds):
     window = job["done"] - (task["worst"] if kind == "can" else 0)
     rounds = plain.ceiling(job["number"] * task["worst"], task["slot"]) if "slot" in task else 0
     own = ("own", name, job["number"], task["worst"])
-    if kind in ("preemptive", "can"):
+    if kind in RANKED:
         return [own, *wanted_by_priority(told, rules, bounds, window)]
     if kind == "round-robin":
         return [own, *wanted_in_turns(told, rules, bounds, window, rounds)]
@@ -128,15 +136,15 @@ def check_parts(what, told, rules, bounds):
             hold(is_first_window(told, rules, bounds), f"{what}: a shorter window than {job} leaves as much", "first")
     else:
         hold(job["came"] == plain.least_time(model, job["number"]), f"{what}: it came at {job['came']}", "came")
-    if told["kind"] in ("preemptive", "tdma"):
+    if told["kind"] in ("preemptive", "ceiling", "tdma"):
         hold(is_first(told, rules, bounds), f"{what}: an earlier job than {job} is as late", "first")
     wanted = wanted_parts(told, rules, bounds)
     same = [(it["kind"], it["of"], it["count"], it["each"]) for it in parts] == wanted
     hold(same, f"{what}: {parts}, and not {wanted}", "parts")
     hold(all(0 <= it["burst"] <= it["count"] for it in parts), f"{what}: {parts}", "parts")
-    under = {"can": "frame", "preemptive": "region"}
-    same = [it["under"] == (under[told["kind"]] if it["kind"] == "blocking" else "") for it in parts]
+    same = [it["under"] in (UNDER[told["kind"]] if it["kind"] == "blocking" else ("",)) for it in parts]
     hold(all(same), f"{what}: {parts}", "parts")
+    hold(all(is_by_lock(told, it, rules) for it in parts), f"{what}: {parts}", "locks")
     streams = told["streams"]
     same = [(it["period"], it["jitter"], it["distance"]) for it in streams] == model
     hold(same and [it["source"] for it in streams] == rules.sources_of(name), f"{what}: {streams}", "streams")
@@ -144,12 +152,24 @@ def check_parts(what, told, rules, bounds):
     hold(all(sums), f"{what}: {streams}", "streams")
 
 
+def is_by_lock(told, part, rules):
+    """Whether a part tells a lock where it is a section, whose length and ceiling make it."""
+    if part["under"] != "section":
+        return "lock" not in part
+    other, mates = rules.tasks[part["of"]], [rules.tasks[it] for it in (told["task"], *mates_of(told, rules))]
+    is_high = locks.ceilings_of(mates)[part["lock"]] <= rules.tasks[told["task"]]["priority"]
+    lengths = [it["length"] for it in other["locks"] if it["name"] == part["lock"]]
+    return is_high and part["each"] in [min(it, other["worst"]) - 1 for it in lengths]
+
+
 def is_first(told, rules, bounds):
     """Whether each job before the one that is told answers sooner, on a preemptive or a TDMA resource."""
     name, kind = told["task"], told["kind"]
     task, resource, model = rules.tasks[name], rules.resources[told["on"]], rules.input_of(name, bounds)
     mates = [it for it in rules.tasks if it != name and rules.tasks[it]["on"] == told["on"]]
-    higher = [it for it in mates if kind == "preemptive" and rules.tasks[it]["priority"] < task["priority"]]
+    higher = [
+        it for it in mates if kind in ("preemptive", "ceiling") and rules.tasks[it]["priority"] < task["priority"]
+    ]
     blocking = max(blocked_by(told, rules).values(), default=0)
     away = resource.get("gap", 0) + sum(rules.tasks[it]["slot"] for it in mates) if kind == "tdma" else 0
     for jobs in range(1, told["job"]["number"]):
@@ -171,6 +191,17 @@ def is_first_window(told, rules, bounds):
     return all(left(window) < told["bound"] for window in range(1, told["job"]["window"]))
 
 
+def sections_for(view, name, other):
+    """Those sections of a lower task that may hold up a task, and of that task itself one of a tick with each lock of
+    such sections."""
+    on, rank = view.tasks[name].on, view.tasks[name].rank
+    of = [other] if other != name else view.lower(name)
+    found = [it for low in of for it in view.tasks[low].locks if view.ceiling(on, it.name) <= rank]
+    if other == name:
+        return [{"name": it, "start": 0, "length": 1} for it in sorted({it.name for it in found})]
+    return [{"name": it.name, "start": it.start, "length": it.length} for it in found]
+
+
 def alone(explained, name, rivals):
     """What the proved program says of a task with some rivals on a resource of its own, each after its streams as
     sources. The frames or the regions below it block it still."""
@@ -186,8 +217,10 @@ def alone(explained, name, rivals):
             system["source"].append({"name": source} | model)
         numbers = {"best": 1, "worst": view.tasks[it].worst}
         rank = {} if kind == "fifo" else {"priority": view.tasks[it].priority}
-        region = {"region": view.tasks[it].region} if kind == "preemptive" else {}
-        system["task"].append({"name": it, "on": "r", "after": names} | numbers | rank | region)
+        region = {"region": view.tasks[it].region} if kind in ("preemptive", "ceiling") and it != name else {}
+        held = sections_for(view, name, it) if kind == "ceiling" and it not in rivals else []
+        told = {"locks": held} if held else {}
+        system["task"].append({"name": it, "on": "r", "after": names} | numbers | rank | region | told)
     return re.search(rf"^task {name} .* worst (\S+)$", answer(PROGRAM, toml_of(system), "analyse")[1], re.M)[1]
 
 
@@ -195,7 +228,7 @@ def check_overload(what, told, explained):
     """Since which rival a busy window has no end."""
     crowd, name = told["overload"], told["task"]
     hold(abs(sum(crowd["loads"].values()) - crowd["load"]) < 1e-9 and crowd["causes"], f"{what}: {crowd}", "overload")
-    if crowd["why"] != "own" or told["kind"] not in ("preemptive", "can", "fifo"):
+    if crowd["why"] != "own" or told["kind"] not in (*RANKED, "fifo"):
         return
     rivals = [it.name for it in explained.parts.before(name)]
     place = 0 if crowd["since"] == name else rivals.index(crowd["since"]) + 1
@@ -342,6 +375,8 @@ def check_worked():
         ("regions", "b", [("own", "b", 1, 4), ("blocking", "c", 1, 3), ("rival", "a", 1, 3)]),
         ("regions", "c", [("own", "c", 1, 9), ("rival", "a", 3, 3), ("rival", "b", 2, 4)]),
         ("queue", "record", [("own", "record", 3, 12), ("rival", "video", 10, 116)]),
+        ("locks", "motor", [("own", "motor", 1, 150), ("blocking", "diagnose", 1, 89)]),
+        ("locks", "receive", [("own", "receive", 1, 80), ("blocking", "diagnose", 1, 119), ("rival", "motor", 1, 150)]),
         (
             "queue",
             "packed",

@@ -5,8 +5,8 @@ gate.
 Bars lie where the rows say, on the lane of their resource, with a mark where each job comes and one where it is done,
 and a job is red exactly where it is later than its bound. The passage of a path that took longest is the one by the
 step rules, and is drawn with its stretch. The jobs and passages in schedules of random systems are those of the step
-rules, followed tick by tick, and jobs of queues begin in the order in which they came. What isn't a schedule is
-refused.
+rules, followed tick by tick, jobs of queues begin in the order in which they came, and strips stand where jobs hold
+locks, no two of one lock at a time. What isn't a schedule is refused.
 
     python3 -m tests.tools.check_gantt
 """
@@ -18,7 +18,7 @@ import sys
 import tempfile
 
 from lokwurmi.model.view import SystemView
-from lokwurmi_tools.runs.jobs_in_run import jobs_in, passages_in, read_schedule, read_trace, waits_in
+from lokwurmi_tools.runs.jobs_in_run import held_in, jobs_in, passages_in, read_schedule, read_trace, waits_in
 from lokwurmi_tools.shared.report import latencies_in, read_report
 from lokwurmi_tools.shared.system_file import read_system
 from tests.rules.runs import Run, passages, replayed
@@ -125,9 +125,26 @@ def check_jobs():
             f"gantt: the jobs of random system {number}",
         )
         hold_waits(number, view, jobs, run_of_it, trace)
+        hold_locks(number, view, run_of_it, trace)
         for path in system["path"]:
             took = [it.took() for it in passages_in(view, jobs, trace[0], path["tasks"])]
             hold(took == passages(run_of_it, path["tasks"]), f"gantt: the passages of random system {number}: {took}")
+
+
+def hold_locks(number, view, run_of_it, trace):
+    """Holds the strips of critical sections: each is within a bar of its task, and two tasks have none of one lock at
+    once."""
+    segments = [tuple(it) for it in run_of_it.segments]
+    several = held_in(view, segments, trace)
+    hold(set(several) == {name for name, it in view.tasks.items() if it.locks}, f"gantt: the locks of system {number}")
+    ticks = {}
+    for name, parts in several.items():
+        for it in parts:
+            within = any(who == name and start <= it.start and it.end <= end for who, start, end in segments)
+            hold(within, f"gantt: {it} of {name} in random system {number}")
+            for tick in range(it.start, it.end):
+                other = ticks.setdefault((view.tasks[name].on, it.lock, tick), name)
+                hold(other == name, f"gantt: {name} and {other} in random system {number}: {it}")
 
 
 def hold_waits(number, view, jobs, run_of_it, trace):
@@ -152,6 +169,21 @@ RING = """format = 1
 resource = [{ name = "ring", kind = "tdma", gap = 8 }]
 source = [{ name = "s", period = 40 }]
 task = [{ name = "t", on = "ring", after = "s", best = 3, worst = 3, slot = 2 }]
+"""
+
+
+LOCKS = """format = 4
+resource = [{ name = "ecu", kind = "ceiling" }]
+source = [{ name = "s", period = 40 }, { name = "r", period = 40 }]
+task = [
+  { name = "a", on = "ecu", after = "s", best = 3, worst = 3, priority = 1, locks = [
+    { name = "x", start = 1, length = 1 },
+  ] },
+  { name = "b", on = "ecu", after = "r", best = 5, worst = 5, priority = 2, locks = [
+    { name = "x", start = 0, length = 4 },
+    { name = "y", start = 1, length = 2 },
+  ] },
+]
 """
 
 
@@ -199,6 +231,11 @@ def check_late(room):
         written(room, "ring.trace.csv", "event,s,3\nphase,ring,4\n"),
     )
     hold("gap" in texts and marks == 2, f"gantt, a TDMA resource: {texts}")
+    locks, rows = written(room, "locks.toml", LOCKS), written(room, "locks.csv", "b,1,5\na,5,8\nb,8,9\n")
+    came = ["--trace", written(room, "locks.trace.csv", "event,r,1\nevent,s,2\n")]
+    for words in (came, []):
+        texts, bars, marks = gantt(room, locks, rows, *words)
+        hold(("it holds a lock" in texts) == bool(words), f"gantt, locks: {texts} {bars} {marks}")
     queue, rows = written(room, "queue.toml", QUEUE), written(room, "queue.csv", "b,1,6\na,6,9\n")
     for events, waits in (("event,r,1\nevent,s,2\n", True), ("event,r,1\nevent,s,6\n", False)):
         texts, bars, marks = gantt(room, queue, rows, "--trace", written(room, "queue.trace.csv", events))

@@ -20,7 +20,7 @@ import tomllib
 from lokwurmi_tools.search.helpful_changes import helps_for, lines_of_helps
 from lokwurmi_tools.shared.analysed import analysed
 from lokwurmi_tools.shared.system_text import toml_of
-from tests.rules import bounds
+from tests.rules import bounds, locks
 from tests.support import systems
 from tests.support.calls import TOP, answer, built, faults, hold, range_of, run, tell, written
 
@@ -92,15 +92,19 @@ def wanted_for(system, rules, name):
     """The changes for a task: what becomes of the system with each."""
     task, kind = entry(system, "task", name), entry(system, "resource", entry(system, "task", name)["on"])["kind"]
     mates = [it for it in system["task"] if it["on"] == task["on"] and it is not task]
-    ranked = kind in ("preemptive", "can")
+    ranked = kind in ("preemptive", "can", "ceiling")
     before = [it for it in mates if kind in ("round-robin", "fifo") or ranked and it["priority"] < task["priority"]]
     lower = [it for it in mates if ranked and it["priority"] > task["priority"]]
     found = {("worst", it["name"]): shorter(system, it["name"]) for it in [task, *before]}
-    is_bus = kind == "can"
-    for it in sorted(lower, key=lambda it: -(it["worst"] if is_bus else bounds.stretch_of(it)))[:1]:
+    ceilings = locks.ceilings_of([task, *mates]) if kind == "ceiling" else {}
+
+    def blocks(it):
+        return it["worst"] if kind == "can" else locks.blocking(task, [it], ceilings)
+
+    for it in sorted(lower, key=lambda it: -blocks(it))[:1]:
         other = shorter(system, it["name"])
-        # one that is shorter and still as long as its region holds up others as before
-        if is_bus or other and bounds.stretch_of(entry(other, "task", it["name"])) < bounds.stretch_of(it):
+        # one that is shorter and still as long as its region or its section holds up others as before
+        if kind == "can" or other and blocks(entry(other, "task", it["name"])) < blocks(it):
             found["worst", it["name"]] = other
     for source in {source for it in before for source in rules.sources_of(it["name"])}:
         found["period", source] = slower(system, source)

@@ -45,6 +45,7 @@ PAGES = [
     ("sensor_fusion", True, True),
     ("gateway", True, False),
     ("queue", True, False),
+    ("locks", True, False),
     ("tdma", False, False),
     ("overload", False, False),
 ]

@@ -20,12 +20,12 @@ import re
 import tempfile
 import tomllib
 
-from lokwurmi_tools.search import margins
+from lokwurmi_tools.search import margin_question, margins
 from lokwurmi_tools.search.chain_goals import ChainGoals
 from lokwurmi_tools.shared import progress
 from lokwurmi_tools.shared.analysed import analysed
 from lokwurmi_tools.shared.system_text import toml_of
-from tests.rules import bounds, effect_chains
+from tests.rules import bounds, effect_chains, locks
 from tests.support import chain_files, systems
 from tests.support.calls import (
     NEEDS_PROGRAMS,
@@ -73,14 +73,27 @@ def made(number):
     return system
 
 
+def without_payloads(system):
+    """Gives frames the executions that follow from their payloads, in place of these."""
+    on = {it["name"]: it for it in system["resource"]}
+    for it in system["task"]:
+        it["best"], it["worst"] = bounds.execution_of(it, on[it["on"]])
+        it.pop("payload", None)
+        it.pop("extended", None)
+
+
 def moved(system, number, steps):
     """The system with a number moved by so many steps."""
     other = tomllib.loads(toml_of(system))
+    if number.kind in ("execution", "speed"):
+        without_payloads(other)
     if number.kind == "execution":
         next(it for it in other["task"] if it["name"] == number.name)["worst"] += steps
     elif number.kind == "region":
         it = next(it for it in other["task"] if it["name"] == number.name)
         other["format"], it["region"] = 4, it.get("region", 1) + steps
+    elif number.kind == "section":
+        section_of(other, number.name)["length"] += steps
     elif number.kind == "speed":
         for it in other["task"]:
             if it["on"] == number.name:
@@ -91,6 +104,15 @@ def moved(system, number, steps):
         it["jitter"] = it.get("jitter", 0) + (steps if number.kind == "jitter" else 0)
         it["distance"] = min(it.get("distance", 0), it["period"])
     return other
+
+
+def section_of(system, name):
+    """The section of a task that is told by its task, its lock, and where it begins if there are more of the lock, and
+    where it is over if more begin there."""
+    task, lock, begin, end = re.fullmatch(r"(\S+) with (\S+?)(?: from (\d+))?(?: to (\d+))?", name).groups()
+    several = next(it for it in system["task"] if it["name"] == task)["locks"]
+    several = [it for it in several if it["name"] == lock and begin in (None, str(it["start"]))]
+    return next(it for it in several if end in (None, str(it["start"] + it["length"])))
 
 
 def some_chains(number, system):
@@ -144,7 +166,8 @@ def check_regions(what, system, rows, least):
     """The tasks whose regions move: those that may hold up another, and by more than now."""
     kinds, wanted = {it["name"]: it["kind"] for it in system["resource"]}, {}
     for it in system["task"]:
-        mates = [one for one in system["task"] if one["on"] == it["on"] and kinds[it["on"]] == "preemptive"]
+        is_so = kinds[it["on"]] in ("preemptive", "ceiling") and not it.get("locks")
+        mates = [one for one in system["task"] if one["on"] == it["on"] and is_so]
         has_above = any(one["priority"] < it["priority"] for one in mates)
         if has_above and least <= it.get("region", 1) < it["worst"]:
             wanted[it["name"]] = it["worst"]
@@ -152,12 +175,30 @@ def check_regions(what, system, rows, least):
     hold(found == wanted, f"{what}: regions {found}, and not {wanted}", "regions")
 
 
+def check_sections(what, system, rows):
+    """The sections that move: those that hold up a more urgent task, by as many ticks as the job has, and as there are
+    up to the end of one around it, and to the next."""
+    wanted, tasks = [], system["task"]
+    for task in (it for it in tasks if it.get("locks")):
+        ceilings = locks.ceilings_of([it for it in tasks if it["on"] == task["on"]])
+        above = [it["priority"] for it in tasks if it["on"] == task["on"] and it["priority"] < task["priority"]]
+        for at, it in enumerate(task["locks"]):
+            end, most = it["start"] + it["length"], task["worst"] - it["length"]
+            for begin, last in ((b, e) for place, (_, b, e) in enumerate(locks.sections_of(task)) if place != at):
+                most = min(most, last - end if begin <= it["start"] and end <= last else most)
+                most = min(most, begin - end if end <= begin else most)
+            if most > 0 and any(ceilings[it["name"]] <= rank for rank in above):
+                wanted.append((it["length"], it["length"] + most))
+    found = sorted((it.value, it.value + it.most) for it in rows)
+    hold(found == sorted(wanted), f"{what}: sections {found}, and not {sorted(wanted)}", "sections")
+
+
 def check_system(number, system, room, deadlines, goals):
     """Each number of a system, by files of its own."""
     file = os.path.join(room, "system.toml")
     with open(file, "w", encoding="ascii") as it:
         it.write(toml_of(system))
-    question = margins.MarginQuestion(analysed(PROGRAM, file), goals, deadlines)
+    question = margin_question.MarginQuestion(analysed(PROGRAM, file), goals, deadlines)
     first = judged(system, goals, deadlines)
     now = question.now()
     hold(
@@ -166,11 +207,12 @@ def check_system(number, system, room, deadlines, goals):
     if first:
         return False
     pick = random.Random(number)
-    answers = margins.answers_of(question, margins.KINDS, 1)
+    answers = margins.answers_of(question, margin_question.KINDS, 1)
     # those that are asked for by themselves, of a tick too
     regions = margins.answers_of(question, ("region",), 1)
     for rows, least in ((answers, 2), (regions, 1)):
         check_regions(f"system {number}", system, [it for it, _ in rows if it.kind == "region"], least)
+    check_sections(f"system {number}", system, [it for it, _ in answers if it.kind == "section"])
     for it, told in answers + regions:
         check_number(f"system {number}", system, it, told, (goals, deadlines), pick)
     check_deadlines(f"system {number}", system, margins.rows_of(question, ["deadline"], 1), goals, deadlines)
@@ -227,15 +269,15 @@ def check_with_chains(number, system, chains, room, program):
     file = written(room, "chained.toml", toml_of(system))
     listed, pick = written(room, "listed.toml", chain_files.text_of(chains)), random.Random(number)
     known = analysed(program, file)
-    question = margins.MarginQuestion(known, {}, True, ChainGoals(known, listed))
+    question = margin_question.MarginQuestion(known, {}, True, ChainGoals(known, listed))
     now = question.now().first()
     hold(now == judged(system, {}, True, chains), f"system {number} with chains: {now}", "chains first")
     if now:
         return
-    for it, told in margins.answers_of(question, margins.KINDS, 1):
+    for it, told in margins.answers_of(question, margin_question.KINDS, 1):
         what = f"system {number}, {it.kind} {it.name}, chains {chains}: {told}\n{toml_of(system)}"
         asked = lambda steps: judged(moved(system, it, steps), {}, True, chains)  # noqa: B023
-        good = values_up_to(pick, told.steps) if it.kind in margins.PERIODS else (told.steps,)
+        good = values_up_to(pick, told.steps) if it.kind in margin_question.PERIODS else (told.steps,)
         hold(not any(asked(steps) for steps in good), f"{what}: up to there not all holds", f"chains {it.kind}")
         hold(told.ends == (told.steps < it.most), f"{what}: how it ends", f"chains {it.kind}")
         if told.ends:
