@@ -387,7 +387,7 @@ def check_worked():
         found = [(it["kind"], it["of"], it["count"], it["each"]) for it in told["parts"]]
         hold(found == wanted, f"{name}.toml, {task}: {found}, and not {wanted}", "worked")
         lines = lines_of_task(told)
-        is_told = any("the rest of a region of lower priority" in it for it in lines)
+        is_told = any(re.search("the rest of a (region|section) of lower priority", it) for it in lines)
         hold(is_told == ("blocking" in [it[0] for it in wanted]), f"{name}.toml, {task}: {lines}", "worked")
 
 
