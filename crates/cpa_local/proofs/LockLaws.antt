@@ -1,7 +1,9 @@
--- Blocking under ceilings: by no more than a task takes, by regions alone where it has no critical sections, and by more where tasks take longer.
+-- Blocking under ceilings: by no more than a task takes, by regions alone where it has no critical sections, and by more where tasks or their
+-- critical sections take longer.
 use Rattle.std.proofs.Common.{◌≡◌, ℕ, ◌+◌, ◌-◌, ◌<◌, ◌≤◌, false, length, List, [], ◌∷◌, map, max, refl, ap, subst, arith}
 use Rattle.std.specs.Prelude.{filter, fold}
-use Rattle.std.specs.List.{range_with_len}
+use Rattle.std.specs.List.{range_with_len, list_any, AllZip}
+use Rattle.std.specs.Str.{bytes_eq}
 use Rattle.std.proofs.lemmas.Bool.{true≢false}
 use Rattle.std.proofs.lemmas.Bool.Decides.{nat_tests}
 use Rattle.cpa_units.specs.declared.limits.TheConstants.{MAX_PRIORITY}
@@ -12,7 +14,7 @@ use Rattle.cpa_model.specs.Kinds.{has_ceilings, blocking_by}
 use Rattle.cpa_model.specs.Locks.{Section, section_of, section_blocking, lock_sections, uses_lock, ceiling_of, ceiling_blocking}
 use Rattle.cpa_model.specs.SystemLists.{SystemLists, task_at, is_on, priority_of}
 use Rattle.cpa_local.specs.Blocking.{blocking_between}
-use Rattle.cpa_local.specs.Raising.{IsRaising}
+use Rattle.cpa_local.specs.Raising.{IsLongerSection, IsRaising}
 use Rattle.cpa_local.proofs.PlaceLists.{least_over, least-more_passing}
 
 -- ---- no more than a task takes
@@ -60,10 +62,18 @@ between-fixed s Ceiling i j fixed = absurd (true≢false fixed)
 
 -- ---- more where each task asks for at least as much
 
--- what a section of a lower ceiling blocks, of a task that takes longer
-section-more : (priority worst more ticks before after first second : ℕ) → worst ≤ more → after ≤ before
-    → section_blocking priority worst (record { start = first; ticks = ticks; ceiling = before }) ≤ section_blocking priority more (record { start = second; ticks = ticks; ceiling = after })
-section-more priority worst more ticks before after first second longer lower = grind (arith, nat_tests)
+-- sections of the same locks have the same locks
+longer-uses : (lock : List ℕ) (before after : List CriticalSection) → AllZip IsLongerSection before after
+    → list_any (λ (c : CriticalSection). bytes_eq lock c.lock) before ≡ list_any (λ (c : CriticalSection). bytes_eq lock c.lock) after
+longer-uses lock [] [] h = refl
+longer-uses lock [] (d ∷ after) h = absurd h
+longer-uses lock (c ∷ before) [] h = absurd h
+longer-uses lock (c ∷ before) (d ∷ after) h = rw (h.0.lock, longer-uses lock before after h.1) refl
+
+-- a longer section of a more urgent ceiling blocks by no less, in a task that takes longer
+section-more : (priority worst more ticks longer before after first second : ℕ) → worst ≤ more → ticks ≤ longer → after ≤ before
+    → section_blocking priority worst (record { start = first; ticks = ticks; ceiling = before }) ≤ section_blocking priority more (record { start = second; ticks = longer; ceiling = after })
+section-more priority worst more ticks longer before after first second le most lower = grind (arith, nat_tests)
 
 module _ (s t : SystemLists) (up : IsRaising s t) where
   all_tasks : length s.tasks + (length t.tasks - length s.tasks) ≡ length t.tasks
@@ -76,21 +86,30 @@ module _ (s t : SystemLists) (up : IsRaising s t) where
       (least-more_passing (is_on s r) (λ j. uses_lock lock (task_at s j)) (is_on t r) (λ j. uses_lock lock (task_at t j)) (λ j. priority_of (task_at s j).turn) (λ j. priority_of (task_at t j).turn) MAX_PRIORITY MAX_PRIORITY
       0 (length s.tasks) (length t.tasks - length s.tasks) (omega arith)
       (λ j low high. let it = up.tasks j (omega arith) in rw it.res refl)
-      (λ j low high. let it = up.tasks j (omega arith) in rw it.locks refl)
+      (λ j low high. longer-uses lock (task_at s j).locks (task_at t j).locks (up.tasks j (omega arith)).locks)
       (λ j low high. let same = ap priority_of (up.tasks j (omega arith)).turn in omega arith))
 
-  sections-more : (r priority worst longer most more : ℕ) (locks : List CriticalSection) → worst ≤ longer → most ≤ more
-      → sections_from priority worst most (map (section_of s r) locks) ≤ sections_from priority longer more (map (section_of t r) locks)
-  sections-more r priority worst longer most more [] le from = from
-  sections-more r priority worst longer most more (c ∷ locks) le from =
-      let one = section-more priority worst longer c.length (ceiling_of s r c.lock) (ceiling_of t r c.lock) c.start c.start le (ceiling-down r c.lock) in
-      sections-more r priority worst longer (max most (section_blocking priority worst (section_of s r c))) (max more (section_blocking priority longer (section_of t r c))) locks le (omega (arith, from, one))
+  -- what a section blocks, and what the longer one does
+  section-up : (r priority worst longer : ℕ) (c d : CriticalSection) → worst ≤ longer → IsLongerSection c d
+      → section_blocking priority worst (section_of s r c) ≤ section_blocking priority longer (section_of t r d)
+  section-up r priority worst longer c d le h =
+      let down : ceiling_of t r d.lock ≤ ceiling_of s r c.lock = rw h.lock (ceiling-down r d.lock) in
+      section-more priority worst longer c.length d.length (ceiling_of s r c.lock) (ceiling_of t r d.lock) c.start d.start le h.ticks down
+
+  sections-more : (r priority worst longer most more : ℕ) (before after : List CriticalSection) → worst ≤ longer → most ≤ more → AllZip IsLongerSection before after
+      → sections_from priority worst most (map (section_of s r) before) ≤ sections_from priority longer more (map (section_of t r) after)
+  sections-more r priority worst longer most more [] [] le from h = from
+  sections-more r priority worst longer most more [] (d ∷ after) le from h = absurd h
+  sections-more r priority worst longer most more (c ∷ before) [] le from h = absurd h
+  sections-more r priority worst longer most more (c ∷ before) (d ∷ after) le from h =
+      let one = section-up r priority worst longer c d le h.0 in
+      sections-more r priority worst longer (max most (section_blocking priority worst (section_of s r c))) (max more (section_blocking priority longer (section_of t r d))) before after le (omega (arith, from, one)) h.1
 
   pub ceiling_blocking-up : (i j : ℕ) → i < length s.tasks → j < length s.tasks → ceiling_blocking s i j ≤ ceiling_blocking t i j
   ceiling_blocking-up i j there less =
       let own = up.tasks i there in
       let it = up.tasks j less in
-      let sections = sections-more (task_at s j).res.0 (priority_of (task_at s i).turn) (task_at s j).worst (task_at t j).worst 0 0 (task_at s j).locks it.worst (omega arith) in
-      let same : sections_from (priority_of (task_at s i).turn) (task_at t j).worst 0 (map (section_of t (task_at s j).res.0) (task_at s j).locks) ≡ sections_from (priority_of (task_at t i).turn) (task_at t j).worst 0 (lock_sections t j) =
-      rw (own.turn, it.res, it.locks) refl in
+      let sections = sections-more (task_at s j).res.0 (priority_of (task_at s i).turn) (task_at s j).worst (task_at t j).worst 0 0 (task_at s j).locks (task_at t j).locks it.worst (omega arith) it.locks in
+      let same : sections_from (priority_of (task_at s i).turn) (task_at t j).worst 0 (map (section_of t (task_at s j).res.0) (task_at t j).locks) ≡ sections_from (priority_of (task_at t i).turn) (task_at t j).worst 0 (lock_sections t j) =
+      rw (own.turn, it.res) refl in
       omega (arith, it.region, it.worst, sections, same)

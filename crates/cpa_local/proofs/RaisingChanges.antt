@@ -7,14 +7,18 @@ use Rattle.cpa_model.specs.declared.entries.Source.{Source}
 use Rattle.cpa_model.specs.declared.entries.Task.{Task}
 use Rattle.cpa_model.specs.declared.entries.Activator.{Activator}
 use Rattle.cpa_model.specs.declared.entries.Activator.TheVariants.{Source as FromSource, Task as FromTask}
+use Rattle.cpa_model.specs.declared.locks.CriticalSection.{CriticalSection}
 use Rattle.cpa_model.specs.Clocks.{is_clocked}
 use Rattle.cpa_model.specs.SystemLists.{SystemLists, task_at, source_at, no_task}
 use Rattle.cpa_model.specs.Streams.{source_stream}
 use Rattle.cpa_model.specs.Changes.{with_task_at, with_exec, with_source, with_task}
 use Rattle.cpa_local.specs.OnClocks.{source_anchor}
-use Rattle.cpa_local.specs.Raising.{IsDenserActivator, IsRaisedTask, IsRaising}
+use Rattle.cpa_local.specs.Raising.{IsDenserActivator, IsLongerSection, IsRaisedTask, IsRaising}
 use Rattle.cpa_local.proofs.WiderLaws.{wider_on-itself, each-itself, denser-itself}
 use Rattle.cpa_local.proofs.SourceChanges.{cycle-kept, source-wider}
+
+longer-itself : (c : CriticalSection) → IsLongerSection c c
+longer-itself c = record { lock = refl; ticks = omega arith }
 
 pub raised-same : (s t : SystemLists) (i : ℕ) → s.sources ≡ t.sources → task_at s i ≡ task_at t i → IsRaisedTask s t i
 raised-same s t i sources same =
@@ -25,7 +29,7 @@ raised-same s t i sources same =
       worst = let e = ap (λ (v : Task). v.worst) same in omega arith;
       turn = ap (λ (v : Task). v.turn) same;
       region = let e = ap (λ (v : Task). v.region) same in omega arith;
-      locks = ap (λ (v : Task). v.locks) same;
+      locks = rw (← same) (each-itself IsLongerSection longer-itself (task_at s i).locks);
     }
   where
     denser-same : (a : Activator) → IsDenserActivator s t a a
@@ -54,7 +58,7 @@ raising-exec s p best worst low high =
               worst = let e = ap (λ (v : Task). v.worst) it in omega arith;
               turn = sym (ap (λ (v : Task). v.turn) it);
               region = let e = ap (λ (v : Task). v.region) it in omega arith;
-              locks = sym (ap (λ (v : Task). v.locks) it);
+              locks = rw it (each-itself IsLongerSection longer-itself (task_at s p).locks);
             })
         | inr other ↦
             raised-same s (with_task_at s p (record (task_at s p) { best = best; worst = worst })) i refl (sym (get_or-set_other s.tasks p i (record (task_at s p) { best = best; worst = worst }) no_task other))
@@ -71,7 +75,7 @@ raising-source s k period jitter distance shorter wider closer kept =
       sources = omega (arith, length-set s.sources k given);
       cycles = cycle-kept s k given refl kept;
       more = omega arith;
-      tasks = λ i less. record { res = refl; after = each-itself (IsDenserActivator s (record s { sources = set s.sources k given })) by (task_at s i).after; best = omega arith; worst = omega arith; turn = refl; region = omega arith; locks = refl };
+      tasks = λ i less. record { res = refl; after = each-itself (IsDenserActivator s (record s { sources = set s.sources k given })) by (task_at s i).after; best = omega arith; worst = omega arith; turn = refl; region = omega arith; locks = each-itself IsLongerSection longer-itself (task_at s i).locks };
     }
   where
     given : Source

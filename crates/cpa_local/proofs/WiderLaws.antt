@@ -168,10 +168,10 @@ pub wider_on-itself : (o : Option Anchor) (m : Stream) → IsWiderOn o o m m
 wider_on-itself None m = IsStreamNoDenser_refl m
 wider_on-itself (Some a) m = record { clock = refl; placed = no_denser_itself (placed_at m a 0) }
 
--- what holds of each activator and itself holds of a list and itself
-pub each-itself : (R : Activator → Activator → Type 0) → ((a : Activator) → R a a) → (after : List Activator) → AllZip R after after
+-- what holds of each and itself holds of a list and itself
+pub each-itself : {X : Type 0} (R : X → X → Type 0) → ((a : X) → R a a) → (xs : List X) → AllZip R xs xs
 each-itself R each [] = tt
-each-itself R each (a ∷ others) = (each a, each-itself R each others)
+each-itself R each (x ∷ xs) = (each x, each-itself R each xs)
 
 pub denser-itself : (s : SystemLists) (a : Activator) → IsDenserActivator s s a a
 denser-itself s (FromSource k) = wider_on-itself (source_anchor s k.0) (source_stream s k.0)

@@ -57,6 +57,10 @@ locks-blocking = refl
 abbrev locks_bounds : List Bound
 locks_bounds = map Within (6 ∷ 9 ∷ 18 ∷ 19 ∷ [])
 
+locks-fixed : responses locks locks_bounds ≡ locks_bounds
+unfolding locks input response anchors_within most_of busy_window_bound jobs_in_busy_window window stream_eta_plus eta_plus stream_delta_minus delta_minus least_from greatest_to
+locks-fixed = refl
+
 -- where control has no lock, nobody keeps it waiting, and the filter isn't either
 apart : SystemLists
 apart =

@@ -1,10 +1,11 @@
--- A system that asks for at least as much as another: no task has a shorter execution range, a shorter region or other critical sections, no
+-- A system that asks for at least as much as another: no task has a shorter execution range, a shorter region or a shorter critical section, no
 -- source is sparser, and none on a clock has narrower intervals there.
 use Rattle.std.specs.Prelude.{ℕ, ◌≡◌, ◌<◌, ◌≤◌, length}
 use Rattle.std.specs.List.{AllZip}
 use Rattle.cpa_clock.specs.Wider.{IsWiderOn}
 use Rattle.cpa_model.specs.declared.entries.Activator.{Activator}
 use Rattle.cpa_model.specs.declared.entries.Activator.TheVariants.{Source as FromSource, Task as FromTask}
+use Rattle.cpa_model.specs.declared.locks.CriticalSection.{CriticalSection}
 use Rattle.cpa_model.specs.Clocks.{clock_cycle}
 use Rattle.cpa_model.specs.SystemLists.{SystemLists, task_at}
 use Rattle.cpa_model.specs.Streams.{source_stream}
@@ -18,6 +19,11 @@ IsDenserActivator s t (FromTask j) (FromTask m) = j.0 ≡ m.0
 IsDenserActivator s t (FromSource k) (FromTask m) = ⊥
 IsDenserActivator s t (FromTask j) (FromSource m) = ⊥
 
+-- a critical section of the same lock that is at least as long, wherever it begins: no bound depends on that
+pub record IsLongerSection (c d : CriticalSection) : Type 0 where
+  pub lock : c.lock ≡ d.lock
+  pub ticks : c.length ≤ d.length
+
 -- task i asks for at least as much as before
 pub record IsRaisedTask (s t : SystemLists) (i : ℕ) : Type 0 where
   pub res : (task_at s i).res.0 ≡ (task_at t i).res.0
@@ -26,7 +32,7 @@ pub record IsRaisedTask (s t : SystemLists) (i : ℕ) : Type 0 where
   pub worst : (task_at s i).worst ≤ (task_at t i).worst
   pub turn : (task_at s i).turn ≡ (task_at t i).turn
   pub region : (task_at s i).region ≤ (task_at t i).region
-  pub locks : (task_at s i).locks ≡ (task_at t i).locks
+  pub locks : AllZip IsLongerSection (task_at s i).locks (task_at t i).locks
 
 -- each task of s asks for at least as much in t, which may have more tasks at its end; both have the same clocks, with the same cycles
 pub record IsRaising (s t : SystemLists) : Type 0 where
