@@ -20,11 +20,11 @@ that falls silent voids it.
 
 Both ends of each answer are reports of the proved program: with the number at the value that is told all holds, and one
 step beyond it doesn't. In between the tool halves the range. That nothing holds further on is proved of each single
-step for executions, regions, periods, jitters and speeds, since no bound falls where more is asked for; of critical
-sections it is argued, as blocking grows with them. That the halving follows from it is argued in docs/SENSITIVITY.md,
-and not proved. Of offsets no law says so: a deadline that is missed may be met again further on. What is told is up to
-the first offset that fails; up to there they are looked at by stretches, of which one has all its offsets as jitter. Of
-executions under --deadlines `lokwurmi slack` is proved to give the very number.
+step for executions, regions, critical sections, periods, jitters and speeds, since no bound falls where more is asked
+for. That the halving follows from it is argued in docs/SENSITIVITY.md, and not proved. Of offsets no law says so: a
+deadline that is missed may be met again further on. What is told is up to the first offset that fails; up to there they
+are looked at by stretches, of which one has all its offsets as jitter. Of executions under --deadlines `lokwurmi slack`
+is proved to give the very number.
 
 Edits of many numbers go in one script of `lokwurmi session`, so that there are few calls, --jobs of them at a time; for
 a region or a section, which no edit changes, a file is analysed each time. The status is 0, and 3 where a deadline is

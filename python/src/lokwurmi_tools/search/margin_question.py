@@ -23,7 +23,7 @@ LAWS = {
     "jitter": "IsStreamNoDenser of cpa_events, IsRaising and RaisingLiftsLeast of cpa_local",
     "speed": "IsRaising and RaisingLiftsLeast of cpa_local; that more thousandths are no fewer ticks is argued",
     "region": "IsRaising and RaisingLiftsLeast of cpa_local",
-    "section": "none: that no bound falls as a section gets longer is argued",
+    "section": "IsRaising and RaisingLiftsLeast of cpa_local",
     "offset": "none: it goes by stretches. With as much more jitter a source has each offset of one, which is argued",
     "deadline": "no search: no bound depends on a deadline",
 }
