@@ -26,10 +26,10 @@ import tomllib
 
 from bench.timing import least_over, names_of, spent_over
 from tests.rules.runs import Run
-from tests.support.calls import NEEDS_PROGRAMS, TOP, built
+from tests.support.calls import NEEDS_PROGRAM, TOP, built
 
 PROGRAM = os.path.join(TOP, "crates/cpa_cli/out/cpa_cli")
-SCHEDULE = built("cpa_schedule_cli")
+PROGRAM = built("cpa_cli")
 
 CHAIN_KINDS = ["preemptive", "can", "round-robin", "tdma", "preemptive", "can", "round-robin", "tdma"]
 
@@ -126,7 +126,7 @@ def show(what, seconds, peak, last):
 
 
 def main():
-    wanted = names_of(__doc__, [*CASES, "apart"], NEEDS_PROGRAMS)
+    wanted = names_of(__doc__, [*CASES, "apart"], NEEDS_PROGRAM)
     for name in wanted:
         for command in ("simulate", "buffers") if name in CASES else ():
             show(f"{command} {name}", *least_over([PROGRAM, command], CASES[name](), 5))
@@ -137,12 +137,12 @@ def main():
         show("audit wrong", *least_over([PROGRAM, "audit"], (system, trace, schedule.replace(",0,", ",1,", 1)), 5))
         show("audit chain, empty", *least_over([PROGRAM, "audit"], (system, trace, ""), 5))
         show("audit one task, empty", *least_over([PROGRAM, "audit"], (*chain(1), ""), 5))
-        show("schedule chain", *least_over([SCHEDULE], (system, trace), 5))
+        show("schedule chain", *least_over([PROGRAM, "schedule"], (system, trace), 5))
     if "burst" in wanted:
         show("audit burst, empty", *least_over([PROGRAM, "audit"], (*burst(), ""), 5))
     if "apart" in wanted:
         for resources in (2, 8, 32, 64):
-            seconds, _, peak, last = spent_over([SCHEDULE], apart(resources))
+            seconds, _, peak, last = spent_over([PROGRAM, "schedule"], apart(resources))
             show(f"schedule apart, {resources}", seconds, peak, last)
 
 

@@ -47,58 +47,58 @@ def python_here() -> str:
 
 PYTHON = python_here()
 
-PROGRAMS = "cpa_cli cpa_schedule_cli cpa_effect_cli"
+PROGRAM = "cpa_cli"
 DRAWS = "module:matplotlib module:jinja2 command:dot"
 IMPORTS = "module:canmatrix module:lxml module:can module:tomlkit module:xlrd module:xlwt module:xlsxwriter"
 # what each check needs: programs, packages of Python, commands, files
 NEEDS = {
-    "check_reports": "cpa_cli",
-    "check_runs": "cpa_cli cpa_schedule_cli",
-    "check_orders": "cpa_cli",
-    "check_large": "cpa_cli module:numpy",
-    "check_slack": "cpa_cli",
-    "check_offsets": "cpa_cli",
-    "check_queues": "cpa_cli cpa_schedule_cli",
-    "check_locks": "cpa_cli cpa_schedule_cli",
-    "check_effects": PROGRAMS,
-    "examples": PROGRAMS,
+    "check_reports": PROGRAM,
+    "check_runs": PROGRAM,
+    "check_orders": PROGRAM,
+    "check_large": f"{PROGRAM} module:numpy",
+    "check_slack": PROGRAM,
+    "check_offsets": PROGRAM,
+    "check_queues": PROGRAM,
+    "check_locks": PROGRAM,
+    "check_effects": PROGRAM,
+    "examples": PROGRAM,
     "check_edits": "command:rt",
-    "check_hostile": PROGRAMS + " command:gcc",
-    "check_refused_memory": PROGRAMS + " command:cc command:rt",
-    "check_library": "cpa_cli command:cc file:library/out/liblokwurmi.a",
-    "check_docs": f"{PROGRAMS} {DRAWS} {IMPORTS}",
-    "check_messages": PROGRAMS,
+    "check_hostile": PROGRAM + " command:gcc",
+    "check_refused_memory": PROGRAM + " command:cc command:rt",
+    "check_library": f"{PROGRAM} command:cc file:library/out/liblokwurmi.a",
+    "check_docs": f"{PROGRAM} {DRAWS} {IMPORTS}",
+    "check_messages": PROGRAM,
     "check_launcher": "command:script",
     "check_builds": "command:script",
-    "check_installed": f"{PROGRAMS} noted command:unshare file:library/out/liblokwurmi.a {DRAWS}",
+    "check_installed": f"{PROGRAM} noted command:unshare file:library/out/liblokwurmi.a {DRAWS}",
     "check_python": "debian:mypy debian:pyflakes3 debian:pycodestyle debian:isort debian:black",
     "check_schema": "module:jsonschema",
-    "check_tools": f"{PROGRAMS} {DRAWS}",
-    "check_gantt": f"{PROGRAMS} {DRAWS}",
-    "check_page": f"{PROGRAMS} {DRAWS} module:selenium command:chromedriver",
-    "check_chain_tools": f"{PROGRAMS} {DRAWS}",
-    "check_explain": f"{PROGRAMS} module:matplotlib",
-    "check_helps": "cpa_cli",
-    "check_sensitivity": f"{PROGRAMS} module:matplotlib",
-    "check_optimise": PROGRAMS,
-    "check_choose_offsets": "cpa_cli",
-    "check_notebooks": "cpa_cli module:canmatrix module:lxml module:matplotlib",
-    "check_clock_tools": f"{PROGRAMS} {DRAWS}",
-    "check_imports": f"cpa_cli {IMPORTS}",
-    "check_import_options": f"cpa_cli {IMPORTS}",
-    "check_import_offsets": f"cpa_cli {IMPORTS}",
+    "check_tools": f"{PROGRAM} {DRAWS}",
+    "check_gantt": f"{PROGRAM} {DRAWS}",
+    "check_page": f"{PROGRAM} {DRAWS} module:selenium command:chromedriver",
+    "check_chain_tools": f"{PROGRAM} {DRAWS}",
+    "check_explain": f"{PROGRAM} module:matplotlib",
+    "check_helps": PROGRAM,
+    "check_sensitivity": f"{PROGRAM} module:matplotlib",
+    "check_optimise": PROGRAM,
+    "check_choose_offsets": PROGRAM,
+    "check_notebooks": f"{PROGRAM} module:canmatrix module:lxml module:matplotlib",
+    "check_clock_tools": f"{PROGRAM} {DRAWS}",
+    "check_imports": f"{PROGRAM} {IMPORTS}",
+    "check_import_options": f"{PROGRAM} {IMPORTS}",
+    "check_import_offsets": f"{PROGRAM} {IMPORTS}",
     "check_damaged_imports": IMPORTS,
-    "check_logs": f"{PROGRAMS} {IMPORTS}",
-    "check_log_files": f"{PROGRAMS} {IMPORTS}",
-    "check_log_clocks": f"cpa_cli {IMPORTS}",
-    "check_networks": f"cpa_cli {IMPORTS}",
-    "check_ticks": f"{PROGRAMS} {IMPORTS}",
-    "check_told": f"{PROGRAMS} {DRAWS} module:jsonschema",
-    "check_ci": f"{PROGRAMS} module:jsonschema",
-    "check_diff": f"{PROGRAMS} module:jsonschema",
-    "check_worst": f"{PROGRAMS} {DRAWS}",
-    "check_campaign": "cpa_cli module:distributed command:dask-scheduler",
-    "check_campaign_clusters": "cpa_cli module:distributed command:dask-scheduler",
+    "check_logs": f"{PROGRAM} {IMPORTS}",
+    "check_log_files": f"{PROGRAM} {IMPORTS}",
+    "check_log_clocks": f"{PROGRAM} {IMPORTS}",
+    "check_networks": f"{PROGRAM} {IMPORTS}",
+    "check_ticks": f"{PROGRAM} {IMPORTS}",
+    "check_told": f"{PROGRAM} {DRAWS} module:jsonschema",
+    "check_ci": f"{PROGRAM} module:jsonschema",
+    "check_diff": f"{PROGRAM} module:jsonschema",
+    "check_worst": f"{PROGRAM} {DRAWS}",
+    "check_campaign": f"{PROGRAM} module:distributed command:dask-scheduler",
+    "check_campaign_clusters": f"{PROGRAM} module:distributed command:dask-scheduler",
     "list_reached": "command:rt",
 }
 # the checks of --quick, with fewer cases of those that draw them: what isn't proved comes first, and then the rules
@@ -205,11 +205,10 @@ def lacks_program(crate: str) -> str:
 
 
 def lacks_note(_: str) -> str:
-    """Why an installed copy can't be had at once: it is one of programs that ./lokwurmi has built."""
+    """Why an installed copy can't be had at once: it is one of the program that ./lokwurmi has built."""
     from lokwurmi_tools.launcher.records import kit_of
 
-    lacking = [it for it in PROGRAMS.split() if not kit_of(it)]
-    return f"./lokwurmi hasn't built {lacking[0]}" if lacking else ""
+    return "" if kit_of(PROGRAM) else f"./lokwurmi hasn't built {PROGRAM}"
 
 
 def lacks_module(name: str) -> str:

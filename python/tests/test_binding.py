@@ -119,44 +119,19 @@ class StandIn(unittest.TestCase):
 
 
 class Programs(unittest.TestCase):
-    def test_own_programs(self) -> None:
-        """In the repository three commands have programs of their own; an installed program has all commands."""
+    def test_words(self) -> None:
+        """A program is called with the command, the names of its files, and the words behind them."""
         with tempfile.TemporaryDirectory() as room:
-            for name in ("cpa_cli", "cpa_schedule_cli", "cpa_effect_cli", "lokwurmi"):
-                file = Path(room, name)
-                file.write_text(f'#!/bin/sh\necho {name} "$@"\n')
-                file.chmod(0o755)
-            calls = (
-                ("schedule", [b"", b""], ()),
-                ("chain", [b""], ("a", "--while-running")),
-                ("chains", [b"", b""], ()),
-                ("analyse", [b""], ()),
-            )
-            for file, told in (
-                (
-                    "cpa_cli",
-                    [
-                        "cpa_schedule_cli system trace",
-                        "cpa_effect_cli chain system a --while-running",
-                        "cpa_effect_cli chains system chains",
-                        "cpa_cli analyse system",
-                    ],
-                ),
-                (
-                    "lokwurmi",
-                    [
-                        "lokwurmi schedule system trace",
-                        "lokwurmi chain system a --while-running",
-                        "lokwurmi chains system chains",
-                        "lokwurmi analyse system",
-                    ],
-                ),
+            file = Path(room, "called")
+            file.write_text('#!/bin/sh\necho "$@"\n')
+            file.chmod(0o755)
+            for command, files, words, told in (
+                ("schedule", [b"", b""], (), "schedule system trace"),
+                ("chain", [b""], ("a", "--while-running"), "chain system a --while-running"),
+                ("chains", [b"", b""], (), "chains system chains"),
+                ("analyse", [b""], (), "analyse system"),
             ):
-                program = Program(Path(room, file))
-                self.assertEqual([program.call(*it)[1].strip() for it in calls], told)
-            Path(room, "cpa_effect_cli").unlink()
-            with self.assertRaisesRegex(NoEngine, "chain has a program of its own"):
-                Program(Path(room, "cpa_cli")).call("chain", [b""], ("a",))
+                self.assertEqual(Program(file).call(command, files, words), (0, f"{told}\n"))
         with self.assertRaises(NoEngine):
             Program("/nowhere").call("analyse", [b""])
 

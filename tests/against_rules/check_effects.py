@@ -58,7 +58,7 @@ class Programs:
     """The program of both commands."""
 
     def __init__(self, folder):
-        self.folder, self.program = folder, built("cpa_effect_cli")
+        self.folder, self.program = folder, built("cpa_cli")
         self.file = os.path.join(folder, "system.toml")
 
     def begin(self, system):

@@ -19,11 +19,11 @@ import tempfile
 from tests.against_rules.check_queues import bounds_in, check_edits, check_runs, takes
 from tests.rules.bounds import System
 from tests.rules.runs import Run, plain
-from tests.support.calls import NEEDS_PROGRAMS, built, hold, outcome, range_of, tell, written
+from tests.support.calls import NEEDS_PROGRAM, built, hold, outcome, range_of, tell, written
 from tests.support.lock_systems import system_with_locks
 from tests.support.systems import file_of
 
-PROGRAM, SCHEDULE = built("cpa_cli"), built("cpa_schedule_cli")
+PROGRAM = built("cpa_cli")
 
 
 def lock_file(tasks, periods=(1000,), form=4, kind="ceiling", more=""):
@@ -232,7 +232,7 @@ def check_worked(folder):
     for text, events, told in FOLLOWED:
         trace = "".join(f"event,{source},{time}\n" for source, times in events.items() for time in times)
         file = written(folder, "worked.toml", text)
-        wrote = outcome(SCHEDULE, file, written(folder, "worked.csv", trace))
+        wrote = outcome(PROGRAM, "schedule", file, written(folder, "worked.csv", trace))
         hold(wrote == (told, 0), f"{text}{trace}{wrote[0]}", "worked runs")
 
 
@@ -296,7 +296,7 @@ def check_system(folder, number, tally):
 
 
 def main():
-    numbers = range_of(__doc__, 1000, NEEDS_PROGRAMS)
+    numbers = range_of(__doc__, 1000, NEEDS_PROGRAM)
     tally = {"bounds": 0, "reached": 0}
     with tempfile.TemporaryDirectory() as folder:
         check_worked(folder)

@@ -16,11 +16,11 @@ import tempfile
 from tests.against_rules.check_runs import buffers_text, changed
 from tests.rules.bounds import OVERLOAD, System
 from tests.rules.runs import Run, audit_text, schedule_text, simulated_text
-from tests.support.calls import NEEDS_PROGRAMS, built, hold, outcome, range_of, tell, written
+from tests.support.calls import NEEDS_PROGRAM, built, hold, outcome, range_of, tell, written
 from tests.support.queue_systems import system_with_queues
 from tests.support.systems import file_of, near_trace, random_trace, rows_of
 
-PROGRAM, SCHEDULE = built("cpa_cli"), built("cpa_schedule_cli")
+PROGRAM = built("cpa_cli")
 MOST_EXECUTION, MOST_PRIORITY, MOST_TICKS = 10_000_000, 536_870_911, 1_000_000_000
 BY_PRIORITY, BY_SLOT = ("preemptive", "can", "ceiling"), ("round-robin", "tdma")
 
@@ -181,7 +181,7 @@ def check_runs(folder, draw, number, system, report, tally, kind="fifo"):
         for told, program, words in (
             ((simulated_text(system, run), 0), PROGRAM, ["simulate", file, other]),
             ((buffers_text(system, run, report), 0), PROGRAM, ["buffers", file, other]),
-            ((schedule, 0), SCHEDULE, [file, other]),
+            ((schedule, 0), PROGRAM, ["schedule", file, other]),
             (audit_text(segments, segments), PROGRAM, ["audit", file, other, schedule]),
             (audit_text(another, segments), PROGRAM, ["audit", file, other, schedule_text(another)]),
         ):
@@ -333,7 +333,7 @@ def check_system(folder, number, tally):
 
 
 def main():
-    numbers = range_of(__doc__, 1000, NEEDS_PROGRAMS)
+    numbers = range_of(__doc__, 1000, NEEDS_PROGRAM)
     tally = {"bounds": 0, "reached": 0}
     with tempfile.TemporaryDirectory() as folder:
         check_worked(folder)

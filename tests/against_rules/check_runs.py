@@ -19,10 +19,10 @@ import tempfile
 
 from tests.rules.bounds import OVERLOAD, System, most_events, said
 from tests.rules.runs import Run, audit_text, schedule_text, simulated_text
-from tests.support.calls import NEEDS_PROGRAMS, add_number, built, outcome, reader_of, written
+from tests.support.calls import NEEDS_PROGRAM, add_number, built, outcome, reader_of, written
 from tests.support.systems import file_of, random_system, random_trace, rows_of
 
-PROGRAM, SCHEDULE = built("cpa_cli"), built("cpa_schedule_cli")
+PROGRAM = built("cpa_cli")
 
 
 def buffers_text(system, run, report):
@@ -101,7 +101,7 @@ def check_run(commands, draw):
     commands.compare(wanted, PROGRAM, "buffers", *both, "--workers", workers)
     names = [it["name"] for it in system["task"]]
     # `schedule` has a program of its own, which takes the words after it
-    commands.put("schedule.csv", commands.compare((schedule_text(segments), 0), SCHEDULE, *both))
+    commands.put("schedule.csv", commands.compare((schedule_text(segments), 0), PROGRAM, "schedule", *both))
     commands.compare((f"audit same segments {len(segments)}\n", 0), PROGRAM, "audit", *both, "schedule.csv")
     for schedule in (changed(draw, segments, names), changed(draw, segments, names)):
         commands.put("schedule.csv", schedule_text(schedule))
@@ -109,7 +109,7 @@ def check_run(commands, draw):
 
 
 def main():
-    reader = reader_of(__doc__, "30 7", NEEDS_PROGRAMS)
+    reader = reader_of(__doc__, "30 7", NEEDS_PROGRAM)
     add_number(reader, "count", 300, "how many runs")
     add_number(reader, "seed", 1, "another number makes other systems")
     words = reader.parse_args()

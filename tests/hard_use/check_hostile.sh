@@ -4,30 +4,21 @@
 # and ends with 1 where one answers otherwise than it should. Outside the gate: bash tests/hard_use/check_hostile.sh
 top=$(cd "$(dirname "${BASH_SOURCE[0]}")/../.." && pwd) || exit 1
 program=$top/crates/cpa_cli/out/cpa_cli
-schedule=$top/crates/cpa_schedule_cli/out/cpa_schedule_cli
-chain=$top/crates/cpa_effect_cli/out/cpa_effect_cli
 work=$(mktemp -d) || exit 1
 trap 'rm -rf "$work"' EXIT
 cd "$work" || exit 1
 [ -x "$program" ] || "$top/lokwurmi" analyse "$top/examples/two_tasks.toml" >first || exit 1
-[ -x "$schedule" ] || "$top/lokwurmi" schedule "$top/examples/crossing_chains".{toml,trace.csv} >first || exit 1
-[ -x "$chain" ] || "$top/lokwurmi" chain "$top/examples/effects.toml" sense >first || exit 1
 cp "$top/examples/two_tasks.toml" two.toml
 cp "$top/examples/car_network.toml" car.toml
 wrong=0
 
 # Makes a call with a stack of 256 KB, and says whether its status is the one that is wanted, and whether the last line of its
-# text begins so. The words of the call come after these two; `schedule`, `chain` and `chains` have their own programs.
+# text begins so. The words of the call come after these two.
 answers() {
   local status=$1 last=$2
   shift 2
   words=$*
-  local call=("$program" "$@")
-  case $1 in
-  schedule) call=("$schedule" "${@:2}") ;;
-  chain | chains) call=("$chain" "$@") ;;
-  esac
-  (ulimit -s 256 && exec "${call[@]}") >text 2>errors
+  (ulimit -s 256 && exec "$program" "$@") >text 2>errors
   got=$?
   line=$(tail -n 1 text)
   ((got == status)) && [[ $line == "$last"* ]]
@@ -77,18 +68,18 @@ expect_status 20 $? 'a full disk, slack'
 expect_status 20 $? 'a full disk, buffers'
 "$program" audit two.toml /dev/null /dev/null >/dev/full
 expect_status 20 $? 'a full disk, audit'
-"$schedule" "$top/examples/crossing_chains".{toml,trace.csv} >/dev/full
+"$program" schedule "$top/examples/crossing_chains".{toml,trace.csv} >/dev/full
 expect_status 20 $? 'a full disk, schedule'
-"$schedule" two.toml >/dev/full
+"$program" schedule two.toml >/dev/full
 expect_status 20 $? 'a full disk, refused words of schedule'
-"$chain" chain two.toml a b >/dev/full
+"$program" chain two.toml a b >/dev/full
 expect_status 20 $? 'a full disk, chain'
-"$chain" chain two.toml zz >/dev/full
+"$program" chain two.toml zz >/dev/full
 expect_status 20 $? 'a full disk, a refused task of chain'
 printf 'format = 1\nchain = [{ name = "c", tasks = ["a", "b"] }]\n' >pair
-"$chain" chains two.toml pair >/dev/full
+"$program" chains two.toml pair >/dev/full
 expect_status 20 $? 'a full disk, chains'
-"$chain" chains two.toml >/dev/full
+"$program" chains two.toml >/dev/full
 expect_status 20 $? 'a full disk, refused words of chains'
 "$program" help >/dev/full
 expect_status 20 $? 'a full disk, refused words'

@@ -6,8 +6,6 @@
 #   bash tests/hard_use/check_refused_memory.sh [analyse FILE | session FILE SCRIPT | .. | edit_without_memory]
 top=$(cd "$(dirname "${BASH_SOURCE[0]}")/../.." && pwd) || exit 1
 program=$top/crates/cpa_cli/out/cpa_cli
-schedule=$top/crates/cpa_schedule_cli/out/cpa_schedule_cli
-chain=$top/crates/cpa_effect_cli/out/cpa_effect_cli
 tests=$top/crates/cpa_bound_tests/out/cpa_bound_tests_tests
 work=$(mktemp -d) || exit 1
 trap 'rm -rf "$work"' EXIT
@@ -77,23 +75,16 @@ if [ "$*" = edit_without_memory ]; then
   exit
 fi
 [ -x "$program" ] || "$top/lokwurmi" analyse "$top/examples/two_tasks.toml" >"$work/first" || exit 1
-[ -x "$schedule" ] || "$top/lokwurmi" schedule "$top/examples/crossing_chains".{toml,trace.csv} >"$work/first" || exit 1
-[ -x "$chain" ] || "$top/lokwurmi" chain "$top/examples/effects.toml" sense >"$work/first" || exit 1
 
-# Each allocation of a call in turn, at most so many, every so manieth. `schedule`, `chain` and `chains` have their own programs.
+# Each allocation of a call in turn, at most so many, every so manieth.
 try() {
   local most=$1 step=$2 status size n got sent wanting=0 without=0
   shift 2
-  local call=("$program" "$@")
-  case $1 in
-  schedule) call=("$schedule" "${@:2}") ;;
-  chain | chains) call=("$chain" "$@") ;;
-  esac
-  "${call[@]}" >"$work/whole"
+  "$program" "$@" >"$work/whole"
   status=$?
   size=$(stat -c %s "$work/whole")
   for ((n = 0; n < most * step; n += step)); do
-    REFUSED=$n LD_PRELOAD=$work/refuse.so "${call[@]}" >"$work/part"
+    REFUSED=$n LD_PRELOAD=$work/refuse.so "$program" "$@" >"$work/part"
     got=$?
     sent=$(stat -c %s "$work/part")
     if ((sent > size)) || ! cmp -s -n "$sent" "$work/whole" "$work/part"; then

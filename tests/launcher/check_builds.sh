@@ -71,23 +71,14 @@ touch "$own"
 call analyse two.toml
 hold "the proved one with another time: nothing is built" [ ! -s "$room/said" ]
 
-# ---- the program of `schedule`
+# ---- other commands
 afresh
-LOKWURMI_JOBS=1 call analyse two.toml
 LOKWURMI_JOBS=3 call schedule two.toml trace.csv
-hold "schedule: status and text of its own program, without the word" is "$status $(cat "$room/text")" "10 called two.toml trace.csv"
-hold "schedule: it is built first" said "^lokwurmi: the program isn't built yet: it is proved and built first, 4 crates, of which 3 are proved already, 3 at a time; "
-hold "schedule: a line for the crate that is left" said '^lokwurmi: 4 of 4: cpa_schedule_cli is proved; '
-hold "schedule: the words that it is first run with" is "$(tail -n 1 "$room/calls")" "run -- data/crossing_chains.toml data/crossing_chains.trace.csv"
+hold "schedule: status and text of the program" is "$status $(cat "$room/text")" "10 called schedule two.toml trace.csv"
+hold "schedule: the words that the program is first run with" is "$(tail -n 1 "$room/calls")" "run -- analyse data/two_tasks.toml"
 hold "schedule: a file that isn't there is told" said "note: 'trace.csv' can't be read"
-call schedule two.toml trace.csv
-hold "schedule: the second call builds nothing" unsaid 'built first'
-touch "$work/crates/cpa_fix/src/lib.rt"
-call schedule two.toml trace.csv
-hold "schedule: a source that it doesn't stand on is newer: nothing is built" unsaid 'built first'
-touch "$work/crates/cpa_schedule_cli/src/lib.rt"
-call schedule two.toml trace.csv
-hold "schedule: a source of its own is newer: it is built again" said 'crates/cpa_schedule_cli/src/lib.rt is newer than the program'
+call analyse two.toml
+hold "analyse after schedule: nothing is built" unsaid 'built first'
 in_terminal "'$work/lokwurmi' schedule two.toml status.17"
 hold "schedule: a status is handed on, with its hint" said '^lokwurmi: the trace is readable'
 hold "schedule: that status" is "$status" 17
@@ -98,15 +89,8 @@ LOKWURMI_JOBS=2 "$work/lokwurmi" analyse one.toml >"$room/text.1" 2>"$room/said.
 until [ -e "$room/calls" ]; do sleep 0.1; done
 call schedule two.toml trace.csv
 wait $!
-hold "schedule: waits while the other program is built" said 'another call builds already'
-hold "schedule: builds what is left then" said '4 crates, of which 3 are proved already'
-hold "schedule: each is proved once" is "$(sort "$room/proved" | uniq -d | wc -l)" 0
-afresh
-echo cpa_schedule_cli >"$room/fail"
-call schedule two.toml trace.csv
-hold "schedule: a failure: status 70" is "$status" 70
-hold "schedule: a failure: the toolchain's message" said '^src/lib.rt:7: not proved: the sum may wrap$'
-rm "$room/fail"
+hold "two calls at once: the second waits" said 'another call builds already'
+hold "two calls at once: each crate is proved once" is "$(sort "$room/proved" | uniq -d | wc -l)" 0
 
 # ---- a source that changes while it is built
 afresh

@@ -21,13 +21,12 @@ import time
 from collections.abc import Callable
 from pathlib import Path
 
-from lokwurmi.calls.program import BESIDE
 from lokwurmi.model.commands import FILES
 from lokwurmi_tools.commands import catalogue as commands
 from lokwurmi_tools.launcher import completing, helping, manual
 from lokwurmi_tools.launcher.crates import listed
 from lokwurmi_tools.launcher.operands import operands_of
-from lokwurmi_tools.launcher.table import BY_NAME, COMMANDS, OWN, PROGRAMS, WORDS
+from lokwurmi_tools.launcher.table import BY_NAME, COMMANDS, OWN, WORDS
 from lokwurmi_tools.launcher.wrong_words import first_fault
 from tests import run_all
 from tests.support.calls import TOP
@@ -114,15 +113,11 @@ def check_tables(faults: Faults, write: bool) -> None:
 
 
 def check_script(faults: Faults) -> None:
-    """The fast path has each command, with the crate of its program."""
+    """The fast path has each command."""
     text = (TOP / "lokwurmi").read_text(encoding="utf-8")
-    found = {
-        name: crate
-        for names, crate in re.findall(r"^([a-z |]+)\)\n  top=(\w+)$", text, re.MULTILINE)
-        for name in names.split(" | ")
-    }
-    faults.hold(found == {it.name: it.crate for it in COMMANDS}, f"lokwurmi has {found}")
-    faults.hold(set(PROGRAMS) == {it.crate for it in COMMANDS}, "each program has words that it is first run with")
+    found = re.search(r"^([a-z |]+)\) ;;$", text, re.MULTILINE)
+    names = found[1].split(" | ") if found else []
+    faults.hold(names == [it.name for it in COMMANDS], f"lokwurmi has {names}")
 
 
 def check_examples(faults: Faults) -> None:
@@ -223,10 +218,8 @@ def check_door(faults: Faults) -> None:
 
 
 def check_package(faults: Faults) -> None:
-    """What the package knows of commands: which there are, and which are programs of their own."""
+    """What the package knows of commands: which there are."""
     faults.hold(list(FILES) == [it.name for it in COMMANDS], f"lokwurmi/model/commands.py has {list(FILES)}")
-    beside = {it.name: it.crate for it in COMMANDS if it.crate != "cpa_cli"}
-    faults.hold(BESIDE == beside, f"lokwurmi/calls/program.py has {BESIDE}")
 
 
 def longest_chain(top: str, seconds: dict[str, int]) -> list[str]:

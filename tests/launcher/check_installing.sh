@@ -86,9 +86,9 @@ HOME="$room/home" call install
 hold "install without a word: ~/.local" [ -L "$room/home/.local/bin/lokwurmi" ]
 HOME="$room/home" call uninstall
 hold "uninstall without a word: ~/.local, and the folders that weren't there" is "$status $(find "$room/home" -type f | wc -l)" "0 0"
-echo '#!/bin/sh' >"$work/crates/cpa_effect_cli/out/cpa_effect_cli"
+echo '#!/bin/sh' >"$work/crates/cpa_cli/out/cpa_cli"
 LOKWURMI_JOBS=1 call install "$to"
-hold "install: a program that no build has noted is built anew" said "crates/cpa_effect_cli/out/cpa_effect_cli wasn't built by this script, which builds it anew: "
+hold "install: a program that no build has noted is built anew" said "crates/cpa_cli/out/cpa_cli wasn't built by this script, which builds it anew: "
 call uninstall "$to"
 PATH=$room/none call install "$to"
 hold "install needs no toolchain where all is built" is "$status" 0

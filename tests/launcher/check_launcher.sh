@@ -33,9 +33,9 @@ for command in $commands; do
   for file in $(tr ' ' '\n' <<<"$example" | grep /); do
     hold "the example of $command: ${file##*/}" [ -f "$top/$file" ]
   done
-  if is_built "$command"; then
+  if [ -x "$built" ]; then
     # shellcheck disable=SC2086 # an example's words
-    (cd "$top" && run_built $example) >"$room/text" 2>&1
+    (cd "$top" && "$built" $example) >"$room/text" 2>&1
     hold "the example of $command is accepted" [ $? -lt 10 ]
   fi
 done
@@ -85,9 +85,9 @@ for words in "analyse f" "analyse f --workers 2" "analyse --workers=2 f" "sessio
   # shellcheck disable=SC2086 # the words
   PATH=$room/none call $words
   hold "$words: status $wanted" is "$status" "$wanted"
-  if is_built "${words%% *}"; then
+  if [ -x "$built" ]; then
     # shellcheck disable=SC2086
-    (cd "$room" && run_built $words) >"$room/text"
+    (cd "$room" && "$built" $words) >"$room/text"
     hold "$words: the program agrees" is "$([ $? = 10 ] && echo 10 || echo 70)" "$wanted"
   fi
 done

@@ -44,7 +44,7 @@ from tests.support.calls import TOP, example_systems, reader_of
 from tests.support.damage import damaged, damaged_rows, damaged_script, with_locks, with_queues, with_regions
 
 CASES = os.path.join(TOP, "tests", "messages")
-PROGRAMS = {it: os.path.join(TOP, "crates", it, "out", it) for it in ("cpa_cli", "cpa_schedule_cli", "cpa_effect_cli")}
+PROGRAM = os.path.join(TOP, "crates", "cpa_cli", "out", "cpa_cli")
 
 
 @dataclass
@@ -183,10 +183,8 @@ def check_cases(keep: bool, only: str) -> tuple[int, int]:
 
 def wrote(*words: str) -> list[str]:
     """What the program itself writes."""
-    program = [PROGRAMS["cpa_schedule_cli"], *words[1:]] if words[0] == "schedule" else [PROGRAMS["cpa_cli"], *words]
-    return subprocess.run(
-        program, capture_output=True, text=True, errors="surrogateescape", check=False
-    ).stdout.splitlines()
+    done = subprocess.run([PROGRAM, *words], capture_output=True, text=True, errors="surrogateescape", check=False)
+    return done.stdout.splitlines()
 
 
 class Room:

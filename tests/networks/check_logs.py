@@ -14,7 +14,7 @@ import tomllib
 from typing import NamedTuple
 
 from tests.rules.buses import Waiting
-from tests.support.calls import built, hold, written
+from tests.support.calls import hold, written
 from tests.support.databases import (
     PROGRAM,
     analysed,
@@ -29,8 +29,6 @@ from tests.support.databases import (
     system_of,
 )
 from tests.support.logs import log_of, two_channels
-
-SCHEDULE = os.path.abspath(built("cpa_schedule_cli"))
 
 
 def random_times(draw):
@@ -321,7 +319,12 @@ def check_chains(room):
         )
         with open(file, "rb") as it:
             system = tomllib.load(it)
-        words = [SCHEDULE, file, written(room, "made.csv", "".join(f"{it}\n" for it in drawn_rows(draw, system)))]
+        words = [
+            PROGRAM,
+            "schedule",
+            file,
+            written(room, "made.csv", "".join(f"{it}\n" for it in drawn_rows(draw, system))),
+        ]
         done = subprocess.run(words, capture_output=True, text=True, check=False)
         hold(done.returncode == 0 and done.stdout, f"schedule of generated system {number}: {done.stdout}")
         tasks = {it["name"]: it for it in system["task"]}

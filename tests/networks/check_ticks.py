@@ -256,7 +256,7 @@ def check_units_of_chains(tick, system, listed, wrote, deadline):
         os.path.dirname(listed), "plain.chains.toml", re.sub(r"reaction = \d+", f"reaction = {ticks}", plain)
     )
     text = subprocess.run(
-        [built("cpa_effect_cli"), "chains", system, plain], capture_output=True, text=True, check=False
+        [built("cpa_cli"), "chains", system, plain], capture_output=True, text=True, check=False
     ).stdout
     done = run("units", *words[:-1], plain, python=PYTHON, given=text)
     hold((done.returncode, done.stdout) == (0, wanted), f"units of plain chains in ticks of {tick}: {done.stdout}")
@@ -276,7 +276,7 @@ def check_python(tick, wanted):
     for name, worst in (("a", "2 ms"), ("b", "3 ms")):
         cpu, source = system.preemptive(f"on_{name}"), system.source(f"s{name}", period="10 ms")
         system.task(name, on=cpu, after=source, best=worst, worst=worst, priority=1)
-    report = system.chain(["a", "b"], engine=Program(built("cpa_effect_cli")))
+    report = system.chain(["a", "b"], engine=Program(built("cpa_cli")))
     found = [f"{report.time(it):ms}" for it in ("reaction", "age", "held")]
     hold(found == wanted, f"Python with a tick of {tick}: {found}")
 
@@ -285,7 +285,7 @@ def check_chains(room):
     """Deadlines of chains have a tick less for each wait, so that no verdict depends on the tick: what comes at 1 us
     may be answered at 24999 us, and a bound of 23 ticks of 1 ms is no less than that by chance alone."""
     system = written(room, "two.toml", TWO)
-    program = built("cpa_effect_cli")
+    program = built("cpa_cli")
     for tick in ("1ms", "1us"):
         ticks = written(room, f"two.{tick}.toml", called("ticks", system, "--tick", tick).stdout)
         for deadline, status in (("24 ms", 1), ("25 ms", 0)):

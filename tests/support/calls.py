@@ -15,7 +15,6 @@ faults: list[str] = []
 tried: dict[str, int] = {}
 # what a script that calls the program needs
 NEEDS_PROGRAM = "the program, built by ./lokwurmi analyse examples/two_tasks.toml"
-NEEDS_PROGRAMS = "the programs, built by ./lokwurmi analyse examples/two_tasks.toml and ./lokwurmi schedule"
 LEFT = r"(?:, some [\d.]+ (?:s|min|h) to go)?"
 # a line by which a tool tells how far a long call is
 PROGRESS = re.compile(
@@ -89,15 +88,6 @@ def built(crate: str) -> str:
     program = os.path.join(TOP, "crates", crate, "out", crate)
     if not os.path.exists(program) and not {"-h", "--help"}.intersection(sys.argv):
         subprocess.run(["rt", "run"], cwd=os.path.join(TOP, "crates", crate), capture_output=True, check=False)
-    return program
-
-
-def joined(folder: str) -> str:
-    """A program in a folder that answers as the script `lokwurmi`, by the built programs alone."""
-    lines = ["#!/bin/sh", 'case "$1" in', f'chain | chains) exec "{built("cpa_effect_cli")}" "$@" ;;']
-    lines += [f'schedule) shift && exec "{built("cpa_schedule_cli")}" "$@" ;;', f'*) exec "{built("cpa_cli")}" "$@" ;;']
-    program = written(folder, "joined", "\n".join([*lines, "esac", ""]))
-    os.chmod(program, 0o755)
     return program
 
 

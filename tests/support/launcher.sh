@@ -80,22 +80,8 @@ left() {
   done <"$room/children" | wc -l
 }
 
-# is_built COMMAND: this repository's program for the command is built
-is_built() {
-  case $1 in
-  schedule) [ -x "$top/crates/cpa_schedule_cli/out/cpa_schedule_cli" ] ;;
-  chain | chains) [ -x "$top/crates/cpa_effect_cli/out/cpa_effect_cli" ] ;;
-  *) [ -x "$top/crates/cpa_cli/out/cpa_cli" ] ;;
-  esac
-}
-# run_built WORD..: what that program makes of the words
-run_built() {
-  case ${1-} in
-  schedule) "$top/crates/cpa_schedule_cli/out/cpa_schedule_cli" "${@:2}" ;;
-  chain | chains) "$top/crates/cpa_effect_cli/out/cpa_effect_cli" "$@" ;;
-  *) "$top/crates/cpa_cli/out/cpa_cli" "$@" ;;
-  esac
-}
+# this repository's program
+built=$top/crates/cpa_cli/out/cpa_cli
 
 # ---- a small repository of its own, and a stand-in for rt
 afresh() {
@@ -112,13 +98,11 @@ cpa_io: cpa_units
 cpa_model: cpa_units indexmap
 cpa_fix: cpa_units cpa_io cpa_model
 cpa_cli may_wait=1: cpa_io cpa_fix
-cpa_schedule_cli: cpa_io cpa_model
-cpa_effect_cli: cpa_io cpa_model
 cpa_c staticlib: cpa_units cpa_io cpa_model cpa_fix
 cpa_bench: cpa_units
 cpa_cases: cpa_units cpa_model
 END
-  for it in cpa_units cpa_io cpa_model cpa_fix cpa_cli cpa_schedule_cli cpa_effect_cli cpa_c cpa_bench cpa_cases; do
+  for it in cpa_units cpa_io cpa_model cpa_fix cpa_cli cpa_c cpa_bench cpa_cases; do
     mkdir -p "$work/crates/$it"/{src,specs,proofs}
     touch -d '1 hour ago' "$work/crates/$it"/src/lib.rt "$work/crates/$it"/{src,specs,proofs}
   done
@@ -138,7 +122,6 @@ own=${PWD##*/}
 case $own in
 cpa_cli) below="cpa_units cpa_io cpa_model cpa_fix" ;;
 cpa_fix) below="cpa_units cpa_io cpa_model" ;;
-cpa_schedule_cli | cpa_effect_cli) below="cpa_units cpa_io cpa_model" ;;
 cpa_c) below="cpa_units cpa_io cpa_model cpa_fix" ;;
 *) [ "$1" = doc ] || exit 2 ;;
 esac

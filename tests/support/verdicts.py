@@ -11,7 +11,7 @@ import tomllib
 
 from tests.rules import effect_chains
 from tests.support import chain_files, systems
-from tests.support.calls import NEEDS_PROGRAMS, TOP, add_number, hold, reader_of, tell, tool, written
+from tests.support.calls import NEEDS_PROGRAM, TOP, add_number, hold, reader_of, tell, tool, written
 from tests.support.stand_in import stand_in
 
 try:
@@ -177,7 +177,7 @@ def rows_by_rules(text, chains):
 
 def run_checks(doc, *checks):
     """Runs the checks of a tool; each gets the tools, and how many random systems are asked for."""
-    reader = reader_of(doc, "100", NEEDS_PROGRAMS + ", and jsonschema")
+    reader = reader_of(doc, "100", NEEDS_PROGRAM + ", and jsonschema")
     add_number(reader, "count", 40, "how many random systems")
     reader.add_argument("--program", default=os.path.join(TOP, "lokwurmi"), help="lokwurmi above this folder if absent")
     reader.add_argument("--by-rules", action="store_true", help="a stand-in by the plain rules answers")

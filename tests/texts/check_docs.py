@@ -28,7 +28,7 @@ from lokwurmi_tools.runs.effect_chain_in_run import RunOfJobs, gaps_in, seen_of
 from lokwurmi_tools.runs.jobs_in_run import read_trace, schedule_in
 from lokwurmi_tools.shared.system_file import read_system
 from tests.support.calls import (
-    NEEDS_PROGRAMS,
+    NEEDS_PROGRAM,
     TOP,
     example_systems,
     hold,
@@ -389,7 +389,7 @@ PARTS = {
 
 
 def main():
-    reader = reader_of(__doc__, "tightness", NEEDS_PROGRAMS)
+    reader = reader_of(__doc__, "tightness", NEEDS_PROGRAM)
     reader.add_argument("parts", metavar="PART", nargs="*", help=f"what is tried, all if absent: {', '.join(PARTS)}")
     for it in reader.parse_args().parts or PARTS:
         with tempfile.TemporaryDirectory() as room:

@@ -28,7 +28,7 @@ from lokwurmi_tools.shared.system_file import clock_words_on
 from tests.rules import bounds as plain
 from tests.rules import locks
 from tests.rules.clocks import OnClocks, Placed, clocks_of, is_by
-from tests.support.calls import NEEDS_PROGRAMS, built, faults, hold, joined, python_with, range_of, run, tell, written
+from tests.support.calls import NEEDS_PROGRAM, built, faults, hold, python_with, range_of, run, tell, written
 from tests.support.clocked_systems import system_on_clocks, trace_on_clocks
 from tests.support.systems import file_of
 
@@ -289,16 +289,15 @@ LATE = {5: (3, 5), 4: (3, 4), 3: (4, 0), 2: (5, 0), 1: (6, 0), 0: (7, 0)}
 
 def check_worst(room):
     """The worst phase, by which a trace begins, as worked out by hand."""
-    program = joined(room)
     text = TWO.format(kind="preemptive", turns=KINDS["preemptive"])
     for offset, (bound, phase) in LATE.items():
         file = written(room, "late.toml", text.replace("offset = 5", f"offset = {offset}"))
-        done = run("worst", file, "b", "--tries", "1", "--jobs", "1", "--program", program)
+        done = run("worst", file, "b", "--tries", "1", "--jobs", "1", "--program", PROGRAM)
         wanted = f"task b seen {bound} bound {bound} ratio 1.0000\n"
         wanted += f"phase {wanted.rstrip()} clocks c:{phase}\n"
         hold(done.stdout.startswith(wanted), f"offset {offset}: {done.stdout} {done.stderr}", "worst phase")
     file = written(room, "fifo.toml", TWO.format(kind="fifo", turns=KINDS["fifo"]))
-    done = run("worst", file, "b", "--tries", "1", "--jobs", "1", "--program", program)
+    done = run("worst", file, "b", "--tries", "1", "--jobs", "1", "--program", PROGRAM)
     hold("phase" not in done.stdout and "task b seen" in done.stdout, f"{done.stdout} {done.stderr}", "worst phase")
 
 
@@ -359,8 +358,8 @@ REFUSED = (
 def check_pictures(room, python):
     """The pictures of a clock, which have its sources, and words that name nothing."""
     file, picture = written(room, "two.toml", TWO.format(kind="preemptive", turns=KINDS["preemptive"])), f"{room}/p.svg"
-    trace, program = written(room, "trace.csv", "event,s,3\nevent,q,8\nevent,s,13\n"), joined(room)
-    for words in (["curve", "--clock", "c"], ["gantt", "--trace", trace, "--clock", "c", "--program", program]):
+    trace = written(room, "trace.csv", "event,s,3\nevent,q,8\nevent,s,13\n")
+    for words in (["curve", "--clock", "c"], ["gantt", "--trace", trace, "--clock", "c", "--program", PROGRAM]):
         done = run(words[0], file, *words[1:], "--to", picture, python=python)
         texts = texts_in(picture) if done.returncode == 0 else []
         hold({"s", "q"} <= set(texts), f"{words}: {done.stderr} {texts}", "pictures")
@@ -369,12 +368,12 @@ def check_pictures(room, python):
         hold(is_told, f"{words}: {texts}", "pictures")
     for words, said in REFUSED:
         more = [trace if it == "TRACE" else it for it in words[1:]] + (
-            ["--program", program] if "TRACE" in words else []
+            ["--program", PROGRAM] if "TRACE" in words else []
         )
         done = run(words[0], file, *more, "--to", picture, python=python)
         hold(done.returncode and said in done.stderr and "Traceback" not in done.stderr, f"{words}: {done}", "refused")
     page = f"{room}/page.html"
-    done = run("page", file, "--to", page, "--program", program, python=python)
+    done = run("page", file, "--to", page, "--program", PROGRAM, python=python)
     with open(page, encoding="utf-8") as it:
         text = it.read()
     hold(done.returncode == 0 and 'id="clocks"' in text and "c: a cycle of 10 ticks" in text, f"{done}", "pictures")
@@ -387,7 +386,7 @@ def texts_in(picture):
 
 
 def main():
-    numbers, python = range_of(__doc__, 400, NEEDS_PROGRAMS), python_with("matplotlib", "jinja2")
+    numbers, python = range_of(__doc__, 400, NEEDS_PROGRAM), python_with("matplotlib", "jinja2")
     with tempfile.TemporaryDirectory() as room:
         check_premise(room)
         check_worked(room)

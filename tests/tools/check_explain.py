@@ -31,14 +31,13 @@ from tests.rules import bounds as plain
 from tests.rules import locks
 from tests.support import systems
 from tests.support.calls import (
-    NEEDS_PROGRAMS,
+    NEEDS_PROGRAM,
     TOP,
     answer,
     built,
     example_systems,
     faults,
     hold,
-    joined,
     python_with,
     range_of,
     run,
@@ -438,16 +437,15 @@ def check_told(python, room):
 
 
 def main():
-    numbers = range_of(__doc__, 5000, NEEDS_PROGRAMS)
+    numbers = range_of(__doc__, 5000, NEEDS_PROGRAM)
     python = python_with("matplotlib")
     with tempfile.TemporaryDirectory() as room:
         check_random(numbers, room)
         check_random_chains(numbers[::20], room)
-        program = joined(room)
-        check_chain_texts(room, program)
-        check_chain_faults(room, program)
+        check_chain_texts(room)
+        check_chain_faults(room)
         if python:
-            check_chain_picture(python, room, program)
+            check_chain_picture(python, room)
         check_worked()
         if python:
             check_examples(python, room)

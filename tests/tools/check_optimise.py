@@ -31,7 +31,7 @@ from lokwurmi_tools.shared.system_text import toml_of
 from tests.rules import effect_chains
 from tests.rules.bounds import OVERLOAD
 from tests.support import chain_files
-from tests.support.calls import NEEDS_PROGRAMS, TOP, add_number, answer, built, joined, reader_of, run, written
+from tests.support.calls import NEEDS_PROGRAM, TOP, add_number, answer, built, reader_of, run, written
 from tests.support.systems import some_region
 
 PROGRAM = built("cpa_cli")
@@ -277,7 +277,7 @@ def all_limits(system, way):
             yield order, rules.limits(way)
 
 
-def check_with_chains(number, room, program):
+def check_with_chains(number, room):
     """Whether an order is found where there is one by which the chain is met, and what is told of it before and
     after."""
     system, way, hard, is_there = chained_small(number)
@@ -285,7 +285,7 @@ def check_with_chains(number, room, program):
     listed = written(room, "listed.toml", chain_files.text_of([("c", way, *hard, None)]))
     script = os.path.join(room, "chained.script")
     words = [file, "--chains", listed, "--script", script, "--rounds", "5", "--restarts", "2"]
-    done = run("optimise", "--program", program, *words, "--json")
+    done = run("optimise", "--program", PROGRAM, *words, "--json")
     told = json.loads(done.stdout)
     what = f"chains, system {number}: {done.stdout}\n{toml_of(system)}{way} {hard}"
     if told["found"] != is_there or done.returncode != (0 if is_there else 3):
@@ -305,11 +305,10 @@ def check_with_chains(number, room, program):
 def check_chains(count, first):
     """Such systems; how many have an order that meets."""
     with tempfile.TemporaryDirectory() as room:
-        program = joined(room)
-        several = [check_with_chains(number, room, program) for number in range(first, first + count)]
+        several = [check_with_chains(number, room) for number in range(first, first + count)]
         bad = written(room, "bad.toml", chain_files.text_of([("a", ["nobody"], None, None, None)]))
         file = os.path.join(TOP, "examples", "effects.toml")
-        done = run("optimise", "--program", program, file, "--chains", bad)
+        done = run("optimise", "--program", PROGRAM, file, "--chains", bad)
         if done.returncode != 18 or "bad.toml:3:" not in done.stderr:
             sys.exit(f"a file of chains that is refused: {done.returncode} {done.stderr}")
     print(f"chains: {len(several)} systems, of which {sum(several)} have an order that meets, and each is found")
@@ -352,7 +351,7 @@ def check_overloaded():
 
 
 def main():
-    reader = reader_of(__doc__, "10 2", NEEDS_PROGRAMS)
+    reader = reader_of(__doc__, "10 2", NEEDS_PROGRAM)
     add_number(reader, "small", 100, "how many small systems")
     add_number(reader, "large", 20, "how many large ones of each kind")
     add_number(reader, "first", 0, "the number to begin with, which makes other systems")

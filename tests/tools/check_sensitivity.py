@@ -28,13 +28,12 @@ from lokwurmi_tools.shared.system_text import toml_of
 from tests.rules import bounds, effect_chains, locks
 from tests.support import chain_files, systems
 from tests.support.calls import (
-    NEEDS_PROGRAMS,
+    NEEDS_PROGRAM,
     TOP,
     answer,
     built,
     faults,
     hold,
-    joined,
     python_with,
     range_of,
     run,
@@ -264,11 +263,11 @@ def values_up_to(pick, steps):
     return range(steps + 1) if steps <= 12 else sorted(few)
 
 
-def check_with_chains(number, system, chains, room, program):
+def check_with_chains(number, system, chains, room):
     """Each number of a system with chains, by files of its own; a period at all values up to what is told."""
     file = written(room, "chained.toml", toml_of(system))
     listed, pick = written(room, "listed.toml", chain_files.text_of(chains)), random.Random(number)
-    known = analysed(program, file)
+    known = analysed(PROGRAM, file)
     question = margin_question.MarginQuestion(known, {}, True, ChainGoals(known, listed))
     now = question.now().first()
     hold(now == judged(system, {}, True, chains), f"system {number} with chains: {now}", "chains first")
@@ -299,28 +298,28 @@ task = [
 """
 
 
-def check_late_and_again(room, program):
+def check_late_and_again(room):
     """A chain that is late with a shorter period, and in time with a still shorter one: the first that is late counts,
     though the tool tries the other before it."""
     file = written(room, "again.toml", AGAIN)
     listed = written(room, "again.chains.toml", chain_files.text_of([("c", ["a", "b"], 122, None, None)]))
-    done = run(TOOL, "--program", program, file, "--chains", listed, "--only", "period")
+    done = run(TOOL, "--program", PROGRAM, file, "--chains", listed, "--only", "period")
     hold(re.search(r"^period of s +10 +9 +-10.0 % +chain c reaction$", done.stdout, re.M), done.stdout, "calls")
     for period, takes in ((10, 121), (9, 120), (8, 123), (7, 122)):
         limits = effect_chains.Bounds(AGAIN.replace("period = 10 ", f"period = {period} ")).limits(["a", "b"])
         hold(limits["reaction"] == takes, f"with a period of {period}: {limits}", "calls")
 
 
-def check_chain_calls(room, program):
+def check_chain_calls(room):
     """What the tool writes of chains, and what it says of files that aren't taken."""
     file = os.path.join(TOP, "examples", "effects.toml")
     good = written(room, "good.toml", chain_files.text_of([("show", ["sense", "act"], 50, None, None)]))
-    done = run(TOOL, "--program", program, file, "--chains", good, "--only", "longer-period", "--only", "deadline")
+    done = run(TOOL, "--program", PROGRAM, file, "--chains", good, "--only", "longer-period", "--only", "deadline")
     # the wait of act is 20 + 5 - 1 = 24, and its reaction 9 + 3 + 24 + 9 = 45: five ticks more are 50
     hold(re.search(r"^period of slow +20 +25 +\+25.0 % +chain show reaction$", done.stdout, re.M), done.stdout, "calls")
     hold(re.search(r"^deadline of show reaction +50 +45 ", done.stdout, re.M), done.stdout, "calls")
     hold("hold if sources stay near: a source that falls silent" in done.stdout, "the premise", "calls")
-    told = json.loads(run(TOOL, "--program", program, file, "--chains", good, "--only", "deadline", "--json").stdout)
+    told = json.loads(run(TOOL, "--program", PROGRAM, file, "--chains", good, "--only", "deadline", "--json").stdout)
     hold(told["premise"] == "if sources stay near" and told["chains_file"] == good, f"{told}", "calls")
     late = written(room, "late.toml", chain_files.text_of([("a", ["act"], None, None, None), ("b", ["act"], 9, 9, 9)]))
     bad = written(room, "bad.toml", chain_files.text_of([("a", ["nobody"], None, None, None)]))
@@ -335,7 +334,7 @@ def check_chain_calls(room, program):
         ([file, "--chains", os.path.join(room, "nothing.toml")], 11, "cannot read"),
         ([file, "--only", "longer-period"], 1, "--only longer-period wants --chains"),
     ):
-        done = run(TOOL, "--program", program, *words)
+        done = run(TOOL, "--program", PROGRAM, *words)
         is_told = said in done.stderr and "Traceback" not in done.stderr
         hold(done.returncode == status and is_told, f"{words}: {done.returncode} {done.stderr}", "calls")
 
@@ -401,14 +400,13 @@ def check_refused(python):
 
 
 def main():
-    numbers = range_of(__doc__, 150, NEEDS_PROGRAMS)
+    numbers = range_of(__doc__, 150, NEEDS_PROGRAM)
     python, held = python_with("matplotlib"), 0
     with tempfile.TemporaryDirectory() as room:
-        program = joined(room)
         for number in numbers:
             system = made(number)
             if number % 2 == 0 and (chains := some_chains(number, system)):
-                check_with_chains(number, system, chains, room, program)
+                check_with_chains(number, system, chains, room)
             held += check_system(number, system, room, number % 3 != 0, {})
             paths = [it["name"] for it in system.get("path", []) if "deadline" in it]
             if paths and number % 4 == 0:
@@ -421,8 +419,8 @@ def main():
                 )
             if len(faults) > 3:
                 break
-        check_chain_calls(room, program)
-        check_late_and_again(room, program)
+        check_chain_calls(room)
+        check_late_and_again(room)
         if python:
             check_calls(python, room)
             check_refused(python)

@@ -15,7 +15,7 @@ import sys
 import tempfile
 
 from tests.support import verdicts
-from tests.support.calls import NEEDS_PROGRAMS, TOP, hold, python_with, reader_of, run, tell, written
+from tests.support.calls import NEEDS_PROGRAM, TOP, hold, python_with, reader_of, run, tell, written
 
 MIXED = """format = 1
 resource = [{ name = "can", kind = "can", bit = 2 }]
@@ -109,7 +109,7 @@ def check_strict(room):
 
 
 def main():
-    reader = reader_of(__doc__, "", NEEDS_PROGRAMS + ", Jinja2 and Graphviz")
+    reader = reader_of(__doc__, "", NEEDS_PROGRAM + ", Jinja2 and Graphviz")
     reader.add_argument("--program", default=os.path.join(TOP, "lokwurmi"), help="lokwurmi above this folder if absent")
     program = os.path.abspath(reader.parse_args().program)
     python = python_with("jinja2", "matplotlib")

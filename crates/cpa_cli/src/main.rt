@@ -1,8 +1,10 @@
-//! Analyses a system of tasks and prints a bound for each, or replays a trace of it and prints what is observed.
+//! Does what the words after the program's name ask for. The first of them is the command.
 #![tactic(auto)]
 
 use cpa_call::statuses;
+use cpa_effect_files::run_chains;
 use cpa_io::{RealFiles, RealSink};
+use cpa_segments::write_schedule;
 use std::alloc::Global;
 use std::process::ExitCode;
 use std::rt::Env;
@@ -29,5 +31,10 @@ fn main(rt: HostRuntime) -> ExitCode {
     };
     let mut sink = RealSink::new(io::writer(&rt));
     let mut files = RealFiles::new(&rt, alloc);
-    ExitCode::from(cpa_run::run(&rt, alloc, words.as_slice(), &mut files, &mut sink))
+    let words = words.as_slice();
+    ExitCode::from(match words.first().map(|command| command.as_str()) {
+        Some("schedule") => write_schedule(alloc, &words[1..], &mut files, &mut sink),
+        Some("chain" | "chains") => run_chains(alloc, words, &mut files, &mut sink),
+        _ => cpa_run::run(&rt, alloc, words, &mut files, &mut sink),
+    })
 }

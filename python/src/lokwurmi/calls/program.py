@@ -12,8 +12,6 @@ from lokwurmi.model.commands import FILES
 
 TOP = Path(__file__).resolve().parents[4]
 """The repository, where the package is used from there."""
-BESIDE = {"schedule": "cpa_schedule_cli", "chain": "cpa_effect_cli", "chains": "cpa_effect_cli"}
-"""The programs of the repository that stand beside that of most commands."""
 
 
 class Program:
@@ -34,33 +32,18 @@ class Program:
     def __repr__(self) -> str:
         return f"Program({str(self.file)!r})"
 
-    def _start(self, command: str) -> list[str]:
-        """The words by which a command begins. In the repository three commands have programs of their own."""
-        other = BESIDE.get(command)
-        if self.file.name != "cpa_cli" or other is None:
-            return [str(self.file), command]
-        places = [self.file.with_name(other), self.file.parent.parent.parent / other / "out" / other]
-        there = next((it for it in places if it.is_file()), None)
-        if there is None:
-            raise NoEngine(
-                f"{command} has a program of its own, and there is none at {places[0]}, nor at {places[1]}:"
-                f" ./lokwurmi {command} builds it, and an installed lokwurmi has all commands"
-            )
-        return [str(there)] if command == "schedule" else [str(there), command]
-
     def call(self, command: str, files: Sequence[bytes], words: Sequence[str | int] = ()) -> tuple[int, str]:
-        start, names = self._start(command), FILES[command]
         with tempfile.TemporaryDirectory(prefix="lokwurmi") as folder:
-            for name, text in zip(names, files, strict=True):
+            for name, text in zip(FILES[command], files, strict=True):
                 Path(folder, name).write_bytes(text)
             try:
                 done = subprocess.run(
-                    [*start, *names, *map(str, words)],
+                    [self.file, command, *FILES[command], *map(str, words)],
                     cwd=folder,
                     stdout=subprocess.PIPE,
                     check=False,
                     env=os.environ | {"LOKWURMI_QUIET": "1"},
                 )
             except (OSError, ValueError) as fault:
-                raise NoEngine(f"{start[0]}: can't be called: {fault}") from fault
+                raise NoEngine(f"{self.file}: can't be called: {fault}") from fault
         return done.returncode, text_of(done.stdout)

@@ -27,7 +27,7 @@ from lokwurmi_tools.launcher.processes import Work
 from lokwurmi_tools.launcher.records import is_other, kit_of, note_built
 from lokwurmi_tools.launcher.running import end_by
 from lokwurmi_tools.launcher.shown import is_live, say
-from lokwurmi_tools.launcher.table import KITS, PROGRAMS
+from lokwurmi_tools.launcher.table import CRATE, FIRST_WORDS, KITS
 
 FAILED = 70
 ENDINGS = (signal.SIGINT, signal.SIGTERM, signal.SIGHUP, signal.SIGQUIT, signal.SIGPIPE)
@@ -265,28 +265,28 @@ class Build:
         sys.exit(FAILED)
 
 
-def build(crate: str, words: list[str], before: Callable[[], None] = lambda: None) -> None:
-    """Builds the program of a crate where it is stale, or ends; words are those of the call that wants it."""
-    graph = Graph(crate)
+def build(words: list[str], before: Callable[[], None] = lambda: None) -> None:
+    """Builds the program where it is stale, or ends; words are those of the call that wants it."""
+    graph, product = Graph(CRATE), program(CRATE)
     why = graph.why_stale()
-    if not why and is_other(crate):
-        why = f"{program(crate).relative_to(TOP)} isn't the program that was proved and built here"
+    if not why and is_other(CRATE):
+        why = f"{product.relative_to(TOP)} isn't the program that was proved and built here"
     if why:
         before()
         call = shlex.join(["lokwurmi", "--unproved", *words])
         hint = f". For a first look without proofs, in a minute or so: {call}"
-        build_for(graph, why, ["run", "--", *PROGRAMS[crate]], program(crate), hint)
+        build_for(graph, why, ["run", "--", *FIRST_WORDS], product, hint)
     graph.keep_list()
 
 
-def build_noted(crate: str) -> None:
-    """Has the program of a crate be one that a build has noted, and that is no older than its sources, or ends."""
-    graph = Graph(crate)
+def build_noted() -> None:
+    """Has the program be one that a build has noted, and that is no older than its sources, or ends."""
+    graph, product = Graph(CRATE), program(CRATE)
     why = graph.why_stale()
-    if not why and not kit_of(crate):
-        why = f"{program(crate).relative_to(TOP)} wasn't built by this script, which builds it anew"
+    if not why and not kit_of(CRATE):
+        why = f"{product.relative_to(TOP)} wasn't built by this script, which builds it anew"
     if why:
-        build_for(graph, why, ["run", "--", *PROGRAMS[crate]], program(crate))
+        build_for(graph, why, ["run", "--", *FIRST_WORDS], product)
     graph.keep_list()
 
 

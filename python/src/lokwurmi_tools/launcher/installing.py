@@ -1,4 +1,4 @@
-"""`install` and `uninstall`: a copy of the proved programs, of what goes with them, and of the tools.
+"""`install` and `uninstall`: a copy of the proved program, of what goes with them, and of the tools.
 
 The copy has the folders of the repository without the sources, below PREFIX/lib/lokwurmi, so that all finds its
 way there as in the repository. PREFIX/lib/lokwurmi/INSTALLED says what it is a copy of, and lists the files.
@@ -22,14 +22,14 @@ from lokwurmi_tools.launcher.manual import man_text
 from lokwurmi_tools.launcher.paths import LIBRARY, TOP, is_installed, program
 from lokwurmi_tools.launcher.records import digest, kit_of
 from lokwurmi_tools.launcher.shown import say
-from lokwurmi_tools.launcher.table import PROGRAMS, VERSION
+from lokwurmi_tools.launcher.table import CRATE, VERSION
 
 COPY = Path("lib") / "lokwurmi"
 RECORD = COPY / "INSTALLED"
 MAN = Path("share") / "man" / "man1" / "lokwurmi.1"
 COMPLETION = Path("share") / "bash-completion" / "completions" / "lokwurmi"
 PKG_CONFIG = Path("lib") / "pkgconfig" / "lokwurmi.pc"
-# what is copied of the repository, beside the programs
+# what is copied of the repository, beside the program
 TAKEN = ("docs", "examples", "python/src/lokwurmi", "python/src/lokwurmi_tools")
 LEFT_OUT = ("__pycache__",)
 # programs in C that docs/LIBRARY.md shows
@@ -57,14 +57,13 @@ def sources(has_library: bool) -> Iterator[Path]:
 
 def head_of() -> str:
     """What `--version` of the copy says."""
-    kits = sorted({kit_of(it) for it in PROGRAMS})
     found = helping.commit()
-    lines = [f"lokwurmi {VERSION}", f"toolchain {', '.join(kits)}"]
+    lines = [f"lokwurmi {VERSION}", f"toolchain {kit_of(CRATE)}"]
     if found:
         changes = ", and changes since that aren't committed" if helping.changed() else ""
         lines.append(f"commit {found}{changes}")
-    lines.append("the proved build: its programs were proved and built by that toolchain")
-    lines += [f"sha256 {digest(program(it))} {it}" for it in PROGRAMS]
+    lines.append("the proved build: its program was proved and built by that toolchain")
+    lines.append(f"sha256 {digest(program(CRATE))} {CRATE}")
     return "\n".join(lines) + "\n"
 
 
@@ -119,7 +118,7 @@ class Copy:
 def places(has_library: bool) -> dict[Path, Path]:
     """Where each file of the repository goes, below the prefix."""
     found = {COPY / it.relative_to(TOP): it for it in sources(has_library)}
-    found |= {COPY / program(it).relative_to(TOP): program(it) for it in PROGRAMS}
+    found[COPY / program(CRATE).relative_to(TOP)] = program(CRATE)
     if has_library:
         found |= {Path("lib") / it: LIBRARY / it for it in (ARCHIVE, SHARED)}
         found[Path("include") / "lokwurmi.h"] = TOP / "library" / "lokwurmi.h"
@@ -182,8 +181,7 @@ def install(prefix: Path) -> int:
     if is_installed():
         raise Refused("this is an installed copy: copy its folder, or call install in the repository that it is from")
     need_room(prefix)
-    for it in PROGRAMS:
-        build_noted(it)
+    build_noted()
     found = helping.changed()
     if found:
         say(

@@ -9,7 +9,7 @@ from functools import partial
 from lokwurmi_tools.launcher import helping
 from lokwurmi_tools.launcher.operands import note_missing, operands_of, shown
 from lokwurmi_tools.launcher.paths import SOURCES, is_installed, program
-from lokwurmi_tools.launcher.table import BY_NAME, OWN_BY_NAME, STRICT, UNPROVED
+from lokwurmi_tools.launcher.table import BY_NAME, CRATE, OWN_BY_NAME, STRICT, UNPROVED
 from lokwurmi_tools.launcher.wrong_words import refuse
 
 FAILED = 70
@@ -136,12 +136,12 @@ def build(words: list[str]) -> int:
     if operands is None:
         return refuse(words, helping.names(), is_quiet())
     if is_installed():
-        print(f"lokwurmi: {program(command.crate)} isn't there: install it again", file=sys.stderr)
+        print(f"lokwurmi: {program(CRATE)} isn't there: install it again", file=sys.stderr)
         return FAILED
     from lokwurmi_tools.launcher.build import build as build_program
 
-    build_program(command.crate, words, partial(note_missing, operands))
-    status, wrote = run([str(program(command.crate)), *command.handed(words[1:])], words[0] == "session")
+    build_program(words, partial(note_missing, operands))
+    status, wrote = run([str(program(CRATE)), *words], words[0] == "session")
     if not is_quiet():
         tell(status, wrote, words)
     return status

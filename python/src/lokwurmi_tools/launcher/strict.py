@@ -14,7 +14,7 @@ from lokwurmi_tools.launcher import helping
 from lokwurmi_tools.launcher.operands import note_missing, operands_of, shown
 from lokwurmi_tools.launcher.paths import is_installed, program
 from lokwurmi_tools.launcher.running import run
-from lokwurmi_tools.launcher.table import BY_NAME, STRICT
+from lokwurmi_tools.launcher.table import BY_NAME, CRATE, STRICT
 from lokwurmi_tools.launcher.telling import tell
 from lokwurmi_tools.launcher.wrong_words import refuse
 
@@ -28,8 +28,8 @@ def session(words: list[str], quiet: bool) -> int:
     if not is_installed():
         from lokwurmi_tools.launcher.build import build
 
-        build(command.crate, ["session", *words], partial(note_missing, operands))
-    status, wrote = run([str(program(command.crate)), *command.handed(words)], True)
+        build(["session", *words], partial(note_missing, operands))
+    status, wrote = run([str(program(CRATE)), "session", *words], True)
     if not quiet:
         tell(status, wrote, ["session", *words])
     if status > 2 or not wrote:

@@ -10,8 +10,7 @@ from typing import NamedTuple
 from lokwurmi.model.commands import FILES
 
 VERSION = "1.0"
-# the toolchain that has proved the whole repository, and one that has proved all but chains, the library, and what
-# they changed
+# the toolchains that have proved the repository
 KITS = ("rattle-kit-13f", "rattle-kit-13b")
 # the command of the launcher's own that a build without proofs is called by
 UNPROVED = "--unproved"
@@ -22,7 +21,7 @@ RUNNING = "--while-running"
 
 
 class Command(NamedTuple):
-    """A proved command: its words, the crate of its program, what it writes, in short and in full, and an example."""
+    """A proved command: its words, what it writes, in short and in full, and an example."""
 
     name: str
     # the words behind its files
@@ -30,7 +29,6 @@ class Command(NamedTuple):
     writes: str
     brief: str
     example: str
-    crate: str = "cpa_cli"
     option: str = ""
     statuses: str = ""
     note: str = ""
@@ -55,10 +53,6 @@ class Command(NamedTuple):
     def full_usage(self) -> str:
         """The command with all that it takes, as the man page has it."""
         return self.called if self.option == RUNNING else self.usage
-
-    def handed(self, words: list[str]) -> list[str]:
-        """The words that the program is called with: `schedule` is a program of its own without that word."""
-        return words if self.crate == "cpa_schedule_cli" else [self.name, *words]
 
 
 class Word(NamedTuple):
@@ -177,7 +171,6 @@ COMMANDS = (
         "the schedule of the run under a trace: a row TASK,START,END for each stretch in which a job runs",
         "the schedule of the run under a trace",
         "examples/crossing_chains.toml examples/crossing_chains.trace.csv",
-        crate="cpa_schedule_cli",
     ),
     Command(
         "chain",
@@ -188,7 +181,6 @@ COMMANDS = (
         ),
         "how late a chain reacts, how old data gets",
         "examples/effects.toml sense filter act",
-        crate="cpa_effect_cli",
         option=RUNNING,
         statuses="2: a bound is overload",
         note="--while-running, as the first word or the last: less, where tasks read only while they run",
@@ -201,18 +193,14 @@ COMMANDS = (
         " and how old it gets until it is overwritten",
         "the same of many, beside their deadlines",
         "examples/effects.toml examples/effects.chains.toml",
-        crate="cpa_effect_cli",
         statuses=MISSED,
         premise=NEAR,
     ),
 )
 BY_NAME = {it.name: it for it in COMMANDS}
-# the programs, each with the words that it is first run with in its crate
-PROGRAMS = {
-    "cpa_cli": ("analyse", "data/two_tasks.toml"),
-    "cpa_schedule_cli": ("data/crossing_chains.toml", "data/crossing_chains.trace.csv"),
-    "cpa_effect_cli": ("chain", "data/effects.toml", "sense", "filter", "act"),
-}
+# the crate of the program, and the words that the program is first run with there
+CRATE = "cpa_cli"
+FIRST_WORDS = ("analyse", "data/two_tasks.toml")
 WORDS = {
     "FILE": Word('a system file ("The system")', ending=".toml"),
     "SCRIPT": Word('edits of the system, a line each ("The script")', ending=".txt"),

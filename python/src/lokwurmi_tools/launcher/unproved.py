@@ -26,7 +26,7 @@ from lokwurmi_tools.launcher.plan import clock
 from lokwurmi_tools.launcher.processes import Work
 from lokwurmi_tools.launcher.running import end_by
 from lokwurmi_tools.launcher.shown import say
-from lokwurmi_tools.launcher.table import Command
+from lokwurmi_tools.launcher.table import CRATE, Command
 from lokwurmi_tools.launcher.telling import tell
 
 # seconds that the compiled program may take; `rt try` has 60 by itself
@@ -123,9 +123,9 @@ class Unproved:
     def try_it(self, output: BinaryIO, errors: BinaryIO) -> int:
         """The status of `rt try`; a terminal sees how long it takes, and a pipe gets a line a minute."""
         flags = ["--seconds", str(SECONDS), *self.handed.flags]
-        called = ["rt", "try", *flags, "--", *self.command.handed(self.handed.words)]
+        called = ["rt", "try", *flags, "--", self.command.name, *self.handed.words]
         given = None if "/dev/stdin" in self.handed.words else subprocess.DEVNULL
-        self.work.start(called, TOP / "crates" / self.command.crate, output, errors, given)
+        self.work.start(called, TOP / "crates" / CRATE, output, errors, given)
         told = time.monotonic()
         while (status := self.work.status()) is None:
             shown.draw(f"compiling without proofs, and running; {self.so_far()} so far, of a minute or so")

@@ -98,7 +98,7 @@ class ChainGoals:
 
     def by_program(self, text: str) -> list[Bound]:
         """The same of a system, by what `lokwurmi chains` says of its file."""
-        program = often(self.known.program, "cpa_effect_cli")
+        program = often(self.known.program)
         with tempfile.NamedTemporaryFile("w", suffix=".toml", encoding="utf-8") as file:
             file.write(text)
             file.flush()

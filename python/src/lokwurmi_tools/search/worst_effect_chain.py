@@ -125,7 +125,7 @@ class ChainSearch:
         self.bound = totals_of(bounds_by(options.program, options.file, tasks))[self.what]
         self.trace, self.ends = os.path.join(folder, "chain.csv"), 0.0
         # what the script lokwurmi calls, which is called many times here
-        self.program = often(options.program, "cpa_schedule_cli")
+        self.program = often(options.program)
         self.draw = random.Random(f"{options.seed} {self.what} {' '.join(tasks)}")
         own = [view.sources[source] for name in tasks for source in view.sources_of(name)]
         self.span = 2 * (self.bound or UNBOUNDED) + 3 * max(it.period + it.jitter for it in own)
@@ -133,8 +133,7 @@ class ChainSearch:
     def look(self, plan: TracePlan, span: int) -> LatePlan | None:
         """What the run of a plan shows."""
         write(self.trace, rows_of(self.view, plan, span))
-        words = [self.options.file, self.trace]
-        status, text = call(self.program, *([] if self.program != self.options.program else ["schedule"]), *words)
+        status, text = call(self.program, "schedule", self.options.file, self.trace)
         if status == TOO_LONG or status < 0:
             return None
         if status:

@@ -11,27 +11,21 @@ from lokwurmi_tools.shared.faults import Fault, Told
 
 # the folder of the repository, where this package lies in one
 TOP = Path(__file__).resolve().parents[4]
-# what is called: the script of the repository, which builds the programs, or an installed one
+# what is called: the script of the repository, which builds the program, or an installed one
 IS_REPOSITORY = (TOP / "lokwurmi").is_file()
 LAUNCHER = str(TOP / "lokwurmi") if IS_REPOSITORY else shutil.which("lokwurmi") or "lokwurmi"
 # the program itself, which other machines can run
 BINARY = str(TOP / "crates" / "cpa_cli" / "out" / "cpa_cli") if IS_REPOSITORY else LAUNCHER
 
 
-def built(crate: str) -> str | None:
-    """A program of the repository, if it is there."""
-    found = TOP / "crates" / crate / "out" / crate
-    return str(found) if os.access(found, os.X_OK) else None
-
-
 def is_built() -> bool:
     """Whether what is called by default answers without a build."""
-    return bool(built("cpa_cli") if IS_REPOSITORY else shutil.which(LAUNCHER))
+    return os.access(BINARY, os.X_OK) if IS_REPOSITORY else shutil.which(LAUNCHER) is not None
 
 
-def often(program: str, crate: str = "cpa_cli") -> str:
+def often(program: str) -> str:
     """What to call where there are many calls: what the launcher has built by now, once it was called."""
-    return built(crate) or program if program == LAUNCHER else program
+    return BINARY if program == LAUNCHER and is_built() else program
 
 
 def call(program: str, *words: str) -> tuple[int, str]:
