@@ -34,7 +34,7 @@ copy() {
 }
 copy --version
 hold "the copy: --version" is "$(sed 's/[0-9a-f]\{12\}/COMMIT/' "$room/text" | tr '\n' ';')" \
-  "lokwurmi 1.0;toolchain rattle-kit-13f logic 0;commit COMMIT, and changes since that aren't committed;the proved build: its programs were proved and built by that toolchain;"
+  "lokwurmi 1.0;toolchain rattle-kit-13f logic 0;commit COMMIT, and changes since that aren't committed;the proved build: its program was proved and built by that toolchain;"
 copy analyse two.toml
 hold "the copy: a command" is "$status $(cat "$room/text")" "0 called analyse two.toml"
 hold "the copy: says nothing beside" [ ! -s "$room/said" ]

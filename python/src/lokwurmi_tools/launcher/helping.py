@@ -121,7 +121,7 @@ def version_text() -> str:
 
 
 def installed_version() -> str:
-    """What an installed copy is of; it is the proved build as long as its programs are those that were installed."""
+    """What an installed copy is of; it is the proved build as long as its program is the one that was installed."""
     lines = INSTALLED.read_text(encoding="utf-8").partition("\n\n")[0].splitlines()
     sums = [it.split()[1:] for it in lines if it.startswith("sha256 ")]
     other = [name for wanted, name in sums if digest(program(name)) != wanted]

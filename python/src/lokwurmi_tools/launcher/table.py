@@ -253,10 +253,10 @@ OWN = (
     ),
     Own(
         "install [PREFIX]",
-        "copies programs and tools to PREFIX",
+        "copies the program and tools to PREFIX",
         (
             "PREFIX is ~/.local if absent. The copy needs neither the checkout, nor the toolchain, nor a C compiler,"
-            " also on another machine of the same kind. Programs that aren't built are proved and built first."
+            " also on another machine of the same kind. A program that isn't built is proved and built first."
         ),
         "install ~/.local",
     ),

@@ -1,7 +1,7 @@
 """`--unproved`: an answer by the same sources, which the toolchain's `rt try` compiles and runs with checks, and no
 proof.
 
-Nothing of it is kept, so that nothing unproved ever lies where the proved programs are.
+Nothing of it is kept, so that nothing unproved ever lies where the proved program is.
 """
 from __future__ import annotations
 
