@@ -1,6 +1,6 @@
 #!/usr/bin/env python3
 """Tries the wrong bodies of tests/edits/: edits of a crate that the prover must refuse, which the gate leaves out since
-each costs more than half a minute. The gate tries those that stand in crates/*/must-fail.
+they take longer than all its proofs. The gate tries those that stand in crates/*/must-fail.
 
     python3 -m tests.against_rules.check_edits
     python3 -m tests.against_rules.check_edits cpa_sim cpa_run
