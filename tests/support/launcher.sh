@@ -180,7 +180,7 @@ run | lib)
     printf 'int lokwurmi_version(void) { return 1; }\n' >out/one.c && cc -fPIC -c -o out/one.o out/one.c && ar rcs out/libcpa_c.a out/one.o
   fi
   [ "$1" = run ] || exit 0
-  printf '#!/bin/sh\necho "called $*"\ncase $2 in sleep) echo $$ >>"$RT_ROOM/children"; exec sleep 300 ;; signal.*) kill -${2#signal.} $$ ;; status.*) exit ${2#status.} ;; esac\ncase $1 in anal*) exit 0 ;; esac\nexit 10\n' >"out/$own"
+  printf '#!/bin/sh\necho "called $*"\nfor it; do case $it in sleep) echo $$ >>"$RT_ROOM/children"; exec sleep 300 ;; signal.*) kill -${it#signal.} $$ ;; status.*) exit ${it#status.} ;; esac; done\ncase $1 in anal*) exit 0 ;; esac\nexit 10\n' >"out/$own"
   chmod +x "out/$own"
   ;;
 doc)
