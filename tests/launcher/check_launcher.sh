@@ -126,7 +126,7 @@ call --quiet analyse status.14
 hold "--quiet: no hint" is "$status $(wc -c <"$room/said")" "14 0"
 hold "--quiet: the word isn't handed on" is "$(cat "$room/text")" "called analyse status.14"
 call --quiet schedule two.toml status.16
-hold "--quiet before schedule" is "$status $(cat "$room/text")" "16 called two.toml status.16"
+hold "--quiet before schedule" is "$status $(cat "$room/text")" "16 called schedule two.toml status.16"
 call --quiet
 hold "--quiet alone, and no terminal" is "$status" 10
 call --quiet --help
