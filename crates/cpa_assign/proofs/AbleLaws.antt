@@ -1,12 +1,11 @@
 -- Which resources can be given an order.
-use Rattle.std.proofs.Common.{◌≡◌, ℕ, zero, suc, ◌+◌, ◌<◌, ◌≤◌, ◌==◌, ◌&&◌, ◌||◌, not, Bool, true, false, length, refl, ap, sym, ◌∙◌, inl, inr, arith}
+use Rattle.std.proofs.Common.{◌≡◌, ℕ, zero, suc, ◌+◌, ◌<◌, ◌≤◌, ◌&&◌, ◌||◌, not, Bool, true, false, length, refl, ap, sym, ◌∙◌, inl, inr, arith}
 use Rattle.std.specs.Prelude.{filter}
 use Rattle.std.specs.List.{list_all, range_with_len}
-use Rattle.std.proofs.lemmas.Bool.{and_parts, not-true, cases_Bool, cases_lt, eq-eqb, eqb-true, false≢true}
+use Rattle.std.proofs.lemmas.Bool.{and_parts, not-true, cases_Bool, cases_lt, false≢true}
 use Rattle.cpa_model.specs.SystemLists.{SystemLists, task_at, resource_at, is_on}
-use Rattle.cpa_model.specs.declared.entries.Kind.TheVariants.{Preemptive}
-use Rattle.cpa_model.specs.Kinds.{has_priorities, has_ceilings, blocking_by}
-use Rattle.cpa_assign.specs.Orders.{are_sources, is_fed_by_sources, IsFedBySources, is_clocked_task, is_off_clocks, is_unblocked, is_preemptive, can_compare, IsOrderable}
+use Rattle.cpa_model.specs.Kinds.{has_priorities}
+use Rattle.cpa_assign.specs.Orders.{are_sources, is_fed_by_sources, IsFedBySources, is_clocked_task, is_off_clocks, is_without_sections, is_unblocked, is_preemptive, can_compare, IsOrderable}
 
 -- each place that passes one test passes another
 all-passing : (p test : ℕ → Bool) (a n : ℕ) → ((j : ℕ) → a ≤ j → j < a + n → p j ≡ true → test j ≡ true) → list_all test (filter p (range_with_len a n)) ≡ true
@@ -67,26 +66,25 @@ off-fails s r j less on is =
     ]
 
 -- where none of the tasks that are there and on the resource keeps another waiting
-pub unblocked-from : (s : SystemLists) (r : ℕ) → ((j : ℕ) → j < length s.tasks → is_on s r j ≡ true → blocking_by Preemptive (task_at s j) ≡ 0) → is_unblocked s r ≡ true
-unblocked-from s r each = all-passing (is_on s r) (λ j. blocking_by Preemptive (task_at s j) == 0) 0 (length s.tasks) (λ j low high on. eq-eqb (blocking_by Preemptive (task_at s j)) 0 (each j (omega arith) on))
+pub unblocked-from : (s : SystemLists) (r : ℕ) → ((j : ℕ) → j < length s.tasks → is_on s r j ≡ true → is_without_sections (task_at s j) ≡ true) → is_unblocked s r ≡ true
+unblocked-from s r each = all-passing (is_on s r) (λ j. is_without_sections (task_at s j)) 0 (length s.tasks) (λ j low high. each j (omega arith))
 
-pub unblocked-each : (s : SystemLists) (r : ℕ) → is_unblocked s r ≡ true → (j : ℕ) → j < length s.tasks → is_on s r j ≡ true → blocking_by Preemptive (task_at s j) ≡ 0
-unblocked-each s r none j less on =
-    eqb-true (blocking_by Preemptive (task_at s j)) 0 (passing-each (is_on s r) (λ k. blocking_by Preemptive (task_at s k) == 0) 0 (length s.tasks) none j (omega arith) (omega arith) on)
+pub unblocked-each : (s : SystemLists) (r : ℕ) → is_unblocked s r ≡ true → (j : ℕ) → j < length s.tasks → is_on s r j ≡ true → is_without_sections (task_at s j) ≡ true
+unblocked-each s r none j less on = passing-each (is_on s r) (λ k. is_without_sections (task_at s k)) 0 (length s.tasks) none j (omega arith) (omega arith) on
 
-pub unblocked-fails : (s : SystemLists) (r j : ℕ) → j < length s.tasks → is_on s r j ≡ true → 0 < blocking_by Preemptive (task_at s j) → is_unblocked s r ≡ false
+pub unblocked-fails : (s : SystemLists) (r j : ℕ) → j < length s.tasks → is_on s r j ≡ true → is_without_sections (task_at s j) ≡ false → is_unblocked s r ≡ false
 unblocked-fails s r j less on some =
     elim (cases_Bool (is_unblocked s r)) [
-      | inl none ↦ absurd (omega (arith, unblocked-each s r none j less on, some))
+      | inl none ↦ absurd (false≢true (sym some ∙ unblocked-each s r none j less on))
       | inr told ↦ told
     ]
 
--- where tasks on clocks can be compared, their resource is preemptive, and none keeps another waiting
+-- where tasks on clocks can be compared, a more urgent job takes over at once, and none keeps another waiting
 pub compared : (s : SystemLists) (r : ℕ) → can_compare s r ≡ true → is_off_clocks s r ≡ false → (is_preemptive (resource_at s r).kind ≡ true) × (is_unblocked s r ≡ true)
 compared s r can on =
     let rest : (is_preemptive (resource_at s r).kind && is_unblocked s r) ≡ true = ap (λ (b : Bool). b || (is_preemptive (resource_at s r).kind && is_unblocked s r)) (sym on) ∙ can in
     and_parts (is_preemptive (resource_at s r).kind) (is_unblocked s r) rest
 
 -- the tests tell that a resource can be given an order
-pub orderable-from : (s : SystemLists) (r : ℕ) → r < length s.resources → has_priorities (resource_at s r).kind ≡ true → has_ceilings (resource_at s r).kind ≡ false → is_fed_by_sources s r ≡ true → can_compare s r ≡ true → IsOrderable s r
-orderable-from s r there kind fixed fed can = record { there = there; kind = kind; fixed = fixed; fed = fed; clocks = can }
+pub orderable-from : (s : SystemLists) (r : ℕ) → r < length s.resources → has_priorities (resource_at s r).kind ≡ true → is_fed_by_sources s r ≡ true → can_compare s r ≡ true → IsOrderable s r
+orderable-from s r there kind fed can = record { there = there; kind = kind; fed = fed; clocks = can }

@@ -1,7 +1,7 @@
 -- Where tasks move from above a task to below it, and keep none waiting, its bound by clocks doesn't rise: others ask for no more.
-use Rattle.std.proofs.Common.{◌≡◌, ℕ, zero, suc, ◌+◌, ◌*◌, ◌<◌, ◌≤◌, ◌==◌, Bool, true, List, [], ◌∷◌, map, Option, Some, None, inl, inr, arith}
+use Rattle.std.proofs.Common.{◌≡◌, ℕ, ◌+◌, ◌≤◌, ◌==◌, Bool, true, List, [], ◌∷◌, map, Option, Some, None, inl, inr, arith}
 use Rattle.std.specs.Prelude.{filter}
-use Rattle.std.specs.List.{sum_by, range_with_len}
+use Rattle.std.specs.List.{range_with_len}
 use Rattle.std.proofs.lemmas.Bool.{cases_Bool}
 use Rattle.std.proofs.Math.Nat.{le_trans}
 use Rattle.cpa_units.specs.declared.bound.Bound.{Bound}
@@ -22,7 +22,7 @@ use Rattle.cpa_offset.proofs.BoundLaws.{offset_bound-grows, no_denser_itself}
 use Rattle.cpa_offset.proofs.ApartLaws.{apart_bound-grows}
 use Rattle.cpa_clock.specs.declared.anchor.Anchor.{Anchor}
 use Rattle.cpa_clock.specs.Anchors.{Anchors, placed_at}
-use Rattle.cpa_clock.specs.Rivals.{ClockedRival, with_stream, with_input, with_rival, streams_on, with_free_stream, with_free_input, with_free_rival, free_of, joint_of, unless_known, other_clocks_work, rest_of}
+use Rattle.cpa_clock.specs.Rivals.{ClockedRival, with_stream, with_input, with_rival, streams_on, with_free_stream, with_free_input, with_free_rival, free_of, unless_known, other_clocks_work, rest_of}
 use Rattle.cpa_clock.specs.Clocked.{preemptive_at, clocked_preemptive_bound}
 use Rattle.cpa_clock.proofs.CoverLaws.{work_from-cons}
 use Rattle.cpa_clock.proofs.SumLaws.{sum-grows}

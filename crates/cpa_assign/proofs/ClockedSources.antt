@@ -1,5 +1,5 @@
 -- Tasks that sources alone activate, where these are on clocks.
-use Rattle.std.proofs.Common.{◌≡◌, ℕ, ◌<◌, ◌≤◌, ◌%◌, Bool, List, [], ◌∷◌, length, map, Option, Some, None, option_map, refl, sym, ap, ◌∙◌, subst, arith}
+use Rattle.std.proofs.Common.{◌≡◌, ℕ, Bool, List, [], ◌∷◌, length, map, Option, Some, None, option_map, refl, sym, ap, ◌∙◌, subst, arith}
 use Rattle.std.specs.List.{AllZip}
 use Rattle.std.proofs.lemmas.Option.{none-some, same_Some}
 use Rattle.cpa_units.specs.declared.places.SourceId.{SourceId}
@@ -8,15 +8,14 @@ use Rattle.cpa_events.specs.Events.{Model, IsModelInRange}
 use Rattle.cpa_clock.specs.declared.anchor.Anchor.{Anchor}
 use Rattle.cpa_clock.specs.Clocked.{clocked_preemptive_bound}
 use Rattle.cpa_clock.specs.Gathered.{IsAnchored, IsAnchoredAt, IsInputOn, anchors_at, cycles_at}
-use Rattle.cpa_model.specs.declared.entries.Kind.TheVariants.{Preemptive}
 use Rattle.cpa_model.specs.Clocks.{clock_of, clock_cycle, offset_of}
 use Rattle.cpa_model.specs.Rules.{IsSystem}
-use Rattle.cpa_model.specs.SystemLists.{SystemLists, task_at, resource_at, source_at, streams_of}
+use Rattle.cpa_model.specs.SystemLists.{SystemLists, task_at, resource_at, streams_of}
 use Rattle.cpa_model.specs.Streams.{source_stream}
 use Rattle.cpa_model.proofs.ClockLaws.{clock-there, clock-whole, offset-small}
 use Rattle.cpa_local.specs.OnClocks.{source_anchor}
 use Rattle.cpa_local.proofs.ClockedInputs.{cycles-long, cycles-at, cycles-same}
-use Rattle.cpa_assign.specs.Placing.{AreSourceCycles, sources_model, source_anchors, clocked_rivals_at, placed_by_clocks}
+use Rattle.cpa_assign.specs.Placing.{AreSourceCycles, sources_model, source_anchors, clocked_rivals_at, placed_on_clocks}
 
 module _ (s : SystemLists) (rules : IsSystem s) (cycles : List ℕ) (are : AreSourceCycles s cycles) where
   source-anchored : (k : ℕ) → IsAnchored cycles (source_anchor s k) (source_stream s k)
@@ -46,7 +45,7 @@ module _ (s : SystemLists) (rules : IsSystem s) (cycles : List ℕ) (are : AreSo
 
   -- the bound by what is found of the task and its neighbours
   pub placed-found : (r i : ℕ) (above : ℕ → Bool) (own : Model) (anchors : List (Option Anchor)) (worst limit : ℕ) → own ≡ sources_model s i → anchors ≡ source_anchors s i → worst ≡ (task_at s i).worst → limit ≡ (resource_at s r).limit
-      → clocked_preemptive_bound own (anchors_at anchors) worst 0 (clocked_rivals_at s above) (cycles_at cycles) (length cycles) limit ≡ placed_by_clocks s r above i Preemptive
+      → clocked_preemptive_bound own (anchors_at anchors) worst 0 (clocked_rivals_at s above) (cycles_at cycles) (length cycles) limit ≡ placed_on_clocks s r above i
   placed-found r i above own anchors worst limit model places longest bound =
       let value : Model → List (Option Anchor) → ℕ → (ℕ → ℕ) → ℕ → ℕ → Bound = λ m os w f count most. clocked_preemptive_bound m (anchors_at os) w 0 (clocked_rivals_at s above) f count most in
       ap (λ (m : Model). value m anchors worst (cycles_at cycles) (length cycles) limit) model

@@ -1,4 +1,5 @@
 pub mod AbleLaws
+pub mod BelowLaws
 pub mod TradeLaws
 pub mod ClockTradeLaws
 pub mod ClockedSources

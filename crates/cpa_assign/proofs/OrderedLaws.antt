@@ -1,13 +1,16 @@
 -- The bound of a task of the resource under an order depends on the set of tasks before it alone.
-use Rattle.std.proofs.Common.{◌≡◌, ℕ, ◌<◌, ◌==◌, ◌||◌, nat_lt, max, not, slice_index_or, Bool, true, false, List, [], ◌∷◌, Option, Some, None, is_some, map, length, refl, ap, sym, ◌∙◌, subst, inl, inr, arith}
+use Rattle.std.proofs.Common.{◌≡◌, ℕ, ◌<◌, ◌==◌, ◌-◌, ◌||◌, nat_lt, nat_le, min, max, not, if◌then◌else◌, slice_index_or, Bool, true, false, List, [], ◌∷◌, Option, Some, None, is_some, map, length, refl, ap, sym, ◌∙◌, subst, inl, inr, arith}
 use Rattle.std.specs.Prelude.{filter, fold}
+use Rattle.std.specs.Str.{bytes_eq}
+use Rattle.std.proofs.lemmas.Bool.Decides.{nat_tests}
 use Rattle.std.specs.List.{range_with_len, flat_map, list_any, AllByRecursion}
-use Rattle.std.proofs.lemmas.Bool.{cases_Bool, cases_order, and_parts, or_parts, false≢true, true≢false, eqb-true, lt-ltb, le-ltb}
+use Rattle.std.proofs.lemmas.Bool.{cases_Bool, cases_order, and_parts, or_parts, false≢true, eqb-true, ltb-true, lt-ltb, le-ltb, lt-leb}
 use Rattle.std.proofs.lemmas.List.{get_or-map}
 use Rattle.cpa_units.specs.declared.bound.Bound.{Bound}
 use Rattle.cpa_units.specs.declared.places.SourceId.{SourceId}
 use Rattle.cpa_events.specs.Events.{Model}
 use Rattle.cpa_window.proofs.RivalLaws.{load_of, work_in-same}
+use Rattle.cpa_spp.specs.Preemptive.{preemptive_bound}
 use Rattle.cpa_spp.proofs.PreemptiveLaws.{preemptive_bound-same}
 use Rattle.cpa_can.proofs.CanLaws.{can_bound-same}
 use Rattle.cpa_clock.specs.declared.anchor.Anchor.{Anchor}
@@ -19,6 +22,7 @@ use Rattle.cpa_clock.specs.Wider.{AreOffClocks}
 use Rattle.cpa_model.specs.declared.entries.OnClock.{OnClock}
 use Rattle.cpa_model.specs.declared.entries.Kind.{Kind}
 use Rattle.cpa_model.specs.declared.entries.Kind.TheVariants.{Preemptive, RoundRobin, Tdma, Can, Fifo, Ceiling}
+use Rattle.cpa_model.specs.declared.entries.Turn.{Turn}
 use Rattle.cpa_model.specs.declared.entries.Turn.TheVariants.{Priority}
 use Rattle.cpa_model.specs.declared.entries.Task.{Task}
 use Rattle.cpa_model.specs.declared.entries.Activator.{Activator}
@@ -26,24 +30,28 @@ use Rattle.cpa_model.specs.declared.entries.Activator.TheVariants.{Source as Fro
 use Rattle.cpa_model.specs.Chains.{activators, streams_step, streams_within}
 use Rattle.cpa_model.specs.Clocks.{is_clocked, first_on, clock_cycle}
 use Rattle.cpa_model.specs.declared.entries.Resource.{Resource}
-use Rattle.cpa_model.specs.SystemLists.{SystemLists, task_at, resource_at, resource_of, source_at, streams_of, task_places, is_higher, higher_tasks, no_task, is_on}
+use Rattle.cpa_model.specs.SystemLists.{SystemLists, task_at, resource_at, resource_of, source_at, streams_of, task_places, tasks_on, priority_of, is_higher, higher_tasks, no_task, is_on}
 use Rattle.cpa_model.specs.Rules.{IsSystem}
 use Rattle.cpa_model.specs.Streams.{source_model, source_stream}
-use Rattle.cpa_model.specs.Kinds.{has_ceilings, blocking_by}
-use Rattle.cpa_local.specs.Blocking.{blocking_between, blocking_of, greatest_blocking}
-use Rattle.cpa_local.proofs.LockLaws.{between-fixed}
+use Rattle.cpa_model.specs.Locks.{uses_lock, ceiling_of, section_of, section_blocking, blocking_by_sections}
+use Rattle.cpa_model.specs.declared.locks.CriticalSection.{CriticalSection}
+use Rattle.cpa_local.specs.Blocking.{blocking_between, blocking_of}
 use Rattle.cpa_local.specs.Inputs.{joined, sent_by_all, input_along, input}
-use Rattle.cpa_local.specs.Local.{rival_of, bound_by_kind, response}
+use Rattle.cpa_local.specs.Local.{rival_of, priority_bound, bound_by_kind, response}
 use Rattle.cpa_local.specs.OnClocks.{source_anchor, anchors_step, anchors_within, anchor_list, anchors_of, clocked_rival_of}
-use Rattle.cpa_local.specs.Plain.{plain_by_kind}
+use Rattle.cpa_local.specs.Plain.{plain_priority_bound, plain_by_kind}
 use Rattle.cpa_local.proofs.PlainLaws.{AreNone, none-at, plain-bounds, by_kind-plain}
 use Rattle.cpa_model.specs.Kinds.{HasPriorities}
-use Rattle.cpa_assign.specs.Orders.{are_sources, is_member, is_task_on, is_off_clocks, is_unblocked, is_preemptive, place_in, kth_priority, ordered_task, with_order, IsOrder, IsOrderable}
-use Rattle.cpa_assign.specs.Placing.{sources_model, rival_at, rivals_at, is_below, tasks_below, placed_by_kind, source_anchors, clocked_rival_at, clocked_rivals_at, placed_by_clocks, placed_bound}
+use Rattle.cpa_assign.specs.Orders.{are_sources, is_member, is_task_on, is_off_clocks, is_unblocked, is_preemptive, place_in, kth_priority, number_up_to, ordered_task, with_order, IsOrder, IsOrderable}
+use Rattle.cpa_assign.specs.Placing.{sources_model, rival_at, rivals_at, is_below, reaches, placed_section, placed_between, placed_blocking, placed_by_kind, source_anchors, clocked_rival_at, clocked_rivals_at, placed_on_clocks, placed_by_clocks, placed_bound}
+use Rattle.cpa_assign.proofs.BelowLaws.{between-none, least-reaches, sections_from}
 use Rattle.cpa_assign.proofs.AbleLaws.{fed-source, off-clock, unblocked-each, compared}
 use Rattle.cpa_assign.proofs.OrderLaws.{is_before, same_place, flip-no, before-place, before-member, place-less, place-own}
 use Rattle.cpa_local.proofs.BlockingLaws.{greatest-none}
-use Rattle.cpa_local.proofs.PassingPlaces.{filter-agree, map-passing, map-map, greatest-passing}
+use Rattle.cpa_local.proofs.PlaceLists.{least_over}
+use Rattle.cpa_local.proofs.PassingPlaces.{filter-agree, map-passing, map-map, greatest-passing, least-passing}
+use Rattle.cpa_units.specs.declared.limits.TheConstants.{MAX_PRIORITY}
+use Rattle.cpa_units.proofs.SearchLaws.{least_from-le}
 use Rattle.cpa_assign.proofs.PriorityLaws.{kth-order}
 use Rattle.cpa_assign.proofs.PlacingLaws.{there-on, order-long, ordered-long, ordered-at}
 
@@ -62,6 +70,11 @@ opposite a b i j own back =
         | inr more ↦ rw (lt-ltb b a more, le-ltb a b (omega arith)) refl
       ]
     ]
+
+-- what is not less is at most
+not-less : (a b : ℕ) (c : Bool) → nat_lt a b ≡ not c → nat_le b a ≡ c
+not-less a b true less = grind (arith, nat_tests)
+not-less a b false less = grind (arith, nat_tests)
 
 -- what holds of each that passes holds of all that pass
 each-passing : (P : ℕ → Type 0) (p : ℕ → Bool) (js : List ℕ) → ((j : ℕ) → p j ≡ true → P j) → AllByRecursion P (filter p js)
@@ -124,6 +137,26 @@ module _ (s : SystemLists) (r : ℕ) (o : List ℕ) (rules : IsSystem s) (able :
       kth-order s r rules able.kind (place_in o j) (place_in o i) (omega (arith, b, order-long s r o order)) (omega (arith, a, order-long s r o order))
       ∙ sym (before-place o i j mi mj)
 
+  -- what an order leaves of a task
+  seen-same : {Y : Type 0} (f : Task → Y) → ((v : Task) (turn : Turn) → f (record v { turn = turn }) ≡ f v) → (j : ℕ) → j < length s.tasks → f (task_at t j) ≡ f (task_at s j)
+  seen-same f blind j less =
+      elim (cases_Bool (is_on s r j)) [
+        | inl on ↦ ap f (on-task j less on) ∙ blind (task_at s j) (Priority (kth_priority s r (place_in o j)))
+        | inr off ↦ ap f (off-task j less off)
+      ]
+
+  res-same : (j : ℕ) → j < length s.tasks → (task_at t j).res.0 ≡ (task_at s j).res.0
+  res-same j less = seen-same (λ (v : Task). v.res.0) (λ v turn. refl) j less
+
+  worst-same : (j : ℕ) → j < length s.tasks → (task_at t j).worst ≡ (task_at s j).worst
+  worst-same j less = seen-same (λ (v : Task). v.worst) (λ v turn. refl) j less
+
+  region-same : (j : ℕ) → j < length s.tasks → (task_at t j).region ≡ (task_at s j).region
+  region-same j less = seen-same (λ (v : Task). v.region) (λ v turn. refl) j less
+
+  locks-same : (j : ℕ) → j < length s.tasks → (task_at t j).locks ≡ (task_at s j).locks
+  locks-same j less = seen-same (λ (v : Task). v.locks) (λ v turn. refl) j less
+
   module _ (i : ℕ) (mi : is_member o i ≡ true) where
     own : (i < length s.tasks) × (is_on s r i ≡ true)
     own = member-there i mi
@@ -160,6 +193,67 @@ module _ (s : SystemLists) (r : ℕ) (o : List ℕ) (rules : IsSystem s) (able :
               ∙ ap (λ (b : Bool). not (b || j == i)) (sym (before-place o i j mi mj)))
           | inr off ↦ rw (own-task, off-task j less off, own-res, off, lt-ltb j (length s.tasks) less) refl
         ]
+
+    -- the priority numbers on the resource that are no greater are those of the task itself, and of the ones before it
+    number-reaches : (j : ℕ) → j < length s.tasks → is_on s r j ≡ true → nat_le (priority_of (task_at t j).turn) (priority_of (task_at t i).turn) ≡ (is_before o i j || j == i)
+    number-reaches j less on =
+        let mj : is_member o j ≡ true = member-on j less on in
+        rw (own-task, on-task j less on)
+        (not-less (kth_priority s r (place_in o i)) (kth_priority s r (place_in o j)) (is_before o i j || j == i)
+        (priority-less j i mj mi ∙ before-place o j i mj mi ∙ opposite (place_in o i) (place_in o j) i j (place-own o i j mi mj) (λ same. ap (place_in o) same)
+        ∙ ap (λ (b : Bool). not (b || j == i)) (sym (before-place o i j mi mj))))
+
+    -- where one of the resource is below the task, its number isn't the greatest that there is
+    number-small : (j : ℕ) → j < length s.tasks → is_below s r (is_before o i) i j ≡ true → priority_of (task_at t i).turn < MAX_PRIORITY
+    number-small j less below =
+        let on = (there-on s r j (and_parts (is_task_on s r j) (not (is_before o i j || j == i)) below).0).1 in
+        let mj : is_member o j ≡ true = member-on j less on in
+        let apart : is_before o j i ≡ true =
+        before-place o j i mj mi ∙ opposite (place_in o i) (place_in o j) i j (place-own o i j mi mj) (λ same. ap (place_in o) same)
+        ∙ ap (λ (b : Bool). not (b || j == i)) (sym (before-place o i j mi mj)) ∙ (and_parts (is_task_on s r j) (not (is_before o i j || j == i)) below).1 in
+        let up = ltb-true (kth_priority s r (place_in o i)) (kth_priority s r (place_in o j)) (priority-less j i mj mi ∙ apart) in
+        let most = least_from-le (λ p. nat_lt (place_in o j) (number_up_to s r p)) 0 MAX_PRIORITY in
+        rw own-task (omega (arith, up, most))
+
+    tasks-same : tasks_on t r ≡ tasks_on s r
+    tasks-same =
+        ap (filter (is_on t r)) places-same
+        ∙ filter-agree (is_on t r) (is_on s r) 0 (length s.tasks) (λ j low high. ap (λ (q : ℕ). q == r) (res-same j (omega arith)))
+
+    -- a ceiling is no less urgent than the task just where it, or one before it, uses the lock
+    ceiling-reaches : (lock : List ℕ) → priority_of (task_at t i).turn < MAX_PRIORITY → nat_le (ceiling_of t r lock) (priority_of (task_at t i).turn) ≡ reaches s r (is_before o i) i lock
+    ceiling-reaches lock small =
+        let number : ℕ → ℕ = λ j. priority_of (task_at t j).turn in
+        let users : ceiling_of t r lock ≡ least_over number MAX_PRIORITY (filter (λ j. uses_lock lock (task_at s j)) (tasks_on s r)) =
+        ap (λ js. least_over number MAX_PRIORITY (filter (λ j. uses_lock lock (task_at t j)) js)) tasks-same
+        ∙ least-passing (is_on s r) (λ j. uses_lock lock (task_at t j)) (λ j. uses_lock lock (task_at s j)) number number MAX_PRIORITY 0 (length s.tasks) (λ j low high on. (ap (list_any (λ (c : CriticalSection). bytes_eq lock c.lock)) (locks-same j (omega arith)), refl)) in
+        ap (λ (c : ℕ). nat_le c (number i)) users
+        ∙ least-reaches (is_on s r) (λ j. uses_lock lock (task_at s j)) (λ j. is_before o i j || j == i) number (number i) MAX_PRIORITY 0 (length s.tasks) (λ j low high on. number-reaches j (omega arith) on)
+        ∙ ap (λ (b : Bool). b || reaches s r (is_before o i) i lock) (lt-leb MAX_PRIORITY (number i) small)
+
+    sections-same : (worst most : ℕ) (cs : List CriticalSection) → priority_of (task_at t i).turn < MAX_PRIORITY
+        → fold (λ most x. max most (section_blocking (priority_of (task_at t i).turn) worst x)) most (map (section_of t r) cs) ≡ sections_from s r (is_before o i) i worst most cs
+    sections-same worst most [] small = refl
+    sections-same worst most (c ∷ cs) small =
+        let one : section_blocking (priority_of (task_at t i).turn) worst (section_of t r c) ≡ placed_section s r (is_before o i) i worst c =
+        ap (λ (b : Bool). if b then min c.length worst - 1 else 0) (ceiling-reaches c.lock small) in
+        ap (λ (m : ℕ). fold (λ most x. max most (section_blocking (priority_of (task_at t i).turn) worst x)) (max most m) (map (section_of t r) cs)) one
+        ∙ sections-same worst (max most (placed_section s r (is_before o i) i worst c)) cs small
+
+    -- what a task below blocks
+    between-same : (kind : Kind) (j : ℕ) → j < length s.tasks → is_below s r (is_before o i) i j ≡ true → blocking_between t kind i j ≡ placed_between s r (is_before o i) i kind j
+    between-same Preemptive j less below = rw (region-same j less, worst-same j less) refl
+    between-same RoundRobin j less below = refl
+    between-same (Tdma gap) j less below = refl
+    between-same (Can bit) j less below = worst-same j less
+    between-same Fifo j less below = refl
+    between-same Ceiling j less below =
+        let on = (there-on s r j (and_parts (is_task_on s r j) (not (is_before o i j || j == i)) below).0).1 in
+        let u : Task = task_at s j in
+        let p : ℕ = priority_of (task_at t i).turn in
+        ap (λ (v : Task). max (min v.region v.worst - 1) (blocking_by_sections p v.worst (map (section_of t v.res.0) v.locks))) (on-task j less on)
+        ∙ ap (λ (q : ℕ). max (min u.region u.worst - 1) (blocking_by_sections p u.worst (map (section_of t q) u.locks))) (eqb-true u.res.0 r on)
+        ∙ ap (max (min u.region u.worst - 1)) (sections-same u.worst 0 u.locks (number-small j less below))
 
     resource-own : resource_of t i ≡ resource_at s r
     resource-own = resource-same (task_at t i).res.0 ∙ ap (λ (it : Task). resource_at s it.res.0) own-task ∙ ap (resource_at s) own-res
@@ -208,28 +302,6 @@ module _ (s : SystemLists) (r : ℕ) (o : List ℕ) (rules : IsSystem s) (able :
   input-member : (x : List Bound) (j : ℕ) → is_member o j ≡ true → input t x j ≡ Some (sources_model s j)
   input-member x j mj = input-own j mj x
 
-  worst-same : (j : ℕ) → j < length s.tasks → (task_at t j).worst ≡ (task_at s j).worst
-  worst-same j less =
-      elim (cases_Bool (is_on s r j)) [
-        | inl on ↦ ap (λ (it : Task). it.worst) (on-task j less on)
-        | inr off ↦ ap (λ (it : Task). it.worst) (off-task j less off)
-      ]
-
-  region-same : (j : ℕ) → j < length s.tasks → (task_at t j).region ≡ (task_at s j).region
-  region-same j less =
-      elim (cases_Bool (is_on s r j)) [
-        | inl on ↦ ap (λ (it : Task). it.region) (on-task j less on)
-        | inr off ↦ ap (λ (it : Task). it.region) (off-task j less off)
-      ]
-
-  blocking_by-same : (kind : Kind) (j : ℕ) → j < length s.tasks → blocking_by kind (task_at t j) ≡ blocking_by kind (task_at s j)
-  blocking_by-same Preemptive j less = rw (region-same j less, worst-same j less) refl
-  blocking_by-same RoundRobin j less = refl
-  blocking_by-same (Tdma gap) j less = refl
-  blocking_by-same (Can bit) j less = worst-same j less
-  blocking_by-same Fifo j less = refl
-  blocking_by-same Ceiling j less = rw (region-same j less, worst-same j less) refl
-
   module _ (x : List Bound) (i : ℕ) (mi : is_member o i ≡ true) where
     higher-same : higher_tasks t i ≡ filter (is_before o i) (task_places s)
     higher-same =
@@ -247,33 +319,37 @@ module _ (s : SystemLists) (r : ℕ) (o : List ℕ) (rules : IsSystem s) (able :
         rw (e, w) refl)
         ∙ sym (map-map load_of (rival_at s) (filter (is_before o i) (task_places s)))
 
-    blocking-same : (kind : Kind) → has_ceilings kind ≡ false → blocking_of t kind i ≡ greatest_blocking s kind (tasks_below s r (is_before o i) i)
-    blocking-same kind fixed =
+    blocking-same : (kind : Kind) → blocking_of t kind i ≡ placed_blocking s r (is_before o i) i kind
+    blocking-same kind =
         ap (λ (js : List ℕ). fold (λ most j. max most (blocking_between t kind i j)) 0 (filter (λ j. is_higher t j i) js)) places-same
         ∙ ap (fold (λ most j. max most (blocking_between t kind i j)) 0) (filter-agree (λ j. is_higher t j i) (is_below s r (is_before o i) i) 0 (length s.tasks) (λ j low high. lower-after i mi j (omega arith)))
-        ∙ greatest-passing (is_below s r (is_before o i) i) (blocking_between t kind i) (λ j. blocking_by kind (task_at s j)) 0 0 (length s.tasks) (λ j low high passes. between-fixed t kind i j fixed ∙ blocking_by-same kind j (omega arith))
+        ∙ greatest-passing (is_below s r (is_before o i) i) (blocking_between t kind i) (placed_between s r (is_before o i) i kind) 0 0 (length s.tasks) (λ j low high below. between-same i mi kind j (omega arith) below)
 
     higher-off : is_off_clocks s r ≡ true → AllByRecursion (λ j. AreOffClocks (anchors_of t j)) (higher_tasks t i)
     higher-off off =
         subst (λ (js : List ℕ). AllByRecursion (λ j. AreOffClocks (anchors_of t j)) js) (sym higher-same)
         (each-passing (λ j. AreOffClocks (anchors_of t j)) (is_before o i) (task_places s) (λ j before. off-own j (before-member o i j before) off))
 
-    by_kind-plainly : (kind : Kind) → HasPriorities kind → has_ceilings kind ≡ false → plain_by_kind t x i (sources_model s i) kind ≡ placed_by_kind s r (is_before o i) i kind
-    by_kind-plainly Preemptive h fixed =
-        rw (worst-same i (own i mi).0, resource-own i mi, blocking-same Preemptive fixed)
-        (preemptive_bound-same (sources_model s i) (task_at s i).worst (greatest_blocking s Preemptive (tasks_below s r (is_before o i) i)) (map (rival_of t x) (higher_tasks t i)) (rivals_at s (is_before o i)) (resource_at s r).limit
+    by_priority-plainly : (kind : Kind)
+        → plain_priority_bound t x i (sources_model s i) (blocking_of t kind i) ≡ preemptive_bound (sources_model s i) (task_at s i).worst (placed_blocking s r (is_before o i) i kind) (rivals_at s (is_before o i)) (resource_at s r).limit
+    by_priority-plainly kind =
+        rw (worst-same i (own i mi).0, resource-own i mi, blocking-same kind)
+        (preemptive_bound-same (sources_model s i) (task_at s i).worst (placed_blocking s r (is_before o i) i kind) (map (rival_of t x) (higher_tasks t i)) (rivals_at s (is_before o i)) (resource_at s r).limit
         (λ w. work_in-same (map (rival_of t x) (higher_tasks t i)) (rivals_at s (is_before o i)) w loads-same))
-    by_kind-plainly (Can bit) h fixed =
-        rw (worst-same i (own i mi).0, resource-own i mi, blocking-same (Can bit) fixed)
-        (can_bound-same (sources_model s i) (task_at s i).worst (greatest_blocking s (Can bit) (tasks_below s r (is_before o i) i)) (map (rival_of t x) (higher_tasks t i)) (rivals_at s (is_before o i)) bit (resource_at s r).limit
-        (λ w. work_in-same (map (rival_of t x) (higher_tasks t i)) (rivals_at s (is_before o i)) w loads-same))
-    by_kind-plainly RoundRobin h fixed = absurd (false≢true h)
-    by_kind-plainly (Tdma gap) h fixed = absurd (false≢true h)
-    by_kind-plainly Fifo h fixed = absurd (false≢true h)
-    by_kind-plainly Ceiling h fixed = absurd (true≢false fixed)
 
-    by_kind-same : is_off_clocks s r ≡ true → (kind : Kind) → HasPriorities kind → has_ceilings kind ≡ false → bound_by_kind t x i (sources_model s i) kind ≡ placed_by_kind s r (is_before o i) i kind
-    by_kind-same off kind h fixed = by_kind-plain plain-bounds t x i (off-own i mi off) (higher-off off) (sources_model s i) kind ∙ by_kind-plainly kind h fixed
+    by_kind-plainly : (kind : Kind) → HasPriorities kind → plain_by_kind t x i (sources_model s i) kind ≡ placed_by_kind s r (is_before o i) i kind
+    by_kind-plainly Preemptive h = by_priority-plainly Preemptive
+    by_kind-plainly Ceiling h = by_priority-plainly Ceiling
+    by_kind-plainly (Can bit) h =
+        rw (worst-same i (own i mi).0, resource-own i mi, blocking-same (Can bit))
+        (can_bound-same (sources_model s i) (task_at s i).worst (placed_blocking s r (is_before o i) i (Can bit)) (map (rival_of t x) (higher_tasks t i)) (rivals_at s (is_before o i)) bit (resource_at s r).limit
+        (λ w. work_in-same (map (rival_of t x) (higher_tasks t i)) (rivals_at s (is_before o i)) w loads-same))
+    by_kind-plainly RoundRobin h = absurd (false≢true h)
+    by_kind-plainly (Tdma gap) h = absurd (false≢true h)
+    by_kind-plainly Fifo h = absurd (false≢true h)
+
+    by_kind-same : is_off_clocks s r ≡ true → (kind : Kind) → HasPriorities kind → bound_by_kind t x i (sources_model s i) kind ≡ placed_by_kind s r (is_before o i) i kind
+    by_kind-same off kind h = by_kind-plain plain-bounds t x i (off-own i mi off) (higher-off off) (sources_model s i) kind ∙ by_kind-plainly kind h
 
     -- ---- where tasks are on clocks
 
@@ -288,34 +364,37 @@ module _ (s : SystemLists) (r : ℕ) (o : List ℕ) (rules : IsSystem s) (able :
         ap (map (clocked_rival_of t x)) higher-same
         ∙ map-passing (is_before o i) (clocked_rival_of t x) (clocked_rival_at s) 0 (length s.tasks) (λ j low high before. clocked-rival j (omega arith) (before-member o i j before))
 
-    blocking-none : is_unblocked s r ≡ true → blocking_of t Preemptive i ≡ 0
-    blocking-none none =
-        blocking-same Preemptive refl
-        ∙ greatest-none (λ j. blocking_by Preemptive (task_at s j)) (is_below s r (is_before o i) i) (length s.tasks) (λ j less below.
+    blocking-none : is_unblocked s r ≡ true → (kind : Kind) → is_preemptive kind ≡ true → blocking_of t kind i ≡ 0
+    blocking-none none kind p =
+        blocking-same kind
+        ∙ greatest-none (placed_between s r (is_before o i) i kind) (is_below s r (is_before o i) i) (length s.tasks) (λ j less below.
         let on = there-on s r j (and_parts (is_task_on s r j) (not (is_before o i j || j == i)) below).0 in
-        unblocked-each s r none j less on.1)
+        between-none s r (is_before o i) i kind j p (unblocked-each s r none j less on.1))
 
-    by_clocks-same : is_unblocked s r ≡ true → (kind : Kind) → is_preemptive kind ≡ true → bound_by_kind t x i (sources_model s i) kind ≡ placed_by_clocks s r (is_before o i) i kind
+    on_clocks-same : (kind : Kind) → blocking_of t kind i ≡ 0 → priority_bound t x i (sources_model s i) (blocking_of t kind i) ≡ placed_on_clocks s r (is_before o i) i
     unfolding with_order
-    by_clocks-same none Preemptive p =
+    on_clocks-same kind none =
         let bound : Anchors → ℕ → ℕ → List ClockedRival → ℕ → Bound = λ anchors worst blocking rivals limit. clocked_preemptive_bound (sources_model s i) anchors worst blocking rivals (clock_cycle s) (length s.sources) limit in
-        ap (λ (es : List (Option Anchor)). bound (anchors_at es) (task_at t i).worst (blocking_of t Preemptive i) (map (clocked_rival_of t x) (higher_tasks t i)) (resource_of t i).limit) (anchors-own i mi)
-        ∙ ap (λ (worst : ℕ). bound (anchors_at (source_anchors s i)) worst (blocking_of t Preemptive i) (map (clocked_rival_of t x) (higher_tasks t i)) (resource_of t i).limit) (worst-same i (own i mi).0)
-        ∙ ap (λ (blocking : ℕ). bound (anchors_at (source_anchors s i)) (task_at s i).worst blocking (map (clocked_rival_of t x) (higher_tasks t i)) (resource_of t i).limit) (blocking-none none)
+        ap (λ (es : List (Option Anchor)). bound (anchors_at es) (task_at t i).worst (blocking_of t kind i) (map (clocked_rival_of t x) (higher_tasks t i)) (resource_of t i).limit) (anchors-own i mi)
+        ∙ ap (λ (worst : ℕ). bound (anchors_at (source_anchors s i)) worst (blocking_of t kind i) (map (clocked_rival_of t x) (higher_tasks t i)) (resource_of t i).limit) (worst-same i (own i mi).0)
+        ∙ ap (λ (blocking : ℕ). bound (anchors_at (source_anchors s i)) (task_at s i).worst blocking (map (clocked_rival_of t x) (higher_tasks t i)) (resource_of t i).limit) none
         ∙ ap (λ (rivals : List ClockedRival). bound (anchors_at (source_anchors s i)) (task_at s i).worst 0 rivals (resource_of t i).limit) clocked_rivals-same
         ∙ ap (λ (it : Resource). bound (anchors_at (source_anchors s i)) (task_at s i).worst 0 (clocked_rivals_at s (is_before o i)) it.limit) (resource-own i mi)
+
+    by_clocks-same : is_unblocked s r ≡ true → (kind : Kind) → is_preemptive kind ≡ true → bound_by_kind t x i (sources_model s i) kind ≡ placed_by_clocks s r (is_before o i) i kind
+    by_clocks-same none Preemptive p = on_clocks-same Preemptive (blocking-none none Preemptive p)
+    by_clocks-same none Ceiling p = on_clocks-same Ceiling (blocking-none none Ceiling p)
     by_clocks-same none RoundRobin p = absurd (false≢true p)
     by_clocks-same none (Tdma gap) p = absurd (false≢true p)
     by_clocks-same none (Can bit) p = absurd (false≢true p)
     by_clocks-same none Fifo p = absurd (false≢true p)
-    by_clocks-same none Ceiling p = absurd (false≢true p)
 
     -- the bound of a member is that of its place, at any vector
     pub response-placed : response t x i ≡ placed_bound s r (is_before o i) i
     unfolding response placed_bound
     response-placed =
         elim (cases_Bool (is_off_clocks s r)) [
-          | inl off ↦ rw (input-own i mi x, resource-own i mi, off) (by_kind-same off (resource_at s r).kind able.kind able.fixed)
+          | inl off ↦ rw (input-own i mi x, resource-own i mi, off) (by_kind-same off (resource_at s r).kind able.kind)
           | inr on ↦
               let clear = compared s r able.clocks on in
               rw (input-own i mi x, resource-own i mi, on) (by_clocks-same clear.1 (resource_at s r).kind clear.0)

@@ -30,8 +30,6 @@ use Rattle.cpa_model.specs.declared.entries.Kind.{Kind}
 use Rattle.cpa_model.specs.declared.entries.Kind.TheVariants.{Preemptive, RoundRobin, Tdma, Can, Fifo, Ceiling}
 use Rattle.cpa_model.specs.SystemLists.{SystemLists, task_at, resource_at, task_places, streams_of, no_resource, no_task}
 use Rattle.cpa_model.specs.Rules.{IsSystem, IsResource, IsTask, KindFits}
-use Rattle.cpa_model.specs.Kinds.{blocking_by}
-use Rattle.cpa_local.specs.Blocking.{greatest_blocking}
 use Rattle.cpa_clock.specs.Gathered.{anchors_at}
 use Rattle.cpa_model.specs.Clocks.{clock_cycle}
 use Rattle.cpa_assign.specs.Orders.{is_task_on, is_off_clocks}
@@ -39,7 +37,8 @@ use Rattle.cpa_events.specs.Streams.{IsStream}
 use Rattle.cpa_model.proofs.SystemLaws.{streams_of-some}
 use Rattle.cpa_model.specs.Streams.{source_stream}
 use Rattle.cpa_local.proofs.ResponseLaws.{source-is_stream}
-use Rattle.cpa_assign.specs.Placing.{sources_model, rival_at, rivals_at, is_below, tasks_below, placed_by_kind, source_anchors, clocked_rival_at, placed_by_clocks, placed_bound}
+use Rattle.cpa_assign.specs.Placing.{sources_model, rival_at, rivals_at, is_below, placed_between, placed_blocking, placed_by_kind, source_anchors, clocked_rival_at, placed_on_clocks, placed_by_clocks, placed_bound}
+use Rattle.cpa_assign.proofs.BelowLaws.{between-small, between-fewer}
 use Rattle.cpa_assign.proofs.ClockTradeLaws.{clocked-fewer}
 
 -- ---- windows of demands that are compared from their first length on
@@ -140,20 +139,20 @@ greatest-step p f j js =
     ]
 
 -- a place that counts for less, and which is below only where it was below or has left those above
-record IsTrade (fewer above below' below : ℕ → Bool) (f g : ℕ → ℕ) (j : ℕ) : Type 0 where
+record IsTrade (fewer above below' below : ℕ → Bool) (f' f g : ℕ → ℕ) (j : ℕ) : Type 0 where
   less : picked fewer g j ≤ picked above g j
-  trade : (picked below' f j ≤ picked below f j) ⊎ (picked below' f j + picked fewer g j ≤ picked above g j)
+  trade : (picked below' f' j ≤ picked below f j) ⊎ (picked below' f' j + picked fewer g j ≤ picked above g j)
 
-traded : (fewer above below' below : ℕ → Bool) (f g : ℕ → ℕ) (js : List ℕ) → ((j : ℕ) → IsTrade fewer above below' below f g j)
-    → (greatest_over below' f js + sum_over fewer g js ≤ greatest_over below f js + sum_over above g js) × (sum_over fewer g js ≤ sum_over above g js)
+traded : (fewer above below' below : ℕ → Bool) (f' f g : ℕ → ℕ) (js : List ℕ) → ((j : ℕ) → IsTrade fewer above below' below f' f g j)
+    → (greatest_over below' f' js + sum_over fewer g js ≤ greatest_over below f js + sum_over above g js) × (sum_over fewer g js ≤ sum_over above g js)
 unfolding greatest_over sum_over
-traded fewer above below' below f g [] h = (omega arith, omega arith)
-traded fewer above below' below f g (j ∷ js) h =
+traded fewer above below' below f' f g [] h = (omega arith, omega arith)
+traded fewer above below' below f' f g (j ∷ js) h =
     let it = h j in
-    let rest = traded fewer above below' below f g js h in
+    let rest = traded fewer above below' below f' f g js h in
     let a = sum-step fewer g j js in
     let b = sum-step above g j js in
-    let c = greatest-step below' f j js in
+    let c = greatest-step below' f' j js in
     let d = greatest-step below f j js in
     let less = it.less in
     elim it.trade [
@@ -161,9 +160,13 @@ traded fewer above below' below f g (j ∷ js) h =
       | inr moves ↦ (omega (arith, rest.0, rest.1, a, b, c, d, less, moves), omega (arith, rest.1, a, b, less))
     ]
 
-picked-same : (p q : ℕ → Bool) (f : ℕ → ℕ) (j : ℕ) → p j ≡ q j → picked p f j ≤ picked q f j
+picked-less : (p q : ℕ → Bool) (f g : ℕ → ℕ) (j : ℕ) → p j ≡ q j → f j ≤ g j → picked p f j ≤ picked q g j
 unfolding picked
-picked-same p q f j same = rw same (omega arith)
+picked-less p q f g j same less =
+    elim (cases_Bool (q j)) [
+      | inl passes ↦ rw (same, passes) less
+      | inr fails ↦ rw (same, fails) (omega arith)
+    ]
 
 picked-kept : (fewer above : ℕ → Bool) (g : ℕ → ℕ) (j : ℕ) → (fewer j ≡ true → above j ≡ true) → picked fewer g j ≤ picked above g j
 unfolding picked
@@ -189,18 +192,17 @@ module _ (s : SystemLists) (r i : ℕ) (fewer above : ℕ → Bool) (rules : IsS
   worst_of : ℕ → ℕ
   worst_of j = (task_at s j).worst
 
-  -- by how long one of its jobs that has begun keeps others waiting
-  held_of : Kind → ℕ → ℕ
-  held_of kind j = blocking_by kind (task_at s j)
+  -- by how long one of its jobs that has begun keeps task i waiting, below those of a set
+  held_of : (ℕ → Bool) → Kind → ℕ → ℕ
+  held_of test kind j = placed_between s r test i kind j
 
-  held_of-le : (kind : Kind) (j : ℕ) → held_of kind j ≤ worst_of j
+  held_of-le : (test : ℕ → Bool) (kind : Kind) (j : ℕ) → held_of test kind j ≤ worst_of j
   unfolding held_of worst_of
-  held_of-le Preemptive j = omega arith
-  held_of-le RoundRobin j = omega arith
-  held_of-le (Tdma gap) j = omega arith
-  held_of-le (Can bit) j = omega arith
-  held_of-le Fifo j = omega arith
-  held_of-le Ceiling j = omega arith
+  held_of-le test kind j = between-small s r test i kind j
+
+  held_of-fewer : (kind : Kind) (j : ℕ) → held_of fewer kind j ≤ held_of above kind j
+  unfolding held_of
+  held_of-fewer kind j = between-fewer s r i fewer above moved kind j
 
   work_of : ℕ → ℕ → ℕ
   work_of w j = eta_plus (sources_model s j) w * worst_of j
@@ -231,25 +233,25 @@ module _ (s : SystemLists) (r i : ℕ) (fewer above : ℕ → Bool) (rules : IsS
         | inr elsewhere ↦ rw elsewhere refl
       ]
 
-  trades : (kind : Kind) (w j : ℕ) → 1 ≤ w → IsTrade fewer above (is_below s r fewer i) (is_below s r above i) (held_of kind) (work_of w) j
+  trades : (kind : Kind) (w j : ℕ) → 1 ≤ w → IsTrade fewer above (is_below s r fewer i) (is_below s r above i) (held_of fewer kind) (held_of above kind) (work_of w) j
   unfolding work_of
   trades kind w j some =
       let once : worst_of j ≤ work_of w j = once_worst w j some in
-      let brings : picked (is_below s r fewer i) (held_of kind) j ≤ held_of kind j = picked-le (is_below s r fewer i) (held_of kind) j in
+      let brings : picked (is_below s r fewer i) (held_of fewer kind) j ≤ held_of fewer kind j = picked-le (is_below s r fewer i) (held_of fewer kind) j in
       let less : picked fewer (work_of w) j ≤ picked above (work_of w) j = picked-kept fewer above (work_of w) j (moved j) in
       elim (cases_Bool (fewer j)) [
         | inl high ↦
-            let none = picked-none (is_below s r fewer i) (held_of kind) j (not_below fewer j high) in
+            let none = picked-none (is_below s r fewer i) (held_of fewer kind) j (not_below fewer j high) in
             record { less = less; trade = inl (omega (arith, none)) }
         | inr low ↦
             let left = picked-none fewer (work_of w) j low in
             elim (cases_Bool (above j)) [
               | inl higher ↦
                   let had = picked-some above (work_of w) j higher in
-                  record { less = less; trade = inr (omega (arith, left, had, once, brings, held_of-le kind j)) }
+                  record { less = less; trade = inr (omega (arith, left, had, once, brings, held_of-le fewer kind j)) }
               | inr lower ↦
                   let same : is_below s r fewer i j ≡ is_below s r above i j = ap (λ (b : Bool). is_task_on s r j && not (b || j == i)) (low ∙ sym lower) in
-                  record { less = less; trade = inl (picked-same (is_below s r fewer i) (is_below s r above i) (held_of kind) j same) }
+                  record { less = less; trade = inl (picked-less (is_below s r fewer i) (is_below s r above i) (held_of fewer kind) (held_of above kind) j same (held_of-fewer kind j)) }
             ]
       ]
 
@@ -260,33 +262,41 @@ module _ (s : SystemLists) (r i : ℕ) (fewer above : ℕ → Bool) (rules : IsS
 
   -- the blocking and the interference of a window, together
   no_more_together : (kind : Kind) (w : ℕ) → 1 ≤ w
-      → IsAtMost (bound_plus (Within (greatest_blocking s kind (tasks_below s r fewer i))) (work_in (rivals_at s fewer) w)) (bound_plus (Within (greatest_blocking s kind (tasks_below s r above i))) (work_in (rivals_at s above) w))
+      → IsAtMost (bound_plus (Within (placed_blocking s r fewer i kind)) (work_in (rivals_at s fewer) w)) (bound_plus (Within (placed_blocking s r above i kind)) (work_in (rivals_at s above) w))
   unfolding sum_over greatest_over held_of
   no_more_together kind w some =
       rw (work_in-listed w (filter fewer (task_places s)), work_in-listed w (filter above (task_places s)))
-      (traded fewer above (is_below s r fewer i) (is_below s r above i) (held_of kind) (work_of w) (task_places s) (λ j. trades kind w j some)).0
+      (traded fewer above (is_below s r fewer i) (is_below s r above i) (held_of fewer kind) (held_of above kind) (work_of w) (task_places s) (λ j. trades kind w j some)).0
+
+  by_priority-fewer : (kind : Kind)
+      → IsAtMost (preemptive_bound (sources_model s i) (task_at s i).worst (placed_blocking s r fewer i kind) (rivals_at s fewer) (resource_at s r).limit)
+      (preemptive_bound (sources_model s i) (task_at s i).worst (placed_blocking s r above i kind) (rivals_at s above) (resource_at s r).limit)
+  by_priority-fewer kind =
+      let own : IsTask s (task_at s i) = rules.tasks i no_task there in
+      preemptive_bound-trade (sources_model s i) (task_at s i).worst (placed_blocking s r fewer i kind) (placed_blocking s r above i kind) (rivals_at s fewer) (rivals_at s above) (resource_at s r).limit
+      (omega (arith, own.some_best, own.ordered)) (no_more_together kind)
 
   placed_by_kind-fewer : (kind : Kind) → KindFits kind → IsAtMost (placed_by_kind s r fewer i kind) (placed_by_kind s r above i kind)
-  placed_by_kind-fewer Preemptive fit =
-      let own : IsTask s (task_at s i) = rules.tasks i no_task there in
-      preemptive_bound-trade (sources_model s i) (task_at s i).worst (greatest_blocking s Preemptive (tasks_below s r fewer i)) (greatest_blocking s Preemptive (tasks_below s r above i)) (rivals_at s fewer) (rivals_at s above) (resource_at s r).limit
-      (omega (arith, own.some_best, own.ordered)) (no_more_together Preemptive)
+  placed_by_kind-fewer Preemptive fit = by_priority-fewer Preemptive
   placed_by_kind-fewer (Can bit) fit =
-      can_bound-trade (sources_model s i) (task_at s i).worst (greatest_blocking s (Can bit) (tasks_below s r fewer i)) (greatest_blocking s (Can bit) (tasks_below s r above i)) (rivals_at s fewer) (rivals_at s above) bit (resource_at s r).limit
+      can_bound-trade (sources_model s i) (task_at s i).worst (placed_blocking s r fewer i (Can bit)) (placed_blocking s r above i (Can bit)) (rivals_at s fewer) (rivals_at s above) bit (resource_at s r).limit
       fit.0 (no_more_together (Can bit))
   placed_by_kind-fewer RoundRobin fit = tt
   placed_by_kind-fewer (Tdma gap) fit = tt
   placed_by_kind-fewer Fifo fit = tt
-  placed_by_kind-fewer Ceiling fit = tt
+  placed_by_kind-fewer Ceiling fit = by_priority-fewer Ceiling
+
+  on_clocks-fewer : IsAtMost (placed_on_clocks s r fewer i) (placed_on_clocks s r above i)
+  on_clocks-fewer =
+      clocked-fewer fewer above moved (clocked_rival_at s) (task_at s i).worst 0 (clock_cycle s) (length s.sources) (resource_at s r).limit (task_places s) (sources_model s i) (anchors_at (source_anchors s i))
 
   placed_by_clocks-fewer : (kind : Kind) → IsAtMost (placed_by_clocks s r fewer i kind) (placed_by_clocks s r above i kind)
-  placed_by_clocks-fewer Preemptive =
-      clocked-fewer fewer above moved (clocked_rival_at s) (task_at s i).worst 0 (clock_cycle s) (length s.sources) (resource_at s r).limit (task_places s) (sources_model s i) (anchors_at (source_anchors s i))
+  placed_by_clocks-fewer Preemptive = on_clocks-fewer
   placed_by_clocks-fewer RoundRobin = tt
   placed_by_clocks-fewer (Tdma gap) = tt
   placed_by_clocks-fewer (Can bit) = tt
   placed_by_clocks-fewer Fifo = tt
-  placed_by_clocks-fewer Ceiling = tt
+  placed_by_clocks-fewer Ceiling = on_clocks-fewer
 
   kind_fits : KindFits (resource_at s r).kind
   kind_fits =

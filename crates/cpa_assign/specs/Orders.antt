@@ -17,7 +17,7 @@ use Rattle.cpa_model.specs.declared.entries.Activator.TheVariants.{Source as Fro
 use Rattle.cpa_model.specs.declared.entries.Turn.TheVariants.{Priority}
 use Rattle.cpa_model.specs.declared.entries.Kind.{Kind}
 use Rattle.cpa_model.specs.declared.entries.Kind.TheVariants.{Preemptive, RoundRobin, Tdma, Can, Fifo, Ceiling}
-use Rattle.cpa_model.specs.Kinds.{HasPriorities, has_ceilings, blocking_by}
+use Rattle.cpa_model.specs.Kinds.{HasPriorities, blocking_by}
 use Rattle.cpa_model.specs.Clocks.{is_clocked}
 use Rattle.cpa_model.specs.SystemLists.{SystemLists, task_at, source_at, path_at, resource_at, task_places, tasks_on, streams_of, priority_of, is_on, places_of}
 use Rattle.cpa_local.specs.Solution.{least_of}
@@ -120,27 +120,31 @@ is_clocked_task s i = list_any (λ (k : SourceId). is_clocked (source_at s k.0))
 abbrev pub is_off_clocks : SystemLists → ℕ → Bool
 is_off_clocks s r = list_all (λ i. not (is_clocked_task s i)) (tasks_on s r)
 
--- whether no task on the resource keeps a more urgent one waiting, under preemptive priority
-abbrev pub is_unblocked : SystemLists → ℕ → Bool
-is_unblocked s r = list_all (λ i. blocking_by Preemptive (task_at s i) == 0) (tasks_on s r)
+-- whether a task has neither regions of more than a tick nor critical sections: it keeps none waiting that is more urgent
+abbrev pub is_without_sections : Task → Bool
+is_without_sections t = blocking_by Preemptive t == 0 && length t.locks == 0
 
+-- whether no task on the resource has any
+abbrev pub is_unblocked : SystemLists → ℕ → Bool
+is_unblocked s r = list_all (λ i. is_without_sections (task_at s i)) (tasks_on s r)
+
+-- whether a more urgent job takes over at once, but for regions and critical sections
 abbrev pub is_preemptive : Kind → Bool
 is_preemptive Preemptive = true
 is_preemptive RoundRobin = false
 is_preemptive (Tdma gap) = false
 is_preemptive (Can bit) = false
 is_preemptive Fifo = false
-is_preemptive Ceiling = false
+is_preemptive Ceiling = true
 
 -- Whether a task on the resource is never worse off where another moves from above it to below: none is on a clock, or none keeps
 -- another waiting. Of two tasks on one clock that never meet, the lower may keep the higher waiting all the same.
 abbrev pub can_compare : SystemLists → ℕ → Bool
 can_compare s r = is_off_clocks s r || (is_preemptive (resource_at s r).kind && is_unblocked s r)
 
--- a resource that can be given an order: its tasks have priorities, and no ceilings that follow them
+-- a resource that can be given an order
 pub record IsOrderable (s : SystemLists) (r : ℕ) : Type 0 where
   pub there : r < length s.resources
   pub kind : HasPriorities (resource_at s r).kind
-  pub fixed : has_ceilings (resource_at s r).kind ≡ false
   pub fed : IsFedBySources s r
   pub clocks : can_compare s r ≡ true

@@ -1,6 +1,6 @@
 -- The bound of a task by the set of tasks above it alone: all other tasks of the resource are below.
-use Rattle.std.specs.Prelude.{ℕ, ◌<◌, ◌≤◌, ◌≡◌, ◌==◌, ◌&&◌, ◌||◌, if◌then◌else◌, not, Bool, true, Option, Some, List, length, filter, map, vec_capacity}
-use Rattle.std.specs.List.{range_with_len}
+use Rattle.std.specs.Prelude.{ℕ, ◌-◌, ◌<◌, ◌≤◌, ◌≡◌, ◌==◌, ◌&&◌, ◌||◌, if◌then◌else◌, min, max, not, Bool, true, Option, Some, List, length, filter, fold, map, vec_capacity}
+use Rattle.std.specs.List.{list_any, range_with_len}
 use Rattle.cpa_units.specs.declared.places.SourceId.{SourceId}
 use Rattle.cpa_units.specs.declared.bound.Bound.{Bound}
 use Rattle.cpa_units.specs.declared.bound.Bound.TheVariants.{Overload}
@@ -14,10 +14,12 @@ use Rattle.cpa_clock.specs.Rivals.{ClockedRival}
 use Rattle.cpa_clock.specs.Clocked.{clocked_preemptive_bound}
 use Rattle.cpa_model.specs.Clocks.{clock_cycle}
 use Rattle.cpa_model.specs.declared.entries.Kind.{Kind}
-use Rattle.cpa_model.specs.declared.entries.Kind.TheVariants.{Preemptive, Can}
-use Rattle.cpa_model.specs.SystemLists.{SystemLists, task_at, resource_at, task_places, streams_of}
+use Rattle.cpa_model.specs.declared.entries.Kind.TheVariants.{Preemptive, RoundRobin, Tdma, Can, Fifo, Ceiling}
+use Rattle.cpa_model.specs.declared.locks.CriticalSection.{CriticalSection}
+use Rattle.cpa_model.specs.Kinds.{blocking_by}
+use Rattle.cpa_model.specs.Locks.{uses_lock}
+use Rattle.cpa_model.specs.SystemLists.{SystemLists, task_at, resource_at, task_places, tasks_on, streams_of}
 use Rattle.cpa_model.specs.Streams.{source_stream}
-use Rattle.cpa_local.specs.Blocking.{greatest_blocking}
 use Rattle.cpa_local.specs.OnClocks.{source_anchor}
 use Rattle.cpa_assign.specs.declared.placing.Room.{Room}
 use Rattle.cpa_assign.specs.Orders.{is_task_on, is_off_clocks, IsInTime}
@@ -41,11 +43,42 @@ is_below s r above i j = is_task_on s r j && not (above j || j == i)
 abbrev pub tasks_below : SystemLists → ℕ → (ℕ → Bool) → ℕ → List ℕ
 tasks_below s r above i = filter (is_below s r above i) (task_places s)
 
+-- whether a task is task i, or above it, and uses a lock
+abbrev pub is_reaching : SystemLists → (ℕ → Bool) → ℕ → List ℕ → ℕ → Bool
+is_reaching s above i lock k = (above k || k == i) && uses_lock lock (task_at s k)
+
+-- whether one of the resource does: then the ceiling of the lock is no less urgent than task i
+abbrev pub reaches : SystemLists → ℕ → (ℕ → Bool) → ℕ → List ℕ → Bool
+reaches s r above i lock = list_any (is_reaching s above i lock) (tasks_on s r)
+
+-- by how long a critical section of a task below that takes so long at most keeps task i waiting
+abbrev pub placed_section : SystemLists → ℕ → (ℕ → Bool) → ℕ → ℕ → CriticalSection → ℕ
+placed_section s r above i worst c = if reaches s r above i c.lock then min c.length worst - 1 else 0
+
+-- the greatest of several
+abbrev pub placed_sections : SystemLists → ℕ → (ℕ → Bool) → ℕ → ℕ → List CriticalSection → ℕ
+placed_sections s r above i worst cs = fold (λ most c. max most (placed_section s r above i worst c)) 0 cs
+
+-- by how long a job of task j below keeps task i waiting: by what the kind says, and under ceilings by critical sections besides
+abbrev pub placed_between : SystemLists → ℕ → (ℕ → Bool) → ℕ → Kind → ℕ → ℕ
+placed_between s r above i Preemptive j = blocking_by Preemptive (task_at s j)
+placed_between s r above i RoundRobin j = blocking_by RoundRobin (task_at s j)
+placed_between s r above i (Tdma gap) j = blocking_by (Tdma gap) (task_at s j)
+placed_between s r above i (Can bit) j = blocking_by (Can bit) (task_at s j)
+placed_between s r above i Fifo j = blocking_by Fifo (task_at s j)
+placed_between s r above i Ceiling j = max (blocking_by Ceiling (task_at s j)) (placed_sections s r above i (task_at s j).worst (task_at s j).locks)
+
+-- the greatest by one of the tasks below, 0 if there are none
+abbrev pub placed_blocking : SystemLists → ℕ → (ℕ → Bool) → ℕ → Kind → ℕ
+placed_blocking s r above i kind = fold (λ most j. max most (placed_between s r above i kind j)) 0 (tasks_below s r above i)
+
 abbrev pub placed_by_kind : SystemLists → ℕ → (ℕ → Bool) → ℕ → Kind → Bound
 placed_by_kind s r above i Preemptive =
-    preemptive_bound (sources_model s i) (task_at s i).worst (greatest_blocking s Preemptive (tasks_below s r above i)) (rivals_at s above) (resource_at s r).limit
+    preemptive_bound (sources_model s i) (task_at s i).worst (placed_blocking s r above i Preemptive) (rivals_at s above) (resource_at s r).limit
 placed_by_kind s r above i (Can bit) =
-    can_bound (sources_model s i) (task_at s i).worst (greatest_blocking s (Can bit) (tasks_below s r above i)) (rivals_at s above) bit (resource_at s r).limit
+    can_bound (sources_model s i) (task_at s i).worst (placed_blocking s r above i (Can bit)) (rivals_at s above) bit (resource_at s r).limit
+placed_by_kind s r above i Ceiling =
+    preemptive_bound (sources_model s i) (task_at s i).worst (placed_blocking s r above i Ceiling) (rivals_at s above) (resource_at s r).limit
 placed_by_kind s r above i _ = Overload
 
 -- where the streams of such a task are on clocks
@@ -59,10 +92,14 @@ clocked_rival_at s j = added_rival (Some (sources_model s j)) (source_anchors s 
 abbrev pub clocked_rivals_at : SystemLists → (ℕ → Bool) → List ClockedRival
 clocked_rivals_at s test = map (clocked_rival_at s) (filter test (task_places s))
 
--- the bound where tasks are on clocks, and none keeps another waiting
-abbrev pub placed_by_clocks : SystemLists → ℕ → (ℕ → Bool) → ℕ → Kind → Bound
-placed_by_clocks s r above i Preemptive =
+-- the bound where tasks are on clocks, a more urgent job takes over at once, and none keeps another waiting
+abbrev pub placed_on_clocks : SystemLists → ℕ → (ℕ → Bool) → ℕ → Bound
+placed_on_clocks s r above i =
     clocked_preemptive_bound (sources_model s i) (anchors_at (source_anchors s i)) (task_at s i).worst 0 (clocked_rivals_at s above) (clock_cycle s) (length s.sources) (resource_at s r).limit
+
+abbrev pub placed_by_clocks : SystemLists → ℕ → (ℕ → Bool) → ℕ → Kind → Bound
+placed_by_clocks s r above i Preemptive = placed_on_clocks s r above i
+placed_by_clocks s r above i Ceiling = placed_on_clocks s r above i
 placed_by_clocks s r above i _ = Overload
 
 -- the bound of task i of a resource below those that `above` says

@@ -1,11 +1,10 @@
 //! Which resources can be given an order.
 
-ghost use Rattle.std.specs.Prelude.{◌≡◌, ◌<◌, length};
-ghost use Rattle.cpa_model.specs.Kinds.{has_ceilings};
-ghost use Rattle.cpa_model.specs.SystemLists.{resource_at};
-ghost use Rattle.cpa_assign.specs.Orders.{is_some_source, are_sources, is_fed_by_sources, is_clocked_task, is_off_clocks, is_preemptive, is_unblocked, can_compare};
+ghost use Rattle.std.specs.Prelude.{◌≡◌, ◌<◌, ◌≤◌, length};
+ghost use Rattle.cpa_units.specs.declared.limits.TheConstants.{MAX_EXECUTION};
+ghost use Rattle.cpa_assign.specs.Orders.{is_some_source, are_sources, is_fed_by_sources, is_clocked_task, is_off_clocks, is_preemptive, is_without_sections, is_unblocked, can_compare};
 
-use cpa_model::{Activator, Activators, Kind, System};
+use cpa_model::{Activator, Activators, Kind, System, Task};
 use cpa_units::{ResId, TaskId};
 
 /// Whether the tasks on a resource are activated by sources alone.
@@ -42,24 +41,9 @@ fn are_sources(after: &Activators) -> bool
     true
 }
 
-/// Whether locks on a resource have ceilings, which follow the priorities of its tasks. No order is looked for there.
-pub fn has_ceilings(system: &System, res: ResId) -> bool
-    requires { res.0 < length system.now.resources }
-    ensures { result ≡ has_ceilings (resource_at system.now res.0).kind }
-{
-    match system.resource(res).kind {
-        Kind::Ceiling => true,
-        Kind::Preemptive
-        | Kind::RoundRobin
-        | Kind::Tdma { gap: _ }
-        | Kind::Can { bit: _ }
-        | Kind::Fifo => false,
-    }
-}
-
 /// Whether no task of a resource is ever worse off where another moves from above it to below, which a search for an order
-/// leans on: none is on a clock, or none keeps another waiting, by a region or on a bus. Of two tasks on one clock that never
-/// meet the lower may keep the higher waiting all the same, so that the search may miss an order there.
+/// leans on: none is on a clock, or none keeps another waiting, by a region, a critical section or on a bus. Of two tasks on one
+/// clock that never meet the lower may keep the higher waiting all the same, so that the search may miss an order there.
 pub fn can_compare(system: &System, res: ResId) -> bool
     requires { res.0 < length system.now.resources }
     ensures { result ≡ can_compare system.now res.0 }
@@ -68,26 +52,31 @@ pub fn can_compare(system: &System, res: ResId) -> bool
         || is_preemptive(system.resource(res).kind) && is_unblocked(system, res)
 }
 
+/// Whether a more urgent job takes over at once, but for regions and critical sections.
 fn is_preemptive(kind: Kind) -> bool
     ensures { result ≡ is_preemptive kind }
 {
     match kind {
-        Kind::Preemptive => true,
-        Kind::RoundRobin
-        | Kind::Tdma { gap: _ }
-        | Kind::Can { bit: _ }
-        | Kind::Fifo
-        | Kind::Ceiling => false,
+        Kind::Preemptive | Kind::Ceiling => true,
+        Kind::RoundRobin | Kind::Tdma { gap: _ } | Kind::Can { bit: _ } | Kind::Fifo => false,
     }
 }
 
-/// Whether no task on a resource keeps a more urgent one waiting, under preemptive priority.
+/// Whether a task has neither regions of more than a tick nor critical sections.
+fn is_without_sections(task: &Task) -> bool
+    requires { task.now.worst ≤ MAX_EXECUTION }
+    ensures { result ≡ is_without_sections task.now }
+{
+    Kind::Preemptive.blocking_by(task) == 0 && task.locks.sections().is_empty()
+}
+
+/// Whether no task on a resource has any.
 fn is_unblocked(system: &System, res: ResId) -> bool
     ensures { result ≡ is_unblocked system.now res.0 }
 {
     for k in 0..system.tasks() {
         let entry = system.task(TaskId(k));
-        if entry.res.0 == res.0 && Kind::Preemptive.blocking_by(entry) > 0 {
+        if entry.res.0 == res.0 && !is_without_sections(entry) {
             return false;
         }
     }

@@ -8,10 +8,9 @@ ghost use Rattle.cpa_units.specs.declared.limits.TheConstants.{MAX_TASKS};
 ghost use Rattle.cpa_clock.specs.Rivals.{ClockedRival};
 ghost use Rattle.cpa_clock.specs.Gathered.{IsGathered, AreGathered};
 ghost use Rattle.cpa_model.specs.Clocks.{clock_cycle};
-ghost use Rattle.cpa_model.specs.declared.entries.Kind.TheVariants.{Preemptive};
 ghost use Rattle.cpa_model.specs.SystemLists.{resource_at};
 ghost use Rattle.cpa_local.specs.OnClocks.{source_anchor};
-ghost use Rattle.cpa_assign.specs.Placing.{AreSourceCycles, source_anchors, clocked_rival_at, clocked_rivals_at, placed_by_clocks, without};
+ghost use Rattle.cpa_assign.specs.Placing.{AreSourceCycles, source_anchors, clocked_rival_at, clocked_rivals_at, placed_on_clocks, placed_by_clocks, without};
 
 use crate::placing::{sources_model, stands_above};
 use cpa_clock::{Anchor, Gathered, own_clock};
@@ -117,7 +116,7 @@ fn gather_by_clocks(
 }
 
 /// Whether the bound of a task at the lowest free place, below all others that are free, is at most so many ticks, where tasks
-/// are on clocks, the resource is preemptive, and none keeps another waiting.
+/// are on clocks, and none keeps another waiting.
 pub(crate) fn is_lowest_by_clocks(
     alloc: Global,
     system: &System,
@@ -135,18 +134,14 @@ pub(crate) fn is_lowest_by_clocks(
     ensures { IfOk result (λ b. IsTrue b ↔ IsAtMost (placed_by_clocks system.now res.0 (without (holds free.now) task.0) task.0 (resource_at system.now res.0).kind) (Bound.Within most)) }
 {
     match system.resource(res).kind {
-        Kind::Preemptive => is_preemptive_within(
+        Kind::Preemptive | Kind::Ceiling => is_preemptive_within(
             alloc, system, res, task, free, cycles, gathered, most,
         ),
-        Kind::RoundRobin
-        | Kind::Tdma { gap: _ }
-        | Kind::Can { bit: _ }
-        | Kind::Fifo
-        | Kind::Ceiling => Ok(false),
+        Kind::RoundRobin | Kind::Tdma { gap: _ } | Kind::Can { bit: _ } | Kind::Fifo => Ok(false),
     }
 }
 
-/// The same under preemptive priority.
+/// The same where a more urgent job takes over at once.
 fn is_preemptive_within(
     alloc: Global,
     system: &System,
@@ -161,7 +156,7 @@ fn is_preemptive_within(
     requires res { res.0 < length system.now.resources }
     requires marks { length free.now ≡ length system.now.tasks }
     requires cycles { AreSourceCycles system.now cycles.now }
-    ensures { IfOk result (λ b. IsTrue b ↔ IsAtMost (placed_by_clocks system.now res.0 (without (holds free.now) task.0) task.0 Preemptive) (Bound.Within most)) }
+    ensures { IfOk result (λ b. IsTrue b ↔ IsAtMost (placed_on_clocks system.now res.0 (without (holds free.now) task.0) task.0) (Bound.Within most)) }
 {
     system.has_rules();
     let own = sources_model(system, task);

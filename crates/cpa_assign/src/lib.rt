@@ -7,6 +7,7 @@
 #![tactic(auto)]
 
 mod able;
+mod below;
 mod by_clocks;
 mod laws;
 mod numbers;
@@ -14,7 +15,7 @@ mod order;
 mod placing;
 mod text;
 
-pub use able::{can_compare, has_ceilings, is_fed_by_sources};
+pub use able::{can_compare, is_fed_by_sources};
 pub use laws::orders_have_laws;
 pub use order::{Order, assign};
 pub use text::assign_text;

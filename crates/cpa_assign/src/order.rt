@@ -60,8 +60,8 @@ fn marks_of(alloc: Global, system: &System, res: ResId) -> Result<Vec<bool>, NoM
 
 /// The order of a resource's tasks that meets the deadlines of all paths of one of them alone; of
 /// several it is the one whose tasks, from the lowest place up, come first by place. None where no
-/// order meets. The resource is preemptive or a CAN bus, and its tasks are activated by sources alone. None of
-/// these is on a clock, or it is preemptive and no task has a region.
+/// order meets. The resource is preemptive, has priority ceilings or is a CAN bus, and its tasks are activated by sources
+/// alone. None of these is on a clock, or it is no bus and no task has a region or a critical section.
 pub fn assign(alloc: Global, system: &System, res: ResId) -> Result<Option<Order>, NoMemory>
     requires { IsOrderable system.now res.0 }
     ensures { IfOk result (IsOrderOf system.now res.0) }

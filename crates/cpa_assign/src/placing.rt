@@ -1,7 +1,6 @@
 //! The bound of a task below a set of others.
 
 ghost use Rattle.std.specs.Prelude.{◌≡◌, ◌<◌, ◌≤◌, ◌↔◌, IsTrue, length, vec_capacity, IfOk, IfSome, IfNone, true};
-ghost use Rattle.cpa_units.specs.declared.limits.TheConstants.{MAX_EXECUTION};
 ghost use Rattle.cpa_units.specs.Sets.{holds};
 ghost use Rattle.cpa_events.specs.Events.{IsModelInRange};
 ghost use Rattle.cpa_window.specs.Rivals.{IsRival, AreRivals};
@@ -10,9 +9,9 @@ ghost use Rattle.cpa_model.specs.SystemLists.{path_at, resource_at, stream_at, s
 ghost use Rattle.cpa_model.specs.Streams.{source_stream};
 ghost use Rattle.cpa_units.specs.Bounds.{IsAtMost};
 ghost use Rattle.cpa_assign.specs.Orders.{IsInTime, IsPathInTime, IsWithinDeadline};
-ghost use Rattle.cpa_local.specs.Blocking.{greatest_blocking};
-ghost use Rattle.cpa_assign.specs.Placing.{sources_model, rival_at, rivals_at, is_below, tasks_below, placed_by_kind, placed_bound, IsRoom, without, Fits, IsLowestOf, NoneIsLowest};
+ghost use Rattle.cpa_assign.specs.Placing.{sources_model, rival_at, rivals_at, placed_by_kind, placed_bound, IsRoom, without, Fits, IsLowestOf, NoneIsLowest};
 
+use crate::below::blocking;
 use crate::by_clocks::is_lowest_by_clocks;
 use cpa_clock::Gathered;
 use cpa_events::{Model, Stream};
@@ -84,30 +83,6 @@ fn gather_above(system: &System, task: TaskId, free: &[bool], rivals: &mut Vec<R
     }
 }
 
-/// Whether another task of the resource is below this one at the lowest free place.
-fn stands_below(system: &System, res: ResId, free: &[bool], task: TaskId, other: TaskId) -> bool
-    requires there { other.0 < length system.now.tasks }
-    requires marks { length free.now ≡ length system.now.tasks }
-    ensures { result ≡ is_below system.now res.0 (without (holds free.now) task.0) task.0 other.0 }
-{
-    system.task(other).res.0 == res.0 && !(stands_above(free, task, other) || other.0 == task.0)
-}
-
-/// The greatest blocking by one of the tasks below one at the lowest free place, on a resource of this kind; 0 if there are none.
-fn blocking(system: &System, res: ResId, kind: Kind, task: TaskId, free: &[bool]) -> u64
-    requires marks { length free.now ≡ length system.now.tasks }
-    ensures value { result ≡ greatest_blocking system.now kind (tasks_below system.now res.0 (without (holds free.now) task.0) task.0) }
-    ensures in_range { result ≤ MAX_EXECUTION }
-{
-    let mut most: u64 = 0;
-    for k in 0..system.tasks() {
-        if stands_below(system, res, free, task, TaskId(k)) {
-            most = most.max(kind.blocking_by(system.task(TaskId(k))));
-        }
-    }
-    most
-}
-
 /// Whether the bound of a task at the lowest free place, below all others that are free, is at most so many ticks, where
 /// none is on a clock. Walks end where it is more.
 fn is_lowest_apart(
@@ -139,7 +114,11 @@ fn is_lowest_apart(
             let longest = blocking(system, res, Kind::Can { bit }, task, free);
             cpa_can::is_within(&own, worst, longest, above, bit, entry.limit, most)
         }
-        Kind::RoundRobin | Kind::Tdma { gap: _ } | Kind::Fifo | Kind::Ceiling => false,
+        Kind::Ceiling => {
+            let sections = blocking(system, res, Kind::Ceiling, task, free);
+            cpa_spp::is_within(&own, worst, sections, above, entry.limit, most)
+        }
+        Kind::RoundRobin | Kind::Tdma { gap: _ } | Kind::Fifo => false,
     }
 }
 

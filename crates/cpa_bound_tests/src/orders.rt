@@ -1,10 +1,11 @@
-use cpa_assign::{Order, assign, assign_text, can_compare, has_ceilings, is_fed_by_sources};
+use cpa_assign::{Order, assign, assign_text, can_compare, is_fed_by_sources};
 use cpa_file::read_system;
 use cpa_units::ResId;
 use std::alloc::Global;
 use std::test::Fail;
 
-/// The bus of Davis et al., a processor without tasks, one whose tasks have slots, one whose task comes after a frame, and a queue.
+/// The bus of Davis et al., a processor without tasks, one whose tasks have slots, one whose task comes after a frame, a queue, and a
+/// processor where two tasks share a lock.
 const DAVIS_BUS: &str = r#"format = 4
 resource = [
   { name = "bus", kind = "can", bit = 1 },
@@ -12,6 +13,7 @@ resource = [
   { name = "q", kind = "round-robin" },
   { name = "r", kind = "preemptive" },
   { name = "out", kind = "fifo" },
+  { name = "ecu", kind = "ceiling" },
 ]
 source = [{ name = "s1", period = 250 }, { name = "s2", period = 350 }, { name = "s3", period = 350 }]
 task = [
@@ -19,6 +21,9 @@ task = [
   { name = "m2", on = "bus", after = "s2", best = 100, worst = 100, priority = 4 },
   { name = "m3", on = "bus", after = "s3", best = 100, worst = 100, priority = 9 },
   { name = "c", on = "r", after = "m3", best = 100, worst = 100, priority = 1 },
+  { name = "high", on = "ecu", after = "s1", best = 10, worst = 10, priority = 9 },
+  { name = "middle", on = "ecu", after = "s2", best = 30, worst = 30, priority = 4, locks = [{ name = "x", start = 0, length = 5 }] },
+  { name = "low", on = "ecu", after = "s3", best = 100, worst = 100, priority = 1, locks = [{ name = "x", start = 10, length = 21 }] },
 ]
 "#;
 
@@ -30,7 +35,7 @@ struct Case {
     order: &'static [u32],
 }
 
-const CASES: [Case; 7] = [
+const CASES: [Case; 9] = [
     // The last of the frames is late by the priorities that it has.
     Case {
         paths: "path = [{ name = 'm3', tasks = ['m3'], deadline = 325 }]",
@@ -76,6 +81,21 @@ const CASES: [Case; 7] = [
         text: "no priorities\n",
         order: &[],
     },
+    // By the priorities that they have the lock has the most urgent ceiling. Under this order `high` waits for no section, and `middle`
+    // takes 10 + 30, and waits for 20 ticks of that of `low`.
+    Case {
+        paths: "path = [{ name = 'high', tasks = ['high'], deadline = 10 }, { name = 'middle', tasks = ['middle'], deadline = 60 }]",
+        res: 5,
+        text: "priority high 1\npriority middle 4\npriority low 9\nassigned ecu tasks 3\n",
+        order: &[4, 5, 6],
+    },
+    // A tick less is too little for `middle`, which would be in time without the lock that it uses itself.
+    Case {
+        paths: "path = [{ name = 'high', tasks = ['high'], deadline = 10 }, { name = 'middle', tasks = ['middle'], deadline = 59 }, { name = 'low', tasks = ['low'], deadline = 140 }]",
+        res: 5,
+        text: "none ecu\n",
+        order: &[],
+    },
 ];
 
 /// Whether an order has these places, or there is none.
@@ -100,9 +120,6 @@ fn is_met(alloc: Global, case: &Case) -> Result<bool, Fail> {
     let res = ResId(case.res);
     if res.0 >= system.resources() || !system.resource(res).kind.has_priorities() {
         return Ok(case.text == "no priorities\n");
-    }
-    if has_ceilings(&system, res) {
-        return Ok(case.text == "ceilings\n");
     }
     if !is_fed_by_sources(&system, res) {
         return Ok(case.text == "fed by a task\n");

@@ -7,7 +7,7 @@ use Rattle.cpa_model.specs.SystemLists.{SystemLists, resource_at, resource_named
 use Rattle.cpa_edit.specs.declared.script.Step.{Step}
 use Rattle.cpa_edit.specs.Script.{Read, script_of, AreNamed}
 use Rattle.cpa_edit.proofs.NameLaws.{scripts-are_named}
-use Rattle.cpa_model.specs.Kinds.{has_priorities, has_ceilings}
+use Rattle.cpa_model.specs.Kinds.{has_priorities}
 use Rattle.cpa_assign.specs.Orders.{is_fed_by_sources, can_compare, IsOrderable}
 use Rattle.cpa_assign.proofs.AbleLaws.{orderable-from}
 use Rattle.cpa_call.specs.Plans.{Held, Plan, Do, Refuse, content_in}
@@ -26,19 +26,18 @@ planned-script held file steps e =
     let h = then-done (content_in held file MAX_SCRIPT_FILE) (λ bytes. script_by (script_of bytes)) steps e in
     scripts-are_named h.0 steps (read-script (script_of h.0) steps h.2)
 
-abbrev judged : ResId → Bool → Bool → Bool → Bool → Plan ResId
-judged q p h f c = if not p then Refuse 18 (assign_refused 2) else (if h then Refuse 18 (assign_refused 5) else (if not f then Refuse 18 (assign_refused 3) else (if not c then Refuse 18 (assign_refused 4) else Do q)))
+abbrev judged : ResId → Bool → Bool → Bool → Plan ResId
+judged q p f c = if not p then Refuse 18 (assign_refused 2) else (if not f then Refuse 18 (assign_refused 3) else (if not c then Refuse 18 (assign_refused 4) else Do q))
 
 orderable-found : (s : SystemLists) (o : Option ResId) (r : ResId) → ((q : ResId) → o ≡ Some q → q.0 < length s.resources) → orderable_by s o ≡ Do r → IsOrderable s r.0
 orderable-found s None r there e = let no : ⊥ = cc in absurd no
-orderable-found s (Some q) r there e = by (has_priorities (resource_at s q.0).kind) refl (has_ceilings (resource_at s q.0).kind) refl (is_fed_by_sources s q.0) refl (can_compare s q.0) refl e
+orderable-found s (Some q) r there e = by (has_priorities (resource_at s q.0).kind) refl (is_fed_by_sources s q.0) refl (can_compare s q.0) refl e
   where
-    by : (p : Bool) → has_priorities (resource_at s q.0).kind ≡ p → (h : Bool) → has_ceilings (resource_at s q.0).kind ≡ h → (f : Bool) → is_fed_by_sources s q.0 ≡ f → (c : Bool) → can_compare s q.0 ≡ c → judged q p h f c ≡ Do r → IsOrderable s r.0
-    by false kind h ceilings f fed c off e = let no : ⊥ = cc in absurd no
-    by true kind true ceilings f fed c off e = let no : ⊥ = cc in absurd no
-    by true kind false ceilings false fed c off e = let no : ⊥ = cc in absurd no
-    by true kind false ceilings true fed false off e = let no : ⊥ = cc in absurd no
-    by true kind false ceilings true fed true off e = subst (λ (x : ResId). IsOrderable s x.0) (done-same q r e) (orderable-from s q.0 (there q refl) kind ceilings fed off)
+    by : (p : Bool) → has_priorities (resource_at s q.0).kind ≡ p → (f : Bool) → is_fed_by_sources s q.0 ≡ f → (c : Bool) → can_compare s q.0 ≡ c → judged q p f c ≡ Do r → IsOrderable s r.0
+    by false kind f fed c off e = let no : ⊥ = cc in absurd no
+    by true kind false fed c off e = let no : ⊥ = cc in absurd no
+    by true kind true fed false off e = let no : ⊥ = cc in absurd no
+    by true kind true fed true off e = subst (λ (x : ResId). IsOrderable s x.0) (done-same q r e) (orderable-from s q.0 (there q refl) kind fed off)
 
 -- a resource can be given an order
 pub planned-resource : (s : SystemLists) (name : List ℕ) (r : ResId) → orderable_in s name ≡ Do r → IsOrderable s r.0
@@ -53,7 +52,6 @@ pub planned-task : (s : SystemLists) (name : List ℕ) (i : TaskId) → task_in 
 planned-task s name i e = task-there s name i (task-found (task_named s name) i e)
 
 -- a resource where clocks meet blocking is refused
-pub refused-fourth : (s : SystemLists) (name : List ℕ) (r : ResId) → resource_named s name ≡ Some r → has_priorities (resource_at s r.0).kind ≡ true → has_ceilings (resource_at s r.0).kind ≡ false → is_fed_by_sources s r.0 ≡ true
-    → can_compare s r.0 ≡ false
+pub refused-fourth : (s : SystemLists) (name : List ℕ) (r : ResId) → resource_named s name ≡ Some r → has_priorities (resource_at s r.0).kind ≡ true → is_fed_by_sources s r.0 ≡ true → can_compare s r.0 ≡ false
     → orderable_in s name ≡ Refuse 18 (assign_refused 4)
-refused-fourth s name r named kind ceilings fed apart = rw (named, kind, ceilings, fed, apart) refl
+refused-fourth s name r named kind fed apart = rw (named, kind, fed, apart) refl

@@ -7,7 +7,7 @@ use Rattle.cpa_model.specs.SystemLists.{SystemLists, resource_at, resource_named
 use Rattle.cpa_edit.specs.declared.script.Step.{Step}
 use Rattle.cpa_edit.specs.Script.{Read, script_of}
 use Rattle.cpa_words.specs.Words.{Asked, accepted, Analyse, Session, Simulate, Generate, Load, Hammer, Assign, Slack, Buffers, Audit}
-use Rattle.cpa_model.specs.Kinds.{has_priorities, has_ceilings}
+use Rattle.cpa_model.specs.Kinds.{has_priorities}
 use Rattle.cpa_assign.specs.Orders.{is_fed_by_sources, can_compare}
 use Rattle.cpa_audit.specs.declared.fault.ScheduleFault.{ScheduleFault}
 use Rattle.cpa_audit.specs.declared.schedule.Segment.{Segment}
@@ -39,8 +39,7 @@ abbrev pub orderable_by : SystemLists → Option ResId → Plan ResId
 orderable_by s None = Refuse 18 (assign_refused 1)
 orderable_by s (Some r) =
     if not (has_priorities (resource_at s r.0).kind) then Refuse 18 (assign_refused 2)
-    else (if has_ceilings (resource_at s r.0).kind then Refuse 18 (assign_refused 5)
-    else (if not (is_fed_by_sources s r.0) then Refuse 18 (assign_refused 3) else (if not (can_compare s r.0) then Refuse 18 (assign_refused 4) else Do r)))
+    else (if not (is_fed_by_sources s r.0) then Refuse 18 (assign_refused 3) else (if not (can_compare s r.0) then Refuse 18 (assign_refused 4) else Do r))
 
 abbrev pub orderable_in : SystemLists → List ℕ → Plan ResId
 orderable_in s name = orderable_by s (resource_named s name)

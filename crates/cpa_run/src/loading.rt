@@ -14,7 +14,7 @@ ghost use Rattle.cpa_run.specs.Output.{IsNamed, IsThird, IsUnreadCall};
 
 use crate::lines::{assign_line, schedule_line, script_line, slack_line};
 use crate::request::Request;
-use cpa_assign::{can_compare, has_ceilings, is_fed_by_sources};
+use cpa_assign::{can_compare, is_fed_by_sources};
 use cpa_audit::{Schedule, ScheduleFault, read_schedule};
 use cpa_call::calls::{refuse_words, refused_by};
 use cpa_call::errors::InputError;
@@ -185,9 +185,6 @@ fn find_resource(alloc: Global, system: &System, name: &str) -> Result<ResId, In
     };
     if !system.resource(res).kind.has_priorities() {
         return Err(refused_by(statuses::NAME_REFUSED, assign_line(alloc, 2)?));
-    }
-    if has_ceilings(system, res) {
-        return Err(refused_by(statuses::NAME_REFUSED, assign_line(alloc, 5)?));
     }
     if !is_fed_by_sources(system, res) {
         return Err(refused_by(statuses::NAME_REFUSED, assign_line(alloc, 3)?));

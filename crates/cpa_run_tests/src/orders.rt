@@ -61,8 +61,8 @@ pub const ORDERS: [Call; 12] = [
     (
         &["assign", "sys", "cpu"],
         &[("sys", LOCKED)],
-        18,
-        &["assign refused 5\n"],
+        0,
+        &["priority control 1\npriority logger 2\npriority filter 3\nassigned cpu tasks 3\n"],
     ),
     (
         &["assign", "sys", "cpu"],

@@ -1,4 +1,4 @@
-use Rattle.std.proofs.Common.{◌≤◌, ◌+◌, ◌<◌, map, nat_lt, cond}
+use Rattle.std.proofs.Common.{◌≤◌, ◌+◌, map, nat_lt, cond}
 use Rattle.std.specs.Prelude.{filter}
 use Rattle.std.specs.List.{range_with_len}
 use Rattle.cpa_units.specs.Sets.{holds}

@@ -1,4 +1,4 @@
-use Rattle.std.proofs.Common.{◌↔◌, Bool, refl}
+use Rattle.std.proofs.Common.{◌↔◌, refl}
 use Rattle.std.specs.Prelude.{IsTrue}
 use Rattle.cpa_units.specs.declared.bound.Bound.TheVariants.{Within}
 use Rattle.cpa_units.specs.Bounds.{IsAtMost}

@@ -1,4 +1,4 @@
-use Rattle.std.proofs.Common.{◌≡◌, ◌∙◌, true, sym, arith}
+use Rattle.std.proofs.Common.{◌∙◌, sym}
 use Rattle.std.proofs.lemmas.Bool.{false≢true}
 use Rattle.cpa_units.specs.Sets.{holds}
 use Rattle.cpa_assign.proofs.PlacingLaws.{none-more}

@@ -12,7 +12,6 @@ returns-then-not-can_compare-clause-ended c =
     let named : resource_named s c.args.name.now ≡ Some res = subst (λ (name : List ℕ). resource_named s name ≡ Some res) c.as_bytes.ensures.value (sym c.find_resource.ensures ∙ c.in-Some.is) in
     let kind : has_priorities (resource_at s res.0).kind ≡ true =
     subst (λ (e : Resource). has_priorities e.kind ≡ true) c.resource.ensures.value (sym c.has_priorities.ensures ∙ c.if-not-has_priorities.false) in
-    let ceilings = sym c.has_ceilings.ensures ∙ c.if-has_ceilings.false in
     let fed = sym c.is_fed_by_sources.ensures ∙ c.if-not-is_fed_by_sources.false in
     let apart = sym c.can_compare.ensures ∙ c.if-not-can_compare.true in
-    rw (c.refused_by-then-not-can_compare.ensures, c.in_ok-assign_line-5.ensures) (refused-fourth s c.args.name.now res named kind ceilings fed apart)
+    rw (c.refused_by-then-not-can_compare.ensures, c.in_ok-assign_line-4.ensures) (refused-fourth s c.args.name.now res named kind fed apart)
