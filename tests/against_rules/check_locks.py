@@ -14,16 +14,16 @@ held against each other: each bound is the greatest response of a run.
 """
 import itertools
 import random
-import tempfile
 
-from tests.against_rules.check_queues import bounds_in, check_edits, check_runs, takes
+from tests.against_rules.check_queues import takes
 from tests.rules.bounds import System
 from tests.rules.runs import Run, plain
-from tests.support.calls import NEEDS_PROGRAM, built, hold, outcome, range_of, tell, written
+from tests.support import beside_rules
+from tests.support.beside_rules import PROGRAM
+from tests.support.calls import NEEDS_PROGRAM, hold, outcome, written
 from tests.support.lock_systems import system_with_locks
-from tests.support.systems import file_of
-
-PROGRAM = built("cpa_cli")
+from tests.support.queue_systems import some_edit
+from tests.support.systems import file_of, near_trace, random_trace
 
 
 def lock_file(tasks, periods=(1000,), form=4, kind="ceiling", more=""):
@@ -223,25 +223,15 @@ REFUSED = [
 ]
 
 
-def check_worked(folder):
-    """Bounds and runs worked out by hand."""
-    for what, text, bounds in WORKED:
-        wrote = outcome(PROGRAM, "analyse", written(folder, "worked.toml", text))
-        hold(wrote == System(text).report(), f"{what}: {wrote[0]}", "worked cases")
-        hold(bounds_in(wrote[0]) == bounds, f"{what}: the bounds aren't {bounds}: {wrote[0]}", "worked cases")
+def check_by_hand(folder):
+    """Bounds and runs worked out by hand, and files that are refused."""
+    beside_rules.check_bounds(folder, WORKED)
+    beside_rules.check_refused(folder, REFUSED)
     for text, events, told in FOLLOWED:
         trace = "".join(f"event,{source},{time}\n" for source, times in events.items() for time in times)
         file = written(folder, "worked.toml", text)
         wrote = outcome(PROGRAM, "schedule", file, written(folder, "worked.csv", trace))
         hold(wrote == (told, 0), f"{text}{trace}{wrote[0]}", "worked runs")
-
-
-def check_refused(folder):
-    """Files that are refused, and some next to them."""
-    for text, refused in REFUSED:
-        line, status = outcome(PROGRAM, "analyse", written(folder, "refused.toml", text))
-        line = line.removeprefix("system refused ").rstrip("\n") if status == 14 else ""
-        hold((line, status == 14) == (refused, bool(refused)), f"{text}: {line!r}, and not {refused!r}", "files")
 
 
 def shapes(worst):
@@ -253,7 +243,7 @@ def shapes(worst):
             yield {"region": 1, "locks": [{"name": "x", "start": start, "length": length}]}
 
 
-def check_all_small():
+def check_all_small(_):
     """Of all systems of two small tasks, whose jobs come at any times, the bounds are the greatest responses."""
     each = [{"best": it, "worst": it} | shape for it in (1, 2, 3) for shape in shapes(it)]
     for pair in itertools.product(each, repeat=2):
@@ -281,31 +271,14 @@ def check_all_small():
 def check_system(folder, number, tally):
     draw = random.Random(f"locks {number}")
     system = system_with_locks(draw)
-    text = file_of(system)
-    file = written(folder, "system.toml", text)
-    told, wrote = System(text).report(), outcome(PROGRAM, "analyse", file)
-    hold(wrote == told, f"system {number} differs:\n{text}\nby the rules:\n{told}\nby the program:\n{wrote}", "systems")
-    check_runs(folder, draw, number, system, told[0], tally, "ceiling")
-    check_edits(folder, draw, number, system)
-    for it in system["resource"]:
-        if it["kind"] == "ceiling":
-            wrote = outcome(PROGRAM, "assign", file, it["name"])
-            hold(wrote == ("assign refused 5\n", 18), f"system {number}: assign {it['name']}: {wrote}", "orders")
-    wrote = outcome(PROGRAM, "hammer", file, number, 4)
-    hold(wrote[1] == 0 and wrote[0].endswith(" beyond 0\n"), f"system {number}: hammer: {wrote}", "calls of hammer")
-
-
-def main():
-    numbers = range_of(__doc__, 1000, NEEDS_PROGRAM)
-    tally = {"bounds": 0, "reached": 0}
-    with tempfile.TemporaryDirectory() as folder:
-        check_worked(folder)
-        check_refused(folder)
-        check_all_small()
-        for number in numbers:
-            check_system(folder, number, tally)
-    tell(f"{tally['reached']} of {tally['bounds']} bounds under ceilings are reached by a run; ")
+    report = beside_rules.check_report(folder, number, system)
+    ways = random_trace, near_trace, random_trace
+    beside_rules.check_runs(folder, draw, number, system, report, ways, "ceiling", tally)
+    beside_rules.check_edits(folder, draw, number, system, some_edit)
+    beside_rules.check_orders(folder, number, system, "ceiling", 5)
+    beside_rules.check_hammer(folder, number)
 
 
 if __name__ == "__main__":
-    main()
+    COUNTED = "{reached} of {bounds} bounds under ceilings are reached by a run; "
+    beside_rules.check_all(__doc__, 1000, NEEDS_PROGRAM, [check_by_hand, check_all_small], check_system, COUNTED)

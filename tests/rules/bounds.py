@@ -231,5 +231,11 @@ class System:
         return "\n".join(lines) + "\n", 2 if overloaded else 1 if missed else 0
 
 
+def bounds_in(report):
+    """The bounds of a report."""
+    rows = (line.split() for line in report.splitlines() if line.startswith("task "))
+    return {row[1]: OVERLOAD if row[-1] == "overload" else int(row[-1]) for row in rows}
+
+
 def said(bound):
     return "overload" if bound == OVERLOAD else str(bound)

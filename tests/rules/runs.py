@@ -1,5 +1,5 @@
 """The step rules of docs/FILES.md and docs/DEFINITIONS.md, followed plainly, tick by tick: the run of a system under a
-trace, and what `simulate`, `audit` and `schedule` write of it.
+trace, and what `simulate`, `buffers`, `audit` and `schedule` write of it.
 
 Regions go by the ticks that a job has had. Times are ticks.
 """
@@ -235,6 +235,26 @@ def simulated_text(system, run):
         text += f"path {it['name']} passages {len(times)} worst {max(times, default='none')}\n"
     every = sum(len(jobs) for jobs in run.jobs.values())
     return text + f"summary jobs {every} done {every} end {run.time}\n"
+
+
+def buffers_text(rules, run, report):
+    """What `buffers` writes, by the rules of a system and the bounds of a report."""
+    least, jobs = bounds.bounds_in(report), {}
+    for name, bound in least.items():
+        assert all(job["end"] - job["arrival"] <= bound for job in run.jobs[name]), name
+        most = bound == bounds.OVERLOAD
+        jobs[name] = bound if most else bounds.most_events(rules.input_of(name, least), bound)
+        assert run.peaks[name] <= jobs[name], name
+    told = {name: bounds.said(most) for name, most in jobs.items()}
+    text = "".join(f"buffer {name} bound {it} peak {run.peaks[name]}\n" for name, it in told.items())
+    for name, several in run.on.items():
+        most = bounds.said(sum(jobs[it] for it in several))
+        text += f"resource {name} bound {most} peak {run.peaks_on[name]}\n"
+    for name in (name for name, it in rules.resources.items() if it["kind"] == "fifo"):
+        most = max((least[it] for it in run.on[name]), default=0)
+        assert run.most_work[name] <= most, name
+        text += f"queue {name} work {bounds.said(most)}\n"
+    return text + f"summary tasks {len(jobs)} overload {list(jobs.values()).count(bounds.OVERLOAD)}\n"
 
 
 def audit_text(rows, segments):

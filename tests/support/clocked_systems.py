@@ -1,6 +1,14 @@
 """Random systems whose sources are on clocks, and traces that come by them."""
 from tests.rules.clocks import clocks_of
-from tests.support.systems import draw_ceilings, draw_priorities, draw_regions, path_of, some_phases, some_resources
+from tests.support.systems import (
+    draw_ceilings,
+    draw_priorities,
+    draw_regions,
+    some_phases,
+    some_resources,
+    some_tasks,
+    with_limits,
+)
 
 # of what the periods of a clock are multiples
 MULTIPLES = ((1,), (1, 2), (1, 2, 4), (1, 3), (2, 3), (1, 2, 3))
@@ -26,20 +34,11 @@ def sources_on_clocks(draw):
 def system_on_clocks(draw, kinds=KINDS):
     """A small system, with chains and several activators, of which some come back to a resource."""
     resources, sources = some_resources(draw, 3, kinds, 2), sources_on_clocks(draw)
-    tasks = []
-    for k in range(draw.randint(2, 7)):
-        on, several = draw.choice(resources), sources * 2 + tasks[-3:]
-        after = [it["name"] for it in draw.sample(several, min(len(several), draw.choice((1, 1, 1, 1, 1, 2))))]
-        worst = draw.choice((1, 1, 2, 2, 3))
-        tasks.append({"name": f"t{k}", "on": on["name"], "after": list(dict.fromkeys(after)), "streams": 0})
-        tasks[-1] |= {"best": draw.randint(1, worst), "worst": worst, "priority": k, "slot": draw.randint(1, 4)}
+    tasks = some_tasks(draw, resources, sources * 2, draw.randint(2, 7), (1, 1, 1, 1, 1, 2), (1, 1, 2, 2, 3))
     draw_priorities(draw, tasks)
     draw_regions(draw, tasks)
     draw_ceilings(resources, tasks)
-    for it in resources:
-        it["limit"] = draw.choice((40, 200, 2000))
-    paths = [path_of(draw, tasks, k) for k in range(draw.randint(0, 2))]
-    return {"resource": resources, "source": sources, "task": tasks, "path": paths}
+    return with_limits(draw, resources, sources, tasks)
 
 
 def without_clocks(system):

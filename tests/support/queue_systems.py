@@ -1,5 +1,5 @@
 """Random systems with queues, and what is written of them."""
-from tests.support.systems import draw_priorities, draw_regions, draw_sporadic, path_of, some_resources
+from tests.support.systems import draw_priorities, draw_regions, draw_sporadic, some_resources, some_tasks, with_limits
 
 # queues alone, or beside other kinds
 ALONE, BESIDE = ("fifo",), ("fifo", "fifo", "fifo", "preemptive", "can", "round-robin", "tdma")
@@ -20,22 +20,31 @@ def system_with_queues(draw):
     """A small system with a queue at least: chains that come back to a resource, and several activators."""
     resources = some_resources(draw, 3, draw.choice((ALONE, BESIDE)), 2)
     resources[0] |= {"kind": "fifo", "gap": 0}
-    sources, tasks = some_sources(draw, draw.randint(1, 4)), []
-    for k in range(draw.randint(1, 7)):
-        on, several = draw.choice(resources), sources * 2 + tasks[-3:]
-        after = [it["name"] for it in draw.sample(several, min(len(several), draw.choice((1, 1, 1, 1, 2, 3))))]
-        after = list(dict.fromkeys(after))
-        worst, streams = draw.choice((1, 1, 2, 3, 5)), {it["name"]: it["streams"] for it in tasks}
-        while sum(streams.get(name, 1) for name in after) > 32:
-            after.pop()
-        after = after or [sources[0]["name"]]
-        count = sum(streams.get(name, 1) for name in after)
-        tasks.append({"name": f"t{k}", "on": on["name"], "after": after, "streams": count})
-        tasks[-1] |= {"best": draw.randint(1, worst), "worst": worst, "priority": k, "slot": draw.randint(1, 4)}
+    sources = some_sources(draw, draw.randint(1, 4))
+    tasks = some_tasks(draw, resources, sources * 2, draw.randint(1, 7), (1, 1, 1, 1, 2, 3), (1, 1, 2, 3, 5))
     draw_priorities(draw, tasks)
     draw_regions(draw, tasks)
     draw_sporadic(draw, sources)
-    for it in resources:
-        it["limit"] = draw.choice((40, 200, 2000))
-    paths = [path_of(draw, tasks, k) for k in range(draw.randint(0, 2))]
-    return {"resource": resources, "source": sources, "task": tasks, "path": paths}
+    return with_limits(draw, resources, sources, tasks)
+
+
+def some_edit(draw, system):
+    """An edit, most often of a task that is there."""
+    names = [it["name"] for it in system["task"]] + draw.choice(([], [], ["zz", "s0"]))
+    sources = [it["name"] for it in system["source"]]
+    name, other, new = draw.choice(names or ["zz"]), draw.choice(names or ["zz"]), draw.choice(("n1", "n2", "t0"))
+    best, worst, number = draw.choice((0, 1, 1, 2, 3)), draw.choice((1, 2, 3)), draw.choice((0, 0, 1, 2, 5))
+    after, on = draw.choice(names + sources), draw.choice(system["resource"])["name"]
+    return draw.choice(
+        (
+            ["exec", name, best, worst],
+            ["priority", name, number],
+            ["slot", name, number],
+            ["swap", name, other],
+            ["source", draw.choice(sources), draw.randint(8, 40), draw.randint(0, 20), draw.choice((0, 0, 5, 50))],
+            ["add", new, on, after, best, worst, number],
+            ["add", new, on, after, 1, worst, number],
+            ["add", new, on, after, 1, worst, 0],
+            ["remove", draw.choice((name, "n1", "n2"))],
+        )
+    )

@@ -200,43 +200,46 @@ def some_sources(draw):
     return sources
 
 
+def some_tasks(draw, resources, sources, count, activators, executions):
+    """So many tasks, each after so many of the sources and of the three tasks before it, with at most 32 streams."""
+    tasks, streams = [], {it["name"]: 1 for it in sources}
+    for k in range(count):
+        on, several = draw.choice(resources), sources + tasks[-3:]
+        after = [it["name"] for it in draw.sample(several, min(len(several), draw.choice(activators)))]
+        after = list(dict.fromkeys(after))
+        while sum(streams[name] for name in after) > 32:
+            after.pop()
+        after = after or [sources[0]["name"]]
+        streams[f"t{k}"], worst = sum(streams[name] for name in after), draw.choice(executions)
+        tasks.append({"name": f"t{k}", "on": on["name"], "after": after, "best": draw.randint(1, worst)})
+        tasks[-1] |= {"worst": worst, "priority": k, "slot": draw.randint(1, 4)}
+    return tasks
+
+
+def with_paths(draw, resources, sources, tasks):
+    """A system of these, with up to two paths."""
+    paths = [path_of(draw, tasks, k) for k in range(draw.randint(0, 2))]
+    return {"resource": resources, "source": sources, "task": tasks, "path": paths}
+
+
+def with_limits(draw, resources, sources, tasks):
+    """A system of these, with small limits of busy windows and up to two paths."""
+    for it in resources:
+        it["limit"] = draw.choice((40, 200, 2000))
+    return with_paths(draw, resources, sources, tasks)
+
+
 def random_system(draw):
     """A system: its resources, sources, tasks and paths; a task comes after sources and earlier tasks, mostly after
     one."""
     resources = some_resources(draw, 4, KINDS, 5)
-    sources, tasks = some_sources(draw), []
-    for k in range(draw.randint(1, 8)):
-        on, several = draw.choice(resources), sources + tasks[-3:]
-        after = [it["name"] for it in draw.sample(several, min(len(several), draw.choice((1, 1, 1, 2, 3))))]
-        worst = draw.randint(1, 9)
-        tasks.append(
-            {
-                "name": f"t{k}",
-                "on": on["name"],
-                "after": after,
-                "streams": 0,
-                "best": draw.randint(1, worst),
-                "worst": worst,
-                "priority": k,
-                "slot": draw.randint(1, 4),
-            }
-        )
-        streams = {it["name"]: it["streams"] for it in tasks} | {it["name"]: 1 for it in sources}
-        while sum(streams[name] for name in after) > 32:
-            after.pop()
-        if not after:
-            after.append(sources[0]["name"])
-        tasks[-1]["streams"] = sum(streams[name] for name in after)
+    sources = some_sources(draw)
+    tasks = some_tasks(draw, resources, sources, draw.randint(1, 8), (1, 1, 1, 2, 3), range(1, 10))
     draw_priorities(draw, tasks)
     draw_regions(draw, tasks)
     draw_sporadic(draw, sources)
     draw_ceilings(resources, tasks)
-    return {
-        "resource": resources,
-        "source": sources,
-        "task": tasks,
-        "path": [path_of(draw, tasks, k) for k in range(draw.randint(0, 2))],
-    }
+    return with_paths(draw, resources, sources, tasks)
 
 
 def path_of(draw, tasks, place):
@@ -326,13 +329,7 @@ def small_system(draw, kinds=KINDS):
         period = draw.randint(4, 24)
         jitter, distance = draw.choice((0, 0, draw.randint(0, 2 * period))), draw.choice((0, draw.randint(0, period)))
         sources.append({"name": f"s{k}", "period": period, "jitter": jitter, "distance": distance})
-    tasks = []
-    for k in range(draw.randint(1, 6)):
-        on, several = draw.choice(resources), sources * 2 + tasks[-3:]
-        after = [it["name"] for it in draw.sample(several, min(len(several), draw.choice((1, 1, 1, 1, 2, 3))))]
-        worst = draw.choice((1, 1, 2, 3, 5))
-        tasks.append({"name": f"t{k}", "on": on["name"], "after": list(dict.fromkeys(after)), "streams": 0})
-        tasks[-1] |= {"best": draw.randint(1, worst), "worst": worst, "priority": k, "slot": draw.randint(1, 4)}
+    tasks = some_tasks(draw, resources, sources * 2, draw.randint(1, 6), (1, 1, 1, 1, 2, 3), (1, 1, 2, 3, 5))
     draw_priorities(draw, tasks)
     draw_regions(draw, tasks)
     draw_sporadic(draw, sources)
