@@ -1,9 +1,15 @@
-"""Systems at random, of all kinds, most of them accepted."""
+"""Systems at random, of all kinds, most of them accepted; what is said of files, and bounds by the plain rules."""
 from random import Random
+from typing import Any
 
 from lokwurmi import Kind, Lock, Resource, System
-from lokwurmi.files.documents import activators
+from lokwurmi.files.documents import Document, activators, values_in
 from lokwurmi.model.entries import keys_of
+from lokwurmi.model.view import SystemView
+from lokwurmi.refusals.rules import first_refusal
+from tests.rules.bounds import OVERLOAD
+from tests.rules.bounds import System as Rules
+from tests.support.systems import file_of
 
 FAULTS = [
     ("best", 0),
@@ -24,6 +30,24 @@ FAULTS = [
     ("name", '\u00e4\x7f\t"\\'),
 ]
 """What makes a task wrong: a key and a value; where it comes after None, it comes after itself."""
+
+
+# a system, the plain rules over it, a view of it, and its bounds
+Bounded = tuple[dict[str, Any], Rules, SystemView, dict[str, int | None]]
+
+
+def with_bounds(system: dict[str, Any]) -> Bounded:
+    """A system of the plain rules with its bounds by them."""
+    text = file_of(system)
+    rules = Rules(text)
+    bounds = {name: None if it == OVERLOAD else it for name, it in rules.least_solution().items()}
+    return system, rules, SystemView.of(values_in(text)), bounds
+
+
+def told_of(text: str) -> tuple[str, str, str]:
+    """The line of the refusal of a file, what is said, and what helps; nothing where it is a system."""
+    found = first_refusal(Document(text))
+    return (found.line.removeprefix("system refused "), found.remark.says, found.remark.helps) if found else ("",) * 3
 
 
 def random_system(draw: Random, faulty: float = 0.1) -> System:

@@ -2,11 +2,13 @@
 written."""
 import random
 import unittest
+from collections.abc import Callable, Iterator
 
 from lokwurmi.files.documents import Document
 from lokwurmi.refusals.rules import first_refusal
 from tests.support.damage import with_keys, with_locks, with_queues, with_regions
 
+Damages = Callable[[random.Random, str], str]
 WRITTEN = """format = 1
 resource = [{ name = "cpu", kind = "preemptive" }]
 source = [
@@ -60,29 +62,30 @@ class Damage(unittest.TestCase):
         self.assertEqual([it["region"] for it in Document(text).entries["task"]], [2, 2])
         self.assertEqual([it["priority"] for it in Document(text).entries["task"]], [31, 70])
 
+    def damaged(self, text: str, *damages: Damages) -> Iterator[Document]:
+        """Files to which damages are done one after another, at random, all of which are systems."""
+        for seed in range(200):
+            draw, changed = random.Random(seed), text
+            for damage in damages:
+                changed = damage(draw, changed)
+                document = Document(changed)
+                self.assertIsNone(first_refusal(document), changed)
+                yield document
+
     def test_regions(self) -> None:
         """Regions and sporadic sources can be put into any file, again and again, and it stays a system."""
         some = set()
-        for seed in range(200):
-            draw = random.Random(seed)
-            once = with_regions(draw, WRITTEN)
-            for text in (once, with_regions(draw, once)):
-                document = Document(text)
-                self.assertIsNone(first_refusal(document), text)
-                self.assertEqual([it["period"] for it in document.entries["source"]], [5000, 16, 7, 8])
-                some |= {(it["name"], it.get("sporadic"), it.get("clock")) for it in document.entries["source"]}
+        for document in self.damaged(WRITTEN, with_regions, with_regions):
+            self.assertEqual([it["period"] for it in document.entries["source"]], [5000, 16, 7, 8])
+            some |= {(it["name"], it.get("sporadic"), it.get("clock")) for it in document.entries["source"]}
         # three of them may be sporadic or not, or not tell it, and all may be on one of two clocks, or on none
         self.assertEqual(len(some), 3 * 10)
 
     def test_queues(self) -> None:
         """Resources of any file can become queues, again and again, and it stays a system."""
         kinds, rates, payloads = set(), set(), set()
-        for seed in range(200):
-            draw = random.Random(seed)
-            once = with_queues(draw, WITH_FRAMES)
-            for text in (once, with_queues(draw, once), with_queues(draw, with_regions(draw, WRITTEN))):
-                document = Document(text)
-                self.assertIsNone(first_refusal(document), text)
+        for text, damages in ((WITH_FRAMES, (with_queues, with_queues)), (WRITTEN, (with_regions, with_queues))):
+            for document in self.damaged(text, *damages):
                 kinds |= {it["kind"] for it in document.entries["resource"]}
                 rates |= {it.get("rate") for it in document.entries["resource"]}
                 payloads |= {it.get("payload") for it in document.entries["task"]}
@@ -93,14 +96,9 @@ class Damage(unittest.TestCase):
     def test_locks(self) -> None:
         """Preemptive resources of any file can have ceilings, and their tasks sections, again and again."""
         kinds, counts = set(), set()
-        for seed in range(200):
-            draw = random.Random(seed)
-            once = with_locks(draw, WRITTEN)
-            for text in (once, with_locks(draw, once), with_queues(draw, with_regions(draw, once))):
-                document = Document(text)
-                self.assertIsNone(first_refusal(document), text)
-                kinds |= {it["kind"] for it in document.entries["resource"]}
-                counts |= {len(it.get("locks", [])) for it in document.entries["task"]}
+        for document in self.damaged(WRITTEN, with_locks, with_locks, with_regions, with_queues):
+            kinds |= {it["kind"] for it in document.entries["resource"]}
+            counts |= {len(it.get("locks", [])) for it in document.entries["task"]}
         self.assertEqual(kinds, {"preemptive", "ceiling", "fifo"})
         self.assertTrue({0, 1, 2, 3} <= counts, counts)
 

@@ -3,7 +3,8 @@ come near bounds."""
 import random
 import unittest
 from collections.abc import Iterator
-from typing import Any
+
+from made import Bounded, with_bounds
 
 from lokwurmi.files.documents import values_in
 from lokwurmi.model.view import SystemView
@@ -13,10 +14,9 @@ from lokwurmi_tools.runs.jobs_in_run import Held, held_in
 from lokwurmi_tools.search.margin_question import longer_sections
 from lokwurmi_tools.search.trace_plans import events_of, known_plans
 from tests.rules import locks
-from tests.rules.bounds import OVERLOAD, System
 from tests.rules.runs import Run
 from tests.support.lock_systems import system_with_locks
-from tests.support.systems import file_of, random_trace
+from tests.support.systems import random_trace
 
 SYSTEMS = 80
 LOCKS = """format = 4
@@ -35,14 +35,9 @@ task = [
 """
 
 
-def systems() -> Iterator[tuple[dict[str, Any], System, SystemView, dict[str, int | None]]]:
+def systems() -> Iterator[Bounded]:
     """Random systems with their bounds by the rules."""
-    for number in range(SYSTEMS):
-        system = system_with_locks(random.Random(f"lock tools {number}"))
-        text = file_of(system)
-        rules = System(text)
-        bounds = {name: None if it == OVERLOAD else it for name, it in rules.least_solution().items()}
-        yield system, rules, SystemView.of(values_in(text)), bounds
+    return map(with_bounds, (system_with_locks(random.Random(f"lock tools {number}")) for number in range(SYSTEMS)))
 
 
 class Tools(unittest.TestCase):

@@ -5,6 +5,7 @@ import warnings
 from fractions import Fraction
 
 from engine_for_tests import need_engine
+from made import told_of
 
 from lokwurmi import EditRefused, Kind, Lock, LokwurmiError, NameRefused, NoTick, System, SystemRefused, UnitsRefused
 from lokwurmi.files.documents import Document, values_in
@@ -13,7 +14,6 @@ from lokwurmi.model.conversion import Converter
 from lokwurmi.model.view import Block, SystemView
 from lokwurmi.refusals import notices
 from lokwurmi.refusals.edits import refused_edits
-from lokwurmi.refusals.rules import first_refusal
 from lokwurmi.refusals.words import remark_on
 
 LOCKS = """format = 4
@@ -76,14 +76,6 @@ def two_tasks(tick: str | None = None) -> System:
     return system
 
 
-def refused(text: str) -> tuple[str, str, str]:
-    """The line of a refusal, what is said, and what helps."""
-    found = first_refusal(Document(text))
-    if not found:
-        return "", "", ""
-    return found.line.removeprefix("system refused "), found.remark.says, found.remark.helps
-
-
 class Files(unittest.TestCase):
     def test_format(self) -> None:
         text = two_tasks().to_toml()
@@ -109,7 +101,7 @@ class Files(unittest.TestCase):
         text = text.split("task = [")[0] + "".join(lines)
         view = SystemView.of(values_in(text))
         self.assertEqual([(it.name, it.start, it.end) for it in view.tasks["e"].locks], [("z0", 0, 1), ("z1", 1, 2)])
-        line, says, _ = refused(text.replace("start = 1\nlength = 1", "start = 0\nlength = 0"))
+        line, says, _ = told_of(text.replace("start = 1\nlength = 1", "start = 0\nlength = 0"))
         self.assertEqual((line, '"z1" is 0' in says), ("reason 2 task 1", True))
 
     def test_view(self) -> None:
@@ -131,14 +123,14 @@ class Files(unittest.TestCase):
 
     def test_refusals(self) -> None:
         for old, new, line, says, helps in REFUSED:
-            found = refused(LOCKS.replace(old, new, 1))
+            found = told_of(LOCKS.replace(old, new, 1))
             with self.subTest(new):
                 self.assertEqual(found[0], line, found)
                 self.assertIn(says, found[1])
                 self.assertIn(helps, found[2])
         several = ", ".join(f'{{ name = "z", start = {k}, length = 1 }}' for k in range(64))
-        self.assertEqual(refused(LOCKS.replace(Y, several.replace("start = ", "start = 1")))[0], "reason 16 task 3")
-        self.assertEqual(refused(LOCKS.replace("region = 3", f"locks = [{several}]"))[0], "")
+        self.assertEqual(told_of(LOCKS.replace(Y, several.replace("start = ", "start = 1")))[0], "reason 16 task 3")
+        self.assertEqual(told_of(LOCKS.replace("region = 3", f"locks = [{several}]"))[0], "")
         with self.assertRaisesRegex(LokwurmiError, "which format 2 hasn't"):
             System.from_toml(LOCKS.replace("format = 4", "format = 2"))
 

@@ -4,15 +4,14 @@ import unittest
 from collections.abc import Iterator
 from typing import Any
 
-from lokwurmi.files.documents import values_in
-from lokwurmi.model.view import SystemView
+from made import Bounded, with_bounds
+
 from lokwurmi_tools.bounds.bound_parts import BoundParts
 from lokwurmi_tools.bounds.bound_texts import place_of, turn_of
 from lokwurmi_tools.search.trace_plans import events_of, known_plans
 from lokwurmi_tools.shared.times import Scale
-from tests.rules.bounds import OVERLOAD, System, most_events
+from tests.rules.bounds import OVERLOAD, most_events
 from tests.rules.runs import Run
-from tests.support.systems import file_of
 
 SYSTEMS = 60
 
@@ -36,14 +35,9 @@ def system_of_queues(draw: random.Random) -> dict[str, Any]:
     return {"format": 4, "resource": resources, "source": sources, "task": tasks, "path": []}
 
 
-def systems() -> Iterator[tuple[dict[str, Any], System, SystemView, dict[str, int | None]]]:
+def systems() -> Iterator[Bounded]:
     """Random systems with their bounds by the rules."""
-    for number in range(SYSTEMS):
-        system = system_of_queues(random.Random(f"queues {number}"))
-        text = file_of(system)
-        rules = System(text)
-        bounds = {name: None if it == OVERLOAD else it for name, it in rules.least_solution().items()}
-        yield system, rules, SystemView.of(values_in(text)), bounds
+    return map(with_bounds, (system_of_queues(random.Random(f"queues {number}")) for number in range(SYSTEMS)))
 
 
 class Tools(unittest.TestCase):

@@ -3,6 +3,7 @@ import unittest
 import warnings
 
 from engine_for_tests import need_engine
+from made import told_of
 
 from lokwurmi import EditRefused, Kind, LokwurmiError, NameRefused, NoTick, System, SystemRefused, UnitsRefused
 from lokwurmi.files.documents import Document, values_in
@@ -10,7 +11,6 @@ from lokwurmi.files.text_files import File
 from lokwurmi.frames import ethernet, port_bits, port_ticks
 from lokwurmi.model.view import SystemView
 from lokwurmi.refusals.edits import refused_edits
-from lokwurmi.refusals.rules import first_refusal
 from lokwurmi.refusals.words import remark_on
 from lokwurmi.results.reports import buffers
 
@@ -95,31 +95,24 @@ class Files(unittest.TestCase):
         system = System.from_toml(PORT)
         self.assertEqual([system.execution(it) for it in system.tasks], [(83, 84), (3, 9), (111, 135)])
 
-    def refused(self, text: str) -> tuple[str, str, str]:
-        """The line of a refusal, what is said, and what helps."""
-        found = first_refusal(Document(text))
-        if not found:
-            return "", "", ""
-        return found.line.removeprefix("system refused "), found.remark.says, found.remark.helps
-
     def test_refusals(self) -> None:
         for old, new, line, says, helps in REFUSED:
-            found = self.refused(PORT.replace(old, new, 1))
+            found = told_of(PORT.replace(old, new, 1))
             with self.subTest(new):
                 self.assertEqual(found[0], line)
                 self.assertIn(says, found[1])
                 self.assertIn(helps, found[2])
-        self.assertEqual(self.refused(PORT.replace("= 1000 },", "= 0 },")), ("", "", ""))
+        self.assertEqual(told_of(PORT.replace("= 1000 },", "= 0 },")), ("", "", ""))
 
     def test_older_formats(self) -> None:
         text = PORT.replace(", rate = 100", "").replace("format = 4", "format = 2")
-        line, says, helps = self.refused(text)
+        line, says, helps = told_of(text)
         self.assertEqual(line, "reason 1 resource 1")
         self.assertEqual(says, 'resource "port": its kind is "fifo", which format 2 hasn\'t')
         self.assertEqual(helps, "write `format = 4`, which has all that format 2 has")
-        self.assertIn("with format = 4", self.refused(text.replace('"fifo"', '"fcfs"'))[2])
+        self.assertIn("with format = 4", told_of(text.replace('"fifo"', '"fcfs"'))[2])
         # a long payload is out of range there
-        line, _, helps = self.refused(text.replace('"fifo"', '"can"'))
+        line, _, helps = told_of(text.replace('"fifo"', '"can"'))
         self.assertEqual((line, "format = 4" in helps), ("reason 2 task 1", False))
         with self.assertRaisesRegex(LokwurmiError, "which format 1 hasn't"):
             System.from_toml(PORT.replace("format = 4", "format = 1"))
