@@ -32,25 +32,35 @@ def place_in_cycles(chain, step):
     return (chain + 11 * step) % 64
 
 
-def largest(kinds, place):
-    """64 resources, 512 tasks in 64 chains of 8, 64 paths over whole chains."""
-    text = ["format = 1", "resource = ["]
-    text += [f'{{ name = "r{r}", kind = "{kinds[r % len(kinds)]}" }},' for r in range(64)]
-    text += ["]", "source = ["]
-    text += [f'{{ name = "s{c}", period = {10000 + 10 * c}, jitter = {50 * (c % 9)} }},' for c in range(64)]
+def in_chains(kind_of, period_of, place, numbers_of):
+    """The rows of 64 resources, told by their keys behind the name, and of 512 tasks in 64 chains of 8, by what they
+    take and their turns."""
+    text = [
+        "format = 1",
+        "resource = [",
+        *(f'{{ name = "r{r}", {kind_of(r)} }},' for r in range(64)),
+        "]",
+        "source = [",
+    ]
+    text += [f'{{ name = "s{c}", period = {period_of(c)}, jitter = {50 * (c % 9)} }},' for c in range(64)]
     text += ["]", "task = ["]
     for c in range(64):
         for k in range(8):
             after = f"t{c}.{k - 1}" if k else f"s{c}"
-            r = place(c, k)
-            worst = 100 + 7 * ((c + k) % 30)
-            kind = kinds[r % len(kinds)]
-            turn = f"slot = {worst}" if kind in ("round-robin", "tdma") else f"priority = {10 * k + c}"
-            text.append(
-                f'{{ name = "t{c}.{k}", on = "r{r}", after = "{after}", best = {worst // 2},'
-                f" worst = {worst}, {turn} }},"
-            )
-    text += ["]", "path = ["]
+            text.append(f'{{ name = "t{c}.{k}", on = "r{place(c, k)}", after = "{after}", {numbers_of(c, k)} }},')
+    return [*text, "]"]
+
+
+def largest(kinds, place):
+    """64 resources, 512 tasks in 64 chains of 8, 64 paths over whole chains."""
+
+    def numbers_of(chain, step):
+        worst, kind = 100 + 7 * ((chain + step) % 30), kinds[place(chain, step) % len(kinds)]
+        turn = f"slot = {worst}" if kind in ("round-robin", "tdma") else f"priority = {10 * step + chain}"
+        return f"best = {worst // 2}, worst = {worst}, {turn}"
+
+    text = in_chains(lambda r: f'kind = "{kinds[r % len(kinds)]}"', lambda c: 10000 + 10 * c, place, numbers_of)
+    text.append("path = [")
     for c in range(64):
         tasks = ", ".join(f'"t{c}.{k}"' for k in range(8))
         text.append(f'{{ name = "p{c}", tasks = [{tasks}], deadline = 1000000 }},')

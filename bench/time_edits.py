@@ -11,7 +11,7 @@ way: the least time of five calls, and the peak memory of a call.
 import os
 
 from bench.timing import folder_of, show
-from tests.support.calls import TOP, built
+from tests.support.calls import TOP, built, written
 
 MOST = 1_048_576
 EDITS = 10_000
@@ -75,18 +75,14 @@ def edits(sort):
 def main():
     folder = folder_of(__doc__)
     bench = built("cpa_bench")
-    large = os.path.join(folder, "large.toml")
-    with open(large, "w") as file:
-        file.write(system())
+    large = written(folder, "large.toml", system())
     car = os.path.join(TOP, "examples/car_network.toml")
     scripts = [(large, "full", full()), (large, "wide", "x " * (MOST // 2))]
     scripts += [(large, sort, edits(sort)) for sort in ("exec", "priority", "swap", "source", "move")]
     scripts.append((car, "car", "exec act0 100 250\n" * EDITS))
     print(f"processors: {os.cpu_count()}")
     for described, which, text in scripts:
-        path = os.path.join(folder, which + ".edits")
-        with open(path, "w") as file:
-            file.write(text)
+        path = written(folder, which + ".edits", text)
         for way in ("load", "read", "apply"):
             show(f"{which} {len(text)} bytes, {way}", [bench, "edits", way, described, path])
 

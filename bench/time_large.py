@@ -16,7 +16,7 @@ the last line of the report. The first two that it names have bounds, and it end
 """
 import sys
 
-from bench.timing import names_of, spent_over
+from bench.timing import names_of, passes, spent_over
 from tests.support.calls import built
 from tests.support.large_systems import buses, one_bus, one_processor
 
@@ -44,10 +44,7 @@ def main():
         seconds, _, memory, last = min(calls)
         count = text.count("worst =") + text.count("payload =")
         print(f"{name:<20}{count:>6} tasks {len(text):>9} bytes {seconds:8.3f} s {memory:7.1f} MB  {last}", flush=True)
-        most = BOUNDS.get(name)
-        if most and (seconds > most[0] or memory > most[1]):
-            print(f"{name} passes its bounds: {most[0]} s, {most[1]} MB", flush=True)
-            passed = True
+        passed |= passes(name, BOUNDS.get(name), seconds, memory)
     return passed
 
 

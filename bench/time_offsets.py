@@ -19,7 +19,7 @@ import re
 import sys
 import tempfile
 
-from bench.timing import names_of, spent_over
+from bench.timing import names_of, passes, spent_over
 from tests.support.calls import built, outcome, written
 from tests.support.large_systems import document
 
@@ -85,10 +85,7 @@ def main():
             f"{name:<12}{seconds:8.3f} s, without clocks {without:.3f} s, {memory:.1f} MB, bounds {share:.2f}: {last}",
             flush=True,
         )
-        most = BOUNDS.get(name)
-        if most and (seconds > most[0] or memory > most[1]):
-            print(f"{name} passes its bounds: {most[0]} s, {most[1]} MB", flush=True)
-            passed = True
+        passed |= passes(name, BOUNDS.get(name), seconds, memory)
     return passed
 
 

@@ -12,7 +12,7 @@ peak memory of a call.
 import os
 
 from bench.timing import folder_of, show
-from tests.support.calls import built
+from tests.support.calls import built, written
 
 MOST = 16_777_216
 ROWS = 200_000
@@ -64,17 +64,13 @@ def events(count, last):
 def main():
     folder = folder_of(__doc__)
     reader = built("cpa_bench")
-    described = os.path.join(folder, "system.toml")
-    with open(described, "w") as file:
-        file.write(system())
+    described = written(folder, "system.toml", system())
     traces = [("full", full()), ("wide", wide())]
     traces += [(f"events{count}", events(count, 50 * count)) for count in (50_000, 100_000, 200_000)]
     traces.append(("breach", events(ROWS, 50 * (ROWS - 2) + 1)))
     print(f"processors: {os.cpu_count()}")
     for which, text in traces:
-        path = os.path.join(folder, which + ".csv")
-        with open(path, "w") as file:
-            file.write(text)
+        path = written(folder, which + ".csv", text)
         for way in ("load", "read", "judge", "judge-100-times"):
             show(f"{which} {len(text)} bytes, {way}", [reader, "traces", way, described, path])
 

@@ -18,7 +18,7 @@ import re
 import subprocess
 import tempfile
 
-from bench.time_analyse import place_in_cycles, systems
+from bench.time_analyse import in_chains, place_in_cycles, systems
 from tests.support.calls import TOP, reader_of
 
 PROGRAM = os.path.join(TOP, "crates/cpa_bench/out/cpa_bench")
@@ -28,20 +28,12 @@ SPARE = (200, 100, 50, 20, 10, 5, 1)
 
 def heavy(spare):
     """64 processors with eight tasks each, one of each step of 64 chains; of 1000 ticks all but so many are used."""
-    text = ["format = 1", "resource = ["]
-    text += [f'{{ name = "r{r}", kind = "preemptive", limit = 10000000 }},' for r in range(64)]
-    text += ["]", "source = ["]
-    text += [f'{{ name = "s{c}", period = 1000, jitter = {50 * (c % 9)} }},' for c in range(64)]
-    text += ["]", "task = ["]
-    for c in range(64):
-        for k in range(8):
-            after = f"t{c}.{k - 1}" if k else f"s{c}"
-            worst = (1000 - spare - k + 7) // 8
-            text.append(
-                f'{{ name = "t{c}.{k}", on = "r{place_in_cycles(c, k)}", after = "{after}", best = 60, worst = {worst},'
-                f" priority = {64 * k + c} }},"
-            )
-    return "\n".join(text + ["]"]) + "\n"
+
+    def numbers_of(chain, step):
+        return f"best = 60, worst = {(1000 - spare - step + 7) // 8}, priority = {64 * step + chain}"
+
+    kind = 'kind = "preemptive", limit = 10000000'
+    return "\n".join(in_chains(lambda _: kind, lambda _: 1000, place_in_cycles, numbers_of)) + "\n"
 
 
 def made():

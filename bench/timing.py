@@ -30,6 +30,14 @@ def names_of(doc: str | None, known: Sequence[str], needs: str = NEEDS_PROGRAM) 
     return names or list(known)
 
 
+def passes(name: str, most: tuple[float, float] | None, seconds: float, memory: float) -> bool:
+    """Whether a case passes its bounds on seconds and megabytes, if it has some; then it is told."""
+    is_beyond = most is not None and (seconds > most[0] or memory > most[1])
+    if most and is_beyond:
+        print(f"{name} passes its bounds: {most[0]} s, {most[1]} MB", flush=True)
+    return is_beyond
+
+
 def call(command: Sequence[str]) -> tuple[float, str, str]:
     """Seconds of a call, its peak memory in kilobytes, and the first line that it writes."""
     start = time.perf_counter()

@@ -27,7 +27,7 @@ def remark_on(document: Document, line: str, words: Sequence[str]) -> Remark | N
     if line == "assign refused 2" and word in resources:
         return without_priorities(Spot(document, "resource", resources.index(word)))
     if line == "assign refused 3" and word in resources:
-        return behind_tasks(document, word, set(names["task"]))
+        return behind_tasks(document, word, names["task"])
     if line == "assign refused 4" and word in resources:
         return on_clocks(document, word)
     if line == "assign refused 5" and word in resources:
@@ -74,41 +74,36 @@ def no_task(names: dict[str, list[str]], word: str) -> Remark:
     return Remark(f'no task is called "{printable(word)}"{guess}', None, helps, more=MORE)
 
 
-def on_clocks(document: Document, resource: str) -> Remark | None:
-    """Of a resource with tasks on clocks, one of whose tasks can keep a more urgent one waiting."""
-    clocks = {it["name"]: it["clock"] for it in document.entries["source"] if "clock" in it}
+def of_activators(document: Document, resource: str, told: dict[str, str], says: str, helps: str) -> Remark | None:
+    """Of a resource some of whose tasks have one of these activators: how the first of them comes, where what is told
+    of its activator stands for {}, and how many more there are."""
     on = [it for it in spots_in(document, "task") if it.entry["on"] == resource]
-    found = [it for it in on if clocks.keys() & activators(it.entry)]
+    found = [it for it in on if told.keys() & activators(it.entry)]
     if not found:
         return None
     spot, count = found[0], len(found) - 1
-    place, source = next((at, it) for at, it in enumerate(activators(spot.entry)) if it in clocks)
+    place, name = next((at, it) for at, it in enumerate(activators(spot.entry)) if it in told)
     others = f"; so {'does one' if count == 1 else f'do {count}'} more" if count else ""
-    says = (
-        f'task "{spot.entry["name"]}" of {resource} comes by the clock "{clocks[source]}", by which a task may be'
-        f" better off below another than above it{others}"
-    )
+    comes = f'task "{spot.entry["name"]}" of {resource} comes {says.format(told[name])}{others}'
+    return Remark(comes, spot.item("after", place), helps, more=MORE)
+
+
+def on_clocks(document: Document, resource: str) -> Remark | None:
+    """Of a resource with tasks on clocks, one of whose tasks can keep a more urgent one waiting."""
+    clocks = {it["name"]: it["clock"] for it in document.entries["source"] if "clock" in it}
+    says = 'by the clock "{}", by which a task may be better off below another than above it'
     helps = (
         "with clocks assign takes preemptive resources without regions: leave the clocks out in a copy of the file, and"
         " look at the order that comes out with them; or ask lokwurmi optimise, or try orders by a script (swap)"
     )
-    return Remark(says, spot.item("after", place), helps, more=MORE)
+    return of_activators(document, resource, clocks, says, helps)
 
 
-def behind_tasks(document: Document, resource: str, tasks: set[str]) -> Remark | None:
-    on = [it for it in spots_in(document, "task") if it.entry["on"] == resource]
-    found = [it for it in on if tasks.intersection(activators(it.entry))]
-    if not found:
-        return None
-    spot, count = found[0], len(found) - 1
-    place, before = next((at, it) for at, it in enumerate(activators(spot.entry)) if it in tasks)
-    others = f"; so {'does one' if count == 1 else f'do {count}'} more" if count else ""
-    says = (
-        f'task "{spot.entry["name"]}" of {resource} comes after the task "{before}", so that its input depends on the'
-        f" order{others}"
-    )
+def behind_tasks(document: Document, resource: str, tasks: list[str]) -> Remark | None:
+    """Of a resource with tasks that come after others."""
+    says = 'after the task "{}", so that its input depends on the order'
     helps = (
         "assign takes resources whose tasks all come after sources; try orders by a script (swap), or give the task in"
         " a copy of the file a source with the period, jitter and distance of its line in the report"
     )
-    return Remark(says, spot.item("after", place), helps, more=MORE)
+    return of_activators(document, resource, dict(zip(tasks, tasks)), says, helps)

@@ -8,7 +8,7 @@ from typing import Any, TypeVar
 
 from lokwurmi.model.units import time_of
 from lokwurmi_tools.commands.catalogue import named
-from lokwurmi_tools.shared.faults import Told
+from lokwurmi_tools.shared.faults import Fault, Told
 from lokwurmi_tools.shared.program import LAUNCHER
 
 # how many letters a line of prose has at most, and the status of words that the program doesn't accept
@@ -72,6 +72,12 @@ def add_tick(reader: argparse.ArgumentParser) -> None:
     """The word that has times shown in place of ticks."""
     says = "the time of a tick, as 1us: shows times in place of ticks"
     reader.add_argument("--tick", metavar="TIME", type=word_of(time_of), help=says)
+
+
+def check_span(start: int, until: int | None) -> None:
+    """Refuses a part of a picture, in ticks, that has none."""
+    if start < 0 or until is not None and until <= start:
+        raise Fault("the time from --from to --until has no tick")
 
 
 def add_program(reader: argparse.ArgumentParser) -> None:

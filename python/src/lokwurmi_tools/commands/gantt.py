@@ -27,7 +27,14 @@ in a schedule: --reading says by which rule they are taken to.
 the time, and where its cycles begin, as far as the events of the trace tell."""
 import argparse
 
-from lokwurmi_tools.commands.argument_parsers import add_picture, add_program, add_tick, options_of, reader_of
+from lokwurmi_tools.commands.argument_parsers import (
+    add_picture,
+    add_program,
+    add_tick,
+    check_span,
+    options_of,
+    reader_of,
+)
 from lokwurmi_tools.pictures.gantt_chart import GanttOptions, draw_gantt
 from lokwurmi_tools.pictures.plotting import check_name
 from lokwurmi_tools.runs.effect_chain_in_run import ASKED, READINGS
@@ -88,9 +95,7 @@ def check(options: GanttOptions) -> None:
         raise Fault("--what wants --chain, of which it is")
     if not (options.schedule or options.trace):
         raise Fault("name a SCHEDULE, or a trace by --trace, whose schedule `lokwurmi schedule` writes")
-    start = options.start or 0
-    if start < 0 or options.until is not None and options.until <= start:
-        raise Fault("the time from --from to --until has no tick")
+    check_span(options.start or 0, options.until)
 
 
 def main(arguments: list[str] | None = None) -> int:

@@ -22,7 +22,7 @@ python3-matplotlib
 """
 import argparse
 
-from lokwurmi_tools.commands.argument_parsers import add_program, add_tick, options_of, reader_of
+from lokwurmi_tools.commands.argument_parsers import add_program, add_tick, check_span, options_of, reader_of
 from lokwurmi_tools.page.page_options import PageOptions
 from lokwurmi_tools.page.page_text import write_page
 from lokwurmi_tools.shared.faults import Fault
@@ -61,6 +61,5 @@ def main(arguments: list[str] | None = None) -> int:
         raise Fault(f"{options.to}: a page's name ends with .html")
     if options.schedule and not options.trace:
         raise Fault("--schedule wants --trace, of which it is")
-    if options.start < 0 or options.until is not None and options.until <= options.start:
-        raise Fault("the time from --from to --until has no tick")
+    check_span(options.start, options.until)
     return write_page(options)
