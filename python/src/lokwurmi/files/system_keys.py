@@ -38,32 +38,41 @@ def keys_of(form: int) -> dict[str, dict[str, Key]]:
         part: {key: Key("integer", least, most, key == "period") for key, (_, least, most) in keys.items()}
         for part, keys in times_of(LIMITS[form]).items()
     }
-    name = {"name": Key("text", is_required=True)}
-    task = {"on": Key("text", is_required=True), "after": Key("after", is_required=True)}
-    task |= {key: times["task"][key] for key in ("best", "worst")}
+    name, source, task = {"name": Key("text", is_required=True)}, times["source"], times["task"]
     payload = MOST_ETHERNET if "fifo" in kinds_of(form) else MOST_CLASSICAL
-    task |= {"payload": Key("integer", 0, payload), "extended": Key("truth")}
-    task |= {"priority": Key("integer", 0, MOST_PRIORITY), "slot": times["task"]["slot"]}
-    later = {
-        "resource": {"rate": Key("integer", 1, MOST_RATE)},
-        "source": {"sporadic": Key("truth"), "clock": Key("text"), **times["source"]},
-        "task": times["task"] | {"locks": Key("locks")},
-    }
-    added = {
-        part: {key: later[part][key] for key, since in it.items() if form >= since} for part, it in KEYS_SINCE.items()
-    }
-    source = {key: it for key, it in times["source"].items() if key not in KEYS_SINCE["source"]}
-    return {
+    newest = {
         "resource": {
             **name,
             "kind": Key("text", is_required=True),
             **times["resource"],
             "bit": Key("integer", 1, MOST_BIT),
-            **added["resource"],
+            "rate": Key("integer", 1, MOST_RATE),
         },
-        "source": name | source | added["source"],
-        "task": name | task | added["task"],
+        "source": {
+            **name,
+            **{key: source[key] for key in ("period", "jitter", "distance")},
+            "sporadic": Key("truth"),
+            "clock": Key("text"),
+            "offset": source["offset"],
+        },
+        "task": {
+            **name,
+            "on": Key("text", is_required=True),
+            "after": Key("after", is_required=True),
+            "best": task["best"],
+            "worst": task["worst"],
+            "payload": Key("integer", 0, payload),
+            "extended": Key("truth"),
+            "priority": Key("integer", 0, MOST_PRIORITY),
+            "slot": task["slot"],
+            "region": task["region"],
+            "locks": Key("locks"),
+        },
         "path": {**name, "tasks": Key("texts", is_required=True), **times["path"]},
+    }
+    since = {part: KEYS_SINCE.get(part, {}) for part in newest}
+    return {
+        part: {key: it for key, it in keys.items() if since[part].get(key, 0) <= form} for part, keys in newest.items()
     }
 
 

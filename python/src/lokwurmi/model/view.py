@@ -6,10 +6,10 @@ frame has the executions that its payload tells. A view doesn't change; `with_ke
 """
 import math
 from collections.abc import Iterable, Mapping
-from dataclasses import dataclass
+from dataclasses import dataclass, fields
 from fractions import Fraction
 from functools import cached_property
-from typing import Any, NamedTuple
+from typing import Any, NamedTuple, TypeVar
 
 from lokwurmi.files.documents import PARTS, activators
 from lokwurmi.frames import execution
@@ -161,16 +161,20 @@ class PathRow:
     deadline: int | None = None
 
 
-def _resource_row(entry: Mapping[str, Any]) -> ResourceRow:
-    rest = {key: entry[key] for key in ("limit", "gap", "bit", "rate") if key in entry}
-    return ResourceRow(entry["name"], Kind(entry["kind"]), **rest)
+Row = TypeVar("Row", ResourceRow, SourceRow, TaskRow, PathRow)
+_KEYS = {kind: {it.name for it in fields(kind)} for kind in (ResourceRow, SourceRow, TaskRow, PathRow)}
+
+
+def _row(kind: type[Row], entry: Mapping[str, Any], /, **others: Any) -> Row:
+    """A row of the keys of an entry, of which others are told in their place."""
+    keys = _KEYS[kind]
+    return kind(**{key: it for key, it in entry.items() if key in keys} | others)
 
 
 def _task_row(entry: Mapping[str, Any], resource: Mapping[str, Any]) -> TaskRow:
     best, worst = execution(entry, resource)
-    rest = {key: entry[key] for key in ("payload", "extended", "priority", "slot", "region") if key in entry}
-    rest["locks"] = tuple(LockRow(**it) for it in entry.get("locks", []))
-    return TaskRow(entry["name"], entry["on"], tuple(activators(entry)), best, worst, **rest)
+    locks = tuple(LockRow(**it) for it in entry.get("locks", []))
+    return _row(TaskRow, entry, after=tuple(activators(entry)), best=best, worst=worst, locks=locks)
 
 
 @dataclass(frozen=True, eq=False)
@@ -201,11 +205,10 @@ class SystemView:
     def of(cls, values: Mapping[str, Any]) -> "SystemView":
         """The view of the values of a system file, as `lokwurmi.files.documents` reads them."""
         given = {it["name"]: it for it in values.get("resource", [])}
-        resources = {name: _resource_row(it) for name, it in given.items()}
-        sources = {it["name"]: SourceRow(**it) for it in values.get("source", [])}
+        resources = {name: _row(ResourceRow, it, kind=Kind(it["kind"])) for name, it in given.items()}
+        sources = {it["name"]: _row(SourceRow, it) for it in values.get("source", [])}
         tasks = {it["name"]: _task_row(it, given[it["on"]]) for it in values.get("task", [])}
-        several: list[Mapping[str, Any]] = values.get("path", [])
-        paths = {it["name"]: PathRow(it["name"], tuple(it["tasks"]), it.get("deadline")) for it in several}
+        paths = {it["name"]: _row(PathRow, it, tasks=tuple(it["tasks"])) for it in values.get("path", [])}
         return cls(values, resources, sources, tasks, paths)
 
     def with_keys(self, part: str, keys: Mapping[str, Mapping[str, Any]]) -> "SystemView":

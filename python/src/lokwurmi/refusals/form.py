@@ -23,7 +23,7 @@ from lokwurmi.files.system_keys import (
     kinds_of,
 )
 from lokwurmi.model.formats import FORMATS, KEYS_SINCE, KINDS_SINCE, least_format
-from lokwurmi.model.limits import DOWN, MOST_TICKS, TIMES
+from lokwurmi.model.limits import MOST_TICKS, NEITHER, TIMES, UP
 from lokwurmi.refusals.locks import CEILING_TOLD, IN_TASKS, LOCKS
 from lokwurmi.refusals.locks import wrong_list as wrong_locks
 from lokwurmi.refusals.remark import Note, Remark, listed, nearest
@@ -38,10 +38,8 @@ OF_SOURCES = {
     CLOCK: "sources that name one clock keep their distances, as those of one timer do; each has its `offset` on it",
     OFFSET: "`offset` says how long after the start of its `clock` the first event of the source comes",
 }
-# the keys whose safe side is below
-ROUNDED_DOWN = {key for keys in TIMES.values() for key, (side, _, _) in keys.items() if side == DOWN}
-# the keys that may have a unit in a file for `lokwurmi ticks`, and such a time
-WITH_UNITS = ("bit", *(key for keys in TIMES.values() for key in keys))
+# the keys that may have a unit in a file for `lokwurmi ticks`, each with its safe side, and such a time
+WITH_UNITS = {"bit": UP} | {key: side for keys in TIMES.values() for key, (side, _, _) in keys.items()}
 UNIT_TIME = re.compile(r"\d+(?:\.\d+)? ?(?:ns|us|ms|s|bits?|bytes?)", re.ASCII)
 AN = {"resource": "a resource", "source": "a source", "task": "a task", "path": "a path"}
 TYPES = {
@@ -317,8 +315,11 @@ def number_remedy(value: object, key: str) -> str:
             return f"write it without a point: {key} = {int(value)}"
         if key == "rate":
             return NO_WHOLE_RATE
-        way = "up and add a tick" if key == REGION else "down" if key in ROUNDED_DOWN else "up"
-        return f"take a finer tick, of which it is a multiple; or round it {way}, which is the safe side of `{key}`"
+        if key not in WITH_UNITS:
+            return f"write a whole number: {key} = N"
+        finer, side = "take a finer tick, of which it is a multiple", WITH_UNITS[key]
+        way = f"{side} and add a tick" if key == REGION else side
+        return finer if side == NEITHER else f"{finer}; or round it {way}, which is the safe side of `{key}`"
     return f"one number stands for all jobs of an entry: write {key} = N" if isinstance(value, list) else ""
 
 

@@ -168,7 +168,7 @@ def beyond(spot: Spot, key: str, least: int, most: int) -> Remark:
     number = spot.entry[key]
     meanings = MEANINGS | (TOO_MUCH if number > most else {}) | ({"payload": OF_PORTS} if most > MOST_CLASSICAL else {})
     helps = f"`{key}` is {least} to {most}{meanings.get(key, '')}"
-    if number > most and key not in meanings:
+    if number > most and key in form.WITH_UNITS and key not in meanings:
         helps += " ticks: take a coarser tick for the whole file"
     if key != "payload":
         helps += or_newest(spot.document, number, keys_of(NEWEST)[spot.part][key].most)

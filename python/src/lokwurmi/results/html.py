@@ -1,6 +1,6 @@
 """Tables for notebooks. Names are escaped; colours are readable on light and on dark pages, and no verdict is a colour
 alone."""
-from collections.abc import Iterable, Sequence
+from collections.abc import Callable, Iterable, Sequence
 from html import escape
 from typing import TYPE_CHECKING, Any
 
@@ -9,7 +9,7 @@ from lokwurmi.model.units import Time
 
 if TYPE_CHECKING:
     from lokwurmi.model.clocks import Clock
-    from lokwurmi.model.entries import Resource, Source, Task
+    from lokwurmi.model.entries import Resource, Task
     from lokwurmi.model.named_entries import NamedEntries
     from lokwurmi.model.view import Anchor
     from lokwurmi.results import effect_chains as chain_results
@@ -140,54 +140,55 @@ def locks_text(it: "Task") -> str:
     return "; ".join(f"{one.name} from {one.start} for {one.length}" for one in it.locks or [])
 
 
-def clock_cells(it: "Source") -> tuple[Any, Any]:
-    """The clock of a source and its offset; nothing where it is on none."""
-    return ("", "") if it.clock is None else (it.clock, it.offset or 0)
-
-
 def bit_text(it: "Resource") -> Any:
     """The time of a bit, or the bit rate."""
     return it.bit if it.bitrate is None else f"{it.bitrate} bit/s"
 
 
+# of the entries of each list what is shown: the head of a column, what stands in it, and a key that few entries have,
+# without which of any entry there is no such column
+Columns = tuple[tuple[str, Callable[[Any], Any], str], ...]
+COLUMNS: dict[str, Columns] = {
+    "resource": (
+        ("kind", lambda it: it.kind, ""),
+        ("limit", lambda it: it.limit, ""),
+        ("gap", lambda it: it.gap, ""),
+        ("bit", bit_text, ""),
+        ("bits in a tick", lambda it: it.rate, "rate"),
+    ),
+    "source": (
+        ("period", lambda it: it.period, ""),
+        ("jitter", lambda it: it.jitter or 0, ""),
+        ("distance", lambda it: it.distance or 0, ""),
+        ("silence", lambda it: "sporadic" if it.sporadic else "", "sporadic"),
+        ("clock", lambda it: it.clock or "", "clock"),
+        ("offset", lambda it: "" if it.clock is None else it.offset or 0, "clock"),
+    ),
+    "task": (
+        ("on", lambda it: it.on, ""),
+        ("after", after_text, ""),
+        ("execution", execution_text, ""),
+        ("priority or slot", lambda it: it.slot if it.priority is None else it.priority, ""),
+        ("region", lambda it: it.region, "region"),
+        ("locks", locks_text, "locks"),
+    ),
+    "path": (("tasks", lambda it: " → ".join(it.tasks), ""), ("deadline", lambda it: it.deadline, "")),
+}
+
+
 def system(it: "NamedEntries") -> str:
     """The entries of a system."""
-    has_rates = any(one.rate is not None for one in it.resources.values())
-    of_resource = ("resource", "kind", "limit", "gap", "bit", *(["bits in a tick"] if has_rates else []))
-    resources = [
-        (one.name, one.kind, one.limit, one.gap, bit_text(one)) + ((one.rate,) if has_rates else ())
-        for one in it.resources.values()
-    ]
-    is_sporadic = any(one.sporadic for one in it.sources.values())
-    has_clocks = any(one.clock is not None for one in it.sources.values())
-    of_source = ("source", "period", "jitter", "distance", *(["silence"] if is_sporadic else []))
-    sources = [
-        (one.name, one.period, one.jitter or 0, one.distance or 0)
-        + (("sporadic" if one.sporadic else "",) if is_sporadic else ())
-        + (clock_cells(one) if has_clocks else ())
-        for one in it.sources.values()
-    ]
-    has_regions, has_locks = (any(getattr(one, key) for one in it.tasks.values()) for key in ("region", "locks"))
-    tasks = [
-        (one.name, one.on, after_text(one), execution_text(one), one.slot if one.priority is None else one.priority)
-        + ((one.region,) if has_regions else ())
-        + ((locks_text(one),) if has_locks else ())
-        for one in it.tasks.values()
-    ]
-    of_task = ("task", "on", "after", "execution", "priority or slot") + (("region",) if has_regions else ())
-    of_task += ("locks",) if has_locks else ()
-    paths = [(one.name, " → ".join(one.tasks), one.deadline) for one in it.paths.values()]
-    note = f"{unit_note(it.tick)} Numbers without a unit are ticks." if it.tick else unit_note(None)
-    parts: list[tuple[str, Sequence[str], list[Any]]] = [
-        ("Resources", of_resource, resources),
-        ("Sources", of_source + (("clock", "offset") if has_clocks else ()), sources),
-        ("Tasks", of_task, tasks),
-        ("Paths", ("path", "tasks", "deadline"), paths),
-    ]
-    there = [part for part in parts if part[2]]
-    if not there:
+    parts = [(part, list(several.values())) for part, several in it._parts().items() if several]
+    if not parts:
         return "<div>An empty system</div>"
-    return "".join(table(*part, note=note if part is there[-1] else "") for part in there)
+    note = f"{unit_note(it.tick)} Numbers without a unit are ticks." if it.tick else unit_note(None)
+    text = ""
+    for part, entries in parts:
+        shown = [column for column in COLUMNS[part] if not column[2] or any(getattr(one, column[2]) for one in entries)]
+        rows = [(one.name, *(of(one) for _, of, _ in shown)) for one in entries]
+        caption, heads = f"{part.capitalize()}s", [part, *(head for head, _, _ in shown)]
+        text += table(caption, heads, rows, note=note if part == parts[-1][0] else "")
+    return text
 
 
 def run(it: "reports.Run") -> str:
