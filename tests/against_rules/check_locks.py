@@ -23,7 +23,7 @@ from tests.support.beside_rules import PROGRAM
 from tests.support.calls import NEEDS_PROGRAM, hold, outcome, written
 from tests.support.lock_systems import system_with_locks
 from tests.support.queue_systems import some_edit
-from tests.support.systems import file_of, near_trace, random_trace
+from tests.support.systems import file_of
 
 
 def lock_file(tasks, periods=(1000,), form=4, kind="ceiling", more=""):
@@ -270,13 +270,7 @@ def check_all_small(_):
 
 def check_system(folder, number, tally):
     draw = random.Random(f"locks {number}")
-    system = system_with_locks(draw)
-    report = beside_rules.check_report(folder, number, system)
-    ways = random_trace, near_trace, random_trace
-    beside_rules.check_runs(folder, draw, number, system, report, ways, "ceiling", tally)
-    beside_rules.check_edits(folder, draw, number, system, some_edit)
-    beside_rules.check_orders(folder, number, system, "ceiling", 5)
-    beside_rules.check_hammer(folder, number)
+    beside_rules.check_system(folder, draw, number, system_with_locks(draw), some_edit, "ceiling", 5, tally)
 
 
 if __name__ == "__main__":

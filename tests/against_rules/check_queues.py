@@ -16,7 +16,6 @@ from tests.support import beside_rules
 from tests.support.beside_rules import PROGRAM
 from tests.support.calls import NEEDS_PROGRAM, hold, outcome, written
 from tests.support.queue_systems import some_edit, system_with_queues
-from tests.support.systems import near_trace, random_trace
 
 
 def queue_file(tasks, sources=("period = 10",), resource="", form=4, kind="fifo", more=""):
@@ -144,13 +143,7 @@ def check_by_hand(folder):
 
 def check_system(folder, number, tally):
     draw = random.Random(f"queues {number}")
-    system = system_with_queues(draw)
-    report = beside_rules.check_report(folder, number, system)
-    ways = random_trace, near_trace, random_trace
-    beside_rules.check_runs(folder, draw, number, system, report, ways, "fifo", tally)
-    beside_rules.check_edits(folder, draw, number, system, some_edit)
-    beside_rules.check_orders(folder, number, system, "fifo", 2)
-    beside_rules.check_hammer(folder, number)
+    beside_rules.check_system(folder, draw, number, system_with_queues(draw), some_edit, "fifo", 2, tally)
 
 
 if __name__ == "__main__":

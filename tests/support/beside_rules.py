@@ -7,7 +7,7 @@ from tests.rules.bounds import OVERLOAD, System, bounds_in
 from tests.rules.edits import Edited
 from tests.rules.runs import Run, audit_text, buffers_text, schedule_text, simulated_text
 from tests.support.calls import built, hold, outcome, range_of, tell, written
-from tests.support.systems import file_of, rows_of
+from tests.support.systems import file_of, near_trace, random_trace, rows_of
 
 PROGRAM = built("cpa_cli")
 
@@ -119,6 +119,15 @@ def check_orders(folder, number, system, kind, rule):
             wrote = outcome(PROGRAM, "assign", f"{folder}/system.toml", it["name"])
             told = f"assign refused {rule}\n", 18
             hold(wrote == told, f"system {number}: assign {it['name']}: {wrote}", "orders")
+
+
+def check_system(folder, draw, number, system, some_edit, kind, rule, tally):
+    """All of this, of a system some of whose resources are of a kind that has no orders by a rule of `assign`."""
+    report = check_report(folder, number, system)
+    check_runs(folder, draw, number, system, report, (random_trace, near_trace, random_trace), kind, tally)
+    check_edits(folder, draw, number, system, some_edit)
+    check_orders(folder, number, system, kind, rule)
+    check_hammer(folder, number)
 
 
 def check_all(doc, count, needs, before, check_system, counted):

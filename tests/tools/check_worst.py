@@ -98,20 +98,20 @@ def traces_in(folder):
     return [os.path.join(folder, it) for it in sorted(os.listdir(folder))] if os.path.isdir(folder) else []
 
 
+def check_times(name, what, seen, jobs, told):
+    """When a job came, and when one was done, as is told of them; between lies what was seen."""
+    times = jobs[0]["arrival"], jobs[1]["end"]
+    hold(times == tuple(map(int, told)), f"{name}: {what}: {times}, and not {told}")
+    hold(times[1] - times[0] == seen, f"{name}: {what} was seen to take {seen}: {times}")
+
+
 def check_late(name, told):
     """The jobs and ticks that are told, by the step rules: each row of the table has its line."""
     system, rows, late = system_in(example(name)), rows_in(told), []
     run_of = functools.cache(lambda trace: replayed(example(name), trace))
     for task, number, came, done, trace in LATE_TASK.findall(told):
         job = run_of(trace).jobs[task][int(number) - 1]
-        hold(
-            (job["arrival"], job["end"]) == (int(came), int(done)),
-            f"{name}: job {number} of {task}: {job}, and not {came} {done}",
-        )
-        hold(
-            int(done) - int(came) == rows[f"task {task}"],
-            f"{name}: {task} was seen to take {rows[f'task {task}']}: {came} {done}",
-        )
+        check_times(name, f"job {number} of {task}", rows[f"task {task}"], (job, job), (came, done))
         late.append(f"task {task}")
     for path, number, came, done, numbers, trace in LATE_PATH.findall(told):
         run = run_of(trace)
@@ -122,15 +122,8 @@ def check_late(name, told):
             [it[0] for it in steps] == way and linked and steps[0][1] == int(number) - 1,
             f"{name}: the jobs of {path}: {numbers}",
         )
-        first, last = (run.jobs[task][place] for task, place in (steps[0], steps[-1]))
-        hold(
-            (first["arrival"], last["end"]) == (int(came), int(done)),
-            f"{name}: passage {number} of {path}: {came} {done}",
-        )
-        hold(
-            int(done) - int(came) == rows[f"path {path}"],
-            f"{name}: {path} was seen to take {rows[f'path {path}']}: {came} {done}",
-        )
+        ends = [run.jobs[task][place] for task, place in (steps[0], steps[-1])]
+        check_times(name, f"passage {number} of {path}", rows[f"path {path}"], ends, (came, done))
         late.append(f"path {path}")
     hold(sorted(late) == sorted(rows), f"{name}: {late} are told of as late, and the rows are {sorted(rows)}")
 
