@@ -113,6 +113,20 @@ def check_pipes(tools, name, files):
     hold(done.stderr == "", f"{name}, whose reader ends early: {done.stderr}")
     done = subprocess.run(f"{words} >/dev/full", shell=True, capture_output=True, text=True, check=False)
     hold(done.returncode == 20 and done.stderr.count("\n") == 1, f"{name} >/dev/full: {done.stderr}")
+    check_long_pipe(tools, name, files)
+
+
+def check_long_pipe(tools, name, files):
+    """A pipe with a system of format 4 that is longer than one of an older format may be, all of whose entries stand
+    behind that length."""
+    with open(files[0], encoding="utf-8") as it:
+        head, _, rest = it.read().partition("\n")
+    hold(head in ("format = 1", "format = 2"), f"the first line of {files[0]}: {head}")
+    text = "format = 4\n" + f"# {'x' * 97}\n" * 10_600 + rest
+    plain = tools.call(name, tools.file("long.toml", text), *files[1:])
+    done = tools.call(name, "/dev/stdin", *files[1:], given=text)
+    same = (done.returncode, done.stdout.replace("/dev/stdin", "long.toml")) == (plain.returncode, plain.stdout)
+    hold(len(text) > 1_048_577 and same, f"{name} of a long pipe: {done.stdout}{done.stderr}{plain.stdout}")
 
 
 def system_text(system):

@@ -9,7 +9,7 @@ from fractions import Fraction
 from lokwurmi.errors import LokwurmiError
 from lokwurmi.files.documents import Document
 from lokwurmi.files.text_files import decoded
-from lokwurmi.model.limits import MOST_BYTES
+from lokwurmi.model.limits import LIMITS, MOST_BYTES, NEWEST
 from lokwurmi.model.units import Time
 from lokwurmi.model.view import SystemView
 from lokwurmi.refusals.front import is_regular
@@ -26,8 +26,8 @@ from lokwurmi_tools.shared.times import Scale
 # statuses of the program: where it doesn't take words, where an output can't be written, and out of memory; and that of
 # the launcher where there is no answer
 NO_WORDS, NOT_WRITTEN, NO_MEMORY, FAILED = 10, 20, 30, 70
-# a byte more than a system or a file of chains may have
-ENOUGH = max(MOST_BYTES["system"], MOST_BYTES["chains"]) + 1
+# a byte more than a system of any format or a file of chains may have: what is cut off there is refused as too long
+ENOUGH = max(LIMITS[NEWEST].file_bytes, *MOST_BYTES.values()) + 1
 
 
 class Given:
