@@ -9,12 +9,13 @@ import stat
 import sys
 import tomllib
 from collections.abc import Sequence
+from dataclasses import replace
 from typing import TextIO
 
 from lokwurmi.files.documents import Document
 from lokwurmi.files.text_files import File, decoded
 from lokwurmi.model.commands import FILES, title_of
-from lokwurmi.model.limits import MOST_BYTES, limits_of
+from lokwurmi.model.limits import LIMITS, MOST_BYTES, NEWEST
 from lokwurmi.model.statuses import Status
 from lokwurmi.refusals import chains, edits, notices
 from lokwurmi.refusals import program_lines as lines
@@ -116,16 +117,26 @@ class Call:
         sort = next((it for it in MOST_BYTES if self.file(it) == name), None)
         if sort is None:
             return None
-        most = MOST_BYTES[sort]
-        if sort == "system" and is_regular(name):
-            # a file of an older format may have less; one that can't be read has no format
-            document = document_of(name)
-            most = limits_of(document.values.get("format")).file_bytes if document else most
-        length = f" {os.path.getsize(name)} bytes," if is_regular(name) else ""
-        says = f"it has{length or ' too many bytes,'} and a {title_of(sort)} has {most} at most"
+        size = os.path.getsize(name) if is_regular(name) else 0
+        if sort == "system":
+            return self.long_system(name, size)
+        says = f"it has {size or 'too many'} bytes, and a {title_of(sort)} has {MOST_BYTES[sort]} at most"
         helps = f"cut the {title_of(sort)} into parts" + (
             "" if sort in ("trace", "schedule") else ", or leave comments and empty lines out"
         )
+        return self.look.text(File(name, ""), Remark(says, None, helps, more="Statuses"))
+
+    def long_system(self, name: str, size: int) -> str:
+        """What to say of a system that is too long, and may have more bytes where it is TOML of the newest format."""
+        first, most = MOST_BYTES["system"], LIMITS[NEWEST].file_bytes
+        helps = "cut the system into parts, or leave comments and empty lines out"
+        if 0 < size <= most:
+            file = read_system(name)
+            if fault := fault_in(file):
+                says = f"above {first} bytes a system is TOML with `format = {NEWEST}`, and this isn't TOML: {fault.says}"
+                return self.look.text(file, replace(fault, says=says))
+            helps = f"write `format = {NEWEST}`, of which it may have {most}, or {helps}"
+        says = f"it has {size or 'too many'} bytes, and a system has {first} at most, with `format = {NEWEST}` {most}"
         return self.look.text(File(name, ""), Remark(says, None, helps, more="Statuses"))
 
     def no_toml(self) -> str | None:
