@@ -13,6 +13,7 @@ from test_model import two_tasks
 from lokwurmi import (
     EditRefused,
     Library,
+    LokwurmiError,
     NoTick,
     RoundingWarning,
     ScriptRefused,
@@ -82,6 +83,29 @@ class Kept(unittest.TestCase):
                 session.add("q", on="ring", after="s", best=1, worst=1, slot=2)
                 self.assertEqual(session.to_system().tasks["q"].slot, 2)
                 self.assertEqual(session.bounds["r"], 3)
+
+    def test_turns(self) -> None:
+        """A task that is added has what its resource wants, and nothing else; what is refused changes nothing."""
+        for engine in some_engines():
+            system = two_tasks()
+            system.round_robin("ring")
+            system.fifo("queue")
+            with system.session(engine=engine) as session:
+                for on, turn, told in (
+                    ("cpu", {}, "have a priority, and neither is given"),
+                    ("cpu", {"slot": 3}, "have a priority, and slot is given"),
+                    ("cpu", {"priority": 3, "slot": 3}, "have a priority, and priority and slot are given"),
+                    ("ring", {"priority": 3}, "have a slot, and priority is given"),
+                    ("queue", {"priority": 3}, "rule 3"),
+                    ("nowhere", {}, "rule 1"),
+                ):
+                    with self.subTest(on=on, turn=turn), self.assertRaisesRegex(LokwurmiError, told):
+                        session.add("c", on=on, after="sb", best=1, worst=2, **turn)
+                with self.assertRaisesRegex(LokwurmiError, "after one source or task, and not after a list"):
+                    session.add("c", on="queue", after=["sb"], best=1, worst=2)  # type: ignore[arg-type]
+                self.assertEqual(dict(session.bounds), {"a": 3, "b": 10})
+                session.add("c", on="queue", after="sb", best=1, worst=2)
+                self.assertEqual(session.bounds["c"], 2)
 
     def test_refusals(self) -> None:
         """The rules of docs/FILES.md, "Edits that are refused"; nothing changes by them."""

@@ -6,7 +6,7 @@ from typing import TYPE_CHECKING, Any
 
 from lokwurmi.calls.engines import Engine, KeptSession, default_engine
 from lokwurmi.calls.library import Library
-from lokwurmi.errors import CallFailed, EditRefused, ScriptRefused, SessionClosed, UnitsRefused
+from lokwurmi.errors import CallFailed, EditRefused, LokwurmiError, ScriptRefused, SessionClosed, UnitsRefused
 from lokwurmi.files.report_lines import REFUSED
 from lokwurmi.model.conversion import Rounding, warn
 from lokwurmi.model.entries import Resource, Source, Task, Ticks
@@ -142,11 +142,11 @@ class Session:
             self._edit(f"exec {name} {found.get('best', before[0])} {found.get('worst', before[1])}")
 
     def priority(self, task: str | Task, priority: int) -> None:
-        """Sets the priority of a task on a preemptive or can resource."""
+        """Sets the priority of a task on a preemptive, can or ceiling resource."""
         self.edit(f"priority {_named(task)} {priority}")
 
     def swap(self, one: str | Task, other: str | Task) -> None:
-        """Exchanges the priorities of two tasks of one preemptive or can resource."""
+        """Exchanges the priorities of two tasks of one preemptive, can or ceiling resource."""
         self.edit(f"swap {_named(one)} {_named(other)}")
 
     def slot(self, task: str | Task, slot: Ticks) -> None:
@@ -199,13 +199,27 @@ class Session:
         slot: Ticks | None = None,
     ) -> None:
         """Adds a task as the last one, after one source or task, with a priority or a slot; on a queue with neither."""
+        if not isinstance(after, (str, Source, Task)):
+            raise LokwurmiError(f"add {name}: a task that is added comes after one source or task, and not after a list")
         with self._lock:
             found = self._ticks("task", name, on=_named(on), best=best, worst=worst, slot=slot)
-            there = self._system.resources.get(_named(on))
-            # an edit has a number for a task of a queue, too
-            given = {"slot": 0} | found if there and there.kind == Kind.FIFO else found
-            number = given["slot"] if priority is None else priority
+            number = self._turn(name, _named(on), {"priority": priority, "slot": found.get("slot")})
             self._edit(f"add {name} {_named(on)} {_named(after)} {found['best']} {found['worst']} {number}")
+
+    def _turn(self, name: str, on: str, given: Mapping[str, int | None]) -> int:
+        """The number of a task that is added: its priority or its slot, whichever its resource wants."""
+        turns = {key: it for key, it in given.items() if it is not None}
+        there = self._system.resources.get(on)
+        if there is None or there.kind == Kind.FIFO:
+            # an edit has a number for a task of a queue, too: 0, all others are refused
+            return max(turns.values(), default=0)
+        wanted = "priority" if there.kind in WITH_PRIORITIES else "slot"
+        if set(turns) != {wanted}:
+            has = " and ".join(turns) + (" are" if len(turns) > 1 else " is") if turns else "neither is"
+            raise LokwurmiError(
+                f"add {name}: tasks on {on}, which is {there.kind}, have a {wanted}, and {has} given: {wanted}=.."
+            )
+        return turns[wanted]
 
     def remove(self, task: str | Task) -> None:
         """Removes a task that no other comes after, and no path names."""
