@@ -134,6 +134,22 @@ class Files(unittest.TestCase):
         with self.assertRaisesRegex(LokwurmiError, "which format 2 hasn't"):
             System.from_toml(LOCKS.replace("format = 4", "format = 2"))
 
+    def test_no_sections(self) -> None:
+        """What no critical section can be made of is refused as the file is read; times may have units."""
+        for old, new, told in (
+            ("start = 6, ", "", 'task "c": its lock 2 has no `start`'),
+            ("length = 9", 'length = "9us", more = 1', 'task "c": the key `more` isn.t known in its lock 2'),
+            ('{ name = "y"', '3, { name = "y"', 'task "c": its lock 2 is no table'),
+        ):
+            for tick in (None, "1us"):
+                with self.subTest(new, tick=tick), self.assertRaisesRegex(LokwurmiError, told):
+                    System.from_toml(LOCKS.replace(Y, Y.replace(old, new, 1)), tick)
+        system = System()
+        cpu, often = system.ceiling("cpu"), system.source("often", period=10)
+        for locks in ("x", [("x", 0, 1)]):
+            with self.subTest(locks), self.assertRaisesRegex(LokwurmiError, r"a list of Lock\(NAME, start=\.\.,"):
+                system.task("a", on=cpu, after=often, best=1, worst=1, priority=1, locks=locks)  # type: ignore
+
     def test_notices(self) -> None:
         told = [it.says for it in notices.of_system(Document(LOCKS))]
         self.assertEqual(told, ['task "c" alone has the lock "y", which changes no bound'])

@@ -200,7 +200,9 @@ class Session:
     ) -> None:
         """Adds a task as the last one, after one source or task, with a priority or a slot; on a queue with neither."""
         if not isinstance(after, (str, Source, Task)):
-            raise LokwurmiError(f"add {name}: a task that is added comes after one source or task, and not after a list")
+            raise LokwurmiError(
+                f"add {name}: a task that is added comes after one source or task, and not after a list"
+            )
         with self._lock:
             found = self._ticks("task", name, on=_named(on), best=best, worst=worst, slot=slot)
             number = self._turn(name, _named(on), {"priority": priority, "slot": found.get("slot")})

@@ -8,7 +8,7 @@ from collections.abc import Mapping
 from dataclasses import asdict, dataclass, fields
 from typing import Any
 
-from lokwurmi.errors import NoTick
+from lokwurmi.errors import LokwurmiError, NoTick
 from lokwurmi.model.limits import TIMES
 from lokwurmi.model.units import Time, amount_of
 
@@ -143,8 +143,15 @@ def keys_of(it: Entry) -> dict[str, Any]:
     """The keys of an entry that have a value, with it."""
     found = {key: value for key in _KEYS[type(it)] if (value := getattr(it, key)) is not None}
     if "locks" in found:
-        found["locks"] = [asdict(lock) for lock in found["locks"]]
+        found["locks"] = [_section_keys(it.name, lock) for lock in found["locks"]]
     return found
+
+
+def _section_keys(task: str, it: Any) -> dict[str, Any]:
+    """The keys of a critical section."""
+    if not isinstance(it, Lock):
+        raise LokwurmiError(f"task {task!r}: locks are a list of Lock(NAME, start=.., length=..), and {it!r} is none")
+    return asdict(it)
 
 
 def is_time(word: Any) -> bool:

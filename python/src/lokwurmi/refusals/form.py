@@ -25,6 +25,7 @@ from lokwurmi.files.system_keys import (
 from lokwurmi.model.formats import FORMATS, KEYS_SINCE, KINDS_SINCE, least_format
 from lokwurmi.model.limits import MOST_TICKS, NEITHER, TIMES, UP
 from lokwurmi.refusals.locks import CEILING_TOLD, IN_TASKS, LOCKS
+from lokwurmi.refusals.locks import has_keys as has_keys_of_locks
 from lokwurmi.refusals.locks import wrong_list as wrong_locks
 from lokwurmi.refusals.remark import Note, Remark, listed, nearest
 from lokwurmi.refusals.spots import Spot, spots_in
@@ -170,9 +171,12 @@ def entry(spot: Spot) -> Remark | None:
 
 
 def shape(spot: Spot, others: Sequence[str]) -> Remark | None:
-    """The same, but for the types of values: whether it has the keys of an entry, to which others may be added."""
+    """The same, but for the types of values: whether it has the keys of an entry, to which others may be added, and its
+    critical sections theirs."""
     if remark := no_table(spot) or unknown(spot, others) or missing(spot):
         return remark
+    if LOCKS in spot.entry and not has_keys_of_locks(spot.entry[LOCKS]):
+        return wrong_locks(spot, kind_of(spot.entry[LOCKS]), has_types=False)
     is_old = isinstance(spot.entry.get("after"), list) and not spot.document.has_lists
     wrong = "name" if not isinstance(spot.entry["name"], str) else "after" if is_old else ""
     return wrong_type(spot, wrong) if wrong else None

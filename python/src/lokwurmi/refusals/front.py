@@ -133,7 +133,9 @@ class Call:
         if 0 < size <= most:
             file = read_system(name)
             if fault := fault_in(file):
-                says = f"above {first} bytes a system is TOML with `format = {NEWEST}`, and this isn't TOML: {fault.says}"
+                says = (
+                    f"above {first} bytes a system is TOML with `format = {NEWEST}`, and this isn't TOML: {fault.says}"
+                )
                 return self.look.text(file, replace(fault, says=says))
             helps = f"write `format = {NEWEST}`, of which it may have {most}, or {helps}"
         says = f"it has {size or 'too many'} bytes, and a system has {first} at most, with `format = {NEWEST}` {most}"

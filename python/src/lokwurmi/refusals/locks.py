@@ -48,18 +48,23 @@ def name_span(spot: Spot, item: int) -> Span:
     return place_of(spot, item).values["name"].span
 
 
-def wrong_list(spot: Spot, what: str) -> Remark:
-    """Of a value of `locks`, told in words, that hasn't the form."""
+def has_keys(value: object) -> bool:
+    """Whether a value is an array of tables with the keys of sections, whatever they have."""
+    return isinstance(value, list) and all(isinstance(it, dict) and it.keys() == LOCK_KEYS.keys() for it in value)
+
+
+def wrong_list(spot: Spot, what: str, has_types: bool = True) -> Remark:
+    """Of a value of `locks`, told in words, that hasn't the form; without types that of its keys."""
     value = spot.entry[LOCKS]
     helps = f"{AS_TABLES} taken, and for how many it is held"
     if isinstance(value, dict):
         return spot.remark(f"`{LOCKS}` is one table, and has to be an array of them", spot.value(LOCKS), helps)
     if not isinstance(value, list):
         return spot.remark(f"`{LOCKS}` is {what}, and has to be an array of tables", spot.value(LOCKS), helps)
-    return next(found for item in range(len(value)) if (found := wrong_section(spot, item, helps)))
+    return next(found for item in range(len(value)) if (found := wrong_section(spot, item, helps, has_types)))
 
 
-def wrong_section(spot: Spot, item: int, helps: str) -> Remark | None:
+def wrong_section(spot: Spot, item: int, helps: str, has_types: bool) -> Remark | None:
     """What is wrong with the form of one."""
     value = spot.entry[LOCKS][item]
     if not isinstance(value, dict):
@@ -70,7 +75,7 @@ def wrong_section(spot: Spot, item: int, helps: str) -> Remark | None:
             near = meant_by(key, [one for one in LOCK_KEYS if one not in value])
             guess, ways = (f"; did you mean `{near}`?", MEANT[near]) if near else ("", told_of(key))
             return spot.remark(f"the key `{key}` isn't known in its lock {item + 1}{guess}", place.keys[key], ways)
-        if not holds(LOCK_KEYS[key], it, False):
+        if has_types and not holds(LOCK_KEYS[key], it, False):
             wanted = "a text in quotes" if key == "name" else "a whole number"
             says = f"`{key}` of its lock {item + 1} isn't {wanted}"
             return spot.remark(says, place.values[key].span, number_remedy(key, it) or MEANT[key])
