@@ -54,6 +54,7 @@ tell "assign deadline_order.toml cpu" deadline_order.assign.txt assign deadline_
 tell "assign sae_can.toml can" sae_can.assign.txt assign sae_can.toml can
 tell "assign cooperative.toml cpu" cooperative.assign.txt assign cooperative.toml cpu
 tell "assign regions.toml cpu" regions.assign.txt assign regions.toml cpu
+tell "assign lock_order.toml cpu" lock_order.assign.txt assign lock_order.toml cpu
 tell "slack sae_can.toml m16" sae_can.slack.txt slack sae_can.toml m16
 tell "slack cooperative.toml log" cooperative.slack.txt slack cooperative.toml log
 tell "slack regions.toml a" regions.slack.txt slack regions.toml a
