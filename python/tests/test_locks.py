@@ -7,14 +7,13 @@ from fractions import Fraction
 from engine_for_tests import need_engine
 from made import told_of
 
-from lokwurmi import EditRefused, Kind, Lock, LokwurmiError, NameRefused, NoTick, System, SystemRefused, UnitsRefused
+from lokwurmi import EditRefused, Kind, Lock, LokwurmiError, NoTick, System, SystemRefused, UnitsRefused
 from lokwurmi.files.documents import Document, values_in
 from lokwurmi.files.text_files import File
 from lokwurmi.model.conversion import Converter
 from lokwurmi.model.view import Block, SystemView
 from lokwurmi.refusals import notices
 from lokwurmi.refusals.edits import refused_edits
-from lokwurmi.refusals.words import remark_on
 
 LOCKS = """format = 4
 resource = [{ name = "cpu", kind = "ceiling" }, { name = "other", kind = "ceiling" }, { name = "bus", kind = "can" }]
@@ -162,8 +161,6 @@ class Files(unittest.TestCase):
         edits += "exec c 1 2\nswap a d\n"
         count, found = refused_edits(Document(LOCKS), File("edits", edits))
         self.assertEqual((count, [(it.line, it.rule) for it in found]), (8, [(1, 4), (2, 2), (5, 4), (8, 2)]))
-        remark = remark_on(Document(LOCKS), "assign refused 5", ["cpu"])
-        self.assertIn("other ceilings", remark.says if remark else "")
 
 
 class Units(unittest.TestCase):
@@ -259,9 +256,23 @@ class Answers(unittest.TestCase):
         self.assertEqual(system.tasks["b"].locks, two_tasks().tasks["b"].locks)
         self.assertEqual(system.analyse().tasks["c"].worst, 10)
 
-    def test_refused(self) -> None:
+    def test_orders(self) -> None:
+        """Below `a` the task `b` keeps it waiting for 7 ticks."""
         need_engine("assign")
-        self.assertRaisesRegex(NameRefused, "other ceilings", two_tasks().assign, "cpu")
+        system = two_tasks()
+        self.assertEqual(system.assign("cpu"), {"b": 1, "a": 2})
+        system.path("in_time", ["a"], deadline=12)
+        self.assertEqual(system.assign("cpu"), {"a": 1, "b": 2})
+        system.paths["in_time"].deadline = 11
+        self.assertIsNone(system.assign("cpu"))
+        # `y` keeps `a` waiting where it has that lock too
+        system.tasks["a"].locks = [Lock("x", 0, 2), Lock("y", 3, 1)]
+        system.paths["in_time"].deadline = 12
+        self.assertIsNone(system.assign("cpu"))
+        system.paths["in_time"].deadline = 13
+        self.assertEqual(system.assign("cpu"), {"a": 1, "b": 2})
+
+    def test_refused(self) -> None:
         system = two_tasks()
         system.tasks["a"].locks = [Lock("x", 0, 5), Lock("y", 3, 5)]
         self.assertRaisesRegex(SystemRefused, "begins within that of", system.analyse)

@@ -3,17 +3,19 @@
 Outside the gate.
 
 Random systems have such resources alone, or beside other kinds, with sections nested and apart, regions, chains that
-come back, several activators, and bursts. Of each: the report; runs, followed tick by tick, what `simulate`, `buffers`
-and `schedule` write of them, what `audit` says of the schedule and of one that is changed, that no response is beyond
-its bound, that no two tasks hold one lock, and that none with it runs meanwhile; `assign`; edits in scripts, with those
-that are refused; and that `hammer` finds nothing beyond. Before them come bounds and runs worked out by hand, and files
-that are refused. Of all systems of two tasks of up to three ticks each, with a section or a region, the plain rules are
-held against each other: each bound is the greatest response of a run.
+come back, several activators, and bursts. Of each: the report; runs, followed tick by tick, what `simulate`,
+`buffers` and `schedule` write of them, what `audit` says of the schedule and of one that is changed, that no response
+is beyond its bound, that no two tasks hold one lock, and that none with it runs meanwhile; that an order of `assign`
+meets the deadlines of its tasks, and where there is none that the file's and some others don't; edits in scripts,
+with those that are refused; and that `hammer` finds nothing beyond. Before them come bounds and runs worked out by
+hand, and files that are refused. Of all systems of two tasks of up to three ticks each, with a section or a region,
+the plain rules are held against each other: each bound is the greatest response of a run.
 
     python3 -m tests.against_rules.check_locks [NUMBER of systems, 1000 if absent] [NUMBER to begin with, 0 if absent]
 """
 import itertools
 import random
+import re
 
 from tests.against_rules.check_queues import takes
 from tests.rules.bounds import System
@@ -268,11 +270,47 @@ def check_all_small(_):
         hold(seen == bounds, f"{pair}: runs reach {seen}, and the bounds are {bounds}", "small systems")
 
 
+def meets(system, ranks, deadlines):
+    """Whether tasks with these priorities are within their deadlines, by the rules."""
+    tasks = [it | {"priority": ranks.get(it["name"], it["priority"])} for it in system["task"]]
+    bounds = System(file_of(system | {"task": tasks})).least_solution()
+    return all(bounds[name] <= most for name, most in deadlines.items())
+
+
+def check_orders(folder, number, system, on, tally):
+    """What `assign` answers of a resource whose tasks have deadlines, each alone."""
+    draw, tasks = random.Random(f"orders {number} {on}"), [it for it in system["task"] if it["on"] == on]
+    deadlines = {it["name"]: draw.randint(it["worst"], 40) for it in tasks if draw.random() < 0.8}
+    paths = [{"name": f"p{name}", "tasks": [name], "deadline": most} for name, most in deadlines.items()]
+    wrote, status = outcome(PROGRAM, "assign", written(folder, "orders.toml", file_of(system | {"path": paths})), on)
+    what, names = f"system {number}: assign {on} with {deadlines}", {it["name"] for it in system["task"]}
+    if any(names.intersection(it["after"]) for it in tasks):
+        hold((wrote, status) == ("assign refused 3\n", 18), f"{what}: {wrote}", "orders")
+        return
+    ranks = {name: int(rank) for name, rank in re.findall(r"^priority (\S+) (\d+)$", wrote, re.M)}
+    given = sorted(it["priority"] for it in tasks)
+    tally["none" if status else "ordered"] += 1
+    if status == 0:
+        hold(sorted(ranks.values()) == given, f"{what}: other numbers: {wrote}", "orders")
+        hold(meets(system, ranks, deadlines), f"{what}: late by {wrote}", "orders")
+        return
+    hold((wrote, status) == (f"none {on}\n", 3), f"{what}: {wrote}", "orders")
+    for several in [given] + [draw.sample(given, len(given)) for _ in range(3)]:
+        other = {it["name"]: rank for it, rank in zip(tasks, several)}
+        hold(not meets(system, other, deadlines), f"{what}: none, but {other} meets", "orders")
+
+
 def check_system(folder, number, tally):
     draw = random.Random(f"locks {number}")
-    beside_rules.check_system(folder, draw, number, system_with_locks(draw), some_edit, "ceiling", 5, tally)
+    system = system_with_locks(draw)
+    beside_rules.check_system(folder, draw, number, system, some_edit, "ceiling", tally)
+    for it in system["resource"]:
+        if it["kind"] == "ceiling":
+            check_orders(folder, number, system, it["name"], tally)
 
 
 if __name__ == "__main__":
-    COUNTED = "{reached} of {bounds} bounds under ceilings are reached by a run; "
+    COUNTED = (
+        "{reached} of {bounds} bounds under ceilings are reached by a run; {ordered} orders, and {none} times none; "
+    )
     beside_rules.check_all(__doc__, 1000, NEEDS_PROGRAM, [check_by_hand, check_all_small], check_system, COUNTED)

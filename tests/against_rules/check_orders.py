@@ -1,14 +1,15 @@
 #!/usr/bin/env python3
 """Holds the answers of `lokwurmi assign` against all orders there are, over small random systems.
 
-Each system has 3 to 6 tasks on a preemptive or a CAN resource, with jitter and deadlines; in every third one some tasks
-come after two or three sources, and in every other one those of a preemptive resource have regions. Every order of them
-is written into the file as priorities and given to `lokwurmi analyse`, the best first: an order is better than another
-where the task in the last place, or else in the last place in which they differ, stands earlier in the file. The answer
-has to be the first order under which each path over one of the tasks is met, with status 0, or `none` with status 3
-where there is no such order. Counts too where the order of rising deadlines misses one and another order meets. The
-same is tried of examples/deadline_order.toml, and of the SAE benchmark: that its answer is met, that it is the
-published order where the tasks are listed from the least urgent on, and that there is none where a bit takes 9 ticks.
+Each system has 3 to 6 tasks on a preemptive or a CAN resource, with jitter and deadlines; in every third one some
+tasks come after two or three sources, and in every other one those of a processor have regions. Every other processor
+has priority ceilings, and its tasks locks, which take the place of their regions. Every order of them is written into
+the file as priorities and given to `lokwurmi analyse`, the best first: an order is better than another where the task
+in the last place, or else in the last place in which they differ, stands earlier in the file. The answer has to be
+the first order under which each path over one of the tasks is met, with status 0, or `none` with status 3 where there
+is no such order. Counts too where the order of rising deadlines misses one and another order meets. The same is tried
+of examples/deadline_order.toml, and of the SAE benchmark: that its answer is met, that it is the published order
+where the tasks are listed from the least urgent on, and that there is none where a bit takes 9 ticks.
 Ends with 1 at the first answer that is another.
 
     python3 -m tests.against_rules.check_orders [NUMBER of systems, 300 if absent] [NUMBER to begin with, 0 if absent]
@@ -20,9 +21,23 @@ import re
 import sys
 
 from tests.support.calls import TOP, answer, built, range_of
-from tests.support.systems import some_region
+from tests.support.systems import quoted_locks, some_locks, some_region
 
 PROGRAM = built("cpa_cli")
+
+
+def sections_of(number, kind, worst):
+    """The kind of the resource, and what its tasks have in their lines besides: regions and locks, by draws of their
+    own."""
+    if kind == "can":
+        return kind, [""] * len(worst)
+    draw, has_regions = random.Random(f"regions of {number}"), number % 2 == 1
+    found = [f", region = {some_region(draw, it)}" if has_regions else "" for it in worst]
+    if number % 4 < 2:
+        return kind, found
+    draw = random.Random(f"locks of {number}")
+    locks = [some_locks(draw, "r", it, ("a", "b", "c")[: draw.randint(1, 3)]) for it in worst]
+    return "ceiling", [f", locks = {quoted_locks(it)}" if it else region for it, region in zip(locks, found)]
 
 
 def made_system(number):
@@ -35,10 +50,9 @@ def made_system(number):
     after = [[k] for k in range(count)]
     if number % 3 == 2:
         after = [pick.sample(range(count), min(count, pick.randint(1, 3))) for _ in range(count)]
-    # by a draw of their own
-    draw, has_regions = random.Random(f"regions of {number}"), kind == "preemptive" and number % 2 == 1
-    regions = [f", region = {some_region(draw, worst[k])}" if has_regions else "" for k in range(count)]
-    lines = [f"format = {4 if has_regions else 1 if all(len(several) == 1 for several in after) else 2}"]
+    kind, sections = sections_of(number, kind, worst)
+    is_later = kind == "ceiling" or any(sections)
+    lines = [f"format = {4 if is_later else 1 if all(len(several) == 1 for several in after) else 2}"]
     lines += [f'resource = [{{ name = "r", kind = "{kind}", limit = 20000 }}]', "source = ["]
     for k in range(count):
         # what all tasks after it ask for at each event, of which each is to use about its part of the time
@@ -54,7 +68,7 @@ def made_system(number):
         names = names if len(after[k]) == 1 else f"[{names}]"
         lines.append(
             f'{{ name = "t{k}", on = "r", after = {names}, best = 1, worst = {worst[k]}, priority = {numbers[k]}'
-            f"{regions[k]} }},"
+            f"{sections[k]} }},"
         )
     lines += ["]", "path = ["]
     for k in range(count):
@@ -139,7 +153,7 @@ def main():
     print(f"deadline_order.toml: of all orders there meet {[' '.join(order) for order in meeting]}")
     hold("deadline_order.toml", text, "cpu", best_order(text, "cpu")[0])
     sae()
-    none, several, regions, tried, failing, first = 0, 0, 0, 0, 0, None
+    none, several, regions, locks, tried, failing, first = 0, 0, 0, 0, 0, 0, None
     for number in numbers:
         text, deadlines = made_system(number)
         order, looked = best_order(text, "r")
@@ -148,13 +162,14 @@ def main():
         none += order is None
         several += "after = [" in text
         regions += "region = " in text
+        locks += "locks = " in text
         rising = sorted(tasks_of(text, "r"), key=lambda name: deadlines.get(name, float("inf")))
         if order is not None and not meets(text, "r", rising):
             failing += 1
             first = number if first is None else first
     print(
         f"{len(numbers)} answers as by trying all orders, {none} of them that none meets, {several} of tasks after"
-        f" several sources, {regions} of tasks with regions; {tried} orders tried"
+        f" several sources, {regions} of tasks with regions, {locks} of tasks with locks; {tried} orders tried"
     )
     print(f"rising deadlines miss one where another order meets: {failing} times, first in system {first}")
 

@@ -143,7 +143,9 @@ def check_by_hand(folder):
 
 def check_system(folder, number, tally):
     draw = random.Random(f"queues {number}")
-    beside_rules.check_system(folder, draw, number, system_with_queues(draw), some_edit, "fifo", 2, tally)
+    system = system_with_queues(draw)
+    beside_rules.check_system(folder, draw, number, system, some_edit, "fifo", tally)
+    beside_rules.check_orders(folder, number, system, "fifo", 2)
 
 
 if __name__ == "__main__":

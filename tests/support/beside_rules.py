@@ -67,12 +67,12 @@ def check_run(folder, draw, number, system, report, trace):
     hold(not late, f"system {number}: {late[:1]} is beyond its bound", "runs")
     segments = [list(it) for it in run.segments]
     buffers = buffers_text(System(file_of(system)), run, report)
-    for told, program, words in (
-        ((simulated_text(system, run), 0), PROGRAM, ["simulate", file, other]),
-        ((buffers, 0), PROGRAM, ["buffers", file, other, "--workers", draw.randint(1, 4)]),
-        ((schedule_text(segments), 0), PROGRAM, ["schedule", file, other]),
+    for told, words in (
+        ((simulated_text(system, run), 0), ["simulate", file, other]),
+        ((buffers, 0), ["buffers", file, other, "--workers", draw.randint(1, 4)]),
+        ((schedule_text(segments), 0), ["schedule", file, other]),
     ):
-        wrote = outcome(program, *words)
+        wrote = outcome(PROGRAM, *words)
         hold(wrote == told, f"system {number}: {words[0]}: {wrote} and not {told}:\n{rows_of(trace)}", "answers")
     for rows in (segments, changed(draw, segments, list(bounds)), changed(draw, segments, list(bounds))):
         wrote = outcome(PROGRAM, "audit", file, other, written(folder, "schedule.csv", schedule_text(rows)))
@@ -121,12 +121,11 @@ def check_orders(folder, number, system, kind, rule):
             hold(wrote == told, f"system {number}: assign {it['name']}: {wrote}", "orders")
 
 
-def check_system(folder, draw, number, system, some_edit, kind, rule, tally):
-    """All of this, of a system some of whose resources are of a kind that has no orders by a rule of `assign`."""
+def check_system(folder, draw, number, system, some_edit, kind, tally):
+    """All of this but orders, of a system some of whose resources are of a kind."""
     report = check_report(folder, number, system)
     check_runs(folder, draw, number, system, report, (random_trace, near_trace, random_trace), kind, tally)
     check_edits(folder, draw, number, system, some_edit)
-    check_orders(folder, number, system, kind, rule)
     check_hammer(folder, number)
 
 

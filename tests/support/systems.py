@@ -294,6 +294,7 @@ def file_of(system):
         rows += [f"locks = {quoted_locks(it['locks'])}"] if it.get("locks") else []
     for it in system["path"]:
         rows += ["[[path]]", f"name = \"{it['name']}\"", f"tasks = {quoted(it['tasks'])}"]
+        rows += [f"deadline = {it['deadline']}"] if it.get("deadline") else []
     return "\n".join(rows) + "\n"
 
 

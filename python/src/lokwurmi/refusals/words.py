@@ -30,8 +30,6 @@ def remark_on(document: Document, line: str, words: Sequence[str]) -> Remark | N
         return behind_tasks(document, word, names["task"])
     if line == "assign refused 4" and word in resources:
         return on_clocks(document, word)
-    if line == "assign refused 5" and word in resources:
-        return with_ceilings(Spot(document, "resource", resources.index(word)))
     return None
 
 
@@ -43,15 +41,6 @@ def without_priorities(spot: Spot) -> Remark:
         have = "are served in the order in which they came, and have no priorities"
         helps = "there is no order to choose: try other executions, or other inputs, by a script: lokwurmi session"
     return Remark(f'resource "{name}" is {kind}: its tasks {have}', spot.value("kind"), helps, more=MORE)
-
-
-def with_ceilings(spot: Spot) -> Remark:
-    """Of a resource whose locks have ceilings, which follow the priorities."""
-    says = f'resource "{spot.entry["name"]}" is ceiling: with another order its locks have other ceilings'
-    helps = (
-        "ask lokwurmi optimise for an order, which tries the whole system under it; or try orders by a script (swap)"
-    )
-    return Remark(says, spot.value("kind"), helps, more=MORE)
 
 
 def of_chain(names: dict[str, list[str]], word: str) -> Remark:
@@ -93,8 +82,9 @@ def on_clocks(document: Document, resource: str) -> Remark | None:
     clocks = {it["name"]: it["clock"] for it in document.entries["source"] if "clock" in it}
     says = 'by the clock "{}", by which a task may be better off below another than above it'
     helps = (
-        "with clocks assign takes preemptive resources without regions: leave the clocks out in a copy of the file, and"
-        " look at the order that comes out with them; or ask lokwurmi optimise, or try orders by a script (swap)"
+        "with clocks assign takes preemptive and ceiling resources without regions and locks: leave the clocks out in a"
+        " copy of the file, and look at the order that comes out with them; or ask lokwurmi optimise, or try orders by"
+        " a script (swap)"
     )
     return of_activators(document, resource, clocks, says, helps)
 

@@ -4,9 +4,9 @@ no bound is `overload`.
 The tasks of each resource get its priorities in another order; all else is as in the file, but that the ceilings of
 locks follow the priorities. It begins with the order of the file, that of rising deadlines and that of rising periods.
 Then it gives each task a part of the deadlines of its paths, has `lokwurmi assign` find an order of each resource for
-these parts, of locks without them, looks at the whole system, and moves parts to where time is missing, round by round,
-which is known as HOPA. From the best that was found it goes on by exchanging two priorities, those first with whom a
-late path waits longest, as lokwurmi explain tells.
+these parts, looks at the whole system, and moves parts to where time is missing, round by round, which is known as
+HOPA. From the best that was found it goes on by exchanging two priorities, those first with whom a late path waits
+longest, as lokwurmi explain tells.
 
 What is told as found is what the proved program says of the edits of --script. Where nothing is found there may still
 be an order: the search proves nothing about what it didn't try. The same call gives the same answer for the same

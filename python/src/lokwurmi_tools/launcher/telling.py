@@ -73,9 +73,9 @@ HINTS = {
     ),
     18: (
         (
-            "the word after the file names nothing that the command can take: assign wants a preemptive or CAN resource"
-            " on which each task is activated by sources alone, slack a task, chain tasks; or the file of chains is"
-            " refused. Each number, and what to change: "
+            "the word after the file names nothing that the command can take: assign wants a preemptive, ceiling or CAN"
+            " resource on which each task is activated by sources alone, slack a task, chain tasks; or the file of"
+            " chains is refused. Each number, and what to change: "
         ),
         "Status 18",
     ),

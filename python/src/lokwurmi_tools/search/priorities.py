@@ -9,7 +9,7 @@ from typing import Any, NamedTuple
 
 from lokwurmi.model.event_models import Bounds, Stream, inputs_of
 from lokwurmi.model.formats import FORMATS
-from lokwurmi.model.limits import DEFAULT_REGION, MOST_ENTRIES, MOST_PRIORITY, MOST_TICKS, Kind
+from lokwurmi.model.limits import DEFAULT_REGION, MOST_ENTRIES, MOST_PRIORITY, MOST_TICKS
 from lokwurmi.model.view import SystemView
 from lokwurmi.results import reports
 from lokwurmi.results.reports import Report, Verdict
@@ -227,16 +227,15 @@ class PrioritySearch:
                 model = {"period": period, "jitter": min(jitter, MOST_TICKS), "distance": min(distance, period)}
                 sources.append({"name": source} | model)
             task = self.view.tasks[name]
-            numbers = {"best": task.best, "worst": task.worst, "priority": len(tasks), "region": task.region}
-            if task.region == DEFAULT_REGION:
-                del numbers["region"]
+            numbers: Values = {"best": task.best, "worst": task.worst, "priority": len(tasks)}
+            if task.region != DEFAULT_REGION:
+                numbers["region"] = task.region
+            if task.locks:
+                numbers["locks"] = [{"name": it.name, "start": it.start, "length": it.length} for it in task.locks]
             tasks.append({"name": name, "on": on, "after": after} | numbers)
         limits = {it: max(1, min(MOST_TICKS, int(parts[it]))) for it in reversed(names) if it in parts}
         paths = [{"name": f"p.{k}", "tasks": [it], "deadline": limits[it]} for k, it in enumerate(limits)]
         resource = [it for it in self.view.values["resource"] if it["name"] == on]
-        if self.view.resources[on].kind == Kind.CEILING:
-            # `assign` takes no locks: an order without them is one to begin with
-            resource = [it | {"kind": Kind.PREEMPTIVE.value} for it in resource]
         return {"format": FORMATS[-1], "resource": resource, "source": sources, "task": tasks, "path": paths}
 
     def rounds(self, count: int) -> None:
